@@ -1,0 +1,4 @@
+//! The cache as a plain value: its rows, its state, and its calls.
+#![tactic(auto)]
+
+pub mod rows;
