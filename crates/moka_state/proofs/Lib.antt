@@ -1,1 +1,7 @@
+pub mod Cases
+pub mod Changes
 pub mod Cuts
+pub mod Found
+pub mod Sound
+pub mod Stands
+pub mod Steps
