@@ -2,4 +2,5 @@
 //! contract cites.
 #![tactic(auto)]
 
+pub mod laws;
 pub mod notification;
