@@ -1,1 +1,4 @@
+pub mod Conserved
 pub mod Looks
+pub mod Notices
+pub mod Standing

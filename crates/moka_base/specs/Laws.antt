@@ -30,3 +30,35 @@ Unwritten eq k (e ∷ h) = (writes eq k e ≡ false) × Unwritten eq k h
 abbrev pub Untouched : {K V : Type 0} → (K → K → Bool) → K → List (Event K V) → Type 0
 Untouched eq k [] = Unit {0}
 Untouched eq k (e ∷ h) = (ends eq k e ≡ false) × Untouched eq k h
+
+-- the values that were written to a key, in order
+abbrev pub values_written : {K V : Type 0} → (K → K → Bool) → K → List (Event K V) → List V
+values_written eq k [] = []
+values_written eq k (Insert q v at ∷ h) = values_written eq k h ++ (if eq q k then v ∷ [] else [])
+values_written eq k (Get q at ∷ h) = values_written eq k h
+values_written eq k (ContainsKey q at ∷ h) = values_written eq k h
+values_written eq k (Invalidate q at ∷ h) = values_written eq k h
+values_written eq k (TakeNotice ∷ h) = values_written eq k h
+
+-- the values that left under a key, in order
+abbrev pub values_left : {K V : Type 0} → (K → K → Bool) → K → List (Leaving K V) → List V
+values_left eq k [] = []
+values_left eq k (l ∷ ls) = if eq l.key k then l.value ∷ values_left eq k ls else values_left eq k ls
+
+-- the value of the write that stands, if one does
+abbrev pub value_standing : {K V : Type 0} → Option (Write K V) → List V
+value_standing None = []
+value_standing (Some w) = w.value ∷ []
+
+-- the leaving that an answer gives out, if it gives one
+abbrev pub given_by : {K V : Type 0} → Answer K V → List (Leaving K V)
+given_by (Found v) = []
+given_by (Contains b) = []
+given_by Done = []
+given_by (Noticed None) = []
+given_by (Noticed (Some l)) = l ∷ []
+
+-- the leavings that the answers gave out, in order
+abbrev pub given_out : {K V : Type 0} → (K → K → Bool) → Rules → List (Event K V) → List (Leaving K V)
+given_out eq rules [] = []
+given_out eq rules (e ∷ h) = given_out eq rules h ++ given_by (answer eq rules e h)

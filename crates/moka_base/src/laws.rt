@@ -1,8 +1,9 @@
 //! The laws of the definitions over the list of events, in the words of the subject. Each stands as
 //! the contract of a function that does nothing, so that the check proves it for every list of events.
-ghost use Rattle.std.specs.Prelude.{◌≡◌, ◌≢◌, ◌⊎◌, ℕ, true, List, ◌∷◌, ◌++◌};
-ghost use Rattle.moka_base.specs.History.{Event, Get, ContainsKey, Insert, Rules, standing, noticed, next_number};
-ghost use Rattle.moka_base.specs.Replies.{Found, answer};
+ghost use Rattle.std.specs.Prelude.{◌≡◌, ◌≢◌, ◌⊎◌, ◌↔◌, ℕ, ◌+◌, ◌≤◌, Bool, true, List, ◌∷◌, ◌++◌, length, filter, slice_get};
+ghost use Rattle.moka_base.specs.History.{Event, Get, ContainsKey, Insert, TakeNotice, Rules, standing, leavings, taken, noticed, next_number};
+ghost use Rattle.moka_base.specs.Laws.{values_written, values_left, value_standing, given_out};
+ghost use Rattle.moka_base.specs.Replies.{Found, Noticed, answer};
 
 /// After a write a look at the same moment finds its value, unless a life of nothing has ended it already.
 pub fn get_after_insert<K: Eq, V>()
@@ -36,6 +37,42 @@ pub fn contains_key_changes_no_reply<K: Eq, V>()
     ensures next_number {
         (rules : Rules) (later h : List (Event K V)) (q : K) (at : ℕ)
         → next_number rules (later ++ ContainsKey q at ∷ h) ≡ next_number rules (later ++ h)
+    }
+{
+}
+
+/// No value is lost or doubled: the values that were written to a key are, in this order, those that
+/// left under it, and then the one that stands.
+pub fn each_write_stands_or_left<K: Eq, V>()
+    ensures in_order {
+        (rules : Rules) (h : List (Event K V)) (k : K)
+        → values_written K.eq k h ≡ values_left K.eq k (leavings K.eq rules h) ++ value_standing (standing K.eq rules k h)
+    }
+    ensures counted {
+        (rules : Rules) (h : List (Event K V)) (k : K) (p : V → Bool)
+        → length (filter p (values_written K.eq k h)) ≡ length (filter p (value_standing (standing K.eq rules k h))) + length (filter p (values_left K.eq k (leavings K.eq rules h)))
+    }
+{
+}
+
+/// Each leaving is given out once and in order: those that the notices gave out, and then those that
+/// are left to give out, are all that left.
+pub fn each_leaving_is_noticed_once<K: Eq, V>()
+    ensures in_order {
+        (rules : Rules) (h : List (Event K V))
+        → given_out K.eq rules h ++ noticed K.eq rules h ≡ leavings K.eq rules h
+    }
+    ensures counted {
+        (rules : Rules) (h : List (Event K V))
+        → (length (given_out K.eq rules h) ≡ taken K.eq rules h) × (taken K.eq rules h ≤ length (leavings K.eq rules h))
+    }
+    ensures next {
+        (rules : Rules) (h : List (Event K V))
+        → answer K.eq rules TakeNotice h ≡ Noticed (slice_get (leavings K.eq rules h) (taken K.eq rules h))
+    }
+    ensures none {
+        (rules : Rules) (h : List (Event K V))
+        → (answer K.eq rules TakeNotice h ≡ Noticed None) ↔ (given_out K.eq rules h ≡ leavings K.eq rules h)
     }
 {
 }
