@@ -1,5 +1,5 @@
 -- The words of the laws over the list of events.
-use Rattle.std.specs.Prelude.{◌≡◌, ℕ, ◌++◌, ◌&&◌, max, Bool, true, false, if◌then◌else◌, Option, Some, None, List, [], ◌∷◌, is_some, is_none, option_and_then}
+use Rattle.std.specs.Prelude.{◌≡◌, ◌⊎◌, ℕ, ◌++◌, ◌&&◌, max, Bool, true, false, if◌then◌else◌, Option, Some, None, List, [], ◌∷◌, is_some, is_none, option_and_then}
 use Rattle.moka_base.specs.declared.notification.RemovalCause.{RemovalCause}
 use Rattle.moka_base.specs.declared.notification.RemovalCause.TheVariants.{Explicit, Replaced}
 use Rattle.moka_base.specs.History.{Event, Get, ContainsKey, Insert, Invalidate, TakeNotice, Rules, Write, Leaving, latest, live}
@@ -21,15 +21,90 @@ ends eq k (Insert q v at) = eq q k
 ends eq k (Invalidate q at) = eq q k
 ends eq k TakeNotice = false
 
+-- whether an event removes a key
+abbrev pub removes : {K V : Type 0} → (K → K → Bool) → K → Event K V → Bool
+removes eq k (Get q at) = false
+removes eq k (ContainsKey q at) = false
+removes eq k (Insert q v at) = false
+removes eq k (Invalidate q at) = eq q k
+removes eq k TakeNotice = false
+
 -- none of these events writes a key
 abbrev pub Unwritten : {K V : Type 0} → (K → K → Bool) → K → List (Event K V) → Type 0
 Unwritten eq k [] = Unit {0}
 Unwritten eq k (e ∷ h) = (writes eq k e ≡ false) × Unwritten eq k h
 
--- none of these events writes or removes a key
+-- none of them removes a key
+abbrev pub Unremoved : {K V : Type 0} → (K → K → Bool) → K → List (Event K V) → Type 0
+Unremoved eq k [] = Unit {0}
+Unremoved eq k (e ∷ h) = (removes eq k e ≡ false) × Unremoved eq k h
+
+-- none of them does either
 abbrev pub Untouched : {K V : Type 0} → (K → K → Bool) → K → List (Event K V) → Type 0
 Untouched eq k [] = Unit {0}
 Untouched eq k (e ∷ h) = (ends eq k e ≡ false) × Untouched eq k h
+
+-- The last write to a key, at its place: nothing later writes or removes the key.
+pub record LastWrite {K V : Type 0} (eq : K → K → Bool) (k : K) (h : List (Event K V)) : Type 0 where
+  pub later : List (Event K V)
+  pub key : K
+  pub value : V
+  pub at : ℕ
+  pub before : List (Event K V)
+  pub place : h ≡ later ++ Insert key value at ∷ before
+  pub same_key : eq key k ≡ true
+  pub untouched : Untouched eq k later
+
+-- The removal of a key after its last write, at its place.
+pub record Removal {K V : Type 0} (eq : K → K → Bool) (k : K) (h : List (Event K V)) : Type 0 where
+  pub later : List (Event K V)
+  pub key : K
+  pub at : ℕ
+  pub before : List (Event K V)
+  pub place : h ≡ later ++ Invalidate key at ∷ before
+  pub same_key : eq key k ≡ true
+  pub unwritten : Unwritten eq k later
+
+-- no write to a key has come, or after the last one the key was removed
+abbrev pub NothingStands : {K V : Type 0} → (K → K → Bool) → K → List (Event K V) → Type 0
+NothingStands eq k h = Unwritten eq k h ⊎ Removal eq k h
+
+-- The write that found a key not stored, at its place: nothing stood before it, and nothing later removes the key.
+pub record FirstWrite {K V : Type 0} (eq : K → K → Bool) (k : K) (h : List (Event K V)) : Type 0 where
+  pub later : List (Event K V)
+  pub key : K
+  pub value : V
+  pub at : ℕ
+  pub before : List (Event K V)
+  pub place : h ≡ later ++ Insert key value at ∷ before
+  pub same_key : eq key k ≡ true
+  pub absent : NothingStands eq k before
+  pub kept : Unremoved eq k later
+
+-- the events up to the last write, with it
+abbrev pub up_to_write : {K V : Type 0} {eq : K → K → Bool} {k : K} {h : List (Event K V)} → LastWrite eq k h → List (Event K V)
+up_to_write last = Insert last.key last.value last.at ∷ last.before
+
+-- The moments of the hits on a key among the events after `before`: its looks by `get` that found its write live.
+abbrev pub hits : {K V : Type 0} → (K → K → Bool) → Rules → K → List (Event K V) → List (Event K V) → List ℕ
+hits eq rules k [] before = []
+hits eq rules k (Get q at ∷ later) before = if eq q k && is_some (live eq rules k (latest (Get q at ∷ later ++ before)) (later ++ before)) then latest (Get q at ∷ later ++ before) ∷ hits eq rules k later before else hits eq rules k later before
+hits eq rules k (ContainsKey q at ∷ later) before = hits eq rules k later before
+hits eq rules k (Insert q v at ∷ later) before = hits eq rules k later before
+hits eq rules k (Invalidate q at ∷ later) before = hits eq rules k later before
+hits eq rules k (TakeNotice ∷ later) before = hits eq rules k later before
+
+-- the greatest of some moments
+abbrev pub greatest : List ℕ → ℕ
+greatest [] = 0
+greatest (m ∷ ms) = max m (greatest ms)
+
+-- What stands has the value and the moment of the last write, and was used at the greatest moment among that
+-- one and the hits since.
+pub record IsAsWritten {K V : Type 0} {eq : K → K → Bool} {k : K} {h : List (Event K V)} (rules : Rules) (last : LastWrite eq k h) (w : Write K V) : Type 0 where
+  pub value : w.value ≡ last.value
+  pub written : w.written ≡ latest (up_to_write last)
+  pub used : w.used ≡ greatest (latest (up_to_write last) ∷ hits eq rules k last.later (up_to_write last))
 
 -- the values that were written to a key, in order
 abbrev pub values_written : {K V : Type 0} → (K → K → Bool) → K → List (Event K V) → List V

@@ -1,8 +1,8 @@
 //! The laws of the definitions over the list of events, in the words of the subject. Each stands as
 //! the contract of a function that does nothing, so that the check proves it for every list of events.
 ghost use Rattle.std.specs.Prelude.{◌≡◌, ◌≢◌, ◌⊎◌, ◌↔◌, ℕ, ◌+◌, ◌≤◌, Bool, true, List, ◌∷◌, ◌++◌, length, filter, slice_get};
-ghost use Rattle.moka_base.specs.History.{Event, Get, ContainsKey, Insert, TakeNotice, Rules, standing, leavings, taken, noticed, next_number};
-ghost use Rattle.moka_base.specs.Laws.{values_written, values_left, value_standing, given_out};
+ghost use Rattle.moka_base.specs.History.{Event, Get, ContainsKey, Insert, TakeNotice, Rules, Write, standing, leavings, taken, noticed, next_number};
+ghost use Rattle.moka_base.specs.Laws.{LastWrite, FirstWrite, NothingStands, IsAsWritten, values_written, values_left, value_standing, given_out};
 ghost use Rattle.moka_base.specs.Replies.{Found, Noticed, answer};
 
 /// After a write a look at the same moment finds its value, unless a life of nothing has ended it already.
@@ -73,6 +73,33 @@ pub fn each_leaving_is_noticed_once<K: Eq, V>()
     ensures none {
         (rules : Rules) (h : List (Event K V))
         → (answer K.eq rules TakeNotice h ≡ Noticed None) ↔ (given_out K.eq rules h ≡ leavings K.eq rules h)
+    }
+{
+}
+
+/// What stands for a key is its last write, if nothing later writes or removes the key: with that
+/// value and moment, used at the greatest moment among that one and the hits since, and stored under
+/// the key of the write that found it not stored.
+pub fn standing_is_the_last_write<K: Eq, V>()
+    ensures stands {
+        (rules : Rules) (h : List (Event K V)) (k : K) (last : LastWrite K.eq k h)
+        → (w : Write K V) × (standing K.eq rules k h ≡ Some w) × IsAsWritten rules last w
+    }
+    ensures alone {
+        (rules : Rules) (h : List (Event K V)) (k : K) (w : Write K V)
+        → standing K.eq rules k h ≡ Some w → (last : LastWrite K.eq k h) × IsAsWritten rules last w
+    }
+    ensures nothing {
+        (rules : Rules) (h : List (Event K V)) (k : K)
+        → (standing K.eq rules k h ≡ None) ↔ NothingStands K.eq k h
+    }
+    ensures stored {
+        (rules : Rules) (h : List (Event K V)) (k : K) (first : FirstWrite K.eq k h)
+        → (w : Write K V) × (standing K.eq rules k h ≡ Some w) × (w.key ≡ first.key)
+    }
+    ensures stored_alone {
+        (rules : Rules) (h : List (Event K V)) (k : K) (w : Write K V)
+        → standing K.eq rules k h ≡ Some w → (first : FirstWrite K.eq k h) × (w.key ≡ first.key)
     }
 {
 }
