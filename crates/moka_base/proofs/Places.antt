@@ -57,6 +57,22 @@ module _ {K V : Type 0} (eq : K → K → Bool) (k : K) where
       (cases_Bool (eq q k))
   first_or_nothing (TakeNotice ∷ h) = ⊎_elim (λ first. inl (FirstWrite-more TakeNotice h refl first)) (λ none. inr (NothingStands-more TakeNotice h refl none)) (first_or_nothing h)
 
+-- two places of events that end a key, with nothing later that does, are one place
+place_unique : {K V : Type 0} (eq : K → K → Bool) (k : K) (later₁ later₂ before₁ before₂ : List (Event K V)) (e₁ e₂ : Event K V) → ends eq k e₁ ≡ true → ends eq k e₂ ≡ true → Untouched eq k later₁ → Untouched eq k later₂
+  → later₁ ++ e₁ ∷ before₁ ≡ later₂ ++ e₂ ∷ before₂ → (later₁ ≡ later₂) × ((e₁ ∷ before₁) ≡ (e₂ ∷ before₂))
+place_unique eq k [] [] before₁ before₂ e₁ e₂ t₁ t₂ u₁ u₂ same = (refl, same)
+place_unique eq k [] (d ∷ later₂) before₁ before₂ e₁ e₂ t₁ t₂ u₁ u₂ same = let it : e₁ ≡ d = cc in let apart = u₂.0 in let both : ends eq k e₁ ≡ false = ap (ends eq k) it ∙ apart in absurd (cc)
+place_unique eq k (d ∷ later₁) [] before₁ before₂ e₁ e₂ t₁ t₂ u₁ u₂ same = let it : e₂ ≡ d = cc in let apart = u₁.0 in let both : ends eq k e₂ ≡ false = ap (ends eq k) it ∙ apart in absurd (cc)
+place_unique eq k (d₁ ∷ later₁) (d₂ ∷ later₂) before₁ before₂ e₁ e₂ t₁ t₂ u₁ u₂ same =
+    let heads : d₁ ≡ d₂ = cc in
+    let rest = place_unique eq k later₁ later₂ before₁ before₂ e₁ e₂ t₁ t₂ u₁.1 u₂.1 (cc) in
+    let tails : later₁ ≡ later₂ = rest.0 in
+    (cc, rest.1)
+
+-- there is one place of the last write
+pub LastWrite-one_place : {K V : Type 0} (eq : K → K → Bool) (k : K) (h : List (Event K V)) (a b : LastWrite eq k h) → (a.later ≡ b.later) × (up_to_write a ≡ up_to_write b)
+LastWrite-one_place eq k h a b = place_unique eq k a.later b.later a.before b.before (Insert a.key a.value a.at) (Insert b.key b.value b.at) a.same_key b.same_key a.untouched b.untouched (sym a.place ∙ b.place)
+
 -- a choice between two of the same
 if_same : {A : Type 0} (t : Bool) (x : A) → (if t then x else x) ≡ x
 if_same true x = refl

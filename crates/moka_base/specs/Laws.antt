@@ -1,8 +1,8 @@
 -- The words of the laws over the list of events.
 use Rattle.std.specs.Prelude.{◌≡◌, ◌⊎◌, ℕ, ◌++◌, ◌&&◌, max, Bool, true, false, if◌then◌else◌, Option, Some, None, List, [], ◌∷◌, is_some, is_none, option_and_then}
 use Rattle.moka_base.specs.declared.notification.RemovalCause.{RemovalCause}
-use Rattle.moka_base.specs.declared.notification.RemovalCause.TheVariants.{Explicit, Replaced}
-use Rattle.moka_base.specs.History.{Event, Get, ContainsKey, Insert, Invalidate, TakeNotice, Rules, Write, Leaving, latest, live}
+use Rattle.moka_base.specs.declared.notification.RemovalCause.TheVariants.{Expired}
+use Rattle.moka_base.specs.History.{Event, Get, ContainsKey, Insert, Invalidate, TakeNotice, Rules, Write, Leaving, latest, has_come, deadline, live}
 use Rattle.moka_base.specs.Replies.{Answer, Found, Contains, Done, Noticed, answer}
 
 -- whether an event writes a key
@@ -105,6 +105,16 @@ pub record IsAsWritten {K V : Type 0} {eq : K → K → Bool} {k : K} {h : List 
   pub value : w.value ≡ last.value
   pub written : w.written ≡ latest (up_to_write last)
   pub used : w.used ≡ greatest (latest (up_to_write last) ∷ hits eq rules k last.later (up_to_write last))
+
+-- A leaving is that of the last write: with its value, under an equal key, and for the event's own cause, but
+-- expired where at that moment the deadline of what stood had come.
+pub record IsLeavingOf {K V : Type 0} {eq : K → K → Bool} {k : K} {h : List (Event K V)} (rules : Rules) (last : LastWrite eq k h) (own : RemovalCause) (at : ℕ) (l : Leaving K V) : Type 0 where
+  pub stood : Write K V
+  pub as_written : IsAsWritten rules last stood
+  pub key : l.key ≡ stood.key
+  pub same_key : eq l.key k ≡ true
+  pub value : l.value ≡ last.value
+  pub cause : l.cause ≡ (if has_come (deadline rules stood) at then Expired else own)
 
 -- the values that were written to a key, in order
 abbrev pub values_written : {K V : Type 0} → (K → K → Bool) → K → List (Event K V) → List V

@@ -1,8 +1,9 @@
 //! The laws of the definitions over the list of events, in the words of the subject. Each stands as
 //! the contract of a function that does nothing, so that the check proves it for every list of events.
-ghost use Rattle.std.specs.Prelude.{◌≡◌, ◌≢◌, ◌⊎◌, ◌↔◌, ℕ, ◌+◌, ◌≤◌, Bool, true, List, ◌∷◌, ◌++◌, length, filter, slice_get};
-ghost use Rattle.moka_base.specs.History.{Event, Get, ContainsKey, Insert, TakeNotice, Rules, Write, standing, leavings, taken, noticed, next_number};
-ghost use Rattle.moka_base.specs.Laws.{LastWrite, FirstWrite, NothingStands, IsAsWritten, values_written, values_left, value_standing, given_out};
+ghost use Rattle.std.specs.Prelude.{◌≡◌, ◌≢◌, ◌⊎◌, ◌↔◌, ℕ, ◌+◌, ◌≤◌, Bool, true, false, List, [], ◌∷◌, ◌++◌, length, filter, slice_get};
+ghost use Rattle.moka_base.specs.declared.notification.RemovalCause.TheVariants.{Explicit, Replaced};
+ghost use Rattle.moka_base.specs.History.{Event, Get, ContainsKey, Insert, Invalidate, TakeNotice, Rules, Write, Leaving, latest, standing, leaving, leavings, taken, noticed, next_number};
+ghost use Rattle.moka_base.specs.Laws.{ends, LastWrite, FirstWrite, NothingStands, up_to_write, IsAsWritten, IsLeavingOf, values_written, values_left, value_standing, given_out};
 ghost use Rattle.moka_base.specs.Replies.{Found, Noticed, answer};
 
 /// After a write a look at the same moment finds its value, unless a life of nothing has ended it already.
@@ -100,6 +101,37 @@ pub fn standing_is_the_last_write<K: Eq, V>()
     ensures stored_alone {
         (rules : Rules) (h : List (Event K V)) (k : K) (w : Write K V)
         → standing K.eq rules k h ≡ Some w → (first : FirstWrite K.eq k h) × (w.key ≡ first.key)
+    }
+    ensures one_place {
+        (h : List (Event K V)) (k : K) (a b : LastWrite K.eq k h)
+        → (a.later ≡ b.later) × (up_to_write a ≡ up_to_write b)
+    }
+{
+}
+
+/// A write leaves once: at the first later event that writes or removes its key, and nothing else
+/// ever leaves. It leaves with its value, for that event's cause, or as expired where its deadline
+/// had come.
+pub fn what_leaves_leaves_once<K: Eq, V>()
+    ensures replaced {
+        (rules : Rules) (h : List (Event K V)) (k q : K) (v : V) (at : ℕ) (last : LastWrite K.eq k h) → K.eq q k ≡ true
+        → (l : Leaving K V) × (leaving K.eq rules (Insert q v at) h ≡ l ∷ []) × IsLeavingOf rules last Replaced (latest (Insert q v at ∷ h)) l
+    }
+    ensures removed {
+        (rules : Rules) (h : List (Event K V)) (k q : K) (at : ℕ) (last : LastWrite K.eq k h) → K.eq q k ≡ true
+        → (l : Leaving K V) × (leaving K.eq rules (Invalidate q at) h ≡ l ∷ []) × IsLeavingOf rules last Explicit (latest (Invalidate q at ∷ h)) l
+    }
+    ensures alone {
+        (rules : Rules) (h : List (Event K V)) (e : Event K V)
+        → leaving K.eq rules e h ≢ [] → (k : K) × (ends K.eq k e ≡ true) × LastWrite K.eq k h
+    }
+    ensures nothing {
+        (rules : Rules) (h : List (Event K V)) (e : Event K V) (k : K)
+        → ends K.eq k e ≡ true → NothingStands K.eq k h → leaving K.eq rules e h ≡ []
+    }
+    ensures looks {
+        (rules : Rules) (h : List (Event K V)) (e : Event K V)
+        → ((k : K) → ends K.eq k e ≡ false) → leaving K.eq rules e h ≡ []
     }
 {
 }

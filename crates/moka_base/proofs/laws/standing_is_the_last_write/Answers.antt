@@ -1,4 +1,4 @@
-use Rattle.moka_base.proofs.Places.{last_write_stands, only_the_last_write, nothing_stands, stored_under_first_write, first_write_of}
+use Rattle.moka_base.proofs.Places.{last_write_stands, only_the_last_write, nothing_stands, stored_under_first_write, first_write_of, LastWrite-one_place}
 use Rattle.moka_base.proofs.laws.standing_is_the_last_write.Goals as goal
 
 pub returns-clause-stands : goal.returns-clause-stands
@@ -15,3 +15,6 @@ returns-clause-stored g c rules h k first = stored_under_first_write g.K.Partial
 
 pub returns-clause-stored_alone : goal.returns-clause-stored_alone
 returns-clause-stored_alone g c rules h k w is = first_write_of g.K.PartialEq.eq rules k h w is
+
+pub returns-clause-one_place : goal.returns-clause-one_place
+returns-clause-one_place g c h k a b = LastWrite-one_place g.K.PartialEq.eq k h a b
