@@ -1,4 +1,5 @@
 pub mod Conserved
+pub mod Expiry
 pub mod Leavings
 pub mod Looks
 pub mod Notices

@@ -1,10 +1,10 @@
 //! The laws of the definitions over the list of events, in the words of the subject. Each stands as
 //! the contract of a function that does nothing, so that the check proves it for every list of events.
-ghost use Rattle.std.specs.Prelude.{◌≡◌, ◌≢◌, ◌⊎◌, ◌↔◌, ℕ, ◌+◌, ◌≤◌, Bool, true, false, List, [], ◌∷◌, ◌++◌, length, filter, slice_get};
+ghost use Rattle.std.specs.Prelude.{◌≡◌, ◌≢◌, ◌⊎◌, ◌↔◌, ℕ, ◌+◌, ◌<◌, ◌≤◌, Bool, true, false, List, [], ◌∷◌, ◌++◌, length, filter, slice_get};
 ghost use Rattle.moka_base.specs.declared.notification.RemovalCause.TheVariants.{Explicit, Replaced};
-ghost use Rattle.moka_base.specs.History.{Event, Get, ContainsKey, Insert, Invalidate, TakeNotice, Rules, Write, Leaving, latest, standing, leaving, leavings, taken, noticed, next_number};
-ghost use Rattle.moka_base.specs.Laws.{ends, LastWrite, FirstWrite, NothingStands, up_to_write, IsAsWritten, IsLeavingOf, values_written, values_left, value_standing, given_out};
-ghost use Rattle.moka_base.specs.Replies.{Found, Noticed, answer};
+ghost use Rattle.moka_base.specs.History.{Event, Get, ContainsKey, Insert, Invalidate, TakeNotice, Rules, Write, Leaving, latest, is_expired, standing, leaving, leavings, taken, noticed, next_number};
+ghost use Rattle.moka_base.specs.Laws.{ends, Unwritten, Untouched, LastWrite, FirstWrite, NothingStands, up_to_write, IsAsWritten, IsLeavingOf, values_written, values_left, value_standing, given_out};
+ghost use Rattle.moka_base.specs.Replies.{Found, Contains, Noticed, answer};
 
 /// After a write a look at the same moment finds its value, unless a life of nothing has ended it already.
 pub fn get_after_insert<K: Eq, V>()
@@ -132,6 +132,47 @@ pub fn what_leaves_leaves_once<K: Eq, V>()
     ensures looks {
         (rules : Rules) (h : List (Event K V)) (e : Event K V)
         → ((k : K) → ends K.eq k e ≡ false) → leaving K.eq rules e h ≡ []
+    }
+{
+}
+
+/// The latest moment never falls, and no life's end is undone: a deadline that has come has come at
+/// each later moment; a write whose deadline has come stays as it is until its key is written or
+/// removed; and after a `get` that finds nothing, no look finds anything until the key is written.
+pub fn expiry_is_final<K: Eq, V>()
+    ensures latest {
+        (later h : List (Event K V)) → latest h ≤ latest (later ++ h)
+    }
+    ensures deadline {
+        (rules : Rules) (w : Write K V) (at later : ℕ)
+        → at ≤ later → is_expired rules w at ≡ true → is_expired rules w later ≡ true
+    }
+    ensures stays {
+        (rules : Rules) (later h : List (Event K V)) (k : K) (w : Write K V)
+        → standing K.eq rules k h ≡ Some w → is_expired rules w (latest h) ≡ true → Untouched K.eq k later
+        → standing K.eq rules k (later ++ h) ≡ Some w
+    }
+    ensures missed {
+        (rules : Rules) (later h : List (Event K V)) (k : K) (at now : ℕ)
+        → answer K.eq rules (Get k at) h ≡ Found None → Unwritten K.eq k later
+        → (answer K.eq rules (Get k now) (later ++ Get k at ∷ h) ≡ Found None)
+        × (answer K.eq rules (ContainsKey k now) (later ++ Get k at ∷ h) ≡ Contains false)
+    }
+{
+}
+
+/// No number is drawn twice: each write draws the next one, which never falls.
+pub fn numbers_never_come_again<K, V>()
+    ensures drawn {
+        (rules : Rules) (h : List (Event K V)) (k : K) (v : V) (at : ℕ)
+        → next_number rules (Insert k v at ∷ h) ≡ next_number rules h + 1
+    }
+    ensures never_falls {
+        (rules : Rules) (later h : List (Event K V)) → next_number rules h ≤ next_number rules (later ++ h)
+    }
+    ensures greater {
+        (rules : Rules) (later h : List (Event K V)) (k : K) (v : V) (at : ℕ)
+        → next_number rules h < next_number rules (later ++ Insert k v at ∷ h)
     }
 {
 }

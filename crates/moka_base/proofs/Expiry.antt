@@ -1,0 +1,104 @@
+-- No life's end is undone, and no number comes again.
+use Rattle.std.proofs.Common.{◌≡◌, ◌⊎◌, inl, inr, ℕ, max, ◌+◌, ◌≤◌, ◌<◌, Bool, true, false, not, if◌then◌else◌, Option, Some, None, List, [], ◌∷◌, ◌++◌, refl, sym, ap, ◌∙◌, subst, arith, is_some}
+use Rattle.std.specs.Option.{option_map}
+use Rattle.std.proofs.lemmas.Bool.{cond-false, cases_Bool, leb-true, le-leb}
+use Rattle.moka_base.specs.History.{Event, Get, ContainsKey, Insert, Invalidate, TakeNotice, Rules, Write, recorded, latest, has_come, deadline, is_expired, is_live, live, live_one, after_look, standing, drawn, next_number}
+use Rattle.moka_base.specs.Replies.{Answer, Found, Contains, answer}
+use Rattle.moka_base.specs.Laws.{writes, ends, Unwritten, Untouched}
+
+-- the latest moment never falls
+pub latest-more : {K V : Type 0} (later h : List (Event K V)) → latest h ≤ latest (later ++ h)
+latest-more [] h = omega arith
+latest-more (e ∷ later) h = let ih : latest h ≤ latest (later ++ h) = latest-more later h in omega arith
+
+-- a deadline that has come has come at each later moment
+pub has_come-later : (d : Option ℕ) (at later : ℕ) → at ≤ later → has_come d at ≡ true → has_come d later ≡ true
+has_come-later None at later le come = come
+has_come-later (Some d) at later le come = le-leb d later (let h = leb-true d at come in omega arith)
+
+-- the next number never falls
+pub next_number-more : {K V : Type 0} (rules : Rules) (later h : List (Event K V)) → next_number rules h ≤ next_number rules (later ++ h)
+next_number-more rules [] h = omega arith
+next_number-more rules (e ∷ later) h = let ih : next_number rules h ≤ next_number rules (later ++ h) = next_number-more rules later h in omega arith
+
+module _ {K V : Type 0} (eq : K → K → Bool) (rules : Rules) (k : K) where
+  -- an expired write stays as it is until its key is written or removed
+  pub expired_stays : (later h : List (Event K V)) (w : Write K V) → standing eq rules k h ≡ Some w → is_expired rules w (latest h) ≡ true → Untouched eq k later → standing eq rules k (later ++ h) ≡ Some w
+  expired_stays [] h w stands gone u = stands
+  expired_stays (Get q at ∷ later) h w stands gone u = rw (expired_stays later h w stands gone u.1) (look (eq q k))
+    where
+      now : ℕ
+      now = latest (Get q at ∷ later ++ h)
+      still : is_expired rules w now ≡ true
+      still = has_come-later (deadline rules w) (latest h) now (latest-more (Get q at ∷ later) h) gone
+      kept : after_look rules now w ≡ w
+      kept = rw still refl
+      look : (t : Bool) → (if t then option_map (after_look rules now) (Some w) else Some w) ≡ Some w
+      look true = ap Some kept
+      look false = refl
+  expired_stays (ContainsKey q at ∷ later) h w stands gone u = expired_stays later h w stands gone u.1
+  expired_stays (Insert q v at ∷ later) h w stands gone u = rw (u.0) (expired_stays later h w stands gone u.1)
+  expired_stays (Invalidate q at ∷ later) h w stands gone u = rw (u.0) (expired_stays later h w stands gone u.1)
+  expired_stays (TakeNotice ∷ later) h w stands gone u = expired_stays later h w stands gone u.1
+
+  -- no live write stands at a moment
+  abbrev IsUnseen : Option (Write K V) → ℕ → Type 0
+  IsUnseen None at = Unit {0}
+  IsUnseen (Some w) at = is_expired rules w at ≡ true
+
+  -- nor at a later one
+  IsUnseen-later : (o : Option (Write K V)) (at later : ℕ) → at ≤ later → IsUnseen o at → IsUnseen o later
+  IsUnseen-later None at later le unseen = tt
+  IsUnseen-later (Some w) at later le unseen = has_come-later (deadline rules w) at later le unseen
+
+  -- a look makes no write live
+  IsUnseen-look : (t : Bool) (o : Option (Write K V)) (at : ℕ) → IsUnseen o at → IsUnseen (if t then option_map (after_look rules at) o else o) at
+  IsUnseen-look false o at unseen = unseen
+  IsUnseen-look true None at unseen = tt
+  IsUnseen-look true (Some w) at unseen =
+      let kept : w ≡ after_look rules at w = rw unseen refl in
+      subst (λ (u : Write K V). is_expired rules u at ≡ true) kept unseen
+
+  -- nor does a removal
+  IsUnseen-removal : (t : Bool) (o : Option (Write K V)) (at : ℕ) → IsUnseen o at → IsUnseen (if t then None else o) at
+  IsUnseen-removal false o at unseen = unseen
+  IsUnseen-removal true o at unseen = tt
+
+  -- where no live write stands, none does until the key is written
+  unseen_from : (later h : List (Event K V)) → Unwritten eq k later → IsUnseen (standing eq rules k h) (latest h) → IsUnseen (standing eq rules k (later ++ h)) (latest (later ++ h))
+  unseen_from [] h u unseen = unseen
+  unseen_from (Get q at ∷ later) h u unseen = IsUnseen-look (eq q k) (standing eq rules k (later ++ h)) (latest (Get q at ∷ later ++ h)) (IsUnseen-later (standing eq rules k (later ++ h)) (latest (later ++ h)) (latest (Get q at ∷ later ++ h)) (omega arith) (unseen_from later h u.1 unseen))
+  unseen_from (ContainsKey q at ∷ later) h u unseen = IsUnseen-later (standing eq rules k (later ++ h)) (latest (later ++ h)) (latest (ContainsKey q at ∷ later ++ h)) (omega arith) (unseen_from later h u.1 unseen)
+  unseen_from (Insert q v at ∷ later) h u unseen = rw (u.0) (IsUnseen-later (standing eq rules k (later ++ h)) (latest (later ++ h)) (latest (Insert q v at ∷ later ++ h)) (omega arith) (unseen_from later h u.1 unseen))
+  unseen_from (Invalidate q at ∷ later) h u unseen = IsUnseen-removal (eq q k) (standing eq rules k (later ++ h)) (latest (Invalidate q at ∷ later ++ h)) (IsUnseen-later (standing eq rules k (later ++ h)) (latest (later ++ h)) (latest (Invalidate q at ∷ later ++ h)) (omega arith) (unseen_from later h u.1 unseen))
+  unseen_from (TakeNotice ∷ later) h u unseen = IsUnseen-later (standing eq rules k (later ++ h)) (latest (later ++ h)) (latest (TakeNotice ∷ later ++ h)) (omega arith) (unseen_from later h u.1 unseen)
+
+  -- what a look finds nothing of is not seen
+  unseen_by : (o : Option (Write K V)) (at : ℕ) → option_map (λ w. w.value) (live_one rules at o) ≡ None → IsUnseen o at
+  unseen_by None at missed = tt
+  unseen_by (Some w) at missed = go (is_expired rules w at) missed
+    where
+      go : (t : Bool) → option_map (λ (u : Write K V). u.value) (if not t then Some w else None) ≡ None → t ≡ true
+      go true _ = refl
+      go false found = absurd (cc)
+
+  -- and what is not seen no look finds
+  live-unseen : (o : Option (Write K V)) (at : ℕ) → IsUnseen o at → live_one rules at o ≡ None
+  live-unseen None at unseen = refl
+  live-unseen (Some w) at unseen = rw unseen refl
+
+  -- after a look that finds nothing, nothing is live until the key is written
+  live-missed : (later h : List (Event K V)) (at now : ℕ) → answer eq rules (Get k at) h ≡ Found None → Unwritten eq k later → live eq rules k (max (latest (later ++ Get k at ∷ h)) now) (later ++ Get k at ∷ h) ≡ None
+  live-missed later h at now missed u =
+      let nothing : option_map (λ (w : Write K V). w.value) (live_one rules (latest (Get k at ∷ h)) (standing eq rules k h)) ≡ None = cc in
+      live-unseen (standing eq rules k (later ++ Get k at ∷ h)) (max (latest (later ++ Get k at ∷ h)) now)
+      (IsUnseen-later (standing eq rules k (later ++ Get k at ∷ h)) (latest (later ++ Get k at ∷ h)) (max (latest (later ++ Get k at ∷ h)) now) (omega arith)
+        (unseen_from later (Get k at ∷ h) u (IsUnseen-look (eq k k) (standing eq rules k h) (latest (Get k at ∷ h)) (unseen_by (standing eq rules k h) (latest (Get k at ∷ h)) nothing))))
+
+  -- so no look by `get` finds anything
+  pub get-missed : (later h : List (Event K V)) (at now : ℕ) → answer eq rules (Get k at) h ≡ Found None → Unwritten eq k later → answer eq rules (Get k now) (later ++ Get k at ∷ h) ≡ Found None
+  get-missed later h at now missed u = rw (live-missed later h at now missed u)
+
+  -- and none by `contains_key`
+  pub contains_key-missed : (later h : List (Event K V)) (at now : ℕ) → answer eq rules (Get k at) h ≡ Found None → Unwritten eq k later → answer eq rules (ContainsKey k now) (later ++ Get k at ∷ h) ≡ Contains false
+  contains_key-missed later h at now missed u = rw (live-missed later h at now missed u)
