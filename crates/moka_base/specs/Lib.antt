@@ -1,3 +1,4 @@
 pub mod History
 pub mod Replies
 pub mod Laws
+pub mod Worked
