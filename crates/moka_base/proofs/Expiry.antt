@@ -1,10 +1,10 @@
 -- No life's end is undone, and no number comes again.
-use Rattle.std.proofs.Common.{◌≡◌, ◌⊎◌, inl, inr, ℕ, max, ◌+◌, ◌≤◌, ◌<◌, Bool, true, false, not, if◌then◌else◌, Option, Some, None, List, [], ◌∷◌, ◌++◌, refl, sym, ap, ◌∙◌, subst, arith, is_some}
+use Rattle.std.proofs.Common.{◌≡◌, ℕ, max, ◌≤◌, Bool, true, false, not, if◌then◌else◌, Option, Some, None, List, [], ◌∷◌, ◌++◌, refl, ap, subst, arith}
 use Rattle.std.specs.Option.{option_map}
-use Rattle.std.proofs.lemmas.Bool.{cond-false, cases_Bool, leb-true, le-leb}
-use Rattle.moka_base.specs.History.{Event, Get, ContainsKey, Insert, Invalidate, TakeNotice, Rules, Write, recorded, latest, has_come, deadline, is_expired, is_live, live, live_one, after_look, standing, drawn, next_number}
-use Rattle.moka_base.specs.Replies.{Answer, Found, Contains, answer}
-use Rattle.moka_base.specs.Laws.{writes, ends, Unwritten, Untouched}
+use Rattle.std.proofs.lemmas.Bool.{leb-true, le-leb}
+use Rattle.moka_base.specs.History.{Event, Get, ContainsKey, Insert, Invalidate, TakeNotice, Rules, Write, latest, has_come, deadline, is_expired, live, live_one, after_look, standing, next_number}
+use Rattle.moka_base.specs.Replies.{Found, Contains, answer}
+use Rattle.moka_base.specs.Laws.{Unwritten, Untouched}
 
 -- the latest moment never falls
 pub latest-more : {K V : Type 0} (later h : List (Event K V)) → latest h ≤ latest (later ++ h)
@@ -29,10 +29,13 @@ module _ {K V : Type 0} (eq : K → K → Bool) (rules : Rules) (k : K) where
     where
       now : ℕ
       now = latest (Get q at ∷ later ++ h)
+
       still : is_expired rules w now ≡ true
       still = has_come-later (deadline rules w) (latest h) now (latest-more (Get q at ∷ later) h) gone
+
       kept : after_look rules now w ≡ w
       kept = rw still refl
+
       look : (t : Bool) → (if t then option_map (after_look rules now) (Some w) else Some w) ≡ Some w
       look true = ap Some kept
       look false = refl
@@ -93,7 +96,7 @@ module _ {K V : Type 0} (eq : K → K → Bool) (rules : Rules) (k : K) where
       let nothing : option_map (λ (w : Write K V). w.value) (live_one rules (latest (Get k at ∷ h)) (standing eq rules k h)) ≡ None = cc in
       live-unseen (standing eq rules k (later ++ Get k at ∷ h)) (max (latest (later ++ Get k at ∷ h)) now)
       (IsUnseen-later (standing eq rules k (later ++ Get k at ∷ h)) (latest (later ++ Get k at ∷ h)) (max (latest (later ++ Get k at ∷ h)) now) (omega arith)
-        (unseen_from later (Get k at ∷ h) u (IsUnseen-look (eq k k) (standing eq rules k h) (latest (Get k at ∷ h)) (unseen_by (standing eq rules k h) (latest (Get k at ∷ h)) nothing))))
+      (unseen_from later (Get k at ∷ h) u (IsUnseen-look (eq k k) (standing eq rules k h) (latest (Get k at ∷ h)) (unseen_by (standing eq rules k h) (latest (Get k at ∷ h)) nothing))))
 
   -- so no look by `get` finds anything
   pub get-missed : (later h : List (Event K V)) (at now : ℕ) → answer eq rules (Get k at) h ≡ Found None → Unwritten eq k later → answer eq rules (Get k now) (later ++ Get k at ∷ h) ≡ Found None

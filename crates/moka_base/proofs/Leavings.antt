@@ -1,11 +1,11 @@
 -- What leaves at an event is the last write of the key that it writes or removes.
-use Rattle.std.proofs.Common.{◌≡◌, ◌≢◌, ◌⊎◌, inl, inr, ⊎_elim, ℕ, Bool, true, false, if◌then◌else◌, Option, Some, None, List, [], ◌∷◌, ◌++◌, refl, sym, ap, ◌∙◌, subst}
+use Rattle.std.proofs.Common.{◌≡◌, ◌≢◌, ⊎_elim, ℕ, Bool, true, false, Some, List, [], ◌∷◌, refl, sym, ap, ◌∙◌, subst}
 use Rattle.std.specs.Cmp.{IsEquivalence}
 use Rattle.std.proofs.lemmas.Bool.{true≢false}
 use Rattle.moka_base.specs.declared.notification.RemovalCause.{RemovalCause}
-use Rattle.moka_base.specs.declared.notification.RemovalCause.TheVariants.{Expired, Explicit, Replaced}
-use Rattle.moka_base.specs.History.{Event, Get, ContainsKey, Insert, Invalidate, TakeNotice, Rules, Write, Leaving, latest, standing, left, leaving}
-use Rattle.moka_base.specs.Laws.{ends, LastWrite, NothingStands, IsAsWritten, IsLeavingOf}
+use Rattle.moka_base.specs.declared.notification.RemovalCause.TheVariants.{Explicit, Replaced}
+use Rattle.moka_base.specs.History.{Event, Get, ContainsKey, Insert, Invalidate, TakeNotice, Rules, Leaving, latest, standing, left, leaving}
+use Rattle.moka_base.specs.Laws.{ends, LastWrite, NothingStands, IsLeavingOf}
 use Rattle.moka_base.proofs.Places.{last_write_stands, standing-nothing, last_or_nothing}
 use Rattle.moka_base.proofs.Standing.{IsStoredUnder, stored_key, standing_congr}
 

@@ -1,5 +1,5 @@
 -- A look by `contains_key` is as if it had not been: nothing that follows depends on it.
-use Rattle.std.proofs.Common.{◌≡◌, ℕ, max, ◌+◌, Bool, List, [], ◌∷◌, ◌++◌, length, drop, refl, ap, arith, add-zero, append-nil}
+use Rattle.std.proofs.Common.{◌≡◌, ℕ, max, ◌+◌, Bool, List, [], ◌∷◌, ◌++◌, refl, ap, arith, add-zero, append-nil}
 use Rattle.moka_base.specs.History.{Event, Get, ContainsKey, Insert, Invalidate, TakeNotice, Rules, recorded, latest, standing, leaving, leavings, taken, noticed, drawn, next_number}
 use Rattle.moka_base.specs.Replies.{answer}
 

@@ -1,8 +1,8 @@
 -- The leavings are given out in order, each once.
-use Rattle.std.proofs.Common.{◌≡◌, ◌↔◌, ℕ, zero, suc, min, ◌+◌, ◌<◌, ◌≤◌, Bool, Option, Some, None, List, [], ◌∷◌, ◌++◌, length, take, drop, refl, sym, ap, ◌∙◌, subst, arith, append-nil, length-append, slice_get, add-one}
-use Rattle.std.proofs.lemmas.List.{take-append-le, take-append-drop, take_min, take_all, length-take, drop_all, length-take-le}
+use Rattle.std.proofs.Common.{◌≡◌, ◌↔◌, ℕ, zero, suc, min, ◌+◌, ◌≤◌, Bool, None, List, [], ◌∷◌, ◌++◌, length, take, drop, refl, sym, ap, ◌∙◌, arith, append-nil, length-append, slice_get, add-one}
+use Rattle.std.proofs.lemmas.List.{take-append-le, take-append-drop, take_min, take_all, length-take-le}
 use Rattle.moka_base.specs.History.{Event, Get, ContainsKey, Insert, Invalidate, TakeNotice, Rules, Leaving, leaving, leavings, taken, noticed}
-use Rattle.moka_base.specs.Replies.{Answer, Found, Contains, Done, Noticed, answer}
+use Rattle.moka_base.specs.Replies.{Noticed, answer}
 use Rattle.moka_base.specs.Laws.{given_by, given_out}
 
 module _ {K V : Type 0} where
@@ -75,9 +75,12 @@ module _ {K V : Type 0} (eq : K → K → Bool) (rules : Rules) where
     where
       past : answer eq rules TakeNotice h ≡ Noticed None → length (leavings eq rules h) ≤ taken eq rules h
       past none = let next = next_notice h in none_past (taken eq rules h) (leavings eq rules h) (cc)
+
       to : answer eq rules TakeNotice h ≡ Noticed None → given_out eq rules h ≡ leavings eq rules h
       to none = given_out_is h ∙ take_all (taken eq rules h) (leavings eq rules h) (past none)
+
       reached : given_out eq rules h ≡ leavings eq rules h → length (leavings eq rules h) ≤ taken eq rules h
       reached all = let long = ap length all in let counted = length-given_out h in omega arith
+
       from : given_out eq rules h ≡ leavings eq rules h → answer eq rules TakeNotice h ≡ Noticed None
       from all = next_notice h ∙ ap Noticed (none_from_past (taken eq rules h) (leavings eq rules h) (reached all))

@@ -1,8 +1,8 @@
 -- What stands for a key, by the places of the events that wrote and removed it.
 use Rattle.std.proofs.Common.{◌≡◌, ◌↔◌, ◌⊎◌, inl, inr, ⊎_elim, ℕ, max, Bool, true, false, ◌&&◌, if◌then◌else◌, Option, Some, None, List, [], ◌∷◌, ◌++◌, refl, sym, ap, ◌∙◌, subst, arith, append-nil, is_some}
 use Rattle.std.specs.Option.{option_map}
-use Rattle.std.proofs.lemmas.Bool.{cond-true, cond-false, cond_both, cases_Bool}
-use Rattle.moka_base.specs.History.{Event, Get, ContainsKey, Insert, Invalidate, TakeNotice, Rules, Write, latest, is_live, live, live_one, after_look, after_write, standing}
+use Rattle.std.proofs.lemmas.Bool.{cond-true, cond_both, cases_Bool}
+use Rattle.moka_base.specs.History.{Event, Get, ContainsKey, Insert, Invalidate, TakeNotice, Rules, Write, latest, is_live, live_one, after_look, after_write, standing}
 use Rattle.moka_base.specs.Laws.{writes, ends, removes, Unwritten, Unremoved, Untouched, LastWrite, Removal, NothingStands, FirstWrite, up_to_write, hits, greatest, IsAsWritten}
 
 module _ {K V : Type 0} (eq : K → K → Bool) (k : K) where
@@ -59,7 +59,7 @@ module _ {K V : Type 0} (eq : K → K → Bool) (k : K) where
 
 -- two places of events that end a key, with nothing later that does, are one place
 place_unique : {K V : Type 0} (eq : K → K → Bool) (k : K) (later₁ later₂ before₁ before₂ : List (Event K V)) (e₁ e₂ : Event K V) → ends eq k e₁ ≡ true → ends eq k e₂ ≡ true → Untouched eq k later₁ → Untouched eq k later₂
-  → later₁ ++ e₁ ∷ before₁ ≡ later₂ ++ e₂ ∷ before₂ → (later₁ ≡ later₂) × ((e₁ ∷ before₁) ≡ (e₂ ∷ before₂))
+    → later₁ ++ e₁ ∷ before₁ ≡ later₂ ++ e₂ ∷ before₂ → (later₁ ≡ later₂) × ((e₁ ∷ before₁) ≡ (e₂ ∷ before₂))
 place_unique eq k [] [] before₁ before₂ e₁ e₂ t₁ t₂ u₁ u₂ same = (refl, same)
 place_unique eq k [] (d ∷ later₂) before₁ before₂ e₁ e₂ t₁ t₂ u₁ u₂ same = let it : e₁ ≡ d = cc in let apart = u₂.0 in let both : ends eq k e₁ ≡ false = ap (ends eq k) it ∙ apart in absurd (cc)
 place_unique eq k (d ∷ later₁) [] before₁ before₂ e₁ e₂ t₁ t₂ u₁ u₂ same = let it : e₂ ≡ d = cc in let apart = u₁.0 in let both : ends eq k e₂ ≡ false = ap (ends eq k) it ∙ apart in absurd (cc)
@@ -112,7 +112,7 @@ module _ {K V : Type 0} (eq : K → K → Bool) (rules : Rules) (k : K) where
 
   -- what stands for a key from a place where it was written on
   standing_from : (q : K) (v : V) (at : ℕ) (before later : List (Event K V)) → eq q k ≡ true → Untouched eq k later
-    → IsFrom v (latest (Insert q v at ∷ before)) (standing eq rules k (later ++ Insert q v at ∷ before)) (hits eq rules k later (Insert q v at ∷ before))
+      → IsFrom v (latest (Insert q v at ∷ before)) (standing eq rules k (later ++ Insert q v at ∷ before)) (hits eq rules k later (Insert q v at ∷ before))
   standing_from q v at before [] same u = rw same (at_write (standing eq rules k before))
     where
       at_write : (o : Option (Write K V)) → IsFrom v (latest (Insert q v at ∷ before)) (Some (after_write rules q v (latest (Insert q v at ∷ before)) o)) []
@@ -166,7 +166,7 @@ module _ {K V : Type 0} (eq : K → K → Bool) (rules : Rules) (k : K) where
 
   -- a key is stored under that of the write that found it not stored, until it is removed
   stored_from : (q : K) (v : V) (at : ℕ) (before later : List (Event K V)) → eq q k ≡ true → standing eq rules k before ≡ None → Unremoved eq k later
-    → IsUnder q (standing eq rules k (later ++ Insert q v at ∷ before))
+      → IsUnder q (standing eq rules k (later ++ Insert q v at ∷ before))
   stored_from q v at before [] same none u = rw (same, none) refl
   stored_from q v at before (Get p t ∷ later) same none u = IsUnder-look q (eq p k) (latest (Get p t ∷ later ++ Insert q v at ∷ before)) (standing eq rules k (later ++ Insert q v at ∷ before)) (stored_from q v at before later same none u.1)
   stored_from q v at before (ContainsKey p t ∷ later) same none u = stored_from q v at before later same none u.1

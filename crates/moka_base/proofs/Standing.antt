@@ -1,5 +1,5 @@
 -- What stands for equal keys is the same, and it is stored under an equal key.
-use Rattle.std.proofs.Common.{◌≡◌, ℕ, max, Bool, true, false, if◌then◌else◌, Option, Some, None, List, [], ◌∷◌, refl, sym, ◌∙◌}
+use Rattle.std.proofs.Common.{◌≡◌, ℕ, max, Bool, true, Option, Some, None, List, [], ◌∷◌, refl, ◌∙◌}
 use Rattle.std.specs.Cmp.{IsEquivalence}
 use Rattle.std.specs.Option.{option_map}
 use Rattle.std.proofs.lemmas.Bool.{cond_both}

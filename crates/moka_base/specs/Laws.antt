@@ -1,5 +1,5 @@
 -- The words of the laws over the list of events.
-use Rattle.std.specs.Prelude.{◌≡◌, ◌⊎◌, ℕ, ◌++◌, ◌&&◌, max, Bool, true, false, if◌then◌else◌, Option, Some, None, List, [], ◌∷◌, is_some, is_none, option_and_then}
+use Rattle.std.specs.Prelude.{◌≡◌, ◌⊎◌, ℕ, ◌++◌, ◌&&◌, max, Bool, true, false, if◌then◌else◌, Option, Some, None, List, [], ◌∷◌, is_some}
 use Rattle.moka_base.specs.declared.notification.RemovalCause.{RemovalCause}
 use Rattle.moka_base.specs.declared.notification.RemovalCause.TheVariants.{Expired}
 use Rattle.moka_base.specs.History.{Event, Get, ContainsKey, Insert, Invalidate, TakeNotice, Rules, Write, Leaving, latest, has_come, deadline, live}

@@ -1,7 +1,7 @@
 -- The rules and the events of the worked cases. Keys and values are numbers.
 use Rattle.std.specs.Prelude.{ℕ, ◌*◌, ◌%◌, Bool, nat_eq, Some, None, List, [], ◌∷◌}
 use Rattle.moka_base.specs.declared.notification.RemovalCause.{RemovalCause}
-use Rattle.moka_base.specs.History.{Event, Get, ContainsKey, Insert, Invalidate, TakeNotice, Rules, Leaving}
+use Rattle.moka_base.specs.History.{Event, Insert, Rules, Leaving}
 
 -- some seconds, in nanoseconds
 abbrev pub seconds : ℕ → ℕ
