@@ -1,10 +1,10 @@
 -- No life's end is undone, and no number comes again.
-use Rattle.std.proofs.Common.{◌≡◌, ℕ, max, ◌≤◌, Bool, true, false, not, if◌then◌else◌, Option, Some, None, List, [], ◌∷◌, ◌++◌, refl, ap, subst, arith}
+use Rattle.std.proofs.Common.{◌≡◌, ◌↔◌, ◌⊎◌, inl, inr, ⊎_elim, ℕ, max, min, ◌+◌, ◌≤◌, length, filter, Bool, true, false, not, if◌then◌else◌, Option, Some, None, List, [], ◌∷◌, ◌++◌, refl, ap, subst, arith}
 use Rattle.std.specs.Option.{option_map}
 use Rattle.std.proofs.lemmas.Bool.{leb-true, le-leb}
-use Rattle.moka_base.specs.History.{Event, Get, ContainsKey, Insert, Invalidate, TakeNotice, Rules, Write, latest, has_come, deadline, is_expired, live, live_one, after_look, standing, next_number}
+use Rattle.moka_base.specs.History.{Event, Get, ContainsKey, Insert, Invalidate, TakeNotice, Rules, Write, latest, ends_at, earlier, has_come, deadline, is_expired, live, live_one, after_look, standing, next_number}
 use Rattle.moka_base.specs.Replies.{Found, Contains, answer}
-use Rattle.moka_base.specs.Laws.{Unwritten, Untouched}
+use Rattle.moka_base.specs.Laws.{Unwritten, Untouched, HasEnded, is_write}
 
 -- the latest moment never falls
 pub latest-more : {K V : Type 0} (later h : List (Event K V)) → latest h ≤ latest (later ++ h)
@@ -20,6 +20,41 @@ has_come-later (Some d) at later le come = le-leb d later (let h = leb-true d at
 pub next_number-more : {K V : Type 0} (rules : Rules) (later h : List (Event K V)) → next_number rules h ≤ next_number rules (later ++ h)
 next_number-more rules [] h = omega arith
 next_number-more rules (e ∷ later) h = let ih : next_number rules h ≤ next_number rules (later ++ h) = next_number-more rules later h in omega arith
+
+-- which is the first plus as many as there were writes
+pub next_number-counted : {K V : Type 0} (rules : Rules) (h : List (Event K V)) → next_number rules h ≡ rules.first_number + length (filter is_write h)
+next_number-counted rules [] = omega arith
+next_number-counted rules (Get q at ∷ h) = let ih = next_number-counted rules h in omega arith
+next_number-counted rules (ContainsKey q at ∷ h) = let ih = next_number-counted rules h in omega arith
+next_number-counted rules (Insert q v at ∷ h) = let ih = next_number-counted rules h in omega arith
+next_number-counted rules (Invalidate q at ∷ h) = let ih = next_number-counted rules h in omega arith
+next_number-counted rules (TakeNotice ∷ h) = let ih = next_number-counted rules h in omega arith
+
+-- of the lives of two moments the earlier end is the deadline
+pub has_come-ended : (a b : Option ℕ) (written used at : ℕ) → (has_come (earlier (ends_at a written) (ends_at b used)) at ≡ true) ↔ (HasEnded a written at ⊎ HasEnded b used at)
+has_come-ended a b written used at = (to a b, from a b)
+  where
+    to : (a b : Option ℕ) → has_come (earlier (ends_at a written) (ends_at b used)) at ≡ true → HasEnded a written at ⊎ HasEnded b used at
+    to None None come = absurd (cc)
+    to (Some m) None come = inl (m, refl, leb-true (written + m) at come)
+    to None (Some n) come = inr (n, refl, leb-true (used + n) at come)
+    to (Some m) (Some n) come =
+        let le = leb-true (min (written + m) (used + n)) at come in
+        let either : (written + m ≤ at) ⊎ (used + n ≤ at) = grind arith in
+        ⊎_elim (λ h. inl (m, refl, h)) (λ h. inr (n, refl, h)) either
+    never : (from : ℕ) → HasEnded None from at → ⊥
+    never from h = let none = h.1 in cc
+    by : (m from : ℕ) → HasEnded (Some m) from at → from + m ≤ at
+    by m from h = let same = h.1 in let it : m ≡ h.0 = cc in let le = h.2 in omega arith
+    from : (a b : Option ℕ) → HasEnded a written at ⊎ HasEnded b used at → has_come (earlier (ends_at a written) (ends_at b used)) at ≡ true
+    from None None (inl h) = absurd (never written h)
+    from None None (inr h) = absurd (never used h)
+    from (Some m) None (inl h) = le-leb (written + m) at (by m written h)
+    from (Some m) None (inr h) = absurd (never used h)
+    from None (Some n) (inl h) = absurd (never written h)
+    from None (Some n) (inr h) = le-leb (used + n) at (by n used h)
+    from (Some m) (Some n) (inl h) = le-leb (min (written + m) (used + n)) at (let le = by m written h in omega arith)
+    from (Some m) (Some n) (inr h) = le-leb (min (written + m) (used + n)) at (let le = by n used h in omega arith)
 
 module _ {K V : Type 0} (eq : K → K → Bool) (rules : Rules) (k : K) where
   -- an expired write stays as it is until its key is written or removed

@@ -1,8 +1,9 @@
 -- What stands for a key, by the places of the events that wrote and removed it.
-use Rattle.std.proofs.Common.{◌≡◌, ◌↔◌, ◌⊎◌, inl, inr, ⊎_elim, ℕ, max, Bool, true, false, ◌&&◌, if◌then◌else◌, Option, Some, None, List, [], ◌∷◌, ◌++◌, refl, sym, ap, ◌∙◌, subst, arith, append-nil, is_some}
+use Rattle.std.proofs.Common.{◌≡◌, ◌↔◌, ◌⊎◌, inl, inr, ⊎_elim, ℕ, max, Bool, true, false, not, ◌&&◌, if◌then◌else◌, Option, Some, None, List, [], ◌∷◌, ◌++◌, refl, sym, ap, ◌∙◌, subst, arith, append-nil, is_some}
 use Rattle.std.specs.Option.{option_map}
 use Rattle.std.proofs.lemmas.Bool.{cond-true, cond_both, cases_Bool}
-use Rattle.moka_base.specs.History.{Event, Get, ContainsKey, Insert, Invalidate, TakeNotice, Rules, Write, latest, is_live, live_one, after_look, after_write, standing}
+use Rattle.moka_base.specs.History.{Event, Get, ContainsKey, Insert, Invalidate, TakeNotice, Rules, Write, latest, is_live, is_expired, live_one, after_look, after_write, standing}
+use Rattle.moka_base.specs.Replies.{Answer, Found, Contains, answer}
 use Rattle.moka_base.specs.Laws.{writes, ends, removes, Unwritten, Unremoved, Untouched, LastWrite, Removal, NothingStands, FirstWrite, up_to_write, hits, greatest, IsAsWritten}
 
 module _ {K V : Type 0} (eq : K → K → Bool) (k : K) where
@@ -191,3 +192,22 @@ module _ {K V : Type 0} (eq : K → K → Bool) (rules : Rules) (k : K) where
           let (u, is, under) = stored_under_first_write h first in
           let same : u ≡ w = cc in
           (first, ap (λ (x : Write K V). x.key) (sym same) ∙ under)
+
+  -- a look answers the value of the last write until its deadline has come
+  pub answer_last_write : (h : List (Event K V)) (at : ℕ) (last : LastWrite eq k h) → (w : Write K V) × IsAsWritten rules last w
+    × (answer eq rules (Get k at) h ≡ Found (if is_expired rules w (max (latest h) at) then None else Some last.value))
+    × (answer eq rules (ContainsKey k at) h ≡ Contains (not (is_expired rules w (max (latest h) at))))
+  answer_last_write h at last =
+      let (w, stands, as_written) = last_write_stands h last in
+      (w, as_written, rw stands (found (is_expired rules w (max (latest h) at)) w as_written.value), rw stands (contained (is_expired rules w (max (latest h) at)) w))
+    where
+      found : (t : Bool) (w : Write K V) → w.value ≡ last.value → ◌≡◌ {A = Answer K V} (Found (option_map (λ (u : Write K V). u.value) (if not t then Some w else None))) (Found (if t then None else Some last.value))
+      found true w value = refl
+      found false w value = ap (λ v. Found (Some v)) value
+      contained : (t : Bool) (w : Write K V) → ◌≡◌ {A = Answer K V} (Contains (is_some (if not t then Some w else None))) (Contains (not t))
+      contained true w = refl
+      contained false w = refl
+
+  -- where nothing stands a look answers none
+  pub answer-nothing : (h : List (Event K V)) (at : ℕ) → NothingStands eq k h → (answer eq rules (Get k at) h ≡ Found None) × (answer eq rules (ContainsKey k at) h ≡ Contains false)
+  answer-nothing h at none = (rw (standing-nothing h none), rw (standing-nothing h none))

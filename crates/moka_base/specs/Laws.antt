@@ -1,5 +1,5 @@
 -- The words of the laws over the list of events.
-use Rattle.std.specs.Prelude.{◌≡◌, ◌⊎◌, ℕ, ◌++◌, ◌&&◌, max, Bool, true, false, if◌then◌else◌, Option, Some, None, List, [], ◌∷◌, is_some}
+use Rattle.std.specs.Prelude.{◌≡◌, ◌⊎◌, ℕ, ◌+◌, ◌≤◌, ◌++◌, ◌&&◌, max, Bool, true, false, if◌then◌else◌, Option, Some, None, List, [], ◌∷◌, is_some}
 use Rattle.moka_base.specs.declared.notification.RemovalCause.{RemovalCause}
 use Rattle.moka_base.specs.declared.notification.RemovalCause.TheVariants.{Expired}
 use Rattle.moka_base.specs.History.{Event, Get, ContainsKey, Insert, Invalidate, TakeNotice, Rules, Write, Leaving, latest, has_come, deadline, live}
@@ -115,6 +115,18 @@ pub record IsLeavingOf {K V : Type 0} {eq : K → K → Bool} {k : K} {h : List 
   pub same_key : eq l.key k ≡ true
   pub value : l.value ≡ last.value
   pub cause : l.cause ≡ (if has_come (deadline rules stood) at then Expired else own)
+
+-- a life from a moment on has ended at a moment
+abbrev pub HasEnded : Option ℕ → ℕ → ℕ → Type 0
+HasEnded life from at = (nanoseconds : ℕ) × (life ≡ Some nanoseconds) × (from + nanoseconds ≤ at)
+
+-- whether an event is a write
+abbrev pub is_write : {K V : Type 0} → Event K V → Bool
+is_write (Get q at) = false
+is_write (ContainsKey q at) = false
+is_write (Insert q v at) = true
+is_write (Invalidate q at) = false
+is_write TakeNotice = false
 
 -- the values that were written to a key, in order
 abbrev pub values_written : {K V : Type 0} → (K → K → Bool) → K → List (Event K V) → List V

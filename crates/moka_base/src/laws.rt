@@ -1,19 +1,20 @@
 //! The laws of the definitions over the list of events, in the words of the subject. Each stands as
 //! the contract of a function that does nothing, so that the check proves it for every list of events.
-ghost use Rattle.std.specs.Prelude.{◌≡◌, ◌≢◌, ◌⊎◌, ◌↔◌, ℕ, ◌+◌, ◌<◌, ◌≤◌, Bool, true, false, List, [], ◌∷◌, ◌++◌, length, filter, slice_get};
+ghost use Rattle.std.specs.Prelude.{◌≡◌, ◌≢◌, ◌⊎◌, ◌↔◌, ℕ, ◌+◌, ◌<◌, ◌≤◌, max, Bool, not, if◌then◌else◌, true, false, List, [], ◌∷◌, ◌++◌, length, filter, slice_get};
 ghost use Rattle.moka_base.specs.declared.notification.RemovalCause.TheVariants.{Explicit, Replaced};
 ghost use Rattle.moka_base.specs.History.{Event, Get, ContainsKey, Insert, Invalidate, TakeNotice, Rules, Write, Leaving, latest, is_expired, standing, leaving, leavings, taken, noticed, next_number};
-ghost use Rattle.moka_base.specs.Laws.{ends, Unwritten, Untouched, LastWrite, FirstWrite, NothingStands, up_to_write, IsAsWritten, IsLeavingOf, values_written, values_left, value_standing, given_out};
+ghost use Rattle.moka_base.specs.Laws.{ends, Unwritten, Untouched, LastWrite, FirstWrite, NothingStands, up_to_write, IsAsWritten, IsLeavingOf, HasEnded, is_write, values_written, values_left, value_standing, given_out};
 ghost use Rattle.moka_base.specs.Replies.{Found, Contains, Noticed, answer};
 
-/// After a write a look at the same moment finds its value, unless a life of nothing has ended it already.
+/// After a write a look at the same moment, or at an earlier one, finds its value; with a life of
+/// nothing no look finds it at any moment.
 pub fn get_after_insert<K: Eq, V>()
-    ensures found { (rules : Rules) (h : List (Event K V)) (k q : K) (v : V) (at : ℕ) → K.eq k q ≡ true
+    ensures found { (rules : Rules) (h : List (Event K V)) (k q : K) (v : V) (at now : ℕ) → K.eq k q ≡ true → now ≤ at
         → rules.time_to_live ≢ Some 0 → rules.time_to_idle ≢ Some 0
-        → answer K.eq rules (Get q at) (Insert k v at ∷ h) ≡ Found (Some v) }
-    ensures expired { (rules : Rules) (h : List (Event K V)) (k q : K) (v : V) (at : ℕ) → K.eq k q ≡ true
+        → answer K.eq rules (Get q now) (Insert k v at ∷ h) ≡ Found (Some v) }
+    ensures expired { (rules : Rules) (h : List (Event K V)) (k q : K) (v : V) (at now : ℕ) → K.eq k q ≡ true
         → (rules.time_to_live ≡ Some 0) ⊎ (rules.time_to_idle ≡ Some 0)
-        → answer K.eq rules (Get q at) (Insert k v at ∷ h) ≡ Found None }
+        → answer K.eq rules (Get q now) (Insert k v at ∷ h) ≡ Found None }
 {}
 
 /// A look by `contains_key` changes nothing: every later answer is as if it had not been made.
@@ -68,6 +69,33 @@ pub fn standing_is_the_last_write<K: Eq, V>()
         → (a.later ≡ b.later) × (up_to_write a ≡ up_to_write b) }
 {}
 
+/// A look answers the value of the last write until its deadline has come, and where nothing stands
+/// it answers none. It uses the greater of its moment and the latest one.
+pub fn looks_answer_the_last_write<K: Eq, V>()
+    ensures found { (rules : Rules) (h : List (Event K V)) (k : K) (at : ℕ) (last : LastWrite K.eq k h)
+        → (w : Write K V) × IsAsWritten rules last w
+        × (answer K.eq rules (Get k at) h ≡ Found (if is_expired rules w (max (latest h) at) then None else Some last.value))
+        × (answer K.eq rules (ContainsKey k at) h ≡ Contains (not (is_expired rules w (max (latest h) at)))) }
+    ensures nothing { (rules : Rules) (h : List (Event K V)) (k : K) (at : ℕ) → NothingStands K.eq k h
+        → (answer K.eq rules (Get k at) h ≡ Found None) × (answer K.eq rules (ContainsKey k at) h ≡ Contains false) }
+{}
+
+/// A write is expired exactly where its time to live has passed since it was written, or its time to
+/// idle since it was last used.
+pub fn expired_where_a_life_has_ended<K, V>()
+    ensures { (rules : Rules) (w : Write K V) (at : ℕ)
+        → (is_expired rules w at ≡ true) ↔ (HasEnded rules.time_to_live w.written at ⊎ HasEnded rules.time_to_idle w.used at) }
+{}
+
+/// Equal keys are one key: the same write stands for them, and looks answer the same of them.
+pub fn equal_keys_are_one_key<K: Eq, V>()
+    ensures standing { (rules : Rules) (h : List (Event K V)) (k q : K) → K.eq k q ≡ true
+        → standing K.eq rules k h ≡ standing K.eq rules q h }
+    ensures looks { (rules : Rules) (h : List (Event K V)) (k q : K) (at : ℕ) → K.eq k q ≡ true
+        → (answer K.eq rules (Get k at) h ≡ answer K.eq rules (Get q at) h)
+        × (answer K.eq rules (ContainsKey k at) h ≡ answer K.eq rules (ContainsKey q at) h) }
+{}
+
 /// A write leaves once: at the first later event that writes or removes its key, and nothing else
 /// ever leaves. It leaves with its value, for that event's cause, or as expired where its deadline
 /// had come.
@@ -100,8 +128,11 @@ pub fn expiry_is_final<K: Eq, V>()
         × (answer K.eq rules (ContainsKey k now) (later ++ Get k at ∷ h) ≡ Contains false) }
 {}
 
-/// No number is drawn twice: each write draws the next one, which never falls.
+/// No number is drawn twice: each write draws the next one, which is the first plus as many as there
+/// were writes, and never falls.
 pub fn numbers_never_come_again<K, V>()
+    ensures counted { (rules : Rules) (h : List (Event K V))
+        → next_number rules h ≡ rules.first_number + length (filter is_write h) }
     ensures drawn { (rules : Rules) (h : List (Event K V)) (k : K) (v : V) (at : ℕ)
         → next_number rules (Insert k v at ∷ h) ≡ next_number rules h + 1 }
     ensures never_falls { (rules : Rules) (later h : List (Event K V)) → next_number rules h ≤ next_number rules (later ++ h) }
