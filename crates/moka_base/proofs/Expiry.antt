@@ -42,10 +42,13 @@ has_come-ended a b written used at = (to a b, from a b)
         let le = leb-true (min (written + m) (used + n)) at come in
         let either : (written + m ≤ at) ⊎ (used + n ≤ at) = grind arith in
         ⊎_elim (λ h. inl (m, refl, h)) (λ h. inr (n, refl, h)) either
+
     never : (from : ℕ) → HasEnded None from at → ⊥
     never from h = let none = h.1 in cc
+
     by : (m from : ℕ) → HasEnded (Some m) from at → from + m ≤ at
     by m from h = let same = h.1 in let it : m ≡ h.0 = cc in let le = h.2 in omega arith
+
     from : (a b : Option ℕ) → HasEnded a written at ⊎ HasEnded b used at → has_come (earlier (ends_at a written) (ends_at b used)) at ≡ true
     from None None (inl h) = absurd (never written h)
     from None None (inr h) = absurd (never used h)

@@ -16,7 +16,7 @@ module _ {K V : Type 0} (eq : K → K → Bool) (rules : Rules) where
       let (w, stands, as_written) = last_write_stands eq rules k h last in
       let it : standing eq rules q h ≡ Some w = standing_congr eq rules e q k h same ∙ stands in
       let under : eq w.key k ≡ true = subst (IsStoredUnder eq k) stands (stored_key eq rules k h) in
-      (_, ap (left rules own at) it, record { stood = w; as_written = as_written; key = refl; same_key = under; value = as_written.value; cause = refl })
+      (_, ap (left rules own at) it, record { stood = w; stands = stands; as_written = as_written; key = refl; same_key = under; value = as_written.value; cause = refl })
 
   -- where nothing stands nothing leaves
   pub leaving-nothing : IsEquivalence eq → (k : K) (h : List (Event K V)) (e : Event K V) → ends eq k e ≡ true → NothingStands eq k h → leaving eq rules e h ≡ []

@@ -4,7 +4,7 @@ use Rattle.std.specs.Option.{option_map}
 use Rattle.std.proofs.lemmas.Bool.{cond-true, cond_both, cases_Bool}
 use Rattle.moka_base.specs.History.{Event, Get, ContainsKey, Insert, Invalidate, TakeNotice, Rules, Write, latest, is_live, is_expired, live_one, after_look, after_write, standing}
 use Rattle.moka_base.specs.Replies.{Answer, Found, Contains, answer}
-use Rattle.moka_base.specs.Laws.{writes, ends, removes, Unwritten, Unremoved, Untouched, LastWrite, Removal, NothingStands, FirstWrite, up_to_write, hits, greatest, IsAsWritten}
+use Rattle.moka_base.specs.Laws.{writes, ends, removes, Unwritten, Unremoved, Untouched, LastWrite, FirstEnd, Removal, NothingStands, FirstWrite, up_to_write, hits, greatest, IsAsWritten}
 
 module _ {K V : Type 0} (eq : K → K → Bool) (k : K) where
   -- one more event that does not write or remove the key
@@ -73,6 +73,40 @@ place_unique eq k (d₁ ∷ later₁) (d₂ ∷ later₂) before₁ before₂ e�
 -- there is one place of the last write
 pub LastWrite-one_place : {K V : Type 0} (eq : K → K → Bool) (k : K) (h : List (Event K V)) (a b : LastWrite eq k h) → (a.later ≡ b.later) × (up_to_write a ≡ up_to_write b)
 LastWrite-one_place eq k h a b = place_unique eq k a.later b.later a.before b.before (Insert a.key a.value a.at) (Insert b.key b.value b.at) a.same_key b.same_key a.untouched b.untouched (sym a.place ∙ b.place)
+
+module _ {K V : Type 0} (eq : K → K → Bool) (k : K) where
+  -- some events leave a key untouched, or there is a first one that writes or removes it
+  pub untouched_or_ended : (h : List (Event K V)) → Untouched eq k h ⊎ FirstEnd eq k h
+  untouched_or_ended [] = inl tt
+  untouched_or_ended (e ∷ h) =
+      ⊎_elim
+      (λ untouched. ⊎_elim
+      (λ ended. inr (record { later = []; event = e; before = h; place = refl; ends_it = ended; untouched = untouched }))
+      (λ apart. inl (apart, untouched))
+      (cases_Bool (ends eq k e)))
+      (λ first. inr (record { later = e ∷ first.later; event = first.event; before = first.before; place = ap (λ es. e ∷ es) first.place; ends_it = first.ends_it; untouched = first.untouched }))
+      (untouched_or_ended h)
+
+  -- none of a row that leaves a key untouched ends it
+  untouched_within : (later before : List (Event K V)) (e : Event K V) → Untouched eq k (later ++ e ∷ before) → ends eq k e ≡ false
+  untouched_within [] before e u = u.0
+  untouched_within (d ∷ later) before e u = untouched_within later before e u.1
+
+  -- two first ends of a row are one
+  first_end_unique : (later₁ later₂ before₁ before₂ : List (Event K V)) (e₁ e₂ : Event K V) → ends eq k e₁ ≡ true → ends eq k e₂ ≡ true → Untouched eq k before₁ → Untouched eq k before₂
+      → later₁ ++ e₁ ∷ before₁ ≡ later₂ ++ e₂ ∷ before₂ → (later₁ ≡ later₂) × ((e₁ ∷ before₁) ≡ (e₂ ∷ before₂))
+  first_end_unique [] [] before₁ before₂ e₁ e₂ t₁ t₂ u₁ u₂ same = (refl, same)
+  first_end_unique [] (d ∷ later₂) before₁ before₂ e₁ e₂ t₁ t₂ u₁ u₂ same = let rest : before₁ ≡ later₂ ++ e₂ ∷ before₂ = cc in let apart = untouched_within later₂ before₂ e₂ (subst (Untouched eq k) rest u₁) in absurd (cc)
+  first_end_unique (d ∷ later₁) [] before₁ before₂ e₁ e₂ t₁ t₂ u₁ u₂ same = let rest : before₂ ≡ later₁ ++ e₁ ∷ before₁ = cc in let apart = untouched_within later₁ before₁ e₁ (subst (Untouched eq k) rest u₂) in absurd (cc)
+  first_end_unique (d₁ ∷ later₁) (d₂ ∷ later₂) before₁ before₂ e₁ e₂ t₁ t₂ u₁ u₂ same =
+      let heads : d₁ ≡ d₂ = cc in
+      let rest = first_end_unique later₁ later₂ before₁ before₂ e₁ e₂ t₁ t₂ u₁ u₂ (cc) in
+      let tails : later₁ ≡ later₂ = rest.0 in
+      (cc, rest.1)
+
+  -- there is one place of the first end
+  pub FirstEnd-one_place : (h : List (Event K V)) (a b : FirstEnd eq k h) → (a.later ≡ b.later) × ((a.event ∷ a.before) ≡ (b.event ∷ b.before))
+  FirstEnd-one_place h a b = first_end_unique a.later b.later a.before b.before a.event b.event a.ends_it b.ends_it a.untouched b.untouched (sym a.place ∙ b.place)
 
 -- a choice between two of the same
 if_same : {A : Type 0} (t : Bool) (x : A) → (if t then x else x) ≡ x
@@ -195,8 +229,8 @@ module _ {K V : Type 0} (eq : K → K → Bool) (rules : Rules) (k : K) where
 
   -- a look answers the value of the last write until its deadline has come
   pub answer_last_write : (h : List (Event K V)) (at : ℕ) (last : LastWrite eq k h) → (w : Write K V) × IsAsWritten rules last w
-    × (answer eq rules (Get k at) h ≡ Found (if is_expired rules w (max (latest h) at) then None else Some last.value))
-    × (answer eq rules (ContainsKey k at) h ≡ Contains (not (is_expired rules w (max (latest h) at))))
+      × (answer eq rules (Get k at) h ≡ Found (if is_expired rules w (max (latest h) at) then None else Some last.value))
+      × (answer eq rules (ContainsKey k at) h ≡ Contains (not (is_expired rules w (max (latest h) at))))
   answer_last_write h at last =
       let (w, stands, as_written) = last_write_stands h last in
       (w, as_written, rw stands (found (is_expired rules w (max (latest h) at)) w as_written.value), rw stands (contained (is_expired rules w (max (latest h) at)) w))
@@ -204,6 +238,7 @@ module _ {K V : Type 0} (eq : K → K → Bool) (rules : Rules) (k : K) where
       found : (t : Bool) (w : Write K V) → w.value ≡ last.value → ◌≡◌ {A = Answer K V} (Found (option_map (λ (u : Write K V). u.value) (if not t then Some w else None))) (Found (if t then None else Some last.value))
       found true w value = refl
       found false w value = ap (λ v. Found (Some v)) value
+
       contained : (t : Bool) (w : Write K V) → ◌≡◌ {A = Answer K V} (Contains (is_some (if not t then Some w else None))) (Contains (not t))
       contained true w = refl
       contained false w = refl

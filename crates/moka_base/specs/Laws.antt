@@ -2,7 +2,7 @@
 use Rattle.std.specs.Prelude.{◌≡◌, ◌⊎◌, ℕ, ◌+◌, ◌≤◌, ◌++◌, ◌&&◌, max, Bool, true, false, if◌then◌else◌, Option, Some, None, List, [], ◌∷◌, is_some}
 use Rattle.moka_base.specs.declared.notification.RemovalCause.{RemovalCause}
 use Rattle.moka_base.specs.declared.notification.RemovalCause.TheVariants.{Expired}
-use Rattle.moka_base.specs.History.{Event, Get, ContainsKey, Insert, Invalidate, TakeNotice, Rules, Write, Leaving, latest, has_come, deadline, live}
+use Rattle.moka_base.specs.History.{Event, Get, ContainsKey, Insert, Invalidate, TakeNotice, Rules, Write, Leaving, latest, has_come, deadline, standing, live}
 use Rattle.moka_base.specs.Replies.{Answer, Found, Contains, Done, Noticed, answer}
 
 -- whether an event writes a key
@@ -54,6 +54,15 @@ pub record LastWrite {K V : Type 0} (eq : K → K → Bool) (k : K) (h : List (E
   pub place : h ≡ later ++ Insert key value at ∷ before
   pub same_key : eq key k ≡ true
   pub untouched : Untouched eq k later
+
+-- The first of these events that writes or removes a key, at its place.
+pub record FirstEnd {K V : Type 0} (eq : K → K → Bool) (k : K) (h : List (Event K V)) : Type 0 where
+  pub later : List (Event K V)
+  pub event : Event K V
+  pub before : List (Event K V)
+  pub place : h ≡ later ++ event ∷ before
+  pub ends_it : ends eq k event ≡ true
+  pub untouched : Untouched eq k before
 
 -- The removal of a key after its last write, at its place.
 pub record Removal {K V : Type 0} (eq : K → K → Bool) (k : K) (h : List (Event K V)) : Type 0 where
@@ -110,6 +119,7 @@ pub record IsAsWritten {K V : Type 0} {eq : K → K → Bool} {k : K} {h : List 
 -- expired where at that moment the deadline of what stood had come.
 pub record IsLeavingOf {K V : Type 0} {eq : K → K → Bool} {k : K} {h : List (Event K V)} (rules : Rules) (last : LastWrite eq k h) (own : RemovalCause) (at : ℕ) (l : Leaving K V) : Type 0 where
   pub stood : Write K V
+  pub stands : standing eq rules k h ≡ Some stood
   pub as_written : IsAsWritten rules last stood
   pub key : l.key ≡ stood.key
   pub same_key : eq l.key k ≡ true

@@ -3,7 +3,7 @@
 ghost use Rattle.std.specs.Prelude.{◌≡◌, ◌≢◌, ◌⊎◌, ◌↔◌, ℕ, ◌+◌, ◌<◌, ◌≤◌, max, Bool, not, if◌then◌else◌, true, false, List, [], ◌∷◌, ◌++◌, length, filter, slice_get};
 ghost use Rattle.moka_base.specs.declared.notification.RemovalCause.TheVariants.{Explicit, Replaced};
 ghost use Rattle.moka_base.specs.History.{Event, Get, ContainsKey, Insert, Invalidate, TakeNotice, Rules, Write, Leaving, latest, is_expired, standing, leaving, leavings, taken, noticed, next_number};
-ghost use Rattle.moka_base.specs.Laws.{ends, Unwritten, Untouched, LastWrite, FirstWrite, NothingStands, up_to_write, IsAsWritten, IsLeavingOf, HasEnded, is_write, values_written, values_left, value_standing, given_out};
+ghost use Rattle.moka_base.specs.Laws.{ends, Unwritten, Untouched, LastWrite, FirstWrite, FirstEnd, NothingStands, up_to_write, IsAsWritten, IsLeavingOf, HasEnded, is_write, values_written, values_left, value_standing, given_out};
 ghost use Rattle.moka_base.specs.Replies.{Found, Contains, Noticed, answer};
 
 /// After a write a look at the same moment, or at an earlier one, finds its value; with a life of
@@ -96,9 +96,9 @@ pub fn equal_keys_are_one_key<K: Eq, V>()
         × (answer K.eq rules (ContainsKey k at) h ≡ answer K.eq rules (ContainsKey q at) h) }
 {}
 
-/// A write leaves once: at the first later event that writes or removes its key, and nothing else
-/// ever leaves. It leaves with its value, for that event's cause, or as expired where its deadline
-/// had come.
+/// A write leaves once: at the first later event that writes or removes its key, of which there is
+/// one or none, and nothing else ever leaves. It leaves with its value, for that event's cause, or as
+/// expired where its deadline had come.
 pub fn what_leaves_leaves_once<K: Eq, V>()
     ensures replaced { (rules : Rules) (h : List (Event K V)) (k q : K) (v : V) (at : ℕ) (last : LastWrite K.eq k h) → K.eq q k ≡ true
         → (l : Leaving K V) × (leaving K.eq rules (Insert q v at) h ≡ l ∷ []) × IsLeavingOf rules last Replaced (latest (Insert q v at ∷ h)) l }
@@ -108,6 +108,9 @@ pub fn what_leaves_leaves_once<K: Eq, V>()
         → leaving K.eq rules e h ≢ [] → (k : K) × (ends K.eq k e ≡ true) × LastWrite K.eq k h }
     ensures nothing { (rules : Rules) (h : List (Event K V)) (e : Event K V) (k : K)
         → ends K.eq k e ≡ true → NothingStands K.eq k h → leaving K.eq rules e h ≡ [] }
+    ensures first { (later : List (Event K V)) (k : K) → Untouched K.eq k later ⊎ FirstEnd K.eq k later }
+    ensures one_place { (later : List (Event K V)) (k : K) (a b : FirstEnd K.eq k later)
+        → (a.later ≡ b.later) × ((a.event ∷ a.before) ≡ (b.event ∷ b.before)) }
     ensures looks { (rules : Rules) (h : List (Event K V)) (e : Event K V)
         → ((k : K) → ends K.eq k e ≡ false) → leaving K.eq rules e h ≡ [] }
 {}
