@@ -4,7 +4,7 @@ use Rattle.std.specs.Option.{option_map}
 use Rattle.std.proofs.lemmas.Bool.{leb-true, le-leb}
 use Rattle.moka_base.specs.History.{Event, Get, ContainsKey, Insert, Invalidate, TakeNotice, Rules, Write, latest, ends_at, earlier, has_come, deadline, is_expired, live, live_one, after_look, standing, next_number}
 use Rattle.moka_base.specs.Replies.{Found, Contains, answer}
-use Rattle.moka_base.specs.Laws.{Unwritten, Untouched, HasEnded, is_write}
+use Rattle.moka_base.specs.Laws.{IsUnwritten, IsUntouched, HasEnded, is_write}
 
 -- the latest moment never falls
 pub latest-more : {K V : Type 0} (later h : List (Event K V)) → latest h ≤ latest (later ++ h)
@@ -61,7 +61,7 @@ has_come-ended a b written used at = (to a b, from a b)
 
 module _ {K V : Type 0} (eq : K → K → Bool) (rules : Rules) (k : K) where
   -- an expired write stays as it is until its key is written or removed
-  pub expired_stays : (later h : List (Event K V)) (w : Write K V) → standing eq rules k h ≡ Some w → is_expired rules w (latest h) ≡ true → Untouched eq k later → standing eq rules k (later ++ h) ≡ Some w
+  pub expired_stays : (later h : List (Event K V)) (w : Write K V) → standing eq rules k h ≡ Some w → is_expired rules w (latest h) ≡ true → IsUntouched eq k later → standing eq rules k (later ++ h) ≡ Some w
   expired_stays [] h w stands gone u = stands
   expired_stays (Get q at ∷ later) h w stands gone u = rw (expired_stays later h w stands gone u.1) (look (eq q k))
     where
@@ -106,7 +106,7 @@ module _ {K V : Type 0} (eq : K → K → Bool) (rules : Rules) (k : K) where
   IsUnseen-removal true o at unseen = tt
 
   -- where no live write stands, none does until the key is written
-  unseen_from : (later h : List (Event K V)) → Unwritten eq k later → IsUnseen (standing eq rules k h) (latest h) → IsUnseen (standing eq rules k (later ++ h)) (latest (later ++ h))
+  unseen_from : (later h : List (Event K V)) → IsUnwritten eq k later → IsUnseen (standing eq rules k h) (latest h) → IsUnseen (standing eq rules k (later ++ h)) (latest (later ++ h))
   unseen_from [] h u unseen = unseen
   unseen_from (Get q at ∷ later) h u unseen = IsUnseen-look (eq q k) (standing eq rules k (later ++ h)) (latest (Get q at ∷ later ++ h)) (IsUnseen-later (standing eq rules k (later ++ h)) (latest (later ++ h)) (latest (Get q at ∷ later ++ h)) (omega arith) (unseen_from later h u.1 unseen))
   unseen_from (ContainsKey q at ∷ later) h u unseen = IsUnseen-later (standing eq rules k (later ++ h)) (latest (later ++ h)) (latest (ContainsKey q at ∷ later ++ h)) (omega arith) (unseen_from later h u.1 unseen)
@@ -129,7 +129,7 @@ module _ {K V : Type 0} (eq : K → K → Bool) (rules : Rules) (k : K) where
   live-unseen (Some w) at unseen = rw unseen refl
 
   -- after a look that finds nothing, nothing is live until the key is written
-  live-missed : (later h : List (Event K V)) (at now : ℕ) → answer eq rules (Get k at) h ≡ Found None → Unwritten eq k later → live eq rules k (max (latest (later ++ Get k at ∷ h)) now) (later ++ Get k at ∷ h) ≡ None
+  live-missed : (later h : List (Event K V)) (at now : ℕ) → answer eq rules (Get k at) h ≡ Found None → IsUnwritten eq k later → live eq rules k (max (latest (later ++ Get k at ∷ h)) now) (later ++ Get k at ∷ h) ≡ None
   live-missed later h at now missed u =
       let nothing : option_map (λ (w : Write K V). w.value) (live_one rules (latest (Get k at ∷ h)) (standing eq rules k h)) ≡ None = cc in
       live-unseen (standing eq rules k (later ++ Get k at ∷ h)) (max (latest (later ++ Get k at ∷ h)) now)
@@ -137,9 +137,9 @@ module _ {K V : Type 0} (eq : K → K → Bool) (rules : Rules) (k : K) where
       (unseen_from later (Get k at ∷ h) u (IsUnseen-look (eq k k) (standing eq rules k h) (latest (Get k at ∷ h)) (unseen_by (standing eq rules k h) (latest (Get k at ∷ h)) nothing))))
 
   -- so no look by `get` finds anything
-  pub get-missed : (later h : List (Event K V)) (at now : ℕ) → answer eq rules (Get k at) h ≡ Found None → Unwritten eq k later → answer eq rules (Get k now) (later ++ Get k at ∷ h) ≡ Found None
+  pub get-missed : (later h : List (Event K V)) (at now : ℕ) → answer eq rules (Get k at) h ≡ Found None → IsUnwritten eq k later → answer eq rules (Get k now) (later ++ Get k at ∷ h) ≡ Found None
   get-missed later h at now missed u = rw (live-missed later h at now missed u)
 
   -- and none by `contains_key`
-  pub contains_key-missed : (later h : List (Event K V)) (at now : ℕ) → answer eq rules (Get k at) h ≡ Found None → Unwritten eq k later → answer eq rules (ContainsKey k now) (later ++ Get k at ∷ h) ≡ Contains false
+  pub contains_key-missed : (later h : List (Event K V)) (at now : ℕ) → answer eq rules (Get k at) h ≡ Found None → IsUnwritten eq k later → answer eq rules (ContainsKey k now) (later ++ Get k at ∷ h) ≡ Contains false
   contains_key-missed later h at now missed u = rw (live-missed later h at now missed u)

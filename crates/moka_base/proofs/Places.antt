@@ -4,7 +4,7 @@ use Rattle.std.specs.Option.{option_map}
 use Rattle.std.proofs.lemmas.Bool.{cond-true, cond_both, cases_Bool}
 use Rattle.moka_base.specs.History.{Event, Get, ContainsKey, Insert, Invalidate, TakeNotice, Rules, Write, latest, is_live, is_expired, live_one, after_look, after_write, standing}
 use Rattle.moka_base.specs.Replies.{Answer, Found, Contains, answer}
-use Rattle.moka_base.specs.Laws.{writes, ends, removes, Unwritten, Unremoved, Untouched, LastWrite, FirstEnd, Removal, NothingStands, FirstWrite, up_to_write, hits, greatest, IsAsWritten}
+use Rattle.moka_base.specs.Laws.{writes, ends, removes, IsUnwritten, IsUnremoved, IsUntouched, LastWrite, FirstEnd, Removal, NothingStands, FirstWrite, up_to_write, hits, greatest, IsAsWritten}
 
 module _ {K V : Type 0} (eq : K → K → Bool) (k : K) where
   -- one more event that does not write or remove the key
@@ -59,7 +59,7 @@ module _ {K V : Type 0} (eq : K → K → Bool) (k : K) where
   first_or_nothing (TakeNotice ∷ h) = ⊎_elim (λ first. inl (FirstWrite-more TakeNotice h refl first)) (λ none. inr (NothingStands-more TakeNotice h refl none)) (first_or_nothing h)
 
 -- two places of events that end a key, with nothing later that does, are one place
-place_unique : {K V : Type 0} (eq : K → K → Bool) (k : K) (later₁ later₂ before₁ before₂ : List (Event K V)) (e₁ e₂ : Event K V) → ends eq k e₁ ≡ true → ends eq k e₂ ≡ true → Untouched eq k later₁ → Untouched eq k later₂
+place_unique : {K V : Type 0} (eq : K → K → Bool) (k : K) (later₁ later₂ before₁ before₂ : List (Event K V)) (e₁ e₂ : Event K V) → ends eq k e₁ ≡ true → ends eq k e₂ ≡ true → IsUntouched eq k later₁ → IsUntouched eq k later₂
     → later₁ ++ e₁ ∷ before₁ ≡ later₂ ++ e₂ ∷ before₂ → (later₁ ≡ later₂) × ((e₁ ∷ before₁) ≡ (e₂ ∷ before₂))
 place_unique eq k [] [] before₁ before₂ e₁ e₂ t₁ t₂ u₁ u₂ same = (refl, same)
 place_unique eq k [] (d ∷ later₂) before₁ before₂ e₁ e₂ t₁ t₂ u₁ u₂ same = let it : e₁ ≡ d = cc in let apart = u₂.0 in let both : ends eq k e₁ ≡ false = ap (ends eq k) it ∙ apart in absurd (cc)
@@ -76,7 +76,7 @@ LastWrite-one_place eq k h a b = place_unique eq k a.later b.later a.before b.be
 
 module _ {K V : Type 0} (eq : K → K → Bool) (k : K) where
   -- some events leave a key untouched, or there is a first one that writes or removes it
-  pub untouched_or_ended : (h : List (Event K V)) → Untouched eq k h ⊎ FirstEnd eq k h
+  pub untouched_or_ended : (h : List (Event K V)) → IsUntouched eq k h ⊎ FirstEnd eq k h
   untouched_or_ended [] = inl tt
   untouched_or_ended (e ∷ h) =
       ⊎_elim
@@ -88,16 +88,16 @@ module _ {K V : Type 0} (eq : K → K → Bool) (k : K) where
       (untouched_or_ended h)
 
   -- none of a row that leaves a key untouched ends it
-  untouched_within : (later before : List (Event K V)) (e : Event K V) → Untouched eq k (later ++ e ∷ before) → ends eq k e ≡ false
+  untouched_within : (later before : List (Event K V)) (e : Event K V) → IsUntouched eq k (later ++ e ∷ before) → ends eq k e ≡ false
   untouched_within [] before e u = u.0
   untouched_within (d ∷ later) before e u = untouched_within later before e u.1
 
   -- two first ends of a row are one
-  first_end_unique : (later₁ later₂ before₁ before₂ : List (Event K V)) (e₁ e₂ : Event K V) → ends eq k e₁ ≡ true → ends eq k e₂ ≡ true → Untouched eq k before₁ → Untouched eq k before₂
+  first_end_unique : (later₁ later₂ before₁ before₂ : List (Event K V)) (e₁ e₂ : Event K V) → ends eq k e₁ ≡ true → ends eq k e₂ ≡ true → IsUntouched eq k before₁ → IsUntouched eq k before₂
       → later₁ ++ e₁ ∷ before₁ ≡ later₂ ++ e₂ ∷ before₂ → (later₁ ≡ later₂) × ((e₁ ∷ before₁) ≡ (e₂ ∷ before₂))
   first_end_unique [] [] before₁ before₂ e₁ e₂ t₁ t₂ u₁ u₂ same = (refl, same)
-  first_end_unique [] (d ∷ later₂) before₁ before₂ e₁ e₂ t₁ t₂ u₁ u₂ same = let rest : before₁ ≡ later₂ ++ e₂ ∷ before₂ = cc in let apart = untouched_within later₂ before₂ e₂ (subst (Untouched eq k) rest u₁) in absurd (cc)
-  first_end_unique (d ∷ later₁) [] before₁ before₂ e₁ e₂ t₁ t₂ u₁ u₂ same = let rest : before₂ ≡ later₁ ++ e₁ ∷ before₁ = cc in let apart = untouched_within later₁ before₁ e₁ (subst (Untouched eq k) rest u₂) in absurd (cc)
+  first_end_unique [] (d ∷ later₂) before₁ before₂ e₁ e₂ t₁ t₂ u₁ u₂ same = let rest : before₁ ≡ later₂ ++ e₂ ∷ before₂ = cc in let apart = untouched_within later₂ before₂ e₂ (subst (IsUntouched eq k) rest u₁) in absurd (cc)
+  first_end_unique (d ∷ later₁) [] before₁ before₂ e₁ e₂ t₁ t₂ u₁ u₂ same = let rest : before₂ ≡ later₁ ++ e₁ ∷ before₁ = cc in let apart = untouched_within later₁ before₁ e₁ (subst (IsUntouched eq k) rest u₂) in absurd (cc)
   first_end_unique (d₁ ∷ later₁) (d₂ ∷ later₂) before₁ before₂ e₁ e₂ t₁ t₂ u₁ u₂ same =
       let heads : d₁ ≡ d₂ = cc in
       let rest = first_end_unique later₁ later₂ before₁ before₂ e₁ e₂ t₁ t₂ u₁ u₂ (cc) in
@@ -115,7 +115,7 @@ if_same false x = refl
 
 module _ {K V : Type 0} (eq : K → K → Bool) (rules : Rules) (k : K) where
   -- where nothing stood and nothing was written, nothing stands
-  standing_unwritten : (later before : List (Event K V)) → Unwritten eq k later → standing eq rules k before ≡ None → standing eq rules k (later ++ before) ≡ None
+  standing_unwritten : (later before : List (Event K V)) → IsUnwritten eq k later → standing eq rules k before ≡ None → standing eq rules k (later ++ before) ≡ None
   standing_unwritten [] before u none = none
   standing_unwritten (Get q at ∷ later) before u none = rw (standing_unwritten later before u.1 none) (if_same (eq q k) None)
   standing_unwritten (ContainsKey q at ∷ later) before u none = standing_unwritten later before u.1 none
@@ -146,7 +146,7 @@ module _ {K V : Type 0} (eq : K → K → Bool) (rules : Rules) (k : K) where
         go false = from
 
   -- what stands for a key from a place where it was written on
-  standing_from : (q : K) (v : V) (at : ℕ) (before later : List (Event K V)) → eq q k ≡ true → Untouched eq k later
+  standing_from : (q : K) (v : V) (at : ℕ) (before later : List (Event K V)) → eq q k ≡ true → IsUntouched eq k later
       → IsFrom v (latest (Insert q v at ∷ before)) (standing eq rules k (later ++ Insert q v at ∷ before)) (hits eq rules k later (Insert q v at ∷ before))
   standing_from q v at before [] same u = rw same (at_write (standing eq rules k before))
     where
@@ -200,7 +200,7 @@ module _ {K V : Type 0} (eq : K → K → Bool) (rules : Rules) (k : K) where
   IsUnder-write key true p x at (Some w) under = under
 
   -- a key is stored under that of the write that found it not stored, until it is removed
-  stored_from : (q : K) (v : V) (at : ℕ) (before later : List (Event K V)) → eq q k ≡ true → standing eq rules k before ≡ None → Unremoved eq k later
+  stored_from : (q : K) (v : V) (at : ℕ) (before later : List (Event K V)) → eq q k ≡ true → standing eq rules k before ≡ None → IsUnremoved eq k later
       → IsUnder q (standing eq rules k (later ++ Insert q v at ∷ before))
   stored_from q v at before [] same none u = rw (same, none) refl
   stored_from q v at before (Get p t ∷ later) same none u = IsUnder-look q (eq p k) (latest (Get p t ∷ later ++ Insert q v at ∷ before)) (standing eq rules k (later ++ Insert q v at ∷ before)) (stored_from q v at before later same none u.1)

@@ -30,19 +30,19 @@ removes eq k (Invalidate q at) = eq q k
 removes eq k TakeNotice = false
 
 -- none of these events writes a key
-abbrev pub Unwritten : {K V : Type 0} → (K → K → Bool) → K → List (Event K V) → Type 0
-Unwritten eq k [] = Unit {0}
-Unwritten eq k (e ∷ h) = (writes eq k e ≡ false) × Unwritten eq k h
+abbrev pub IsUnwritten : {K V : Type 0} → (K → K → Bool) → K → List (Event K V) → Type 0
+IsUnwritten eq k [] = Unit {0}
+IsUnwritten eq k (e ∷ h) = (writes eq k e ≡ false) × IsUnwritten eq k h
 
 -- none of them removes a key
-abbrev pub Unremoved : {K V : Type 0} → (K → K → Bool) → K → List (Event K V) → Type 0
-Unremoved eq k [] = Unit {0}
-Unremoved eq k (e ∷ h) = (removes eq k e ≡ false) × Unremoved eq k h
+abbrev pub IsUnremoved : {K V : Type 0} → (K → K → Bool) → K → List (Event K V) → Type 0
+IsUnremoved eq k [] = Unit {0}
+IsUnremoved eq k (e ∷ h) = (removes eq k e ≡ false) × IsUnremoved eq k h
 
 -- none of them does either
-abbrev pub Untouched : {K V : Type 0} → (K → K → Bool) → K → List (Event K V) → Type 0
-Untouched eq k [] = Unit {0}
-Untouched eq k (e ∷ h) = (ends eq k e ≡ false) × Untouched eq k h
+abbrev pub IsUntouched : {K V : Type 0} → (K → K → Bool) → K → List (Event K V) → Type 0
+IsUntouched eq k [] = Unit {0}
+IsUntouched eq k (e ∷ h) = (ends eq k e ≡ false) × IsUntouched eq k h
 
 -- The last write to a key, at its place: nothing later writes or removes the key.
 pub record LastWrite {K V : Type 0} (eq : K → K → Bool) (k : K) (h : List (Event K V)) : Type 0 where
@@ -53,7 +53,7 @@ pub record LastWrite {K V : Type 0} (eq : K → K → Bool) (k : K) (h : List (E
   pub before : List (Event K V)
   pub place : h ≡ later ++ Insert key value at ∷ before
   pub same_key : eq key k ≡ true
-  pub untouched : Untouched eq k later
+  pub untouched : IsUntouched eq k later
 
 -- The first of these events that writes or removes a key, at its place.
 pub record FirstEnd {K V : Type 0} (eq : K → K → Bool) (k : K) (h : List (Event K V)) : Type 0 where
@@ -62,7 +62,7 @@ pub record FirstEnd {K V : Type 0} (eq : K → K → Bool) (k : K) (h : List (Ev
   pub before : List (Event K V)
   pub place : h ≡ later ++ event ∷ before
   pub ends_it : ends eq k event ≡ true
-  pub untouched : Untouched eq k before
+  pub untouched : IsUntouched eq k before
 
 -- The removal of a key after its last write, at its place.
 pub record Removal {K V : Type 0} (eq : K → K → Bool) (k : K) (h : List (Event K V)) : Type 0 where
@@ -72,11 +72,11 @@ pub record Removal {K V : Type 0} (eq : K → K → Bool) (k : K) (h : List (Eve
   pub before : List (Event K V)
   pub place : h ≡ later ++ Invalidate key at ∷ before
   pub same_key : eq key k ≡ true
-  pub unwritten : Unwritten eq k later
+  pub unwritten : IsUnwritten eq k later
 
 -- no write to a key has come, or after the last one the key was removed
 abbrev pub NothingStands : {K V : Type 0} → (K → K → Bool) → K → List (Event K V) → Type 0
-NothingStands eq k h = Unwritten eq k h ⊎ Removal eq k h
+NothingStands eq k h = IsUnwritten eq k h ⊎ Removal eq k h
 
 -- The write that found a key not stored, at its place: nothing stood before it, and nothing later removes the key.
 pub record FirstWrite {K V : Type 0} (eq : K → K → Bool) (k : K) (h : List (Event K V)) : Type 0 where
@@ -88,7 +88,7 @@ pub record FirstWrite {K V : Type 0} (eq : K → K → Bool) (k : K) (h : List (
   pub place : h ≡ later ++ Insert key value at ∷ before
   pub same_key : eq key k ≡ true
   pub absent : NothingStands eq k before
-  pub kept : Unremoved eq k later
+  pub kept : IsUnremoved eq k later
 
 -- the events up to the last write, with it
 abbrev pub up_to_write : {K V : Type 0} {eq : K → K → Bool} {k : K} {h : List (Event K V)} → LastWrite eq k h → List (Event K V)

@@ -23,7 +23,7 @@ five_to_idle = record { time_to_live = None; time_to_idle = Some (seconds 5); fi
 abbrev pub both_lives : Rules
 both_lives = record { time_to_live = Some (seconds 10); time_to_idle = Some (seconds 5); first_number = 0 }
 
--- two numbers are left, the greatest among them
+-- one number is left to draw
 abbrev pub at_the_last_number : Rules
 at_the_last_number = record { time_to_live = None; time_to_idle = None; first_number = 18446744073709551614 }
 

@@ -3,7 +3,7 @@
 ghost use Rattle.std.specs.Prelude.{◌≡◌, ◌≢◌, ◌⊎◌, ◌↔◌, ℕ, ◌+◌, ◌<◌, ◌≤◌, max, Bool, not, if◌then◌else◌, true, false, List, [], ◌∷◌, ◌++◌, length, filter, slice_get};
 ghost use Rattle.moka_base.specs.declared.notification.RemovalCause.TheVariants.{Explicit, Replaced};
 ghost use Rattle.moka_base.specs.History.{Event, Get, ContainsKey, Insert, Invalidate, TakeNotice, Rules, Write, Leaving, latest, is_expired, standing, leaving, leavings, taken, noticed, next_number};
-ghost use Rattle.moka_base.specs.Laws.{ends, Unwritten, Untouched, LastWrite, FirstWrite, FirstEnd, NothingStands, up_to_write, IsAsWritten, IsLeavingOf, HasEnded, is_write, values_written, values_left, value_standing, given_out};
+ghost use Rattle.moka_base.specs.Laws.{ends, IsUnwritten, IsUntouched, LastWrite, FirstWrite, FirstEnd, NothingStands, up_to_write, IsAsWritten, IsLeavingOf, HasEnded, is_write, values_written, values_left, value_standing, given_out};
 ghost use Rattle.moka_base.specs.Replies.{Found, Contains, Noticed, answer};
 
 /// After a write a look at the same moment, or at an earlier one, finds its value; with a life of
@@ -108,7 +108,7 @@ pub fn what_leaves_leaves_once<K: Eq, V>()
         → leaving K.eq rules e h ≢ [] → (k : K) × (ends K.eq k e ≡ true) × LastWrite K.eq k h }
     ensures nothing { (rules : Rules) (h : List (Event K V)) (e : Event K V) (k : K)
         → ends K.eq k e ≡ true → NothingStands K.eq k h → leaving K.eq rules e h ≡ [] }
-    ensures first { (later : List (Event K V)) (k : K) → Untouched K.eq k later ⊎ FirstEnd K.eq k later }
+    ensures first { (later : List (Event K V)) (k : K) → IsUntouched K.eq k later ⊎ FirstEnd K.eq k later }
     ensures one_place { (later : List (Event K V)) (k : K) (a b : FirstEnd K.eq k later)
         → (a.later ≡ b.later) × ((a.event ∷ a.before) ≡ (b.event ∷ b.before)) }
     ensures looks { (rules : Rules) (h : List (Event K V)) (e : Event K V)
@@ -123,10 +123,10 @@ pub fn expiry_is_final<K: Eq, V>()
     ensures deadline { (rules : Rules) (w : Write K V) (at later : ℕ)
         → at ≤ later → is_expired rules w at ≡ true → is_expired rules w later ≡ true }
     ensures stays { (rules : Rules) (later h : List (Event K V)) (k : K) (w : Write K V)
-        → standing K.eq rules k h ≡ Some w → is_expired rules w (latest h) ≡ true → Untouched K.eq k later
+        → standing K.eq rules k h ≡ Some w → is_expired rules w (latest h) ≡ true → IsUntouched K.eq k later
         → standing K.eq rules k (later ++ h) ≡ Some w }
     ensures missed { (rules : Rules) (later h : List (Event K V)) (k : K) (at now : ℕ)
-        → answer K.eq rules (Get k at) h ≡ Found None → Unwritten K.eq k later
+        → answer K.eq rules (Get k at) h ≡ Found None → IsUnwritten K.eq k later
         → (answer K.eq rules (Get k now) (later ++ Get k at ∷ h) ≡ Found None)
         × (answer K.eq rules (ContainsKey k now) (later ++ Get k at ∷ h) ≡ Contains false) }
 {}

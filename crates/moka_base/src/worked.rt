@@ -1,8 +1,8 @@
 //! Worked cases of the definitions over the list of events, at numbers: each computes.
 ghost use Rattle.std.specs.Prelude.{◌≡◌, true, false, nat_eq, [], ◌∷◌};
 ghost use Rattle.moka_base.specs.declared.notification.RemovalCause.TheVariants.{Expired, Explicit, Replaced};
-ghost use Rattle.moka_base.specs.History.{Get, ContainsKey, Insert, Invalidate, TakeNotice, leaving, leavings, noticed, next_number, greatest_number};
-ghost use Rattle.moka_base.specs.Replies.{Found, Contains, Noticed, answer};
+ghost use Rattle.moka_base.specs.History.{Get, ContainsKey, Insert, Invalidate, TakeNotice, leaving, leavings, next_number, greatest_number};
+ghost use Rattle.moka_base.specs.Replies.{Found, Contains, Noticed, IsOutOfNumbers, answer};
 ghost use Rattle.moka_base.specs.Worked.{seconds, without_lives, ten_to_live, five_to_idle, both_lives, at_the_last_number, written, same_last_digit, left_as};
 
 /// Ten seconds to live: the last nanosecond still finds the value, the end does not, and a moment
@@ -11,6 +11,7 @@ pub fn time_to_live()
     ensures before { answer nat_eq ten_to_live (Get 1 9_999_999_999) written ≡ Found (Some 7) }
     ensures at_end { answer nat_eq ten_to_live (Get 1 10_000_000_000) (Get 1 9_999_999_999 ∷ written) ≡ Found None }
     ensures back { answer nat_eq ten_to_live (Get 1 (seconds 9)) (Get 1 (seconds 10) ∷ Get 1 9_999_999_999 ∷ written) ≡ Found None }
+    ensures back_again { answer nat_eq ten_to_live (Get 1 (seconds 9)) (Get 1 (seconds 9) ∷ Get 1 (seconds 10) ∷ written) ≡ Found None }
     ensures back_alone { answer nat_eq ten_to_live (Get 1 (seconds 9)) (Get 1 9_999_999_999 ∷ written) ≡ Found (Some 7) }
     ensures anew { answer nat_eq ten_to_live (Get 1 (seconds 19)) (Insert 1 8 (seconds 10) ∷ written) ≡ Found (Some 8) }
 {}
@@ -22,6 +23,7 @@ pub fn time_to_idle()
     ensures found { answer nat_eq five_to_idle (Get 1 (seconds 4)) written ≡ Found (Some 7) }
     ensures extended { answer nat_eq five_to_idle (Get 1 (seconds 8)) (Get 1 (seconds 4) ∷ written) ≡ Found (Some 7) }
     ensures ended { answer nat_eq five_to_idle (Get 1 (seconds 13)) (Get 1 (seconds 8) ∷ Get 1 (seconds 4) ∷ written) ≡ Found None }
+    ensures anew { answer nat_eq five_to_idle (Get 1 (seconds 8)) (Insert 1 8 (seconds 4) ∷ written) ≡ Found (Some 8) }
     ensures not_by_a_miss { answer nat_eq five_to_idle (Get 1 (seconds 6)) (Get 1 (seconds 5) ∷ written) ≡ Found None }
 {}
 
@@ -63,8 +65,9 @@ pub fn notices()
     ensures none_counts { answer nat_eq without_lives TakeNotice (Invalidate 1 1 ∷ TakeNotice ∷ written) ≡ Noticed (Some (left_as 1 7 Explicit)) }
 {}
 
-/// Each write draws a number, also one that overwrites, and the greatest number is never drawn.
+/// Each write draws a number, also one that overwrites. Once the greatest is next, none can be drawn.
 pub fn numbers()
     ensures drawn { next_number without_lives (Get 1 3 ∷ Invalidate 1 2 ∷ Insert 1 8 1 ∷ written) ≡ 2 }
     ensures used_up { next_number at_the_last_number written ≡ greatest_number }
+    ensures none_left { IsOutOfNumbers at_the_last_number written }
 {}
