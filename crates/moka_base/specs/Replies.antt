@@ -1,6 +1,6 @@
 -- What each step answers, as a function of the events before it.
-use Rattle.std.specs.Prelude.{⊤, ◌≡◌, ◌≢◌, ℕ, Bool, true, false, max, if◌then◌else◌, nat_eq, Option, Some, None, List, [], ◌∷◌, option_map, is_some, slice_get}
-use Rattle.moka_base.specs.History.{Event, Get, ContainsKey, Insert, Invalidate, TakeNotice, Rules, Write, Leaving, latest, live, noticed, next_number, greatest_number}
+use Rattle.std.specs.Prelude.{⊤, ◌≡◌, Bool, max, Option, Some, None, List, option_map, is_some, slice_get}
+use Rattle.moka_base.specs.History.{Event, Get, ContainsKey, Insert, Invalidate, TakeNotice, Rules, Leaving, latest, live, noticed, next_number, greatest_number}
 
 -- An answer, with the values themselves. What a step hands out is a copy of them.
 pub data Answer (K V : Type 0) : Type 0 where

@@ -9,13 +9,13 @@ use Rattle.moka_base.specs.declared.notification.Notice.{Notice}
 use Rattle.moka_base.specs.declared.notification.RemovalCause.{RemovalCause}
 use Rattle.moka_base.specs.declared.notification.RemovalCause.TheVariants.{Expired, Explicit, Replaced}
 use Rattle.moka_base.specs.History.{Event, Get, Insert, Invalidate, Rules, Write, Leaving, latest, standing, after_look, after_write, left, is_expired, has_come, deadline}
-use Rattle.moka_base.specs.StandsFor.{Holdings, StandsFor}
+use Rattle.moka_base.specs.StandsFor.{Holdings, StandsFor, writes_of}
 use Rattle.moka_state.specs.declared.rows.Row.{Row}
 use Rattle.moka_state.specs.declared.rows.EntryInfo.{EntryInfo}
 use Rattle.moka_state.specs.declared.lives.Lives.{Lives}
 use Rattle.moka_state.specs.Rows.{row_under, touched, overwritten}
 use Rattle.moka_state.specs.Lives.{deadline_of}
-use Rattle.moka_state.specs.Table.{Contents, entries, stored_write, stored_writes, leaving_of, UsesRow, TakesRow}
+use Rattle.moka_state.specs.Table.{Contents, entries, stored_write, stored_writes, leaving_of, SameRows, UsesRow, TakesRow}
 use Rattle.moka_state.specs.State.{holdings}
 use Rattle.moka_state.proofs.Changes.{ChangesAt, added}
 use Rattle.moka_state.proofs.Found.{changes-used, changes-taken, changes-along, stored-append}
@@ -25,6 +25,18 @@ use Rattle.moka_state.proofs.Steps.{one-each, stands-after-get, stands-after-ins
 -- notices that grow by one
 noticed-one : {K V : Type 0} (old new : List (Notice K V)) (notice : Notice K V) → new ≡ old ++ notice ∷ [] → map leaving_of new ≡ map leaving_of old ++ leaving_of notice ∷ []
 noticed-one {K} {V} old new notice grown = ap (map leaving_of) grown ∙ map-append (leaving_of {K = K} {V = V}) old (notice ∷ [])
+
+-- the same rows stand for the same list
+pub stands-same : {K V : Type 0} (eq : K → K → Bool) (rules : Rules) (lives : Lives) (old new : Contents K V) (moment number : ℕ) (h : List (Event K V)) → SameRows old new
+  → StandsFor eq rules (holdings lives old moment number) h → StandsFor eq rules (holdings lives new moment number) h
+stands-same eq rules lives old new moment number h same stands = record {
+  time_to_live = stands.time_to_live;
+  time_to_idle = stands.time_to_idle;
+  writes = λ k. ap (λ a. writes_of eq k (stored_writes (a ++ new.waiting))) same.0 ∙ ap (λ w. writes_of eq k (stored_writes (old.admitted ++ w))) same.1 ∙ stands.writes k;
+  notices = ap (map leaving_of) same.2 ∙ stands.notices;
+  latest = stands.latest;
+  next_number = stands.next_number;
+}
 
 module _ {K V : Type 0} (eq : K → K → Bool) (laws : IsEquivalence eq) (rules : Rules) (lives : Lives) (contents : Contents K V) (moment number : ℕ) (h : List (Event K V)) (stands : StandsFor eq rules (holdings lives contents moment number) h) where
   -- a look that finds no row

@@ -1,9 +1,13 @@
 -- A change of one row keeps what holds of each row.
-use Rattle.std.proofs.Common.{◌≡◌, ℕ, List, [], ◌∷◌, ◌++◌, Option, Some, None, MatchOption, refl, sym, ap, ◌∙◌, subst}
+use Rattle.std.proofs.Common.{◌≡◌, ℕ, List, [], ◌∷◌, ◌++◌, Option, Some, None, MatchOption, refl, sym, ap, ◌∙◌, append_assoc}
+use Rattle.std.specs.Arc.{arc_value}
+use Rattle.moka_base.specs.declared.notification.Notice.{Notice}
+use Rattle.moka_state.specs.declared.rows.EntryInfo.{EntryInfo}
+use Rattle.moka_state.specs.State.{IsSound}
 use Rattle.std.specs.List.{AllByRecursion}
 use Rattle.moka_state.specs.declared.rows.Row.{Row}
-use Rattle.moka_state.specs.Rows.{row_under, with_row, without_row}
-use Rattle.moka_state.specs.Table.{Contents, entries, UsesRow, TakesRow}
+use Rattle.moka_state.specs.Rows.{row_under, with_row, without_row, overwritten}
+use Rattle.moka_state.specs.Table.{Contents, entries, SameRows, UsesRow, TakesRow}
 use Rattle.moka_state.proofs.Cuts.{Cut, cut, row_under-append}
 use Rattle.moka_state.proofs.Found.{row_under-front}
 
@@ -83,3 +87,33 @@ module _ {K V : Type 0} (P : Row K V → Type 0) where
         let Q : ℕ × Row K V → Type 0 = λ p. P p.1 in
         let found : Some r ≡ Some row = sym (row_under-front n old.admitted old.waiting r e) ∙ there in
         rw (h.0, h.1) (all-append Q (without_row n old.admitted) old.waiting (of-rest n old.admitted row (all-front Q old.admitted old.waiting all) (e ∙ found)) (all-back Q old.admitted old.waiting all))
+
+-- the same rows keep all
+pub IsSound-same : {K V : Type 0} (keeps : K → V → Type 0) (hash_of : K → ℕ) (old new : Contents K V) → SameRows old new → IsSound keeps hash_of old → IsSound keeps hash_of new
+IsSound-same keeps hash_of old new same sound = record {
+  hashed = rw (same.0, same.1) sound.hashed;
+  kept = rw (same.0, same.1) sound.kept;
+  notices_kept = rw same.2 sound.notices_kept;
+}
+
+module _ {K V : Type 0} (keeps : K → V → Type 0) (hash_of : K → ℕ) (old new : Contents K V) (sound : IsSound keeps hash_of old) where
+  -- a value that is kept for a row's key takes the place of the one before, which is noticed under the same key
+  pub IsSound-overwritten : (n : ℕ) (row : Row K V) (v : V) (info : EntryInfo) (notice : Notice K V) → row_under n (entries old) ≡ Some row → keeps (arc_value row.key) v
+    → arc_value notice.key ≡ arc_value row.key → notice.value ≡ row.value → UsesRow n (overwritten v info) old new → new.notices ≡ old.notices ++ notice ∷ [] → IsSound keeps hash_of new
+  IsSound-overwritten n row v info notice there kept key value used notices = record {
+    hashed = of-used (λ (r : Row K V). r.hash ≡ hash_of (arc_value r.key)) n (overwritten v info) row old new sound.hashed there (of-row (λ (r : Row K V). r.hash ≡ hash_of (arc_value r.key)) n (entries old) row sound.hashed there) used;
+    kept = of-used (λ (r : Row K V). keeps (arc_value r.key) r.value) n (overwritten v info) row old new sound.kept there kept used;
+    notices_kept = rw notices (all-append (λ (m : Notice K V). keeps (arc_value m.key) m.value) old.notices (notice ∷ []) sound.notices_kept (rw (key, value) (of-row (λ (r : Row K V). keeps (arc_value r.key) r.value) n (entries old) row sound.kept there), tt));
+  }
+
+  -- a row with its hash and with a value that is kept for its key is added
+  pub IsSound-added : (n : ℕ) (row : Row K V) → row.hash ≡ hash_of (arc_value row.key) → keeps (arc_value row.key) row.value
+    → new.admitted ≡ old.admitted → new.waiting ≡ old.waiting ++ (n, row) ∷ [] → new.notices ≡ old.notices → IsSound keeps hash_of new
+  IsSound-added n row hash kept admitted waiting notices = record {
+    hashed = rw grown (all-append (λ (p : ℕ × Row K V). p.1.hash ≡ hash_of (arc_value p.1.key)) (entries old) ((n, row) ∷ []) sound.hashed (hash, tt));
+    kept = rw grown (all-append (λ (p : ℕ × Row K V). keeps (arc_value p.1.key) p.1.value) (entries old) ((n, row) ∷ []) sound.kept (kept, tt));
+    notices_kept = rw notices sound.notices_kept;
+  }
+    where
+      grown : entries new ≡ entries old ++ (n, row) ∷ []
+      grown = ap (λ a. a ++ new.waiting) admitted ∙ ap (λ w. old.admitted ++ w) waiting ∙ sym (append_assoc old.admitted old.waiting ((n, row) ∷ []))

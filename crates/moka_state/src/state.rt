@@ -9,7 +9,8 @@ ghost use Rattle.moka_state.specs.State.{holdings, rules_of, IsSound};
 
 use crate::lives::Lives;
 use crate::rows::{EntryInfo, Row, RowStore};
-use crate::table::Table;
+use crate::shared_key::{IntoShared, Owned};
+use crate::table::{Place, Table};
 use moka_base::notification::{Notice, RemovalCause};
 use moka_base::policy::{CacheTypes, Refused};
 use std::alloc::Global;
@@ -50,6 +51,7 @@ pub struct State<K: Hash + Drop, V: Clone, C: CacheTypes<K, V>, R: RowStore<K, V
     latest: u64,
     next_number: u64,
     hasher: Arc<C::Hasher>,
+    alloc: Global,
 }
 
 impl<K: Hash + Drop, V: Clone, C: CacheTypes<K, V>, R: RowStore<K, V>> Model for State<K, V, C, R> {
@@ -77,6 +79,7 @@ impl<K: Hash + Drop, V: Clone, C: CacheTypes<K, V>, R: RowStore<K, V>> State<K, 
             latest: 0,
             next_number: settings.first_number,
             hasher: settings.hasher,
+            alloc,
         })
     }
 
@@ -120,6 +123,79 @@ impl<K: Hash + Drop, V: Clone, C: CacheTypes<K, V>, R: RowStore<K, V>> State<K, 
         );
         self.latest = now;
         Ok(Some(value))
+    }
+
+    /// Writes a value for a key. The value that stands for the key, live or expired, leaves and is noticed.
+    ///
+    /// Refused with `NumbersUsedUp` exactly where no number can be drawn any more, and else with `OutOfMemory` alone.
+    /// A refused write hands back the key and the value, and changes nothing. Reads the rows that have the key's hash.
+    pub fn insert(&mut self, key: K, value: V, now: u64) -> Result<(), InsertRefused<K, V>>
+        requires { C.keeps key value }
+        ensures stands { OnOk result (Follows K.eq self.old (Insert key value now) self.new) }
+
+        // Whatever refuses it, nothing has changed, and what was given comes back.
+        ensures refused { OnErr result (self.new ≡ self.old) }
+        ensures key_back { IfErr result (λ refused. refused.key ≡ key) }
+        ensures value_back { IfErr result (λ refused. refused.value ≡ value) }
+        ensures numbers { IsErrAnd result (λ refused. refused.cause ≡ Refused.NumbersUsedUp) ↔ (self.old.next_number ≡ greatest_number) }
+    {
+        match self.write(Owned(key), value, now) {
+            Ok(()) => Ok(()),
+            Err(InsertRefused { key, value, cause }) => Err(InsertRefused {
+                key: key.0,
+                value,
+                cause,
+            }),
+        }
+    }
+
+    // A write of a key that is shared already, or is to be.
+    pub(crate) fn write<S: IntoShared<K>>(
+        &mut self,
+        key: S,
+        value: V,
+        now: u64,
+    ) -> Result<(), InsertRefused<S, V>>
+        requires { C.keeps (S.key_of key) value }
+        ensures stands { OnOk result (Follows K.eq self.old (Insert (S.key_of key) value now) self.new) }
+        ensures refused { OnErr result (self.new ≡ self.old) }
+        ensures key_back { IfErr result (λ refused. refused.key ≡ key) }
+        ensures value_back { IfErr result (λ refused. refused.value ≡ value) }
+        ensures numbers { IsErrAnd result (λ refused. refused.cause ≡ Refused.NumbersUsedUp) ↔ (self.old.next_number ≡ greatest_number) }
+    {
+        if self.next_number == u64::MAX {
+            let cause = Refused::NumbersUsedUp;
+            return Err(InsertRefused { key, value, cause });
+        }
+        let cause = Refused::OutOfMemory;
+        let hash = hash_of(&self.hasher, key.key());
+        let Ok(place) = self.table.place(key.key(), hash) else {
+            return Err(InsertRefused { key, value, cause });
+        };
+        let now = self.latest.max(now);
+        let info = EntryInfo {
+            last_modified: now,
+            last_accessed: now,
+        };
+        match place {
+            Place::Stored { number, key } => {
+                let was = self.table.row(number).info;
+                let cause = self.lives.cause(was, now, RemovalCause::Replaced);
+                self.table.overwrite(number, key, value, info, cause);
+            }
+            Place::Absent => match key.into_shared(self.alloc) {
+                Ok(key) => self.table.add(Row {
+                    key,
+                    hash,
+                    value,
+                    info,
+                }),
+                Err(key) => return Err(InsertRefused { key, value, cause }),
+            },
+        }
+        self.latest = now;
+        self.next_number += 1;
+        Ok(())
     }
 
     /// Whether a key has a live value at a moment. It is no use of the value, and records nothing.
