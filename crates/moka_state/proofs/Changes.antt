@@ -85,21 +85,21 @@ module _ {K V : Type 0} (eq : K → K → Bool) (laws : IsEquivalence eq) where
 
   -- a write that takes another's place, wherever it is put
   pub changed : (k : K) (xs ys us vs : List (Write K V)) (w new : Write K V) → us ++ vs ≡ xs ++ ys → eq w.key k ≡ true → eq new.key k ≡ true
-    → OneEach (xs ++ w ∷ ys) → ChangesAt k (xs ++ w ∷ ys) (us ++ new ∷ vs) (Some new)
+      → OneEach (xs ++ w ∷ ys) → ChangesAt k (xs ++ w ∷ ys) (us ++ new ∷ vs) (Some new)
   changed k xs ys us vs w new rest here there one q = go (eq k q) refl
     where
       go : (t : Bool) → eq k q ≡ t → writes_of eq q (us ++ new ∷ vs) ≡ cond t (new ∷ []) (writes_of eq q (xs ++ w ∷ ys))
       go true h =
-        let at = sym (eq-same eq laws k q w.key h) ∙ here in
-        let at' = sym (eq-same eq laws k q new.key h) ∙ there in
-        let none = sym (filter-append (λ (v : Write K V). eq v.key q) us vs) ∙ ap (writes_of eq q) rest ∙ rest-empty q xs ys w one at in
-        let before = empty-before (writes_of eq q us) (writes_of eq q vs) none in
-        let after = empty-after (writes_of eq q us) (writes_of eq q vs) none in
-        around-equal q us vs new at' ∙ ap (λ l. l ++ new ∷ writes_of eq q vs) before ∙ ap (λ l. new ∷ l) after
+          let at = sym (eq-same eq laws k q w.key h) ∙ here in
+          let at' = sym (eq-same eq laws k q new.key h) ∙ there in
+          let none = sym (filter-append (λ (v : Write K V). eq v.key q) us vs) ∙ ap (writes_of eq q) rest ∙ rest-empty q xs ys w one at in
+          let before = empty-before (writes_of eq q us) (writes_of eq q vs) none in
+          let after = empty-after (writes_of eq q us) (writes_of eq q vs) none in
+          around-equal q us vs new at' ∙ ap (λ l. l ++ new ∷ writes_of eq q vs) before ∙ ap (λ l. new ∷ l) after
       go false h =
-        let at = sym (laws.congr k w.key q (laws.symm k w.key ∙ here)) ∙ h in
-        let at' = sym (laws.congr k new.key q (laws.symm k new.key ∙ there)) ∙ h in
-        around-other q us vs new at' ∙ ap (writes_of eq q) rest ∙ sym (around-other q xs ys w at)
+          let at = sym (laws.congr k w.key q (laws.symm k w.key ∙ here)) ∙ h in
+          let at' = sym (laws.congr k new.key q (laws.symm k new.key ∙ there)) ∙ h in
+          around-other q us vs new at' ∙ ap (writes_of eq q) rest ∙ sym (around-other q xs ys w at)
 
   -- a write that is taken out
   pub removed : (k : K) (xs ys : List (Write K V)) (w : Write K V) → eq w.key k ≡ true → OneEach (xs ++ w ∷ ys) → ChangesAt k (xs ++ w ∷ ys) (xs ++ ys) None

@@ -25,7 +25,7 @@ module _ {K V : Type 0} (eq : K → K → Bool) (laws : IsEquivalence eq) (rules
 
   -- where no row is found, nothing stands
   pub standing-absent : {keeps : K → V → Type 0} {hash_of : K → ℕ} → IsSound keeps hash_of contents → ((a b : K) → eq a b ≡ true → hash_of a ≡ hash_of b)
-    → (k : K) (hash : ℕ) → hash ≡ hash_of k → NoneIsRowOf eq k hash (entries contents) → standing eq rules k h ≡ None
+      → (k : K) (hash : ℕ) → hash ≡ hash_of k → NoneIsRowOf eq k hash (entries contents) → standing eq rules k h ≡ None
   standing-absent {hash_of = hash_of} sound respects k hash is none = option_to_list-same (standing eq rules k h) None (sym (stands.writes k) ∙ writes_of-absent eq laws hash_of k (entries contents) respects sound.hashed (rw is at none))
 
   -- the write of a row is expired where its deadline has come
@@ -41,14 +41,14 @@ module _ {K V : Type 0} (eq : K → K → Bool) (laws : IsEquivalence eq) (rules
 
   -- the row that is found for a key stores its live value, unless it is expired
   pub live-found : (k : K) (at n : ℕ) (row : Row K V) → row_under n (entries contents) ≡ Some row → eq (arc_value row.key) k ≡ true
-    → live eq rules k (max (latest h) at) h ≡ cond (not (has_come (deadline_of lives row.info) (max moment at))) (Some (stored_write row)) None
+      → live eq rules k (max (latest h) at) h ≡ cond (not (has_come (deadline_of lives row.info) (max moment at))) (Some (stored_write row)) None
   live-found k at n row there same =
       ap (live_one rules (max (latest h) at)) (standing-found k n row there same)
       ∙ ap (λ t. cond (not t) (Some (stored_write row)) None) (expired-same row at)
 
   -- where no row is found, nothing is live
   pub live-absent : {keeps : K → V → Type 0} {hash_of : K → ℕ} → IsSound keeps hash_of contents → ((a b : K) → eq a b ≡ true → hash_of a ≡ hash_of b)
-    → (k : K) (at hash : ℕ) → hash ≡ hash_of k → NoneIsRowOf eq k hash (entries contents) → live eq rules k (max (latest h) at) h ≡ None
+      → (k : K) (at hash : ℕ) → hash ≡ hash_of k → NoneIsRowOf eq k hash (entries contents) → live eq rules k (max (latest h) at) h ≡ None
   live-absent sound respects k at hash is none = ap (live_one rules (max (latest h) at)) (standing-absent sound respects k hash is none)
 
   -- where nothing changes for a key, its one write stays

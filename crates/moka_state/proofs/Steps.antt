@@ -19,9 +19,9 @@ one-less n xs short = drop-drop 1 n xs ∙ ends (nat_le (n + 1) (length xs)) ref
     ends : (t : Bool) → nat_le (n + 1) (length xs) ≡ t → drop (n + 1) xs ≡ drop (min (n + 1) (length xs)) xs
     ends true h = let within : n + 1 ≤ length xs = leb-true (n + 1) (length xs) h in let same : n + 1 ≡ min (n + 1) (length xs) = omega arith in ap (λ m. drop m xs) same
     ends false h =
-      let past : length xs < n + 1 = leb-false (n + 1) (length xs) h in
-      let same : min (n + 1) (length xs) ≡ length xs = omega arith in
-      drop_all (n + 1) xs (omega arith) ∙ sym (drop_all (length xs) xs (omega arith)) ∙ ap (λ m. drop m xs) (sym same)
+        let past : length xs < n + 1 = leb-false (n + 1) (length xs) h in
+        let same : min (n + 1) (length xs) ≡ length xs = omega arith in
+        drop_all (n + 1) xs (omega arith) ∙ sym (drop_all (length xs) xs (omega arith)) ∙ ap (λ m. drop m xs) (sym same)
 
 module _ {K V : Type 0} (eq : K → K → Bool) (rules : Rules) where
   -- no more leavings were given out than there are
@@ -48,14 +48,14 @@ module _ {K V : Type 0} (eq : K → K → Bool) (laws : IsEquivalence eq) (rules
 
   -- what a key's writes become, by the event's definition
   pub stands-after : (new : Holdings K V) (e : Event K V) (k : K) (o : Option (Write K V))
-    → ChangesAt eq laws k state.writes new.writes o
-    → ((q : K) → standing eq rules q (e ∷ h) ≡ cond (eq k q) o (standing eq rules q h))
-    → new.time_to_live ≡ state.time_to_live
-    → new.time_to_idle ≡ state.time_to_idle
-    → new.notices ≡ noticed eq rules (e ∷ h)
-    → new.latest ≡ latest (e ∷ h)
-    → new.next_number ≡ next_number rules h + drawn e
-    → StandsFor eq rules new (e ∷ h)
+      → ChangesAt eq laws k state.writes new.writes o
+      → ((q : K) → standing eq rules q (e ∷ h) ≡ cond (eq k q) o (standing eq rules q h))
+      → new.time_to_live ≡ state.time_to_live
+      → new.time_to_idle ≡ state.time_to_idle
+      → new.notices ≡ noticed eq rules (e ∷ h)
+      → new.latest ≡ latest (e ∷ h)
+      → new.next_number ≡ next_number rules h + drawn e
+      → StandsFor eq rules new (e ∷ h)
   stands-after new e k o changes defined live idle notices moment number = record {
     time_to_live = live ∙ stands.time_to_live;
     time_to_idle = idle ∙ stands.time_to_idle;
@@ -71,18 +71,18 @@ module _ {K V : Type 0} (eq : K → K → Bool) (laws : IsEquivalence eq) (rules
 
   -- a look by `get` at a key, which changes its write as the definition says
   pub stands-after-get : (new : Holdings K V) (k : K) (at : ℕ)
-    → ChangesAt eq laws k state.writes new.writes (option_map (after_look rules (max state.latest at)) (standing eq rules k h))
-    → new.time_to_live ≡ state.time_to_live → new.time_to_idle ≡ state.time_to_idle → new.notices ≡ state.notices
-    → new.latest ≡ max state.latest at → new.next_number ≡ state.next_number
-    → StandsFor eq rules new (Get k at ∷ h)
+      → ChangesAt eq laws k state.writes new.writes (option_map (after_look rules (max state.latest at)) (standing eq rules k h))
+      → new.time_to_live ≡ state.time_to_live → new.time_to_idle ≡ state.time_to_idle → new.notices ≡ state.notices
+      → new.latest ≡ max state.latest at → new.next_number ≡ state.next_number
+      → StandsFor eq rules new (Get k at ∷ h)
   stands-after-get new k at changes live idle notices moment number =
       stands-after new (Get k at) k (option_map (after_look rules (max (latest h) at)) (standing eq rules k h))
-        (rw stands.latest at changes)
-        (λ q. go q (eq k q) refl)
-        live idle
-        (notices ∙ stands.notices ∙ sym (ap (drop (taken eq rules h)) (append-nil (leavings eq rules h))))
-        (moment ∙ ap (λ m. max m at) stands.latest)
-        (number ∙ stands.next_number ∙ sym (add-zero (next_number rules h)))
+      (rw stands.latest at changes)
+      (λ q. go q (eq k q) refl)
+      live idle
+      (notices ∙ stands.notices ∙ sym (ap (drop (taken eq rules h)) (append-nil (leavings eq rules h))))
+      (moment ∙ ap (λ m. max m at) stands.latest)
+      (number ∙ stands.next_number ∙ sym (add-zero (next_number rules h)))
     where
       go : (q : K) (t : Bool) → eq k q ≡ t → cond t (option_map (after_look rules (max (latest h) at)) (standing eq rules q h)) (standing eq rules q h) ≡ cond t (option_map (after_look rules (max (latest h) at)) (standing eq rules k h)) (standing eq rules q h)
       go q true same = ap (option_map (after_look rules (max (latest h) at))) (sym (standing-equal k q same))
@@ -90,19 +90,19 @@ module _ {K V : Type 0} (eq : K → K → Bool) (laws : IsEquivalence eq) (rules
 
   -- a write
   pub stands-after-insert : (new : Holdings K V) (k : K) (v : V) (at : ℕ)
-    → ChangesAt eq laws k state.writes new.writes (Some (after_write rules k v (max state.latest at) (standing eq rules k h)))
-    → new.time_to_live ≡ state.time_to_live → new.time_to_idle ≡ state.time_to_idle
-    → new.notices ≡ state.notices ++ left rules Replaced (max state.latest at) (standing eq rules k h)
-    → new.latest ≡ max state.latest at → new.next_number ≡ state.next_number + 1
-    → StandsFor eq rules new (Insert k v at ∷ h)
+      → ChangesAt eq laws k state.writes new.writes (Some (after_write rules k v (max state.latest at) (standing eq rules k h)))
+      → new.time_to_live ≡ state.time_to_live → new.time_to_idle ≡ state.time_to_idle
+      → new.notices ≡ state.notices ++ left rules Replaced (max state.latest at) (standing eq rules k h)
+      → new.latest ≡ max state.latest at → new.next_number ≡ state.next_number + 1
+      → StandsFor eq rules new (Insert k v at ∷ h)
   stands-after-insert new k v at changes live idle notices moment number =
       stands-after new (Insert k v at) k (Some (after_write rules k v (max (latest h) at) (standing eq rules k h)))
-        (rw stands.latest at changes)
-        (λ q. go q (eq k q) refl)
-        live idle
-        (notices ∙ ap (λ m. state.notices ++ left rules Replaced (max m at) (standing eq rules k h)) stands.latest ∙ ap (λ l. l ++ left rules Replaced (max (latest h) at) (standing eq rules k h)) stands.notices ∙ sym (noticed-more eq rules h (left rules Replaced (max (latest h) at) (standing eq rules k h))))
-        (moment ∙ ap (λ m. max m at) stands.latest)
-        (number ∙ ap (λ n. n + 1) stands.next_number)
+      (rw stands.latest at changes)
+      (λ q. go q (eq k q) refl)
+      live idle
+      (notices ∙ ap (λ m. state.notices ++ left rules Replaced (max m at) (standing eq rules k h)) stands.latest ∙ ap (λ l. l ++ left rules Replaced (max (latest h) at) (standing eq rules k h)) stands.notices ∙ sym (noticed-more eq rules h (left rules Replaced (max (latest h) at) (standing eq rules k h))))
+      (moment ∙ ap (λ m. max m at) stands.latest)
+      (number ∙ ap (λ n. n + 1) stands.next_number)
     where
       go : (q : K) (t : Bool) → eq k q ≡ t → cond t (Some (after_write rules k v (max (latest h) at) (standing eq rules q h))) (standing eq rules q h) ≡ cond t (Some (after_write rules k v (max (latest h) at) (standing eq rules k h))) (standing eq rules q h)
       go q true same = ap (λ o. Some (after_write rules k v (max (latest h) at) o)) (sym (standing-equal k q same))
@@ -110,16 +110,16 @@ module _ {K V : Type 0} (eq : K → K → Bool) (laws : IsEquivalence eq) (rules
 
   -- a removal
   pub stands-after-invalidate : (new : Holdings K V) (k : K) (at : ℕ)
-    → ChangesAt eq laws k state.writes new.writes None
-    → new.time_to_live ≡ state.time_to_live → new.time_to_idle ≡ state.time_to_idle
-    → new.notices ≡ state.notices ++ left rules Explicit (max state.latest at) (standing eq rules k h)
-    → new.latest ≡ max state.latest at → new.next_number ≡ state.next_number
-    → StandsFor eq rules new (Invalidate k at ∷ h)
+      → ChangesAt eq laws k state.writes new.writes None
+      → new.time_to_live ≡ state.time_to_live → new.time_to_idle ≡ state.time_to_idle
+      → new.notices ≡ state.notices ++ left rules Explicit (max state.latest at) (standing eq rules k h)
+      → new.latest ≡ max state.latest at → new.next_number ≡ state.next_number
+      → StandsFor eq rules new (Invalidate k at ∷ h)
   stands-after-invalidate new k at changes live idle notices moment number =
       stands-after new (Invalidate k at) k None changes (λ q. refl) live idle
-        (notices ∙ ap (λ m. state.notices ++ left rules Explicit (max m at) (standing eq rules k h)) stands.latest ∙ ap (λ l. l ++ left rules Explicit (max (latest h) at) (standing eq rules k h)) stands.notices ∙ sym (noticed-more eq rules h (left rules Explicit (max (latest h) at) (standing eq rules k h))))
-        (moment ∙ ap (λ m. max m at) stands.latest)
-        (number ∙ stands.next_number ∙ sym (add-zero (next_number rules h)))
+      (notices ∙ ap (λ m. state.notices ++ left rules Explicit (max m at) (standing eq rules k h)) stands.latest ∙ ap (λ l. l ++ left rules Explicit (max (latest h) at) (standing eq rules k h)) stands.notices ∙ sym (noticed-more eq rules h (left rules Explicit (max (latest h) at) (standing eq rules k h))))
+      (moment ∙ ap (λ m. max m at) stands.latest)
+      (number ∙ stands.next_number ∙ sym (add-zero (next_number rules h)))
 
   -- a look by `contains_key`, which changes nothing
   pub stands-after-contains_key : (k : K) (at : ℕ) → StandsFor eq rules state (ContainsKey k at ∷ h)
@@ -134,9 +134,9 @@ module _ {K V : Type 0} (eq : K → K → Bool) (laws : IsEquivalence eq) (rules
 
   -- the first notice is taken
   pub stands-after-take_notice : (new : Holdings K V)
-    → new.writes ≡ state.writes → new.time_to_live ≡ state.time_to_live → new.time_to_idle ≡ state.time_to_idle
-    → new.notices ≡ drop 1 state.notices → new.latest ≡ state.latest → new.next_number ≡ state.next_number
-    → StandsFor eq rules new (TakeNotice ∷ h)
+      → new.writes ≡ state.writes → new.time_to_live ≡ state.time_to_live → new.time_to_idle ≡ state.time_to_idle
+      → new.notices ≡ drop 1 state.notices → new.latest ≡ state.latest → new.next_number ≡ state.next_number
+      → StandsFor eq rules new (TakeNotice ∷ h)
   stands-after-take_notice new same live idle notices moment number = record {
     time_to_live = live ∙ stands.time_to_live;
     time_to_idle = idle ∙ stands.time_to_idle;

@@ -33,10 +33,10 @@ impl<K: Eq + Drop, V: Drop, R: RowStore<K, V>> Model for Table<K, V, R> {
     ghost Value = { Contents K V };
 
     ghost view = { λ table. record {
-        admitted = R.admitted table.rows;
-        waiting = R.waiting table.rows;
-        notices = table.notices.items;
-        room = min (R.room table.rows) (deque_capacity table.notices - (length (R.admitted table.rows ++ R.waiting table.rows) + deque_len table.notices));
+      admitted = R.admitted table.rows;
+      waiting = R.waiting table.rows;
+      notices = table.notices.items;
+      room = min (R.room table.rows) (deque_capacity table.notices - (length (R.admitted table.rows ++ R.waiting table.rows) + deque_len table.notices));
     } };
 
     ghost invariant = { λ table. length (R.admitted table.rows ++ R.waiting table.rows) + deque_len table.notices ≤ deque_capacity table.notices };

@@ -15,7 +15,7 @@ returns-in_default-clause-reply g c rules h stands =
     let s = c.self.inside in
     let same = rw (← c.self.view_is) at stands in
     let none = live-absent g.K.PartialEq.eq g.met.K.Eq.laws rules s.lives s.table s.latest s.next_number h same c.self.invariant (λ a b e. cc (g.met.K.Hash.respects_eq a b e))
-        c.args.key.now c.args.now c.hash_of-hash.result c.hash_of-hash.ensures c.in_default.ensures.absent in
+    c.args.key.now c.args.now c.hash_of-hash.result c.hash_of-hash.ensures c.in_default.ensures.absent in
     rw none tt
 
 pub returns-in_default-clause-stands : goal.returns-in_default-clause-stands
@@ -23,7 +23,7 @@ returns-in_default-clause-stands g c rules h stands =
     let s = c.self.inside in
     let same = rw (← c.self.view_is) at stands in
     let none = standing-absent g.K.PartialEq.eq g.met.K.Eq.laws rules s.lives s.table s.latest s.next_number h same c.self.invariant (λ a b e. cc (g.met.K.Hash.respects_eq a b e))
-        c.args.key.now c.hash_of-hash.result c.hash_of-hash.ensures c.in_default.ensures.absent in
+    c.args.key.now c.hash_of-hash.result c.hash_of-hash.ensures c.in_default.ensures.absent in
     rw c.max-now.ensures (stands-after-miss g.K.PartialEq.eq g.met.K.Eq.laws rules s.lives s.table s.latest s.next_number h same c.args.key.now c.args.now none)
 
 pub returns-then-is_expired-clause-reply : goal.returns-then-is_expired-clause-reply
