@@ -3,6 +3,7 @@ pub mod Changes
 pub mod Cuts
 pub mod Found
 pub mod Places
+pub mod Runs
 pub mod Sound
 pub mod Stands
 pub mod Steps

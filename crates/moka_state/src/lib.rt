@@ -5,4 +5,5 @@ pub mod lives;
 pub mod rows;
 pub mod shared_key;
 pub mod state;
+pub mod step;
 pub mod table;

@@ -236,6 +236,11 @@ impl<K: Hash + Drop, V: Clone, C: CacheTypes<K, V>, R: RowStore<K, V>> State<K, 
         self.table.take_notice()
     }
 
+    // The allocator that it keeps.
+    pub(crate) fn alloc(&self) -> Global {
+        self.alloc
+    }
+
     /// How many notices have not been taken.
     pub fn notice_count(&self) -> usize
         ensures { result ≡ length self.now.notices }
