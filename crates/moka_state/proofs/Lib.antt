@@ -2,7 +2,9 @@ pub mod Cases
 pub mod Changes
 pub mod Cuts
 pub mod Found
+pub mod NumberLemmas
 pub mod Places
+pub mod RowLemmas
 pub mod Runs
 pub mod Sound
 pub mod Stands

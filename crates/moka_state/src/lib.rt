@@ -1,6 +1,7 @@
 //! The cache as a plain value: its rows, its state, and its calls.
 #![tactic(auto)]
 
+pub mod list_rows;
 pub mod lives;
 pub mod rows;
 pub mod shared_key;

@@ -17,12 +17,13 @@ loop-step-preserved g c =
       kept = kept.1;
       room = omega (arith, c.loop-step.invariant.room, c.in-Some.ensures.len, c.push_reserved.ensures.len, c.push_reserved.ensures.capacity);
       so_far = λ rules h stands.
-        let was = c.loop-step.invariant.so_far rules h stands in
-        let reply = c.step-reply.ensures.reply rules _ was.3 in
-        (was.0 ++ c.in-Some.step ∷ [],
-         was.1 ∙ ap (λ l. was.0 ++ l) c.in-Some.ensures.items ∙ sym (append_assoc was.0 (c.in-Some.step ∷ []) c.pop_front.new.self.items),
-         rw c.push_reserved.ensures.items (IsRun-more g.K.PartialEq.eq g.V.Clone.is_clone rules h was.0 c.loop-step.replies.items c.in-Some.step c.step-reply.result was.2 reply),
-         rw c.push_reserved.ensures.items (stands-more g.K.PartialEq.eq g.V.Clone.is_clone rules c.step-reply.new.self h was.0 c.loop-step.replies.items c.in-Some.step c.step-reply.result was.2 (c.step-reply.ensures.stands rules _ was.3)));
+          let was = c.loop-step.invariant.so_far rules h stands in
+          let reply = c.step-reply.ensures.reply rules _ was.3 in (
+            was.0 ++ c.in-Some.step ∷ [],
+            was.1 ∙ ap (λ l. was.0 ++ l) c.in-Some.ensures.items ∙ sym (append_assoc was.0 (c.in-Some.step ∷ []) c.pop_front.new.self.items),
+            rw c.push_reserved.ensures.items (IsRun-more g.K.PartialEq.eq g.V.Clone.is_clone rules h was.0 c.loop-step.replies.items c.in-Some.step c.step-reply.result was.2 reply),
+            rw c.push_reserved.ensures.items (stands-more g.K.PartialEq.eq g.V.Clone.is_clone rules c.step-reply.new.self h was.0 c.loop-step.replies.items c.in-Some.step c.step-reply.result was.2 (c.step-reply.ensures.stands rules _ was.3)),
+          );
     }
 
 pub returns-clause-replies : goal.returns-clause-replies
