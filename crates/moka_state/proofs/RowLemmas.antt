@@ -1,13 +1,15 @@
 -- Rows under numbers in a list, and in two lists one after the other.
 use Rattle.std.proofs.Common.{◌≡◌, ℕ, suc, ◌+◌, ◌≢◌, ◌==◌, Bool, true, false, Option, Some, None, MatchOption, List, [], ◌∷◌, ◌++◌, length, if◌then◌else◌, refl, sym, ap, ◌∙◌, arith}
 use Rattle.std.specs.Option.{option_or}
-use Rattle.std.proofs.lemmas.Bool.{eqb-true, ne_eqb}
+use Rattle.std.proofs.lemmas.Bool.{eq-eqb, eqb-true, ne_eqb}
 use Rattle.moka_state.specs.Rows.{row_under, with_row, without_row}
 
+-- a number that is n is not another one
 eqb-other : (k m n : ℕ) → (k == n) ≡ true → m ≢ n → (k == m) ≡ false
 eqb-other k m n is other = ne_eqb k m (λ same. other (sym same ∙ eqb-true k n is))
 
 module _ {R : Type 0} where
+  -- the row under a number in two lists, one after the other
   pub row_under-append : (n : ℕ) (xs ys : List (ℕ × R)) → row_under n (xs ++ ys) ≡ option_or (row_under n xs) (row_under n ys)
   row_under-append n [] ys = refl
   row_under-append n (p ∷ ps) ys =
@@ -22,6 +24,7 @@ module _ {R : Type 0} where
   pub row_under-append_right : (n : ℕ) (xs ys : List (ℕ × R)) → row_under n xs ≡ None → row_under n (xs ++ ys) ≡ row_under n ys
   row_under-append_right n xs ys absent = row_under-append n xs ys ∙ rw absent refl
 
+  -- a change, and a removal, in two lists, one after the other
   pub with_row-append_left : (n : ℕ) (change : R → R) (xs ys : List (ℕ × R)) (r : R) → row_under n xs ≡ Some r → with_row n change (xs ++ ys) ≡ with_row n change xs ++ ys
   with_row-append_left n change [] ys r found = cc
   with_row-append_left n change (p ∷ ps) ys r found =
@@ -58,7 +61,7 @@ module _ {R : Type 0} where
         | false ↦ λ later. ap (λ rest. p ∷ rest) (without_row-append_right n ps ys later)
       ] absent
 
-  -- a change where no row stands under the number changes nothing
+  -- a change and a removal where no row stands under the number
   pub with_row-absent : (n : ℕ) (change : R → R) (xs : List (ℕ × R)) → row_under n xs ≡ None → with_row n change xs ≡ xs
   with_row-absent n change [] absent = refl
   with_row-absent n change (p ∷ ps) absent =
@@ -75,6 +78,7 @@ module _ {R : Type 0} where
         | false ↦ λ later. ap (λ rest. p ∷ rest) (without_row-absent n ps later)
       ] absent
 
+  -- how many rows a change and a removal leave
   pub length-with_row : (n : ℕ) (change : R → R) (xs : List (ℕ × R)) → length (with_row n change xs) ≡ length xs
   length-with_row n change [] = refl
   length-with_row n change (p ∷ ps) =
@@ -135,6 +139,21 @@ module _ {R : Type 0} where
       go true is later = rw (without_row-here n p ps is, row_under-there m p ps (eqb-other p.0 m n is other)) refl
       go false is later = rw (without_row-there n p ps is) (ap (λ o. if p.0 == m then Some p.1 else o) later)
 
+  -- the row under a number after a row was added as the last, or moved there
+  pub row_under-push_same : (n : ℕ) (r : R) (xs : List (ℕ × R)) → row_under n xs ≡ None → row_under n (xs ++ (n, r) ∷ []) ≡ Some r
+  row_under-push_same n r xs absent = row_under-append_right n xs ((n, r) ∷ []) absent ∙ row_under-here n (n, r) [] (eq-eqb n n refl)
+
+  pub row_under-push_other : (m n : ℕ) (r : R) (xs : List (ℕ × R)) → m ≢ n → row_under m (xs ++ (n, r) ∷ []) ≡ row_under m xs
+  row_under-push_other m n r xs other =
+      row_under-append m xs ((n, r) ∷ []) ∙ (rw (row_under-there m (n, r) [] (ne_eqb n m (λ same. other (sym same)))) (or_none (row_under m xs)))
+    where
+      or_none : (o : Option R) → option_or o None ≡ o
+      or_none None = refl
+      or_none (Some r) = refl
+
+  pub row_under-moved_other : (m n : ℕ) (r : R) (xs : List (ℕ × R)) → m ≢ n → row_under m (without_row n xs ++ (n, r) ∷ []) ≡ row_under m xs
+  row_under-moved_other m n r xs other = row_under-push_other m n r (without_row n xs) other ∙ row_under-without_row_other m n xs other
+
   -- where the first row under a number stands in a list, and what a change there and its removal leave
   pub record SplitsAt (n : ℕ) (r : R) (rows front back : List (ℕ × R)) : Type 0 where
     pub whole : rows ≡ front ++ (n, r) ∷ back
@@ -148,17 +167,28 @@ module _ {R : Type 0} where
     where
       here : (p.0 == n) ≡ true → p ≡ (n, r)
       here is = let value : p.1 ≡ r = cc (found, row_under-here n p ps is) in let number : p.0 ≡ n = eqb-true p.0 n is in λ i. (number i, value i)
+
       go : (b : Bool) → (p.0 == n) ≡ b → (row_under n ps ≡ Some r → (front : List (ℕ × R)) × (back : List (ℕ × R)) × SplitsAt n r ps front back) → (front : List (ℕ × R)) × (back : List (ℕ × R)) × SplitsAt n r (p ∷ ps) front back
-      go true is later = ([], ps, record {
+      go true is later = (
+        [],
+        ps,
+        record {
           whole = ap (λ q. q ∷ ps) (here is);
           before = refl;
           changed = λ change. with_row-here n change p ps is ∙ ap (λ (q : ℕ × R). (q.0, change q.1) ∷ ps) (here is);
-          rest = without_row-here n p ps is })
-      go false is later = (p ∷ next.0, next.1, record {
+          rest = without_row-here n p ps is;
+        },
+      )
+      go false is later = (
+        p ∷ next.0,
+        next.1,
+        record {
           whole = ap (λ rest. p ∷ rest) next.2.whole;
           before = row_under-there n p next.0 is ∙ next.2.before;
           changed = λ change. with_row-there n change p ps is ∙ ap (λ rest. p ∷ rest) (next.2.changed change);
-          rest = without_row-there n p ps is ∙ ap (λ rest. p ∷ rest) next.2.rest })
+          rest = without_row-there n p ps is ∙ ap (λ rest. p ∷ rest) next.2.rest;
+        },
+      )
         where
           next : (front : List (ℕ × R)) × (back : List (ℕ × R)) × SplitsAt n r ps front back
           next = later (sym (row_under-there n p ps is) ∙ found)

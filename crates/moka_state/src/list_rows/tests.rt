@@ -20,11 +20,22 @@ const LATER: EntryInfo = EntryInfo {
 };
 
 /// Adds a row for a key of this hash.
-fn add<R: RowStore<u64, String>>(alloc: Global, rows: &mut R, key: u64, hash: u64, value: &str) -> Result<usize, AllocError> {
+fn add<R: RowStore<u64, String>>(
+    alloc: Global,
+    rows: &mut R,
+    key: u64,
+    hash: u64,
+    value: &str,
+) -> Result<usize, AllocError> {
     let key = Arc::new(alloc, key)?;
     let value = String::from_str(alloc, value)?;
     rows.reserve()?;
-    Ok(rows.add(Row { key, hash, value, info: FIRST }))
+    Ok(rows.add(Row {
+        key,
+        hash,
+        value,
+        info: FIRST,
+    }))
 }
 
 /// The number of a key of this hash.
