@@ -24,7 +24,7 @@ same-key eq k hash row is = and-second (row.hash == hash) (eq (arc_value row.key
 
 module _ {K V : Type 0} (eq : K → K → Bool) (laws : IsEquivalence eq) where
   -- the stored writes around a row
-  stored-around : (n : ℕ) (before after : List (ℕ × Row K V)) (row : Row K V) → stored_writes (before ++ (n, row) ∷ after) ≡ stored_writes before ++ stored_write row ∷ stored_writes after
+  pub stored-around : (n : ℕ) (before after : List (ℕ × Row K V)) (row : Row K V) → stored_writes (before ++ (n, row) ∷ after) ≡ stored_writes before ++ stored_write row ∷ stored_writes after
   stored-around n before after row = map-append (λ (p : ℕ × Row K V). stored_write p.1) before ((n, row) ∷ after)
 
   pub stored-append : (ps qs : List (ℕ × Row K V)) → stored_writes (ps ++ qs) ≡ stored_writes ps ++ stored_writes qs

@@ -4,6 +4,7 @@ pub mod Cuts
 pub mod Found
 pub mod NumberLemmas
 pub mod Places
+pub mod Queues
 pub mod RowLemmas
 pub mod Runs
 pub mod Sound
