@@ -138,6 +138,14 @@ module _ {R : Type 0} where
       (λ m. omega (arith, count_under-append m front back, count_under-append m (without_row n front ++ (n, s) ∷ []) back, count_under-append m (without_row n front) ((n, s) ∷ []), count_under-without_row m n front p.1 (at.row p read)))
       (omega (arith, length-append front back, length-append (without_row n front ++ (n, s) ∷ []) back, length-append (without_row n front) ((n, s) ∷ []), length-without_row n front p.1 (at.row p read))) numbered)
 
+  -- when a row behind becomes the last in front,
+  pub IsNumbered-admitted : (next n place : ℕ) (front back : List (ℕ × R)) (p : ℕ × R) → IsPlaceOf n back place → p ≡ get_or back place p → IsNumbered next (front ++ back) → IsNumbered next ((front ++ (n, p.1) ∷ []) ++ remove back place)
+  IsNumbered-admitted next n place front back p at read numbered =
+      rw at.rest
+      (IsNumbered-same next (front ++ back) ((front ++ (n, p.1) ∷ []) ++ without_row n back)
+      (λ m. omega (arith, count_under-append m front back, count_under-append m (front ++ (n, p.1) ∷ []) (without_row n back), count_under-append m front ((n, p.1) ∷ []), count_under-without_row m n back p.1 (at.row p read)))
+      (omega (arith, length-append front back, length-append (front ++ (n, p.1) ∷ []) (without_row n back), length-append front ((n, p.1) ∷ []), length-without_row n back p.1 (at.row p read))) numbered)
+
   -- and when a row in front or behind is taken out.
   pub IsNumbered-remove_front : (next n place : ℕ) (front back : List (ℕ × R)) (p : ℕ × R) → IsPlaceOf n front place → p ≡ get_or front place p → IsNumbered next (front ++ back) → IsNumbered next (remove front place ++ back)
   IsNumbered-remove_front next n place front back p at read numbered =
@@ -152,14 +160,6 @@ module _ {R : Type 0} where
       (IsNumbered-same next (front ++ back) (front ++ without_row n back)
       (λ m. omega (arith, count_under-append m front back, count_under-append m front (without_row n back), count_under-without_row m n back p.1 (at.row p read)))
       (omega (arith, length-append front back, length-append front (without_row n back), length-without_row n back p.1 (at.row p read))) numbered)
-
-  -- when a row behind becomes the last in front,
-  pub IsNumbered-admitted : (next n place : ℕ) (front back : List (ℕ × R)) (p : ℕ × R) → IsPlaceOf n back place → p ≡ get_or back place p → IsNumbered next (front ++ back) → IsNumbered next ((front ++ (n, p.1) ∷ []) ++ remove back place)
-  IsNumbered-admitted next n place front back p at read numbered =
-      rw at.rest
-      (IsNumbered-same next (front ++ back) ((front ++ (n, p.1) ∷ []) ++ without_row n back)
-      (λ m. omega (arith, count_under-append m front back, count_under-append m (front ++ (n, p.1) ∷ []) (without_row n back), count_under-append m front ((n, p.1) ∷ []), count_under-without_row m n back p.1 (at.row p read)))
-      (omega (arith, length-append front back, length-append (front ++ (n, p.1) ∷ []) (without_row n back), length-append front ((n, p.1) ∷ []), length-without_row n back p.1 (at.row p read))) numbered)
 
   -- a row that a test finds stands under its number
   row_under-number_where : (test : R → Bool) (n : ℕ) (rows : List (ℕ × R)) → ((m : ℕ) → count_under m rows ≤ 1) → number_where test rows ≡ Some n → (r : R) × (row_under n rows ≡ Some r) × (test r ≡ true)

@@ -1,4 +1,3 @@
-use Rattle.std.proofs.Common.{refl}
 use Rattle.moka_state.proofs.NumberLemmas.{IsNumbered-admitted}
 use Rattle.moka_state.proofs.list_rows.ListRowsRowStore.admit.Goals as goal
 
