@@ -1,6 +1,7 @@
 -- What a cache means, over the list of its events. A list of events is read from its newest: `e ∷ h` is "the
 -- events of h, and then e". Keys are compared by `eq`, the `Eq` of their type, and never by identity.
 use Rattle.std.specs.Prelude.{ℕ, ◌+◌, ◌-◌, ◌^◌, max, min, Bool, false, not, if◌then◌else◌, nat_le, Option, Some, None, List, [], ◌∷◌, ◌++◌, length, drop, option_map, map, filter, ◌&&◌}
+use Rattle.moka_base.specs.Maintenance.{Queues}
 use Rattle.moka_base.specs.declared.notification.RemovalCause.{RemovalCause}
 use Rattle.moka_base.specs.declared.notification.RemovalCause.TheVariants.{Expired, Explicit, Replaced}
 
@@ -97,12 +98,6 @@ standing eq rules k (Insert q v at ∷ h) = if eq q k then Some (after_write rul
 standing eq rules k (Invalidate q at ∷ h) = if eq q k then None else standing eq rules k h
 standing eq rules k (TakeNotice ∷ h) = standing eq rules k h
 
--- What stands, in two orders: the admitted writes, the least recently used first, and those that wait for
--- admission, in the order in which their keys came.
-pub record Queues (K V : Type 0) : Type 0 where
-  pub admitted : List (Write K V)
-  pub waiting : List (Write K V)
-
 module _ {A : Type 0} where
   -- those that pass a test change, and stay in their places
   abbrev pub changed_where : (A → Bool) → (A → A) → List A → List A
@@ -123,23 +118,23 @@ module _ {K V : Type 0} (eq : K → K → Bool) (rules : Rules) where
 
   -- A write that passes the test is used, and changes so: where it waits it keeps its place, and where it is
   -- admitted it goes behind all others.
-  abbrev pub used_where : (Write K V → Bool) → (Write K V → Write K V) → Queues K V → Queues K V
+  abbrev pub used_where : (Write K V → Bool) → (Write K V → Write K V) → Queues (Write K V) → Queues (Write K V)
   used_where p change q = record { admitted = moved_last p change q.admitted; waiting = changed_where p change q.waiting }
 
   -- a write of a key that does not stand waits behind all others
-  abbrev pub opened_by : Write K V → List (Write K V) → Queues K V → Queues K V
+  abbrev pub opened_by : Write K V → List (Write K V) → Queues (Write K V) → Queues (Write K V)
   opened_by w [] q = record { admitted = q.admitted; waiting = q.waiting ++ w ∷ [] }
   opened_by w (standing ∷ more) q = q
 
-  abbrev pub written_in : K → V → ℕ → Queues K V → Queues K V
+  abbrev pub written_in : K → V → ℕ → Queues (Write K V) → Queues (Write K V)
   written_in k v at q = opened_by (after_write rules k v at None) (filter (is_of k) (q.admitted ++ q.waiting)) (used_where (is_of k) (λ w. after_write rules k v at (Some w)) q)
 
   -- a key that is removed is in neither order
-  abbrev pub removed_in : K → Queues K V → Queues K V
+  abbrev pub removed_in : K → Queues (Write K V) → Queues (Write K V)
   removed_in k q = record { admitted = filter (λ w. not (is_of k w)) q.admitted; waiting = filter (λ w. not (is_of k w)) q.waiting }
 
 -- What stands after a list of events, in its two orders.
-abbrev pub queues : {K V : Type 0} → (K → K → Bool) → Rules → List (Event K V) → Queues K V
+abbrev pub queues : {K V : Type 0} → (K → K → Bool) → Rules → List (Event K V) → Queues (Write K V)
 queues eq rules [] = record { admitted = []; waiting = [] }
 queues eq rules (Get k at ∷ h) = used_where eq rules (is_hit eq rules k (latest (Get k at ∷ h))) (after_look rules (latest (Get k at ∷ h))) (queues eq rules h)
 queues eq rules (ContainsKey k at ∷ h) = queues eq rules h

@@ -9,7 +9,8 @@ use Rattle.std.specs.List.{filter}
 use Rattle.moka_base.specs.declared.notification.Notice.{Notice}
 use Rattle.moka_base.specs.declared.notification.RemovalCause.{RemovalCause}
 use Rattle.moka_base.specs.declared.notification.RemovalCause.TheVariants.{Expired, Explicit, Replaced}
-use Rattle.moka_base.specs.History.{Event, Get, Insert, Invalidate, Rules, Write, Leaving, latest, standing, after_look, after_write, left, Queues, used_where, is_hit, is_of, is_live, is_expired, has_come, deadline}
+use Rattle.moka_base.specs.History.{Event, Get, Insert, Invalidate, Rules, Write, Leaving, latest, standing, after_look, after_write, left, used_where, is_hit, is_of, is_live, is_expired, has_come, deadline}
+use Rattle.moka_base.specs.Maintenance.{Queues}
 use Rattle.moka_base.specs.StandsFor.{Holdings, StandsFor, writes, writes_of}
 use Rattle.moka_state.specs.declared.rows.Row.{Row}
 use Rattle.moka_state.specs.declared.rows.EntryInfo.{EntryInfo}
@@ -29,7 +30,7 @@ noticed-one : {K V : Type 0} (old new : List (Notice K V)) (notice : Notice K V)
 noticed-one {K} {V} old new notice grown = ap (map leaving_of) grown ∙ map-append (leaving_of {K = K} {V = V}) old (notice ∷ [])
 
 -- the two orders of the stored writes
-abbrev both-of : {K V : Type 0} → Contents K V → Queues K V
+abbrev both-of : {K V : Type 0} → Contents K V → Queues (Write K V)
 both-of contents = record { admitted = stored_writes contents.admitted; waiting = stored_writes contents.waiting }
 
 -- the first of two tests that hold together
@@ -58,7 +59,7 @@ module _ {K V : Type 0} (eq : K → K → Bool) (laws : IsEquivalence eq) (rules
   by-orders new k o changes = changes-along eq laws k o (sym (stored-append eq laws contents.admitted contents.waiting)) (sym (stored-append eq laws new.admitted new.waiting)) changes
 
   -- the two orders, as the definitions have them
-  abbrev both : Queues K V
+  abbrev both : Queues (Write K V)
   both = both-of contents
 
   -- where no write of the key is live, a look hits none
@@ -89,8 +90,8 @@ module _ {K V : Type 0} (eq : K → K → Bool) (laws : IsEquivalence eq) (rules
       refl refl refl refl refl
 
   -- the orders that a record of both equations gives
-  orders : (new : Contents K V) (q : Queues K V) → stored_writes new.admitted ≡ q.admitted → stored_writes new.waiting ≡ q.waiting → both-of new ≡ q
-  orders new q a w = ap (λ x. let r : Queues K V = record { admitted = x; waiting = stored_writes new.waiting } in r) a ∙ ap (λ x. let r : Queues K V = record { admitted = q.admitted; waiting = x } in r) w
+  orders : (new : Contents K V) (q : Queues (Write K V)) → stored_writes new.admitted ≡ q.admitted → stored_writes new.waiting ≡ q.waiting → both-of new ≡ q
+  orders new q a w = ap (λ x. let r : Queues (Write K V) = record { admitted = x; waiting = stored_writes new.waiting } in r) a ∙ ap (λ x. let r : Queues (Write K V) = record { admitted = q.admitted; waiting = x } in r) w
 
   -- a hit
   pub stands-after-hit : (new : Contents K V) (k : K) (at n : ℕ) (row : Row K V) (info : EntryInfo) → row_under n (entries contents) ≡ Some row → eq (arc_value row.key) k ≡ true → has_come (deadline_of lives row.info) (max moment at) ≡ false

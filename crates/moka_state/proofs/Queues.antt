@@ -5,7 +5,8 @@ use Rattle.std.specs.List.{filter}
 use Rattle.std.specs.Cmp.{IsEquivalence}
 use Rattle.std.proofs.lemmas.List.{append-nil, map-append}
 use Rattle.std.proofs.lemmas.List.Elements.{filter-append}
-use Rattle.moka_base.specs.History.{Rules, Write, Queues, changed_where, moved_last, is_of, used_where, opened_by, written_in, removed_in, after_write}
+use Rattle.moka_base.specs.History.{Rules, Write, changed_where, moved_last, is_of, used_where, opened_by, written_in, removed_in, after_write}
+use Rattle.moka_base.specs.Maintenance.{Queues}
 use Rattle.moka_base.specs.StandsFor.{writes_of}
 use Rattle.moka_state.specs.declared.rows.Row.{Row}
 use Rattle.moka_state.specs.Rows.{row_under, with_row, without_row}
@@ -179,30 +180,30 @@ filter-both p q (x ∷ xs) = go (p x) refl (filter-both p q xs)
 
 module _ {K V : Type 0} (eq : K → K → Bool) (rules : Rules) where
   -- where none passes, both orders stay
-  pub used_where-none : (p : Write K V → Bool) (change : Write K V → Write K V) (q : Queues K V) → filter p (q.admitted ++ q.waiting) ≡ [] → used_where eq rules p change q ≡ q
+  pub used_where-none : (p : Write K V → Bool) (change : Write K V → Write K V) (q : Queues (Write K V)) → filter p (q.admitted ++ q.waiting) ≡ [] → used_where eq rules p change q ≡ q
   used_where-none p change q none =
     let parts = sym (filter-append p q.admitted q.waiting) ∙ none in
     let in_admitted = empty-before (filter p q.admitted) (filter p q.waiting) parts in
     let in_waiting = empty-after (filter p q.admitted) (filter p q.waiting) parts in
-    ap (λ a. let r : Queues K V = record { admitted = a; waiting = changed_where p change q.waiting } in r) (moved_last-none p change q.admitted in_admitted)
-      ∙ ap (λ w. let r : Queues K V = record { admitted = q.admitted; waiting = w } in r) (changed_where-none p change q.waiting in_waiting)
+    ap (λ a. let r : Queues (Write K V) = record { admitted = a; waiting = changed_where p change q.waiting } in r) (moved_last-none p change q.admitted in_admitted)
+      ∙ ap (λ w. let r : Queues (Write K V) = record { admitted = q.admitted; waiting = w } in r) (changed_where-none p change q.waiting in_waiting)
 
   -- a removal of a key without a write leaves both
-  pub removed_in-none : (k : K) (q : Queues K V) → writes_of eq k (q.admitted ++ q.waiting) ≡ [] → removed_in eq rules k q ≡ q
+  pub removed_in-none : (k : K) (q : Queues (Write K V)) → writes_of eq k (q.admitted ++ q.waiting) ≡ [] → removed_in eq rules k q ≡ q
   removed_in-none k q none =
     let parts = sym (filter-append (λ (w : Write K V). eq w.key k) q.admitted q.waiting) ∙ none in
     let in_admitted = empty-before (writes_of eq k q.admitted) (writes_of eq k q.waiting) parts in
     let in_waiting = empty-after (writes_of eq k q.admitted) (writes_of eq k q.waiting) parts in
-    ap (λ a. let r : Queues K V = record { admitted = a; waiting = filter (λ (w : Write K V). not (eq w.key k)) q.waiting } in r) (rest-all (λ (w : Write K V). eq w.key k) q.admitted in_admitted)
-      ∙ ap (λ w. let r : Queues K V = record { admitted = q.admitted; waiting = w } in r) (rest-all (λ (w : Write K V). eq w.key k) q.waiting in_waiting)
+    ap (λ a. let r : Queues (Write K V) = record { admitted = a; waiting = filter (λ (w : Write K V). not (eq w.key k)) q.waiting } in r) (rest-all (λ (w : Write K V). eq w.key k) q.admitted in_admitted)
+      ∙ ap (λ w. let r : Queues (Write K V) = record { admitted = q.admitted; waiting = w } in r) (rest-all (λ (w : Write K V). eq w.key k) q.waiting in_waiting)
 
   -- a write of a key with a write changes that one
-  pub written_in-over : (k : K) (v : V) (at : ℕ) (q : Queues K V) (w : Write K V) → writes_of eq k (q.admitted ++ q.waiting) ≡ w ∷ []
+  pub written_in-over : (k : K) (v : V) (at : ℕ) (q : Queues (Write K V)) (w : Write K V) → writes_of eq k (q.admitted ++ q.waiting) ≡ w ∷ []
     → written_in eq rules k v at q ≡ used_where eq rules (is_of eq rules k) (λ old. after_write rules k v at (Some old)) q
   written_in-over k v at q w one = ap (λ l. opened_by eq rules (after_write rules k v at None) l (used_where eq rules (is_of eq rules k) (λ old. after_write rules k v at (Some old)) q)) one
 
   -- a write of a key without one waits behind all others
-  pub written_in-anew : (k : K) (v : V) (at : ℕ) (q : Queues K V) → writes_of eq k (q.admitted ++ q.waiting) ≡ []
+  pub written_in-anew : (k : K) (v : V) (at : ℕ) (q : Queues (Write K V)) → writes_of eq k (q.admitted ++ q.waiting) ≡ []
     → written_in eq rules k v at q ≡ record { admitted = q.admitted; waiting = q.waiting ++ after_write rules k v at None ∷ [] }
   written_in-anew k v at q none =
     ap (λ l. opened_by eq rules (after_write rules k v at None) l (used_where eq rules (is_of eq rules k) (λ old. after_write rules k v at (Some old)) q)) none

@@ -5,7 +5,8 @@ use Rattle.std.specs.Cmp.{IsEquivalence}
 use Rattle.std.proofs.lemmas.List.{append-nil, drop-append-le, drop-drop, drop_all}
 use Rattle.std.proofs.lemmas.Bool.{leb-true, leb-false}
 use Rattle.moka_base.specs.declared.notification.RemovalCause.TheVariants.{Explicit, Replaced}
-use Rattle.moka_base.specs.History.{Event, Get, ContainsKey, Insert, Invalidate, TakeNotice, Rules, Write, Leaving, latest, standing, Queues, queues, used_where, is_hit, written_in, removed_in, after_look, after_write, left, leaving, leavings, taken, noticed, drawn, next_number}
+use Rattle.moka_base.specs.History.{Event, Get, ContainsKey, Insert, Invalidate, TakeNotice, Rules, Write, Leaving, latest, standing, queues, used_where, is_hit, written_in, removed_in, after_look, after_write, left, leaving, leavings, taken, noticed, drawn, next_number}
+use Rattle.moka_base.specs.Maintenance.{Queues}
 use Rattle.moka_base.specs.StandsFor.{Holdings, StandsFor, writes, writes_of}
 use Rattle.moka_state.proofs.Changes.{ChangesAt, OneEach, writes_of-equal, option_to_list-same}
 
@@ -24,7 +25,7 @@ one-less n xs short = drop-drop 1 n xs ∙ ends (nat_le (n + 1) (length xs)) ref
         drop_all (n + 1) xs (omega arith) ∙ sym (drop_all (length xs) xs (omega arith)) ∙ ap (λ m. drop m xs) (sym same)
 
 -- the two orders that a state holds
-abbrev pub held : {K V : Type 0} → Holdings K V → Queues K V
+abbrev pub held : {K V : Type 0} → Holdings K V → Queues (Write K V)
 held state = record { admitted = state.admitted; waiting = state.waiting }
 
 module _ {K V : Type 0} (eq : K → K → Bool) (rules : Rules) where
@@ -48,7 +49,7 @@ module _ {K V : Type 0} (eq : K → K → Bool) (laws : IsEquivalence eq) (rules
 
   -- the two orders are those of the list
   pub held-is : held state ≡ queues eq rules h
-  held-is = ap (λ a. let q : Queues K V = record { admitted = a; waiting = state.waiting } in q) stands.admitted ∙ ap (λ w. let q : Queues K V = record { admitted = (queues eq rules h).admitted; waiting = w } in q) stands.waiting
+  held-is = ap (λ a. let q : Queues (Write K V) = record { admitted = a; waiting = state.waiting } in q) stands.admitted ∙ ap (λ w. let q : Queues (Write K V) = record { admitted = (queues eq rules h).admitted; waiting = w } in q) stands.waiting
 
   -- the same write stands for equal keys
   pub standing-equal : (a b : K) → eq a b ≡ true → standing eq rules a h ≡ standing eq rules b h
@@ -69,8 +70,8 @@ module _ {K V : Type 0} (eq : K → K → Bool) (laws : IsEquivalence eq) (rules
     time_to_live = live ∙ stands.time_to_live;
     time_to_idle = idle ∙ stands.time_to_idle;
     writes = λ q. changes q ∙ go q (eq k q) ∙ ap option_to_list (sym (defined q));
-    admitted = ap (λ (q : Queues K V). q.admitted) orders;
-    waiting = ap (λ (q : Queues K V). q.waiting) orders;
+    admitted = ap (λ (q : Queues (Write K V)). q.admitted) orders;
+    waiting = ap (λ (q : Queues (Write K V)). q.waiting) orders;
     notices = notices;
     latest = moment;
     next_number = number;
