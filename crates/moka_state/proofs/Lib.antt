@@ -1,7 +1,7 @@
 pub mod Cases
 pub mod Changes
-pub mod Cuts
 pub mod Found
+pub mod Lengths
 pub mod NumberLemmas
 pub mod Places
 pub mod Queues

@@ -11,8 +11,7 @@ use Rattle.moka_base.specs.StandsFor.{writes_of}
 use Rattle.moka_state.specs.declared.rows.Row.{Row}
 use Rattle.moka_state.specs.Rows.{row_under, with_row, without_row}
 use Rattle.moka_state.specs.Table.{Contents, entries, stored_write, stored_writes, UsesRow, TakesRow}
-use Rattle.moka_state.proofs.RowLemmas.{row_under-append_left, row_under-append_right}
-use Rattle.moka_state.proofs.Cuts.{Cut, cut}
+use Rattle.moka_state.proofs.RowLemmas.{row_under-append_left, row_under-append_right, SplitsAt, split_at_row}
 use Rattle.moka_state.proofs.Changes.{OneEach, empty-before, empty-after, rest-empty}
 use Rattle.moka_state.proofs.Found.{stored-append, stored-around}
 
@@ -99,34 +98,34 @@ module _ {K V : Type 0} (eq : K → K → Bool) (laws : IsEquivalence eq) (k : K
               (λ r. (new.admitted ≡ without_row n old.admitted ++ (n, change r) ∷ []) × (new.waiting ≡ old.waiting))
           → UsedQueues p change' old new
         go None e h =
-          let c = cut n old.waiting row (sym (row_under-append_right n old.admitted old.waiting e) ∙ there) in
-          let whole = ap (λ w. stored_writes (old.admitted ++ w)) c.whole ∙ ap stored_writes (sym (append_assoc old.admitted c.before ((c.number, row) ∷ c.after))) ∙ stored-around eq laws c.number (old.admitted ++ c.before) c.after row in
-          let others = rest-empty eq laws k (stored_writes (old.admitted ++ c.before)) (stored_writes c.after) (stored_write row) (rw whole at one) same in
-          let front = rw (stored-append eq laws old.admitted c.before) at (none-front (stored_writes (old.admitted ++ c.before)) (stored_writes c.after) others) in
-          let in_admitted = none-front (stored_writes old.admitted) (stored_writes c.before) front in
-          let in_before = none-back (stored_writes old.admitted) (stored_writes c.before) front in
-          let in_after = none-back (stored_writes (old.admitted ++ c.before)) (stored_writes c.after) others in
+          let c = split_at_row n row old.waiting (sym (row_under-append_right n old.admitted old.waiting e) ∙ there) in
+          let whole = ap (λ w. stored_writes (old.admitted ++ w)) c.2.whole ∙ ap stored_writes (sym (append_assoc old.admitted c.0 ((n, row) ∷ c.1))) ∙ stored-around eq laws n (old.admitted ++ c.0) c.1 row in
+          let others = rest-empty eq laws k (stored_writes (old.admitted ++ c.0)) (stored_writes c.1) (stored_write row) (rw whole at one) same in
+          let front = rw (stored-append eq laws old.admitted c.0) at (none-front (stored_writes (old.admitted ++ c.0)) (stored_writes c.1) others) in
+          let in_admitted = none-front (stored_writes old.admitted) (stored_writes c.0) front in
+          let in_before = none-back (stored_writes old.admitted) (stored_writes c.0) front in
+          let in_after = none-back (stored_writes (old.admitted ++ c.0)) (stored_writes c.1) others in
           record {
             admitted = ap stored_writes h.0 ∙ sym (moved_last-none p change' (stored_writes old.admitted) (none _ in_admitted));
-            waiting = ap stored_writes (h.1 ∙ c.changed change) ∙ stored-around eq laws c.number c.before c.after (change row) ∙ ap (λ w. stored_writes c.before ++ w ∷ stored_writes c.after) (sym changes)
-              ∙ sym (changed_where-one p change' (stored_writes c.before) (stored_writes c.after) (stored_write row) passes (none _ in_before) (none _ in_after))
-              ∙ sym (ap (λ ws. changed_where p change' ws) (ap stored_writes c.whole ∙ stored-around eq laws c.number c.before c.after row));
+            waiting = ap stored_writes (h.1 ∙ c.2.changed change) ∙ stored-around eq laws n c.0 c.1 (change row) ∙ ap (λ w. stored_writes c.0 ++ w ∷ stored_writes c.1) (sym changes)
+              ∙ sym (changed_where-one p change' (stored_writes c.0) (stored_writes c.1) (stored_write row) passes (none _ in_before) (none _ in_after))
+              ∙ sym (ap (λ ws. changed_where p change' ws) (ap stored_writes c.2.whole ∙ stored-around eq laws n c.0 c.1 row));
           }
         go (Some r) e h =
           let found : Some r ≡ Some row = sym (row_under-append_left n old.admitted old.waiting r e) ∙ there in
           let it : r ≡ row = cc in
-          let c = cut n old.admitted row (e ∙ found) in
-          let whole = ap (λ a. stored_writes (a ++ old.waiting)) c.whole ∙ ap stored_writes (append_assoc c.before ((c.number, row) ∷ c.after) old.waiting) ∙ stored-around eq laws c.number c.before (c.after ++ old.waiting) row in
-          let others = rest-empty eq laws k (stored_writes c.before) (stored_writes (c.after ++ old.waiting)) (stored_write row) (rw whole at one) same in
-          let in_before = none-front (stored_writes c.before) (stored_writes (c.after ++ old.waiting)) others in
-          let back = rw (stored-append eq laws c.after old.waiting) at (none-back (stored_writes c.before) (stored_writes (c.after ++ old.waiting)) others) in
-          let in_after = none-front (stored_writes c.after) (stored_writes old.waiting) back in
-          let in_waiting = none-back (stored_writes c.after) (stored_writes old.waiting) back in
+          let c = split_at_row n row old.admitted (e ∙ found) in
+          let whole = ap (λ a. stored_writes (a ++ old.waiting)) c.2.whole ∙ ap stored_writes (append_assoc c.0 ((n, row) ∷ c.1) old.waiting) ∙ stored-around eq laws n c.0 (c.1 ++ old.waiting) row in
+          let others = rest-empty eq laws k (stored_writes c.0) (stored_writes (c.1 ++ old.waiting)) (stored_write row) (rw whole at one) same in
+          let in_before = none-front (stored_writes c.0) (stored_writes (c.1 ++ old.waiting)) others in
+          let back = rw (stored-append eq laws c.1 old.waiting) at (none-back (stored_writes c.0) (stored_writes (c.1 ++ old.waiting)) others) in
+          let in_after = none-front (stored_writes c.1) (stored_writes old.waiting) back in
+          let in_waiting = none-back (stored_writes c.1) (stored_writes old.waiting) back in
           record {
-            admitted = ap stored_writes (h.0 ∙ ap (λ b. b ++ (n, change r) ∷ []) c.rest ∙ ap (λ (s : Row K V). (c.before ++ c.after) ++ (n, change s) ∷ []) it) ∙ stored-append eq laws (c.before ++ c.after) ((n, change row) ∷ [])
-              ∙ ap (λ ws. ws ++ stored_write (change row) ∷ []) (stored-append eq laws c.before c.after) ∙ ap (λ w. (stored_writes c.before ++ stored_writes c.after) ++ w ∷ []) (sym changes)
-              ∙ sym (moved_last-one p change' (stored_writes c.before) (stored_writes c.after) (stored_write row) passes (none _ in_before) (none _ in_after))
-              ∙ sym (ap (λ ws. moved_last p change' ws) (ap stored_writes c.whole ∙ stored-around eq laws c.number c.before c.after row));
+            admitted = ap stored_writes (h.0 ∙ ap (λ b. b ++ (n, change r) ∷ []) c.2.rest ∙ ap (λ (s : Row K V). (c.0 ++ c.1) ++ (n, change s) ∷ []) it) ∙ stored-append eq laws (c.0 ++ c.1) ((n, change row) ∷ [])
+              ∙ ap (λ ws. ws ++ stored_write (change row) ∷ []) (stored-append eq laws c.0 c.1) ∙ ap (λ w. (stored_writes c.0 ++ stored_writes c.1) ++ w ∷ []) (sym changes)
+              ∙ sym (moved_last-one p change' (stored_writes c.0) (stored_writes c.1) (stored_write row) passes (none _ in_before) (none _ in_after))
+              ∙ sym (ap (λ ws. moved_last p change' ws) (ap stored_writes c.2.whole ∙ stored-around eq laws n c.0 c.1 row));
             waiting = ap stored_writes h.1 ∙ sym (changed_where-none p change' (stored_writes old.waiting) (none _ in_waiting));
           }
 
@@ -140,32 +139,32 @@ module _ {K V : Type 0} (eq : K → K → Bool) (laws : IsEquivalence eq) (k : K
               (λ _. (new.admitted ≡ without_row n old.admitted) × (new.waiting ≡ old.waiting))
           → TakenQueues old new
         go None e h =
-          let c = cut n old.waiting row (sym (row_under-append_right n old.admitted old.waiting e) ∙ there) in
-          let whole = ap (λ w. stored_writes (old.admitted ++ w)) c.whole ∙ ap stored_writes (sym (append_assoc old.admitted c.before ((c.number, row) ∷ c.after))) ∙ stored-around eq laws c.number (old.admitted ++ c.before) c.after row in
-          let others = rest-empty eq laws k (stored_writes (old.admitted ++ c.before)) (stored_writes c.after) (stored_write row) (rw whole at one) same in
-          let front = rw (stored-append eq laws old.admitted c.before) at (none-front (stored_writes (old.admitted ++ c.before)) (stored_writes c.after) others) in
-          let in_admitted = none-front (stored_writes old.admitted) (stored_writes c.before) front in
-          let in_before = none-back (stored_writes old.admitted) (stored_writes c.before) front in
-          let in_after = none-back (stored_writes (old.admitted ++ c.before)) (stored_writes c.after) others in
+          let c = split_at_row n row old.waiting (sym (row_under-append_right n old.admitted old.waiting e) ∙ there) in
+          let whole = ap (λ w. stored_writes (old.admitted ++ w)) c.2.whole ∙ ap stored_writes (sym (append_assoc old.admitted c.0 ((n, row) ∷ c.1))) ∙ stored-around eq laws n (old.admitted ++ c.0) c.1 row in
+          let others = rest-empty eq laws k (stored_writes (old.admitted ++ c.0)) (stored_writes c.1) (stored_write row) (rw whole at one) same in
+          let front = rw (stored-append eq laws old.admitted c.0) at (none-front (stored_writes (old.admitted ++ c.0)) (stored_writes c.1) others) in
+          let in_admitted = none-front (stored_writes old.admitted) (stored_writes c.0) front in
+          let in_before = none-back (stored_writes old.admitted) (stored_writes c.0) front in
+          let in_after = none-back (stored_writes (old.admitted ++ c.0)) (stored_writes c.1) others in
           record {
             admitted = ap stored_writes h.0 ∙ sym (rest-all (λ (w : Write K V). eq w.key k) (stored_writes old.admitted) in_admitted);
-            waiting = ap stored_writes (h.1 ∙ c.rest) ∙ stored-append eq laws c.before c.after
-              ∙ sym (rest-one (λ (w : Write K V). eq w.key k) (λ w. w) (stored_writes c.before) (stored_writes c.after) (stored_write row) same in_before in_after)
-              ∙ sym (ap (filter (λ (w : Write K V). not (eq w.key k))) (ap stored_writes c.whole ∙ stored-around eq laws c.number c.before c.after row));
+            waiting = ap stored_writes (h.1 ∙ c.2.rest) ∙ stored-append eq laws c.0 c.1
+              ∙ sym (rest-one (λ (w : Write K V). eq w.key k) (λ w. w) (stored_writes c.0) (stored_writes c.1) (stored_write row) same in_before in_after)
+              ∙ sym (ap (filter (λ (w : Write K V). not (eq w.key k))) (ap stored_writes c.2.whole ∙ stored-around eq laws n c.0 c.1 row));
           }
         go (Some r) e h =
           let found : Some r ≡ Some row = sym (row_under-append_left n old.admitted old.waiting r e) ∙ there in
-          let c = cut n old.admitted row (e ∙ found) in
-          let whole = ap (λ a. stored_writes (a ++ old.waiting)) c.whole ∙ ap stored_writes (append_assoc c.before ((c.number, row) ∷ c.after) old.waiting) ∙ stored-around eq laws c.number c.before (c.after ++ old.waiting) row in
-          let others = rest-empty eq laws k (stored_writes c.before) (stored_writes (c.after ++ old.waiting)) (stored_write row) (rw whole at one) same in
-          let in_before = none-front (stored_writes c.before) (stored_writes (c.after ++ old.waiting)) others in
-          let back = rw (stored-append eq laws c.after old.waiting) at (none-back (stored_writes c.before) (stored_writes (c.after ++ old.waiting)) others) in
-          let in_after = none-front (stored_writes c.after) (stored_writes old.waiting) back in
-          let in_waiting = none-back (stored_writes c.after) (stored_writes old.waiting) back in
+          let c = split_at_row n row old.admitted (e ∙ found) in
+          let whole = ap (λ a. stored_writes (a ++ old.waiting)) c.2.whole ∙ ap stored_writes (append_assoc c.0 ((n, row) ∷ c.1) old.waiting) ∙ stored-around eq laws n c.0 (c.1 ++ old.waiting) row in
+          let others = rest-empty eq laws k (stored_writes c.0) (stored_writes (c.1 ++ old.waiting)) (stored_write row) (rw whole at one) same in
+          let in_before = none-front (stored_writes c.0) (stored_writes (c.1 ++ old.waiting)) others in
+          let back = rw (stored-append eq laws c.1 old.waiting) at (none-back (stored_writes c.0) (stored_writes (c.1 ++ old.waiting)) others) in
+          let in_after = none-front (stored_writes c.1) (stored_writes old.waiting) back in
+          let in_waiting = none-back (stored_writes c.1) (stored_writes old.waiting) back in
           record {
-            admitted = ap stored_writes (h.0 ∙ c.rest) ∙ stored-append eq laws c.before c.after
-              ∙ sym (rest-one (λ (w : Write K V). eq w.key k) (λ w. w) (stored_writes c.before) (stored_writes c.after) (stored_write row) same in_before in_after)
-              ∙ sym (ap (filter (λ (w : Write K V). not (eq w.key k))) (ap stored_writes c.whole ∙ stored-around eq laws c.number c.before c.after row));
+            admitted = ap stored_writes (h.0 ∙ c.2.rest) ∙ stored-append eq laws c.0 c.1
+              ∙ sym (rest-one (λ (w : Write K V). eq w.key k) (λ w. w) (stored_writes c.0) (stored_writes c.1) (stored_write row) same in_before in_after)
+              ∙ sym (ap (filter (λ (w : Write K V). not (eq w.key k))) (ap stored_writes c.2.whole ∙ stored-around eq laws n c.0 c.1 row));
             waiting = ap stored_writes h.1 ∙ sym (rest-all (λ (w : Write K V). eq w.key k) (stored_writes old.waiting) in_waiting);
           }
 
