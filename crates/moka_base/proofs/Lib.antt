@@ -2,6 +2,9 @@ pub mod Conserved
 pub mod Expiry
 pub mod Leavings
 pub mod Looks
+pub mod Maintenance
+pub mod MaintenanceCounted
+pub mod MaintenanceOrder
 pub mod Notices
 pub mod Places
 pub mod Standing
