@@ -4,6 +4,7 @@ pub mod Leavings
 pub mod Looks
 pub mod Maintenance
 pub mod MaintenanceCounted
+pub mod MaintenanceLimits
 pub mod MaintenanceOrder
 pub mod Notices
 pub mod Places

@@ -4,10 +4,7 @@ use Rattle.std.specs.List.{All}
 use Rattle.std.proofs.lemmas.Bool.{cond_both, cases_Bool, cond-true, cond-false, leb-true, le-leb}
 use Rattle.std.proofs.lemmas.List.Elements.{All-drop, All-push, All-filter, filter_passes, All-head, All-tail}
 use Rattle.moka_base.specs.Maintenance.{Queues, Part, total, fits, front, dead_admitted, dead_waiting, over, judge, judged, parts, leaving_in, after_parts}
-
--- two queues
-abbrev pub queues : {X : Type 0} → List X → List X → Queues X
-queues admitted waiting = record { admitted = admitted; waiting = waiting }
+use Rattle.moka_base.specs.MaintenanceLaws.{queues}
 
 module _ {X : Type 0} where
   pub leaving_in-append : (ps rs : List (Part X)) → leaving_in (ps ++ rs) ≡ leaving_in ps ++ leaving_in rs

@@ -3,8 +3,8 @@ use Rattle.std.proofs.Common.{◌≡◌, ℕ, zero, suc, ◌+◌, ◌-◌, ◌<�
 use Rattle.std.proofs.lemmas.Bool.{cond_both, cases_Bool}
 use Rattle.std.proofs.lemmas.List.Elements.{filter-append}
 use Rattle.moka_base.specs.Maintenance.{Queues, Part, fits, front, dead_admitted, dead_waiting, over, judge, judged, parts, done, leaving_in, after_parts}
-use Rattle.moka_base.specs.MaintenanceLaws.{everything, count}
-use Rattle.moka_base.proofs.Maintenance.{queues, admitting, dropping, judge_both, within, after-dead_admitted, after-dead_waiting, after-over}
+use Rattle.moka_base.specs.MaintenanceLaws.{queues, everything, count}
+use Rattle.moka_base.proofs.Maintenance.{admitting, dropping, judge_both, within, after-dead_admitted, after-dead_waiting, after-over}
 
 module _ {X : Type 0} (test : X → Bool) where
   count-append : (xs ys : List X) → count test (xs ++ ys) ≡ count test xs + count test ys

@@ -2,6 +2,10 @@
 use Rattle.std.specs.Prelude.{ℕ, Bool, not, Option, List, ◌++◌, length, drop, filter}
 use Rattle.moka_base.specs.Maintenance.{Queues, parts, done, leaving_in, after_parts}
 
+-- the two queues
+abbrev pub queues : {X : Type 0} → List X → List X → Queues X
+queues admitted waiting = record { admitted = admitted; waiting = waiting }
+
 -- all that stands in the queues, the admitted first
 abbrev pub everything : {X : Type 0} → Queues X → List X
 everything q = q.admitted ++ q.waiting

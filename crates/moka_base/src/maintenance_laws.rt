@@ -1,10 +1,10 @@
 //! The laws of a maintenance of two queues, in the words of the subject. Each stands as the contract
 //! of a function that does nothing, so that the check proves it for every weight, capacity, test for
 //! live, admission rule and pair of queues.
-ghost use Rattle.std.specs.Prelude.{◌≡◌, ℕ, ◌+◌, ◌<◌, ◌≤◌, Bool, true, false, Option, Some, None, List, [], length, drop};
+ghost use Rattle.std.specs.Prelude.{◌≡◌, ◌⊎◌, ℕ, ◌+◌, ◌-◌, ◌<◌, ◌≤◌, Bool, true, false, Option, Some, None, List, [], ◌∷◌, ◌++◌, length, take, drop, filter};
 ghost use Rattle.std.specs.List.{AllByRecursion};
-ghost use Rattle.moka_base.specs.Maintenance.{Queues, total, fits, front};
-ghost use Rattle.moka_base.specs.MaintenanceLaws.{everything, count, the_dead, the_living, leaving_within, after_within};
+ghost use Rattle.moka_base.specs.Maintenance.{Queues, Part, total, fits, front, done, leaving_in};
+ghost use Rattle.moka_base.specs.MaintenanceLaws.{everything, count, the_dead, the_living, behind_the_dead, leaving_within, after_within};
 
 /// The shortest front: where more fits alone, it fits beside what the front leaves behind, and it
 /// fits behind no shorter one.
@@ -41,4 +41,28 @@ pub fn without_a_capacity<X>()
 pub fn nothing_is_lost<X>()
     ensures { (weight : X → ℕ) (capacity : Option ℕ) (is_live : X → Bool) (wins : X → List X → Bool) (limit : Option ℕ) (q : Queues X) (test : X → Bool)
         → count test (leaving_within weight capacity is_live wins limit q) + count test (everything (after_within weight capacity is_live wins limit q)) ≡ count test (everything q) }
+{}
+
+/// The dead leave first, the admitted before the waiting, and what leaves behind them is live. Where
+/// each wins, as under least recently used, and none that waits is heavier than the capacity, the
+/// order of use alone says what leaves behind the dead: a front of the living, and the rest stays.
+pub fn the_dead_leave_first<X>()
+    ensures dead { (weight : X → ℕ) (capacity : Option ℕ) (is_live : X → Bool) (wins : X → List X → Bool) (q : Queues X)
+        → take (length (the_dead is_live q)) (leaving_within weight capacity is_live wins None q) ≡ the_dead is_live q }
+    ensures live { (weight : X → ℕ) (capacity : Option ℕ) (is_live : X → Bool) (wins : X → List X → Bool) (q : Queues X)
+        → AllByRecursion (λ x. is_live x ≡ true) (behind_the_dead is_live q (leaving_within weight capacity is_live wins None q)) }
+    ensures order_of_use { (weight : X → ℕ) (capacity : ℕ) (is_live : X → Bool) (wins : X → List X → Bool) (q : Queues X)
+        → ((x : X) (victims : List X) → wins x victims ≡ true) → AllByRecursion (λ x. weight x ≤ capacity) (filter is_live q.waiting)
+        → behind_the_dead is_live q (leaving_within weight (Some capacity) is_live wins None q) ++ (after_within weight (Some capacity) is_live wins None q).admitted ≡ the_living is_live q }
+{}
+
+/// At most as many leave as a limit allows. What is done is a front of the parts, and all of them
+/// where there is no limit, or it is enough; else the next part would pass the limit.
+pub fn a_limit_is_kept<X>()
+    ensures kept { (ps : List (Part X)) (limit : ℕ) → length (leaving_in (done (Some limit) ps)) ≤ limit }
+    ensures whole { (ps : List (Part X)) → done None ps ≡ ps }
+    ensures enough { (ps : List (Part X)) (limit : ℕ) → length (leaving_in ps) ≤ limit → done (Some limit) ps ≡ ps }
+    ensures front { (ps : List (Part X)) (limit : ℕ) → (n : ℕ) × (done (Some limit) ps ≡ take n ps) }
+    ensures next { (ps : List (Part X)) (limit : ℕ)
+        → (done (Some limit) ps ≡ ps) ⊎ ((p : Part X) × (rest : List (Part X)) × (ps ≡ done (Some limit) ps ++ p ∷ rest) × (limit < length (leaving_in (done (Some limit) ps)) + length p.leaves)) }
 {}
