@@ -2,6 +2,10 @@ pub mod Conserved
 pub mod Expiry
 pub mod Leavings
 pub mod Looks
+pub mod Maintenance
+pub mod MaintenanceCounted
+pub mod MaintenanceLimits
+pub mod MaintenanceOrder
 pub mod Notices
 pub mod Places
 pub mod Standing

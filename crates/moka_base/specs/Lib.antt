@@ -1,6 +1,7 @@
 pub mod History
 pub mod Laws
 pub mod Maintenance
+pub mod MaintenanceLaws
 pub mod NumberHash
 pub mod Replies
 pub mod StandsFor

@@ -3,6 +3,7 @@
 #![tactic(auto)]
 
 pub mod laws;
+pub mod maintenance_laws;
 pub mod notification;
 pub mod policy;
 pub mod worked;
