@@ -1,7 +1,9 @@
 pub mod Conserved
 pub mod Expiry
 pub mod Leavings
+pub mod ListLemmas
 pub mod Looks
 pub mod Notices
 pub mod Places
+pub mod QueuesHold
 pub mod Standing

@@ -2,6 +2,7 @@ pub mod History
 pub mod Laws
 pub mod Maintenance
 pub mod NumberHash
+pub mod OrderLaws
 pub mod Replies
 pub mod StandsFor
 pub mod Worked

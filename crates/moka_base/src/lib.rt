@@ -4,5 +4,6 @@
 
 pub mod laws;
 pub mod notification;
+pub mod order_laws;
 pub mod policy;
 pub mod worked;
