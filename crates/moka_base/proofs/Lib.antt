@@ -3,6 +3,7 @@ pub mod Expiry
 pub mod Leavings
 pub mod ListLemmas
 pub mod Looks
+pub mod Moves
 pub mod Notices
 pub mod Places
 pub mod QueuesHold

@@ -54,6 +54,14 @@ module _ {K V : Type 0} (eq : K → K → Bool) (rules : Rules) where
         ∙ ap (writes_of eq k) (sym (append_assoc q.admitted q.waiting (w ∷ [])))
         ∙ filter-append (λ (v : Write K V). eq v.key k) (q.admitted ++ q.waiting) (w ∷ [])
 
+  -- a look keeps the keys
+  pub after_look-key : (at : ℕ) (w : Write K V) → (after_look rules at w).key ≡ w.key
+  after_look-key at w = go (is_live rules w at)
+    where
+      go : (t : Bool) → (cond t (record w { used = max w.used at }) w).key ≡ w.key
+      go true = refl
+      go false = refl
+
   module _ (laws : IsEquivalence eq) where
     -- what is stored under a key is of another key where those are equal
     pub key_test : (w : Write K V) (k p : K) → eq w.key k ≡ true → eq w.key p ≡ eq p k
@@ -131,14 +139,6 @@ module _ {K V : Type 0} (eq : K → K → Bool) (rules : Rules) where
             ap (λ l. held eq k (opened_by eq rules (opening p v at) l (overwritten p v at q))) there
               ∙ held-used_where k (is_of eq rules p) (overwrite p v at) q o (λ w. refl) here
               ∙ ap option_to_list (held-overwrite k p v at o w under same)
-
-    -- a look keeps the keys
-    pub after_look-key : (at : ℕ) (w : Write K V) → (after_look rules at w).key ≡ w.key
-    after_look-key at w = go (is_live rules w at)
-      where
-        go : (t : Bool) → (cond t (record w { used = max w.used at }) w).key ≡ w.key
-        go true = refl
-        go false = refl
 
     -- the two orders hold for each key the write that stands
     pub held-queues : (k : K) (h : List (Event K V)) → held eq k (queues eq rules h) ≡ option_to_list (standing eq rules k h)

@@ -1,5 +1,5 @@
 -- The words of the laws over the two orders.
-use Rattle.std.specs.Prelude.{◌≡◌, Bool, false, not, ◌&&◌, if◌then◌else◌, Option, List, [], ◌∷◌, ◌++◌, map, is_some, option_to_list}
+use Rattle.std.specs.Prelude.{◌≡◌, ℕ, max, Bool, false, not, ◌&&◌, if◌then◌else◌, Option, List, [], ◌∷◌, ◌++◌, map, is_some, option_to_list}
 use Rattle.std.specs.List.{list_any}
 use Rattle.moka_base.specs.Maintenance.{Queues}
 use Rattle.moka_base.specs.History.{Event, Get, ContainsKey, Insert, Invalidate, TakeNotice, Rules, Write, standing, queues}
@@ -17,3 +17,23 @@ module _ {K V : Type 0} where
   -- each key has one write at most, in both orders together
   abbrev pub HasOneEach : (K → K → Bool) → Queues (Write K V) → Type 0
   HasOneEach eq q = (k : K) → (o : Option (Write K V)) × (held eq k q ≡ option_to_list o)
+
+  -- the queues with other admitted writes
+  abbrev pub with_admitted : Queues (Write K V) → List (Write K V) → Queues (Write K V)
+  with_admitted q ws = record { admitted = ws; waiting = q.waiting }
+
+  -- the queues with other waiting writes
+  abbrev pub with_waiting : Queues (Write K V) → List (Write K V) → Queues (Write K V)
+  with_waiting q ws = record { admitted = q.admitted; waiting = ws }
+
+  -- a write after a hit at a moment
+  abbrev pub hit_at : ℕ → Write K V → Write K V
+  hit_at at w = record w { used = max w.used at }
+
+  -- a value in place of another, under the stored key
+  abbrev pub written_over : V → ℕ → Write K V → Write K V
+  written_over v at w = record { key = w.key; value = v; written = at; used = at }
+
+  -- a value under a key that did not stand
+  abbrev pub written_anew : K → V → ℕ → Write K V
+  written_anew k v at = record { key = k; value = v; written = at; used = at }
