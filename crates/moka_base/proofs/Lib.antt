@@ -1,3 +1,4 @@
+pub mod Arrivals
 pub mod Conserved
 pub mod Expiry
 pub mod Leavings

@@ -37,3 +37,23 @@ module _ {K V : Type 0} where
   -- a value under a key that did not stand
   abbrev pub written_anew : K → V → ℕ → Write K V
   written_anew k v at = record { key = k; value = v; written = at; used = at }
+
+module _ {K : Type 0} (eq : K → K → Bool) where
+  -- each key at the place where it stands last
+  abbrev pub lasts : List K → List K
+  lasts [] = []
+  lasts (k ∷ ks) = if list_any (eq k) ks then lasts ks else k ∷ lasts ks
+
+  module _ {V : Type 0} (rules : Rules) where
+    -- The keys of the opening writes, oldest first: a write is one where nothing stood for its key.
+    abbrev pub openings : List (Event K V) → List K
+    openings [] = []
+    openings (Get k at ∷ h) = openings h
+    openings (ContainsKey k at ∷ h) = openings h
+    openings (Insert k v at ∷ h) = if is_some (standing eq rules k h) then openings h else openings h ++ k ∷ []
+    openings (Invalidate k at ∷ h) = openings h
+    openings (TakeNotice ∷ h) = openings h
+
+    -- a key waits where it stands and is not admitted
+    abbrev pub waits : List (Event K V) → K → Bool
+    waits h k = is_some (standing eq rules k h) && not (list_any (λ w. eq w.key k) (queues eq rules h).admitted)

@@ -53,3 +53,8 @@ pub fn a_use_moves_an_admitted_key_behind_all_others<K: Eq, V>()
         → removed_in K.eq rules k q ≡ with_admitted q (before ++ after) }
     ensures no_removal { (rules : Rules) (q : Queues (Write K V)) (k : K) → held K.eq k q ≡ [] → removed_in K.eq rules k q ≡ q }
 {}
+
+/// Nothing is admitted by today's events: all that stands waits.
+pub fn nothing_is_admitted_yet<K: Eq, V>()
+    ensures { (rules : Rules) (h : List (Event K V)) → (queues K.eq rules h).admitted ≡ [] }
+{}
