@@ -53,3 +53,80 @@ module _ {K : Type 0} (eq : K → K → Bool) where
       go true t e = refl
       go false true e = rw e
       go false false e = rw e
+
+-- what stands under a choice
+is_some-same : {A : Type 0} (t : Bool) (f : A → A) (o : Option A) → is_some o ≡ is_some (cond t (option_map f o) o)
+is_some-same true f None = refl
+is_some-same true f (Some x) = refl
+is_some-same false f o = refl
+
+is_some-removed : {A : Type 0} (t : Bool) (o : Option A) → (is_some o && not t) ≡ is_some (cond t None o)
+is_some-removed true None = refl
+is_some-removed true (Some x) = refl
+is_some-removed false None = refl
+is_some-removed false (Some x) = refl
+
+is_some-written : {A : Type 0} (t : Bool) (x : A) (o : Option A) → (t ≡ true → is_some o ≡ true) → is_some o ≡ is_some (cond t (Some x) o)
+is_some-written true x o there = there refl
+is_some-written false x o there = refl
+
+is_some-opened : {A : Type 0} (t : Bool) (x : A) (o : Option A) → (t ≡ true → is_some o ≡ false) → (not t && is_some (cond t (Some x) o)) ≡ is_some o
+is_some-opened true x o none = sym (none refl)
+is_some-opened false x o none = refl
+
+module _ {K V : Type 0} (eq : K → K → Bool) (rules : Rules) (laws : IsEquivalence eq) where
+  -- a key stands
+  abbrev stands : List (Event K V) → K → Bool
+  stands h k = is_some (standing eq rules k h)
+
+  -- one more opening, of a key that stands from then on
+  stands-opening : (p : K) (v : V) (at : ℕ) (h : List (Event K V)) (ks : List K) → standing eq rules p h ≡ None
+      → filter (stands (Insert p v at ∷ h)) (lasts eq (ks ++ p ∷ [])) ≡ filter (stands h) (lasts eq ks) ++ p ∷ []
+  stands-opening p v at h ks none =
+      ap (filter (stands (Insert p v at ∷ h))) (lasts-push eq ks p)
+        ∙ filter-append (stands (Insert p v at ∷ h)) (filter (λ x. not (eq x p)) (lasts eq ks)) (p ∷ [])
+        ∙ ap (λ l. l ++ cond (stands (Insert p v at ∷ h) p) (p ∷ []) []) (sym (filter-both (λ x. not (eq x p)) (stands (Insert p v at ∷ h)) (lasts eq ks)) ∙ filter_agree (λ x. not (eq x p) && stands (Insert p v at ∷ h) x) (stands h) others (lasts eq ks))
+        ∙ ap (λ t. filter (stands h) (lasts eq ks) ++ cond (is_some (cond t (Some (after_write rules p v (latest (Insert p v at ∷ h)) (standing eq rules p h))) (standing eq rules p h))) (p ∷ []) []) (laws.refl p)
+    where
+      others : (x : K) → (not (eq x p) && stands (Insert p v at ∷ h) x) ≡ stands h x
+      others x = rw (laws.symm x p) (is_some-opened (eq p x) (after_write rules p v (latest (Insert p v at ∷ h)) (standing eq rules x h)) (standing eq rules x h) (λ same. ap is_some (sym (standing_congr eq rules laws p x h same) ∙ none)))
+
+  -- the waiting keys are the last openings of the keys that stand, in order
+  pub waiting_keys : (h : List (Event K V)) → keys (queues eq rules h).waiting ≡ filter (stands h) (lasts eq (openings eq rules h))
+  waiting_keys [] = refl
+  waiting_keys (Get p at ∷ h) =
+      look-waiting_keys eq rules p (queues eq rules h) (latest (Get p at ∷ h))
+        ∙ waiting_keys h
+        ∙ filter_agree (stands h) (stands (Get p at ∷ h)) (λ k. is_some-same (eq p k) (after_look rules (latest (Get p at ∷ h))) (standing eq rules k h)) (lasts eq (openings eq rules h))
+  waiting_keys (ContainsKey p at ∷ h) = waiting_keys h
+  waiting_keys (Insert p v at ∷ h) = go (standing eq rules p h) refl (waiting_keys h)
+    where
+      go : (o : Option (Write K V)) → standing eq rules p h ≡ o → keys (queues eq rules h).waiting ≡ filter (stands h) (lasts eq (openings eq rules h))
+          → keys (queues eq rules (Insert p v at ∷ h)).waiting ≡ filter (stands (Insert p v at ∷ h)) (lasts eq (cond (is_some o) (openings eq rules h) (openings eq rules h ++ p ∷ [])))
+      go None e ih =
+          ap (λ (r : Queues (Write K V)). keys r.waiting) (written_in-anew eq rules p (queues eq rules h) v (latest (Insert p v at ∷ h)) (held-queues eq rules laws p h ∙ ap option_to_list e))
+            ∙ map-append (λ (w : Write K V). w.key) (queues eq rules h).waiting (opening eq rules p v (latest (Insert p v at ∷ h)) ∷ [])
+            ∙ ap (λ l. l ++ p ∷ []) ih
+            ∙ sym (stands-opening p v at h (openings eq rules h) e)
+      go (Some w) e ih =
+          overwrite-waiting_keys eq rules p (queues eq rules h) v (latest (Insert p v at ∷ h)) (λ none. let no : w ∷ [] ≡ [] = sym (held-queues eq rules laws p h ∙ ap option_to_list e) ∙ none in cc)
+            ∙ ih
+            ∙ filter_agree (stands h) (stands (Insert p v at ∷ h)) (λ k. is_some-written (eq p k) (after_write rules p v (latest (Insert p v at ∷ h)) (standing eq rules k h)) (standing eq rules k h) (λ same. ap is_some (sym (standing_congr eq rules laws p k h same) ∙ e))) (lasts eq (openings eq rules h))
+  waiting_keys (Invalidate p at ∷ h) =
+      removed_in-waiting_keys eq rules p (queues eq rules h)
+        ∙ ap (filter (λ x. not (eq x p))) (waiting_keys h)
+        ∙ sym (filter-both (stands h) (λ x. not (eq x p)) (lasts eq (openings eq rules h)))
+        ∙ filter_agree (λ x. stands h x && not (eq x p)) (stands (Invalidate p at ∷ h)) (λ x. rw (laws.symm x p) (is_some-removed (eq p x) (standing eq rules x h))) (lasts eq (openings eq rules h))
+  waiting_keys (TakeNotice ∷ h) = waiting_keys h
+
+  -- a key that stands waits, since nothing is admitted
+  stands-waits : (h : List (Event K V)) (k : K) → stands h k ≡ waits eq rules h k
+  stands-waits h k = rw (admitted-queues eq rules h) (go (stands h k))
+    where
+      go : (t : Bool) → t ≡ (t && true)
+      go true = refl
+      go false = refl
+
+  -- so they are those of the keys that wait
+  pub waiting_in_order : (h : List (Event K V)) → keys (queues eq rules h).waiting ≡ filter (waits eq rules h) (lasts eq (openings eq rules h))
+  waiting_in_order h = waiting_keys h ∙ filter_agree (stands h) (waits eq rules h) (stands-waits h) (lasts eq (openings eq rules h))

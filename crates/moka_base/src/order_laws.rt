@@ -3,7 +3,7 @@
 ghost use Rattle.std.specs.Prelude.{◌≡◌, ◌≢◌, ℕ, Bool, not, true, List, [], ◌∷◌, ◌++◌, max, filter, option_to_list};
 ghost use Rattle.moka_base.specs.Maintenance.{Queues};
 ghost use Rattle.moka_base.specs.History.{Event, Rules, Write, is_live, after_look, is_hit, standing, used_where, written_in, removed_in, queues};
-ghost use Rattle.moka_base.specs.OrderLaws.{keys, held, HasOneEach, with_admitted, with_waiting, hit_at, written_over, written_anew};
+ghost use Rattle.moka_base.specs.OrderLaws.{keys, held, HasOneEach, with_admitted, with_waiting, hit_at, written_over, written_anew, lasts, openings, waits};
 
 /// The two orders hold just what stands: the write that stands for a key is in one of them, once, and
 /// nothing else is in either.
@@ -57,4 +57,11 @@ pub fn a_use_moves_an_admitted_key_behind_all_others<K: Eq, V>()
 /// Nothing is admitted by today's events: all that stands waits.
 pub fn nothing_is_admitted_yet<K: Eq, V>()
     ensures { (rules : Rules) (h : List (Event K V)) → (queues K.eq rules h).admitted ≡ [] }
+{}
+
+/// What waits stands in the order of arrival: the waiting keys are those of the writes that found
+/// their key not standing, each at its last such write, kept where the key still waits.
+pub fn waiting_is_the_order_of_arrival<K: Eq, V>()
+    ensures { (rules : Rules) (h : List (Event K V))
+        → keys (queues K.eq rules h).waiting ≡ filter (waits K.eq rules h) (lasts K.eq (openings K.eq rules h)) }
 {}
