@@ -3,6 +3,7 @@ pub mod Laws
 pub mod Maintenance
 pub mod MaintenanceLaws
 pub mod NumberHash
+pub mod OrderLaws
 pub mod Replies
 pub mod StandsFor
 pub mod Worked

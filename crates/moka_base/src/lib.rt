@@ -5,5 +5,6 @@
 pub mod laws;
 pub mod maintenance_laws;
 pub mod notification;
+pub mod order_laws;
 pub mod policy;
 pub mod worked;
