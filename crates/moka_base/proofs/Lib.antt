@@ -3,5 +3,6 @@ pub mod Expiry
 pub mod Leavings
 pub mod Looks
 pub mod Notices
+pub mod NumberHash
 pub mod Places
 pub mod Standing
