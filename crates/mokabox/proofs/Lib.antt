@@ -1,0 +1,5 @@
+pub mod CommandLaws
+pub mod FieldLaws
+pub mod FieldTexts
+pub mod NumberLaws
+pub mod Truth

@@ -1,0 +1,7 @@
+// Runs a script of cache calls that it reads from standard input, and prints their answers.
+#![tactic(auto)]
+
+mod command;
+mod fields;
+
+fn main() {}
