@@ -1,22 +1,17 @@
 use Rattle.std.proofs.Common.{◌≡◌, ◌<◌, ◌^◌, ℕ, ◌∷◌, [], List, length, Bool, true, false, cond, Option, Some, None, IfSome, option_map, codes, refl, sym, ap, ◌∙◌, subst, arith, Bor}
 use Rattle.std.specs.List.{AllByRecursion, join_with_byte}
 use Rattle.std.specs.Fmt.{decimal}
-use Rattle.std.specs.Str.{IsUtf8, is_utf8, bytes_eq}
+use Rattle.std.specs.Str.{bytes_eq}
 use Rattle.std.proofs.lemmas.Option.{option_and_then_some}
 use Rattle.std.proofs.lemmas.Slice.Eq.{bytes_eq-Decides}
-use Rattle.std.proofs.lemmas.Str.{IsUtf8-from_is_utf8, is_utf8-from_IsUtf8}
 use Rattle.std.proofs.lemmas.List.Splits.{join_with_byte-slice_split}
 use Rattle.mokabox.specs.declared.command.Command.{Command}
 use Rattle.mokabox.specs.declared.command.Command.TheVariants.{At, Insert, Get, Has, Invalidate, Notices}
 use Rattle.mokabox.specs.Command.{Said, said, written, line_of, IsSayable, Reader, insert_of, alone, words, read_by, command_of, said_by}
 use Rattle.mokabox.specs.Fields.{fields_of, number_of, text_of, sole_number_of, sole_text_of, IsText}
 use Rattle.mokabox.proofs.NumberLaws.{number_takes, number_again}
-use Rattle.mokabox.proofs.FieldTexts.{IsField, fields_are, line_fields, line_utf8, text_field, number_field, word_field, is_plain}
-
--- what a function of a value gave, and the value
-mapped : {A B : Type 0} (f : A → B) (o : Option A) (y : B) → option_map f o ≡ Some y → (x : A) × (o ≡ Some x) × (f x ≡ y)
-mapped f None y h = cc
-mapped f (Some x) y h = (x, refl, cc)
+use Rattle.mokabox.proofs.Truth.{mapped}
+use Rattle.mokabox.proofs.FieldTexts.{IsField, says_takes, says_again, text_field, number_field, word_field, is_plain}
 
 -- a number is the one field that is left
 sole_number_takes : (rest : List (List ℕ)) (n : ℕ) → sole_number_of rest ≡ Some n → (rest ≡ decimal n ∷ []) × (n < 2 ^ 64)
@@ -128,36 +123,19 @@ written_fields (Has key) small = (omega arith, number_written (codes "has") key 
 written_fields (Invalidate key) small = (omega arith, number_written (codes "invalidate") key refl small)
 written_fields Notices sayable = (omega arith, (word_field (codes "notices") refl, tt))
 
-some_fields : (fields : List (List ℕ)) → 0 < length fields → AllByRecursion IsField fields → fields_of (join_with_byte 32 fields) ≡ fields
-some_fields [] some each = absurd (omega arith)
-some_fields (field ∷ fields) some each = line_fields field fields each
-
 -- a line that is read as a command is the one that it is written as
 pub line_takes : (line : List ℕ) (command : Said) → said_by line ≡ Some command → (line ≡ line_of command) × IsSayable command
-line_takes line command h = chosen (is_utf8 line) refl h where
-  chosen : (test : Bool) → is_utf8 line ≡ test → cond test (command_of (fields_of line)) None ≡ Some command → (line ≡ line_of command) × IsSayable command
-  chosen true e given =
-      let parts = command_takes (fields_of line) command (fields_are line (IsUtf8-from_is_utf8 line e)) given in
-      (sym (join_with_byte-slice_split 32 line) ∙ ap (join_with_byte 32) parts.0, parts.1)
-  chosen false e given = cc
+line_takes line command h =
+    let read = says_takes command_of line command h in
+    let parts = command_takes (fields_of line) command read.0 read.1 in
+    (sym (join_with_byte-slice_split 32 line) ∙ ap (join_with_byte 32) parts.0, parts.1)
 
 -- the line that a command is written as is read as that command
 pub line_again : (command : Said) → IsSayable command → said_by (line_of command) ≡ Some command
 line_again command sayable =
     let parts = written_fields command sayable in
-    let utf8 : is_utf8 (line_of command) ≡ true = is_utf8-from_IsUtf8 (line_of command) (line_utf8 (written command) parts.1) in
-    let fields : fields_of (line_of command) ≡ written command = some_fields (written command) parts.0 parts.1 in
-    rw (utf8, fields) (command_again command sayable)
+    says_again command_of (written command) parts.0 parts.1 ∙ command_again command sayable
 
 pub line_found : (line : List ℕ) (r : Option (Command (Bor (List ℕ)))) → option_map said r ≡ said_by line → IfSome r (λ c. (line ≡ line_of (said c)) × IsSayable (said c))
 line_found line None h = tt
 line_found line (Some command) h = line_takes line (said command) (sym h)
-
-pub utf8_line : (line : List ℕ) → IsUtf8 line → command_of (fields_of line) ≡ said_by line
-utf8_line line utf8 = rw (is_utf8-from_IsUtf8 line utf8) refl
-
-pub other_line : (line : List ℕ) → (IsUtf8 line → ⊥) → None ≡ said_by line
-other_line line other = chosen (is_utf8 line) refl where
-  chosen : (test : Bool) → is_utf8 line ≡ test → None ≡ cond test (command_of (fields_of line)) None
-  chosen true e = absurd (other (IsUtf8-from_is_utf8 line e))
-  chosen false e = refl

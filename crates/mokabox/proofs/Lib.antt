@@ -2,4 +2,5 @@ pub mod CommandLaws
 pub mod FieldLaws
 pub mod FieldTexts
 pub mod NumberLaws
+pub mod SettingLaws
 pub mod Truth

@@ -2,8 +2,8 @@ use Rattle.std.specs.Prelude.{ℕ, ◌^◌, ◌<◌, List, [], ◌∷◌, Option
 use Rattle.std.specs.Borrow.{Bor}
 use Rattle.std.specs.Fmt.{decimal}
 use Rattle.std.specs.List.{join_with_byte}
-use Rattle.std.specs.Str.{bytes_eq, is_utf8}
-use Rattle.mokabox.specs.Fields.{fields_of, number_of, sole_number_of, sole_text_of, IsText}
+use Rattle.std.specs.Str.{bytes_eq}
+use Rattle.mokabox.specs.Fields.{line_says, number_of, sole_number_of, sole_text_of, IsText}
 use Rattle.mokabox.specs.declared.command.Command.{Command}
 use Rattle.mokabox.specs.declared.command.Command.TheVariants.{At, Insert, Get, Has, Invalidate, Notices}
 
@@ -74,4 +74,4 @@ command_of (word ∷ rest) = read_by words word rest
 
 -- the command that a line writes, if it is UTF-8
 abbrev pub said_by : List ℕ → Option Said
-said_by line = if is_utf8 line then command_of (fields_of line) else None
+said_by = line_says command_of

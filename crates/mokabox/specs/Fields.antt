@@ -2,7 +2,7 @@ use Rattle.std.specs.Prelude.{◌≡◌, ◌<◌, ◌⊎◌, length, slice_index
 use Rattle.std.specs.Borrow.{Bor}
 use Rattle.std.specs.List.{slice_split}
 use Rattle.std.specs.Fmt.{decimal}
-use Rattle.std.specs.Str.{bytes_eq, IsUtf8}
+use Rattle.std.specs.Str.{bytes_eq, is_utf8, IsUtf8}
 use Rattle.std.specs.Str.Parse.{digits_value}
 
 -- the space between two fields
@@ -51,3 +51,7 @@ pub record IsText (bytes : List ℕ) : Type 0 where
   pub some : 0 < length bytes
   pub spaceless : All (λ byte. byte ≢ 32) bytes
   pub utf8 : IsUtf8 bytes
+
+-- what the fields of a line say, if it is UTF-8
+abbrev pub line_says : {A : Type 0} → (List (List ℕ) → Option A) → List ℕ → Option A
+line_says said line = if is_utf8 line then said (fields_of line) else None

@@ -3,5 +3,6 @@
 
 mod command;
 mod fields;
+mod settings;
 
 fn main() {}
