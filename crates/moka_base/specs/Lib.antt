@@ -1,0 +1,4 @@
+pub mod History
+pub mod NumberHash
+pub mod Replies
+pub mod StandsFor

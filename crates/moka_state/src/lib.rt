@@ -1,0 +1,6 @@
+//! The cache as a plain value: its rows, its state, and its calls.
+#![tactic(auto)]
+
+pub mod lives;
+pub mod rows;
+pub mod table;

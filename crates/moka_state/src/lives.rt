@@ -1,0 +1,60 @@
+//! How long a value lives.
+ghost use Rattle.std.specs.Prelude.{◌≡◌, max, Bool, option_map, nat_le};
+ghost use Rattle.std.specs.Duration.{as_nanos};
+ghost use Rattle.moka_base.specs.History.{ends_at, earlier, has_come};
+ghost use Rattle.moka_state.specs.Lives.{deadline_of};
+
+use crate::rows::EntryInfo;
+use std::time::Duration;
+
+/// The lives that a cache gives each of its values.
+#[derive(Clone, Copy, Debug)]
+pub struct Lives {
+    /// From the write on.
+    pub time_to_live: Option<Duration>,
+    /// From the last use on.
+    pub time_to_idle: Option<Duration>,
+}
+
+impl Lives {
+    /// The moment from which a value with these moments is expired, in nanoseconds.
+    pub fn deadline(&self, info: EntryInfo) -> Option<u128>
+        ensures { result ≡ deadline_of self.now info }
+    {
+        earlier(
+            ends_at(self.time_to_live, info.last_modified),
+            ends_at(self.time_to_idle, info.last_accessed),
+        )
+    }
+
+    /// Whether a value with these moments is expired at a moment.
+    pub fn is_expired(&self, info: EntryInfo, now: u64) -> bool
+        ensures { result ≡ has_come (deadline_of self.now info) now }
+    {
+        match self.deadline(info) {
+            None => false,
+            Some(deadline) => deadline <= u128::from(now),
+        }
+    }
+}
+
+// A life that begins at a moment ends at their sum, which fits: a life has less than 2^94 nanoseconds.
+fn ends_at(life: Option<Duration>, from: u64) -> Option<u128>
+    ensures { result ≡ ends_at (option_map as_nanos life) from }
+{
+    match life {
+        None => None,
+        Some(life) => Some(u128::from(from) + life.as_nanos()),
+    }
+}
+
+// The earlier of two deadlines, where there are two.
+fn earlier(a: Option<u128>, b: Option<u128>) -> Option<u128>
+    ensures { result ≡ earlier a b }
+{
+    match (a, b) {
+        (Some(a), Some(b)) => Some(a.min(b)),
+        (Some(a), None) => Some(a),
+        (None, b) => b,
+    }
+}

@@ -1,0 +1,103 @@
+//! The rows of a cache, and what a store of rows does.
+//!
+//! A row has a number, which stays its own as long as it is stored. The store keeps two orders of rows: those that
+//! wait for admission, in the order in which their keys came, and those that are admitted, in the order of use.
+ghost use Rattle.std.specs.Prelude.{◌≡◌, ℕ, ◌+◌, ◌<◌, ◌≤◌, List, [], ◌∷◌, ◌++◌, length, IsSome, IfSome, IfNone, OnOk, OnErr, Some, None, MatchOption};
+ghost use Rattle.moka_state.specs.Rows.{row_under, with_row, without_row, touched, overwritten, IsRowOf, NoneIsRowOf};
+
+use std::alloc::{AllocError, Global};
+use std::sync::Arc;
+
+/// The moments that a row keeps of its value, in nanoseconds.
+#[derive(Clone, Copy, Debug, PartialEq, Eq)]
+pub struct EntryInfo {
+    /// When the value was written.
+    pub last_modified: u64,
+    /// When it was written or last found by a recorded look.
+    pub last_accessed: u64,
+}
+
+/// One stored key with its value.
+#[derive(Drop)]
+pub struct Row<K, V> {
+    /// The key of the write that found it not stored.
+    pub key: Arc<K>,
+    /// The key's hash.
+    pub hash: u64,
+    /// The value of the last write.
+    pub value: V,
+    /// When that value was written and used.
+    pub info: EntryInfo,
+}
+
+/// A store of rows.
+pub trait RowStore<K: Eq, V>: Drop {
+    ghost use Rattle.moka_state.specs.declared.rows.Row.{Row};
+
+    /// The rows that wait for admission, each with its number, in the order in which they were added.
+    ghost waiting: { Self → List (ℕ × Row K V) };
+
+    /// The admitted rows, each with its number, the least recently used first.
+    ghost admitted: { Self → List (ℕ × Row K V) };
+
+    /// How many rows can be added without memory.
+    ghost room: { Self → ℕ };
+
+    /// A store without rows. It takes no memory.
+    fn new(alloc: Global) -> Self
+        ensures waiting { waiting result ≡ [] }
+        ensures admitted { admitted result ≡ [] };
+
+    /// How many rows there are, in either order.
+    fn len(&self) -> usize
+        ensures { result ≡ length (admitted self.now ++ waiting self.now) };
+
+    /// The number of the row of a key, given the key's hash. Adds one to `reads` for each row that it reads.
+    fn find(&self, key: &K, hash: u64, reads: &mut u64) -> Option<usize>
+        requires { reads.old ≡ 0 }
+        ensures found { IfSome result (λ number. IfSome (row_under number (admitted self.now ++ waiting self.now)) (IsRowOf K.eq key.now hash)) }
+        ensures stored { IfSome result (λ number. IsSome (row_under number (admitted self.now ++ waiting self.now))) }
+        ensures absent { IfNone result (NoneIsRowOf K.eq key.now hash (admitted self.now ++ waiting self.now)) }
+        ensures counted { reads.new ≤ length (admitted self.now ++ waiting self.now) };
+
+    /// The row under a number.
+    fn row(&self, number: usize) -> &Row<K, V>
+        requires { IsSome (row_under number (admitted self.now ++ waiting self.now)) }
+        ensures { row_under number (admitted self.now ++ waiting self.now) ≡ Some result.now };
+
+    /// Makes room for one more row. Where memory is refused, every row stays as it was.
+    fn reserve(&mut self) -> Result<(), AllocError>
+        ensures room { OnOk result (0 < room self.new) }
+        ensures waiting { waiting self.new ≡ waiting self.old }
+        ensures admitted { admitted self.new ≡ admitted self.old };
+
+    /// Adds a row as the last of those that wait, under a number that no stored row has.
+    fn add(&mut self, row: Row<K, V>) -> usize
+        requires { 0 < room self.old }
+        ensures fresh { row_under result (admitted self.old ++ waiting self.old) ≡ None }
+        ensures waiting { waiting self.new ≡ waiting self.old ++ (result, row) ∷ [] }
+        ensures admitted { admitted self.new ≡ admitted self.old };
+
+    /// A use of a row: it gets these moments, and where it is admitted it becomes the most recently used.
+    fn touch(&mut self, number: usize, info: EntryInfo)
+        requires { IsSome (row_under number (admitted self.old ++ waiting self.old)) }
+        ensures { MatchOption (row_under number (admitted self.old))
+            ((admitted self.new ≡ admitted self.old) × (waiting self.new ≡ with_row number (touched info) (waiting self.old)))
+            (λ row. (admitted self.new ≡ without_row number (admitted self.old) ++ (number, touched info row) ∷ []) × (waiting self.new ≡ waiting self.old)) };
+
+    /// A use of a row that gives it another value, and answers the one before.
+    fn overwrite(&mut self, number: usize, value: V, info: EntryInfo) -> V
+        requires { IsSome (row_under number (admitted self.old ++ waiting self.old)) }
+        ensures before { IfSome (row_under number (admitted self.old ++ waiting self.old)) (λ row. result ≡ row.value) }
+        ensures after { MatchOption (row_under number (admitted self.old))
+            ((admitted self.new ≡ admitted self.old) × (waiting self.new ≡ with_row number (overwritten value info) (waiting self.old)))
+            (λ row. (admitted self.new ≡ without_row number (admitted self.old) ++ (number, overwritten value info row) ∷ []) × (waiting self.new ≡ waiting self.old)) };
+
+    /// Takes a row out.
+    fn remove(&mut self, number: usize) -> Row<K, V>
+        requires { IsSome (row_under number (admitted self.old ++ waiting self.old)) }
+        ensures row { row_under number (admitted self.old ++ waiting self.old) ≡ Some result }
+        ensures rest { MatchOption (row_under number (admitted self.old))
+            ((admitted self.new ≡ admitted self.old) × (waiting self.new ≡ without_row number (waiting self.old)))
+            (λ _. (admitted self.new ≡ without_row number (admitted self.old)) × (waiting self.new ≡ waiting self.old)) };
+}

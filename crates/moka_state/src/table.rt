@@ -1,0 +1,146 @@
+//! The rows of a cache beside the notices of what left, with room for one more notice for each row.
+ghost use Rattle.std.specs.Prelude.{◌≡◌, ℕ, ◌+◌, ◌-◌, ◌<◌, ◌≤◌, List, [], ◌∷◌, ◌++◌, length, min, IsSome, IfSome, IfNone, IfOk, OnOk, OnErr, Some, None, MatchOption};
+ghost use Rattle.std.specs.Option.{option_to_list};
+ghost use Rattle.std.specs.VecDeque.{deque_len, deque_capacity};
+ghost use Rattle.moka_state.specs.Rows.{row_under, with_row, without_row, touched, overwritten, IsRowOf, NoneIsRowOf};
+ghost use Rattle.moka_state.specs.Table.{Contents, entries, SameRows, UsesRow, TakesRow};
+
+use crate::rows::{EntryInfo, Row, RowStore};
+use moka_base::notification::{Notice, RemovalCause};
+use std::alloc::{AllocError, Global};
+use std::collections::VecDeque;
+use std::marker::Model;
+use std::sync::Arc;
+
+/// A store of rows, and the notices of the values that left it, in the order of leaving.
+#[derive(Drop)]
+pub struct Table<K: Eq + Drop, V: Drop, R: RowStore<K, V>> {
+    rows: R,
+    notices: VecDeque<Notice<K, V>>,
+}
+
+impl<K: Eq + Drop, V: Drop, R: RowStore<K, V>> Model for Table<K, V, R> {
+    ghost Value = { Contents K V };
+
+    ghost view = { λ table. record {
+        admitted = R.admitted table.rows;
+        waiting = R.waiting table.rows;
+        notices = table.notices.items;
+        room = min (R.room table.rows) (deque_capacity table.notices - (length (R.admitted table.rows ++ R.waiting table.rows) + deque_len table.notices));
+    } };
+
+    ghost invariant = { λ table. length (R.admitted table.rows ++ R.waiting table.rows) + deque_len table.notices ≤ deque_capacity table.notices };
+}
+
+impl<K: Eq + Drop, V: Drop, R: RowStore<K, V>> Table<K, V, R> {
+    /// A table without rows and notices. It takes no memory.
+    pub fn new(alloc: Global) -> Self
+        ensures rows { entries result ≡ [] }
+        ensures notices { result.notices ≡ [] }
+    {
+        Table {
+            rows: R::new(alloc),
+            notices: VecDeque::new(alloc),
+        }
+    }
+
+    /// How many notices have not been taken.
+    pub fn notice_count(&self) -> usize
+        ensures { result ≡ length self.now.notices }
+    {
+        self.notices.len()
+    }
+
+    /// The number of the row of a key, given the key's hash.
+    pub fn find(&self, key: &K, hash: u64) -> Option<usize>
+        ensures found { IfSome result (λ number. IfSome (row_under number (entries self.now)) (IsRowOf K.eq key.now hash)) }
+        ensures stored { IfSome result (λ number. IsSome (row_under number (entries self.now))) }
+        ensures absent { IfNone result (NoneIsRowOf K.eq key.now hash (entries self.now)) }
+    {
+        let mut reads = 0;
+        self.rows.find(key, hash, &mut reads)
+    }
+
+    /// The row under a number.
+    pub fn row(&self, number: usize) -> &Row<K, V>
+        requires { IsSome (row_under number (entries self.now)) }
+        ensures { row_under number (entries self.now) ≡ Some result.now }
+    {
+        self.rows.row(number)
+    }
+
+    /// Makes room for one more row and for one more notice. Where memory is refused, nothing has changed.
+    pub fn reserve(&mut self) -> Result<(), AllocError>
+        ensures room { OnOk result (0 < self.new.room) }
+        ensures same { SameRows self.old self.new }
+    {
+        let rows = self.rows.len().checked_add(1).ok_or(AllocError)?;
+        self.notices.reserve(rows)?;
+        self.rows.reserve()
+    }
+
+    /// Adds a row as the last of those that wait.
+    pub fn add(&mut self, row: Row<K, V>)
+        requires { 0 < self.old.room }
+        ensures admitted { self.new.admitted ≡ self.old.admitted }
+        ensures waiting { (number : ℕ) × (self.new.waiting ≡ self.old.waiting ++ (number, row) ∷ []) }
+        ensures notices { self.new.notices ≡ self.old.notices }
+    {
+        self.rows.add(row);
+    }
+
+    /// A use of a row at these moments.
+    pub fn touch(&mut self, number: usize, info: EntryInfo)
+        requires { IsSome (row_under number (entries self.old)) }
+        ensures rows { UsesRow number (touched info) self.old self.new }
+        ensures notices { self.new.notices ≡ self.old.notices }
+    {
+        self.rows.touch(number, info);
+    }
+
+    /// Gives the row another value, and notices the one before, with its cause, under this key.
+    pub fn overwrite(
+        &mut self,
+        number: usize,
+        key: Arc<K>,
+        value: V,
+        info: EntryInfo,
+        cause: RemovalCause,
+    )
+        requires stored { IsSome (row_under number (entries self.old)) }
+        requires room { 0 < self.old.room }
+        ensures rows { UsesRow number (overwritten value info) self.old self.new }
+        ensures notices { IfSome (row_under number (entries self.old)) (λ row.
+            self.new.notices ≡ self.old.notices ++ record { key = key; value = row.value; cause = cause } ∷ []) }
+    {
+        let value = self.rows.overwrite(number, value, info);
+        match self.notices.push_back(Notice { key, value, cause }) {
+            Ok(()) => {}
+            Err(_) => unreachable!(),
+        }
+    }
+
+    /// Lets a row leave, and notices it with this cause. It takes no memory.
+    pub fn let_go(&mut self, number: usize, cause: RemovalCause)
+        requires { IsSome (row_under number (entries self.old)) }
+        ensures rows { TakesRow number self.old self.new }
+        ensures notices { IfSome (row_under number (entries self.old)) (λ row.
+            self.new.notices ≡ self.old.notices ++ record { key = row.key; value = row.value; cause = cause } ∷ []) }
+    {
+        let Row { key, value, .. } = self.rows.remove(number);
+        match self.notices.push_back(Notice { key, value, cause }) {
+            Ok(()) => {}
+            Err(_) => unreachable!(),
+        }
+    }
+
+    /// Takes the first notice.
+    pub fn take_notice(&mut self) -> Option<Notice<K, V>>
+        ensures notices { self.old.notices ≡ option_to_list result ++ self.new.notices }
+        ensures none { IfNone result (self.old.notices ≡ []) }
+        ensures admitted { self.new.admitted ≡ self.old.admitted }
+        ensures waiting { self.new.waiting ≡ self.old.waiting }
+    {
+        self.notices.pop_front()
+    }
+}
