@@ -5,9 +5,8 @@ ghost use Rattle.mokabox.specs.Answer.{answer_text, answer_line, cause_text, ref
 
 use moka_base::notification::RemovalCause;
 use moka_base::policy::Refused;
-use std::fmt;
-use std::io;
 use std::io::Write;
+use std::{fmt, io};
 
 /// Why a cache was not built.
 #[derive(Clone, Copy, Debug, PartialEq, Eq)]
@@ -48,9 +47,18 @@ impl fmt::Display for Answer {
             Answer::Found(value) => write!(f, "some {value}"),
             Answer::NotFound => write!(f, "none"),
             Answer::Whether(is_so) => write!(f, "{is_so}"),
-            Answer::Refused(refused) => write!(f, "refused {}", refusal_number(*refused)),
-            Answer::NotBuilt(refusal) => write!(f, "refused build {}", build_refusal_number(*refusal)),
-            Answer::Left(key, value, cause) => write!(f, "notice {key} {value} {}", cause_text(*cause)),
+            Answer::Refused(refused) => {
+                let number = refusal_number(*refused);
+                write!(f, "refused {number}")
+            }
+            Answer::NotBuilt(refusal) => {
+                let number = build_refusal_number(*refusal);
+                write!(f, "refused build {number}")
+            }
+            Answer::Left(key, value, cause) => {
+                let cause = cause_text(*cause);
+                write!(f, "notice {key} {value} {cause}")
+            }
             Answer::End => write!(f, "end"),
             Answer::BadLine => write!(f, "bad line"),
         }
