@@ -1,4 +1,5 @@
 pub mod CommandLaws
+pub mod EventsBy
 pub mod FieldLaws
 pub mod FieldTexts
 pub mod NumberLaws

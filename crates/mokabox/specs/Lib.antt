@@ -2,4 +2,5 @@ pub mod Answer
 pub mod Command
 pub mod Fields
 pub mod FieldsLeft
+pub mod Script
 pub mod Settings
