@@ -1,8 +1,8 @@
 -- What a cache means, over the list of its events. A list of events is read from its newest: `e ∷ h` is "the
 -- events of h, and then e". Keys are compared by `eq`, the `Eq` of their type, and never by identity.
-use Rattle.std.specs.Prelude.{◌≡◌, ℕ, ◌+◌, ◌-◌, ◌^◌, max, min, Bool, true, false, not, if◌then◌else◌, nat_le, nat_lt, Option, Some, None, List, [], ◌∷◌, ◌++◌, length, drop, option_map, option_and_then}
+use Rattle.std.specs.Prelude.{ℕ, ◌+◌, ◌-◌, ◌^◌, max, min, Bool, false, not, if◌then◌else◌, nat_le, Option, Some, None, List, [], ◌∷◌, ◌++◌, length, drop, option_map}
 use Rattle.moka_base.specs.declared.notification.RemovalCause.{RemovalCause}
-use Rattle.moka_base.specs.declared.notification.RemovalCause.TheVariants.{Expired, Explicit, Replaced, Size}
+use Rattle.moka_base.specs.declared.notification.RemovalCause.TheVariants.{Expired, Explicit, Replaced}
 
 -- An accepted step of one segment, with the moment that it hands in, if it has one. Moments are nanoseconds.
 pub data Event (K V : Type 0) : Type 0 where

@@ -1,4 +1,6 @@
 pub mod History
+pub mod Laws
 pub mod NumberHash
 pub mod Replies
 pub mod StandsFor
+pub mod Worked

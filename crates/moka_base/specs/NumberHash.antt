@@ -1,5 +1,5 @@
 -- The hash that leaves a number as it is.
-use Rattle.std.specs.Prelude.{ℕ, ◌+◌, ◌*◌, ◌/◌, ◌^◌, List, [], ◌∷◌, fold}
+use Rattle.std.specs.Prelude.{ℕ, ◌+◌, ◌*◌, ◌/◌, ◌^◌, List, fold}
 
 -- the hash after one byte
 abbrev pub byte_hash : ℕ → ℕ → ℕ

@@ -1,6 +1,6 @@
 -- What each step answers, as a function of the events before it.
-use Rattle.std.specs.Prelude.{◌≡◌, ◌≢◌, ℕ, Bool, true, false, max, if◌then◌else◌, nat_eq, Option, Some, None, List, [], ◌∷◌, option_map, is_some, slice_get}
-use Rattle.moka_base.specs.History.{Event, Get, ContainsKey, Insert, Invalidate, TakeNotice, Rules, Write, Leaving, latest, live, noticed, next_number, greatest_number}
+use Rattle.std.specs.Prelude.{⊤, ◌≡◌, Bool, max, Option, Some, None, List, option_map, is_some, slice_get}
+use Rattle.moka_base.specs.History.{Event, Get, ContainsKey, Insert, Invalidate, TakeNotice, Rules, Leaving, latest, live, noticed, next_number, greatest_number}
 
 -- An answer, with the values themselves. What a step hands out is a copy of them.
 pub data Answer (K V : Type 0) : Type 0 where
@@ -21,3 +21,20 @@ answer eq rules TakeNotice h = Noticed (slice_get (noticed eq rules h) 0)
 -- A step is refused for want of numbers exactly where it must draw one and the greatest number is next.
 abbrev pub IsOutOfNumbers : {K V : Type 0} → Rules → List (Event K V) → Type 0
 IsOutOfNumbers rules h = next_number rules h ≡ greatest_number
+
+-- One value is there where the other is, and is a copy of it.
+abbrev pub IsCopyOf : {V : Type 0} → (V → V → Type 0) → Option V → Option V → Type 0
+IsCopyOf is_clone None None = ⊤
+IsCopyOf is_clone (Some v) (Some w) = is_clone v w
+IsCopyOf is_clone None (Some w) = ⊥
+IsCopyOf is_clone (Some v) None = ⊥
+
+-- An answer that is handed out: a value is a copy of the definition's, and all else is the definition's own.
+abbrev pub IsAnswer : {K V : Type 0} → (V → V → Type 0) → Answer K V → Answer K V → Type 0
+IsAnswer is_clone (Found v) (Found w) = IsCopyOf is_clone v w
+IsAnswer is_clone (Found v) (Contains b) = ⊥
+IsAnswer is_clone (Found v) Done = ⊥
+IsAnswer is_clone (Found v) (Noticed l) = ⊥
+IsAnswer is_clone (Contains b) a = a ≡ Contains b
+IsAnswer is_clone Done a = a ≡ Done
+IsAnswer is_clone (Noticed l) a = a ≡ Noticed l

@@ -1,6 +1,8 @@
 //! What the layers of the cache share: its policies, its notices, and the definitions that every
-//! contract cites.
+//! contract cites, with the laws above them.
 #![tactic(auto)]
 
+pub mod laws;
 pub mod notification;
 pub mod policy;
+pub mod worked;

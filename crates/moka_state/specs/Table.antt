@@ -39,11 +39,11 @@ module _ {K V : Type 0} where
   -- the end.
   abbrev pub UsesRow : ℕ → (Row K V → Row K V) → Contents K V → Contents K V → Type 0
   UsesRow n change old new = MatchOption (row_under n old.admitted)
-    ((new.admitted ≡ old.admitted) × (new.waiting ≡ with_row n change old.waiting))
-    (λ row. (new.admitted ≡ without_row n old.admitted ++ (n, change row) ∷ []) × (new.waiting ≡ old.waiting))
+      ((new.admitted ≡ old.admitted) × (new.waiting ≡ with_row n change old.waiting))
+      (λ row. (new.admitted ≡ without_row n old.admitted ++ (n, change row) ∷ []) × (new.waiting ≡ old.waiting))
 
   -- the row under a number was taken out
   abbrev pub TakesRow : ℕ → Contents K V → Contents K V → Type 0
   TakesRow n old new = MatchOption (row_under n old.admitted)
-    ((new.admitted ≡ old.admitted) × (new.waiting ≡ without_row n old.waiting))
-    (λ _. (new.admitted ≡ without_row n old.admitted) × (new.waiting ≡ old.waiting))
+      ((new.admitted ≡ old.admitted) × (new.waiting ≡ without_row n old.waiting))
+      (λ _. (new.admitted ≡ without_row n old.admitted) × (new.waiting ≡ old.waiting))

@@ -3,4 +3,6 @@
 
 pub mod lives;
 pub mod rows;
+pub mod shared_key;
+pub mod state;
 pub mod table;

@@ -1,10 +1,11 @@
 //! How long a value lives.
-ghost use Rattle.std.specs.Prelude.{◌≡◌, max, Bool, option_map, nat_le};
+ghost use Rattle.std.specs.Prelude.{◌≡◌, option_map, if◌then◌else◌};
 ghost use Rattle.std.specs.Duration.{as_nanos};
 ghost use Rattle.moka_base.specs.History.{ends_at, earlier, has_come};
 ghost use Rattle.moka_state.specs.Lives.{deadline_of};
 
 use crate::rows::EntryInfo;
+use moka_base::notification::RemovalCause;
 use std::time::Duration;
 
 /// The lives that a cache gives each of its values.
@@ -34,6 +35,18 @@ impl Lives {
         match self.deadline(info) {
             None => false,
             Some(deadline) => deadline <= u128::from(now),
+        }
+    }
+
+    /// The cause under which a value with these moments leaves: expired, where its deadline has come, and else the
+    /// caller's own.
+    pub fn cause(&self, info: EntryInfo, now: u64, own: RemovalCause) -> RemovalCause
+        ensures { result ≡ (if has_come (deadline_of self.now info) now then RemovalCause.Expired else own) }
+    {
+        if self.is_expired(info, now) {
+            RemovalCause::Expired
+        } else {
+            own
         }
     }
 }

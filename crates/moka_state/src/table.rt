@@ -3,6 +3,7 @@ ghost use Rattle.std.specs.Prelude.{◌≡◌, ℕ, ◌+◌, ◌-◌, ◌<◌, �
 ghost use Rattle.std.specs.Option.{option_to_list};
 ghost use Rattle.std.specs.VecDeque.{deque_len, deque_capacity};
 ghost use Rattle.moka_state.specs.Rows.{row_under, with_row, without_row, touched, overwritten, IsRowOf, NoneIsRowOf};
+ghost use Rattle.moka_state.specs.Place.{IsPlaceOf};
 ghost use Rattle.moka_state.specs.Table.{Contents, entries, SameRows, UsesRow, TakesRow};
 
 use crate::rows::{EntryInfo, Row, RowStore};
@@ -11,6 +12,15 @@ use std::alloc::{AllocError, Global};
 use std::collections::VecDeque;
 use std::marker::Model;
 use std::sync::Arc;
+
+/// Where a key's row is.
+#[derive(Drop)]
+pub enum Place<K> {
+    /// Under this number, with the stored key.
+    Stored { number: usize, key: Arc<K> },
+    /// Nowhere.
+    Absent,
+}
 
 /// A store of rows, and the notices of the values that left it, in the order of leaving.
 #[derive(Drop)]
@@ -23,10 +33,10 @@ impl<K: Eq + Drop, V: Drop, R: RowStore<K, V>> Model for Table<K, V, R> {
     ghost Value = { Contents K V };
 
     ghost view = { λ table. record {
-        admitted = R.admitted table.rows;
-        waiting = R.waiting table.rows;
-        notices = table.notices.items;
-        room = min (R.room table.rows) (deque_capacity table.notices - (length (R.admitted table.rows ++ R.waiting table.rows) + deque_len table.notices));
+      admitted = R.admitted table.rows;
+      waiting = R.waiting table.rows;
+      notices = table.notices.items;
+      room = min (R.room table.rows) (deque_capacity table.notices - (length (R.admitted table.rows ++ R.waiting table.rows) + deque_len table.notices));
     } };
 
     ghost invariant = { λ table. length (R.admitted table.rows ++ R.waiting table.rows) + deque_len table.notices ≤ deque_capacity table.notices };
@@ -77,6 +87,22 @@ impl<K: Eq + Drop, V: Drop, R: RowStore<K, V>> Table<K, V, R> {
         let rows = self.rows.len().checked_add(1).ok_or(AllocError)?;
         self.notices.reserve(rows)?;
         self.rows.reserve()
+    }
+
+    /// Makes room for a write of a key, and looks where its row is. Where memory is refused, nothing has changed.
+    pub fn place(&mut self, key: &K, hash: u64) -> Result<Place<K>, AllocError>
+        ensures place { IfOk result (IsPlaceOf K.eq key.now hash (entries self.new)) }
+        ensures room { OnOk result (0 < self.new.room) }
+        ensures same { SameRows self.old self.new }
+    {
+        self.reserve()?;
+        match self.find(key, hash) {
+            None => Ok(Place::Absent),
+            Some(number) => {
+                let key = self.row(number).key.clone()?;
+                Ok(Place::Stored { number, key })
+            }
+        }
     }
 
     /// Adds a row as the last of those that wait.

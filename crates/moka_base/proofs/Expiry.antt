@@ -1,0 +1,145 @@
+-- No life's end is undone, and no number comes again.
+use Rattle.std.proofs.Common.{◌≡◌, ◌↔◌, ◌⊎◌, inl, inr, ⊎_elim, ℕ, max, min, ◌+◌, ◌≤◌, length, filter, Bool, true, false, not, if◌then◌else◌, Option, Some, None, List, [], ◌∷◌, ◌++◌, refl, ap, subst, arith}
+use Rattle.std.specs.Option.{option_map}
+use Rattle.std.proofs.lemmas.Bool.{leb-true, le-leb}
+use Rattle.moka_base.specs.History.{Event, Get, ContainsKey, Insert, Invalidate, TakeNotice, Rules, Write, latest, ends_at, earlier, has_come, deadline, is_expired, live, live_one, after_look, standing, next_number}
+use Rattle.moka_base.specs.Replies.{Found, Contains, answer}
+use Rattle.moka_base.specs.Laws.{IsUnwritten, IsUntouched, HasEnded, is_write}
+
+-- the latest moment never falls
+pub latest-more : {K V : Type 0} (later h : List (Event K V)) → latest h ≤ latest (later ++ h)
+latest-more [] h = omega arith
+latest-more (e ∷ later) h = let ih : latest h ≤ latest (later ++ h) = latest-more later h in omega arith
+
+-- a deadline that has come has come at each later moment
+pub has_come-later : (d : Option ℕ) (at later : ℕ) → at ≤ later → has_come d at ≡ true → has_come d later ≡ true
+has_come-later None at later le come = come
+has_come-later (Some d) at later le come = le-leb d later (let h = leb-true d at come in omega arith)
+
+-- the next number never falls
+pub next_number-more : {K V : Type 0} (rules : Rules) (later h : List (Event K V)) → next_number rules h ≤ next_number rules (later ++ h)
+next_number-more rules [] h = omega arith
+next_number-more rules (e ∷ later) h = let ih : next_number rules h ≤ next_number rules (later ++ h) = next_number-more rules later h in omega arith
+
+-- which is the first plus as many as there were writes
+pub next_number-counted : {K V : Type 0} (rules : Rules) (h : List (Event K V)) → next_number rules h ≡ rules.first_number + length (filter is_write h)
+next_number-counted rules [] = omega arith
+next_number-counted rules (Get q at ∷ h) = let ih = next_number-counted rules h in omega arith
+next_number-counted rules (ContainsKey q at ∷ h) = let ih = next_number-counted rules h in omega arith
+next_number-counted rules (Insert q v at ∷ h) = let ih = next_number-counted rules h in omega arith
+next_number-counted rules (Invalidate q at ∷ h) = let ih = next_number-counted rules h in omega arith
+next_number-counted rules (TakeNotice ∷ h) = let ih = next_number-counted rules h in omega arith
+
+-- of the lives of two moments the earlier end is the deadline
+pub has_come-ended : (a b : Option ℕ) (written used at : ℕ) → (has_come (earlier (ends_at a written) (ends_at b used)) at ≡ true) ↔ (HasEnded a written at ⊎ HasEnded b used at)
+has_come-ended a b written used at = (to a b, from a b)
+  where
+    to : (a b : Option ℕ) → has_come (earlier (ends_at a written) (ends_at b used)) at ≡ true → HasEnded a written at ⊎ HasEnded b used at
+    to None None come = absurd (cc)
+    to (Some m) None come = inl (m, refl, leb-true (written + m) at come)
+    to None (Some n) come = inr (n, refl, leb-true (used + n) at come)
+    to (Some m) (Some n) come =
+        let le = leb-true (min (written + m) (used + n)) at come in
+        let either : (written + m ≤ at) ⊎ (used + n ≤ at) = grind arith in
+        ⊎_elim (λ h. inl (m, refl, h)) (λ h. inr (n, refl, h)) either
+
+    never : (from : ℕ) → HasEnded None from at → ⊥
+    never from h = let none = h.1 in cc
+
+    by : (m from : ℕ) → HasEnded (Some m) from at → from + m ≤ at
+    by m from h = let same = h.1 in let it : m ≡ h.0 = cc in let le = h.2 in omega arith
+
+    from : (a b : Option ℕ) → HasEnded a written at ⊎ HasEnded b used at → has_come (earlier (ends_at a written) (ends_at b used)) at ≡ true
+    from None None (inl h) = absurd (never written h)
+    from None None (inr h) = absurd (never used h)
+    from (Some m) None (inl h) = le-leb (written + m) at (by m written h)
+    from (Some m) None (inr h) = absurd (never used h)
+    from None (Some n) (inl h) = absurd (never written h)
+    from None (Some n) (inr h) = le-leb (used + n) at (by n used h)
+    from (Some m) (Some n) (inl h) = le-leb (min (written + m) (used + n)) at (let le = by m written h in omega arith)
+    from (Some m) (Some n) (inr h) = le-leb (min (written + m) (used + n)) at (let le = by n used h in omega arith)
+
+module _ {K V : Type 0} (eq : K → K → Bool) (rules : Rules) (k : K) where
+  -- an expired write stays as it is until its key is written or removed
+  pub expired_stays : (later h : List (Event K V)) (w : Write K V) → standing eq rules k h ≡ Some w → is_expired rules w (latest h) ≡ true → IsUntouched eq k later → standing eq rules k (later ++ h) ≡ Some w
+  expired_stays [] h w stands gone u = stands
+  expired_stays (Get q at ∷ later) h w stands gone u = rw (expired_stays later h w stands gone u.1) (look (eq q k))
+    where
+      now : ℕ
+      now = latest (Get q at ∷ later ++ h)
+
+      still : is_expired rules w now ≡ true
+      still = has_come-later (deadline rules w) (latest h) now (latest-more (Get q at ∷ later) h) gone
+
+      kept : after_look rules now w ≡ w
+      kept = rw still refl
+
+      look : (t : Bool) → (if t then option_map (after_look rules now) (Some w) else Some w) ≡ Some w
+      look true = ap Some kept
+      look false = refl
+  expired_stays (ContainsKey q at ∷ later) h w stands gone u = expired_stays later h w stands gone u.1
+  expired_stays (Insert q v at ∷ later) h w stands gone u = rw (u.0) (expired_stays later h w stands gone u.1)
+  expired_stays (Invalidate q at ∷ later) h w stands gone u = rw (u.0) (expired_stays later h w stands gone u.1)
+  expired_stays (TakeNotice ∷ later) h w stands gone u = expired_stays later h w stands gone u.1
+
+  -- no live write stands at a moment
+  abbrev IsUnseen : Option (Write K V) → ℕ → Type 0
+  IsUnseen None at = Unit {0}
+  IsUnseen (Some w) at = is_expired rules w at ≡ true
+
+  -- nor at a later one
+  IsUnseen-later : (o : Option (Write K V)) (at later : ℕ) → at ≤ later → IsUnseen o at → IsUnseen o later
+  IsUnseen-later None at later le unseen = tt
+  IsUnseen-later (Some w) at later le unseen = has_come-later (deadline rules w) at later le unseen
+
+  -- a look makes no write live
+  IsUnseen-look : (t : Bool) (o : Option (Write K V)) (at : ℕ) → IsUnseen o at → IsUnseen (if t then option_map (after_look rules at) o else o) at
+  IsUnseen-look false o at unseen = unseen
+  IsUnseen-look true None at unseen = tt
+  IsUnseen-look true (Some w) at unseen =
+      let kept : w ≡ after_look rules at w = rw unseen refl in
+      subst (λ (u : Write K V). is_expired rules u at ≡ true) kept unseen
+
+  -- nor does a removal
+  IsUnseen-removal : (t : Bool) (o : Option (Write K V)) (at : ℕ) → IsUnseen o at → IsUnseen (if t then None else o) at
+  IsUnseen-removal false o at unseen = unseen
+  IsUnseen-removal true o at unseen = tt
+
+  -- where no live write stands, none does until the key is written
+  unseen_from : (later h : List (Event K V)) → IsUnwritten eq k later → IsUnseen (standing eq rules k h) (latest h) → IsUnseen (standing eq rules k (later ++ h)) (latest (later ++ h))
+  unseen_from [] h u unseen = unseen
+  unseen_from (Get q at ∷ later) h u unseen = IsUnseen-look (eq q k) (standing eq rules k (later ++ h)) (latest (Get q at ∷ later ++ h)) (IsUnseen-later (standing eq rules k (later ++ h)) (latest (later ++ h)) (latest (Get q at ∷ later ++ h)) (omega arith) (unseen_from later h u.1 unseen))
+  unseen_from (ContainsKey q at ∷ later) h u unseen = IsUnseen-later (standing eq rules k (later ++ h)) (latest (later ++ h)) (latest (ContainsKey q at ∷ later ++ h)) (omega arith) (unseen_from later h u.1 unseen)
+  unseen_from (Insert q v at ∷ later) h u unseen = rw (u.0) (IsUnseen-later (standing eq rules k (later ++ h)) (latest (later ++ h)) (latest (Insert q v at ∷ later ++ h)) (omega arith) (unseen_from later h u.1 unseen))
+  unseen_from (Invalidate q at ∷ later) h u unseen = IsUnseen-removal (eq q k) (standing eq rules k (later ++ h)) (latest (Invalidate q at ∷ later ++ h)) (IsUnseen-later (standing eq rules k (later ++ h)) (latest (later ++ h)) (latest (Invalidate q at ∷ later ++ h)) (omega arith) (unseen_from later h u.1 unseen))
+  unseen_from (TakeNotice ∷ later) h u unseen = IsUnseen-later (standing eq rules k (later ++ h)) (latest (later ++ h)) (latest (TakeNotice ∷ later ++ h)) (omega arith) (unseen_from later h u.1 unseen)
+
+  -- what a look finds nothing of is not seen
+  unseen_by : (o : Option (Write K V)) (at : ℕ) → option_map (λ w. w.value) (live_one rules at o) ≡ None → IsUnseen o at
+  unseen_by None at missed = tt
+  unseen_by (Some w) at missed = go (is_expired rules w at) missed
+    where
+      go : (t : Bool) → option_map (λ (u : Write K V). u.value) (if not t then Some w else None) ≡ None → t ≡ true
+      go true _ = refl
+      go false found = absurd (cc)
+
+  -- and what is not seen no look finds
+  live-unseen : (o : Option (Write K V)) (at : ℕ) → IsUnseen o at → live_one rules at o ≡ None
+  live-unseen None at unseen = refl
+  live-unseen (Some w) at unseen = rw unseen refl
+
+  -- after a look that finds nothing, nothing is live until the key is written
+  live-missed : (later h : List (Event K V)) (at now : ℕ) → answer eq rules (Get k at) h ≡ Found None → IsUnwritten eq k later → live eq rules k (max (latest (later ++ Get k at ∷ h)) now) (later ++ Get k at ∷ h) ≡ None
+  live-missed later h at now missed u =
+      let nothing : option_map (λ (w : Write K V). w.value) (live_one rules (latest (Get k at ∷ h)) (standing eq rules k h)) ≡ None = cc in
+      live-unseen (standing eq rules k (later ++ Get k at ∷ h)) (max (latest (later ++ Get k at ∷ h)) now)
+      (IsUnseen-later (standing eq rules k (later ++ Get k at ∷ h)) (latest (later ++ Get k at ∷ h)) (max (latest (later ++ Get k at ∷ h)) now) (omega arith)
+      (unseen_from later (Get k at ∷ h) u (IsUnseen-look (eq k k) (standing eq rules k h) (latest (Get k at ∷ h)) (unseen_by (standing eq rules k h) (latest (Get k at ∷ h)) nothing))))
+
+  -- so no look by `get` finds anything
+  pub get-missed : (later h : List (Event K V)) (at now : ℕ) → answer eq rules (Get k at) h ≡ Found None → IsUnwritten eq k later → answer eq rules (Get k now) (later ++ Get k at ∷ h) ≡ Found None
+  get-missed later h at now missed u = rw (live-missed later h at now missed u)
+
+  -- and none by `contains_key`
+  pub contains_key-missed : (later h : List (Event K V)) (at now : ℕ) → answer eq rules (Get k at) h ≡ Found None → IsUnwritten eq k later → answer eq rules (ContainsKey k now) (later ++ Get k at ∷ h) ≡ Contains false
+  contains_key-missed later h at now missed u = rw (live-missed later h at now missed u)

@@ -1,0 +1,59 @@
+-- A look by `contains_key` is as if it had not been: nothing that follows depends on it.
+use Rattle.std.proofs.Common.{◌≡◌, ℕ, max, ◌+◌, Bool, List, [], ◌∷◌, ◌++◌, refl, ap, arith, add-zero, append-nil}
+use Rattle.moka_base.specs.History.{Event, Get, ContainsKey, Insert, Invalidate, TakeNotice, Rules, recorded, latest, standing, leaving, leavings, taken, noticed, drawn, next_number}
+use Rattle.moka_base.specs.Replies.{answer}
+
+module _ {K V : Type 0} (q : K) (at : ℕ) (h : List (Event K V)) where
+  -- no moment is recorded
+  pub latest_without_look : (later : List (Event K V)) → latest (later ++ ContainsKey q at ∷ h) ≡ latest (later ++ h)
+  latest_without_look [] = omega arith
+  latest_without_look (e ∷ later) = ap (λ m. max m (recorded e)) (latest_without_look later)
+
+  -- no number is drawn
+  pub next_number_without_look : (rules : Rules) (later : List (Event K V)) → next_number rules (later ++ ContainsKey q at ∷ h) ≡ next_number rules (later ++ h)
+  next_number_without_look rules [] = add-zero (next_number rules h)
+  next_number_without_look rules (e ∷ later) = ap (λ n. n + drawn e) (next_number_without_look rules later)
+
+module _ {K V : Type 0} (eq : K → K → Bool) (rules : Rules) (q : K) (at : ℕ) (h : List (Event K V)) where
+  -- the same write stands for each key
+  pub standing_without_look : (k : K) (later : List (Event K V)) → standing eq rules k (later ++ ContainsKey q at ∷ h) ≡ standing eq rules k (later ++ h)
+  standing_without_look k [] = refl
+  standing_without_look k (Get p t ∷ later) = rw (latest_without_look q at h later, standing_without_look k later)
+  standing_without_look k (ContainsKey p t ∷ later) = standing_without_look k later
+  standing_without_look k (Insert p v t ∷ later) = rw (latest_without_look q at h later, standing_without_look k later)
+  standing_without_look k (Invalidate p t ∷ later) = rw (standing_without_look k later)
+  standing_without_look k (TakeNotice ∷ later) = standing_without_look k later
+
+  -- the same leaves at an event
+  pub leaving_without_look : (e : Event K V) (later : List (Event K V)) → leaving eq rules e (later ++ ContainsKey q at ∷ h) ≡ leaving eq rules e (later ++ h)
+  leaving_without_look (Get p t) later = refl
+  leaving_without_look (ContainsKey p t) later = refl
+  leaving_without_look (Insert p v t) later = rw (latest_without_look q at h later, standing_without_look p later)
+  leaving_without_look (Invalidate p t) later = rw (latest_without_look q at h later, standing_without_look p later)
+  leaving_without_look TakeNotice later = refl
+
+  -- the same has left
+  pub leavings_without_look : (later : List (Event K V)) → leavings eq rules (later ++ ContainsKey q at ∷ h) ≡ leavings eq rules (later ++ h)
+  leavings_without_look [] = rw append-nil
+  leavings_without_look (e ∷ later) = rw (leavings_without_look later, leaving_without_look e later)
+
+  -- as many leavings were given out
+  pub taken_without_look : (later : List (Event K V)) → taken eq rules (later ++ ContainsKey q at ∷ h) ≡ taken eq rules (later ++ h)
+  taken_without_look [] = refl
+  taken_without_look (Get p t ∷ later) = taken_without_look later
+  taken_without_look (ContainsKey p t ∷ later) = taken_without_look later
+  taken_without_look (Insert p v t ∷ later) = taken_without_look later
+  taken_without_look (Invalidate p t ∷ later) = taken_without_look later
+  taken_without_look (TakeNotice ∷ later) = rw (taken_without_look later, leavings_without_look later)
+
+  -- the same is left to give out
+  pub noticed_without_look : (later : List (Event K V)) → noticed eq rules (later ++ ContainsKey q at ∷ h) ≡ noticed eq rules (later ++ h)
+  noticed_without_look later = rw (taken_without_look later, leavings_without_look later)
+
+  -- each step has the same answer
+  pub answer_without_look : (e : Event K V) (later : List (Event K V)) → answer eq rules e (later ++ ContainsKey q at ∷ h) ≡ answer eq rules e (later ++ h)
+  answer_without_look (Get p t) later = rw (latest_without_look q at h later, standing_without_look p later)
+  answer_without_look (ContainsKey p t) later = rw (latest_without_look q at h later, standing_without_look p later)
+  answer_without_look (Insert p v t) later = refl
+  answer_without_look (Invalidate p t) later = refl
+  answer_without_look TakeNotice later = rw (taken_without_look later, leavings_without_look later)

@@ -1,0 +1,44 @@
+-- What stands for equal keys is the same, and it is stored under an equal key.
+use Rattle.std.proofs.Common.{◌≡◌, ℕ, max, Bool, true, Option, Some, None, List, [], ◌∷◌, refl, ◌∙◌}
+use Rattle.std.specs.Cmp.{IsEquivalence}
+use Rattle.std.specs.Option.{option_map}
+use Rattle.std.proofs.lemmas.Bool.{cond_both}
+use Rattle.moka_base.specs.History.{Event, Get, ContainsKey, Insert, Invalidate, TakeNotice, Rules, Write, latest, is_live, after_look, after_write, standing}
+
+-- a key is equal to just what an equal key is equal to
+pub eq_congr_right : {K : Type 0} {eq : K → K → Bool} → IsEquivalence eq → (p q k : K) → eq q k ≡ true → eq p q ≡ eq p k
+eq_congr_right e p q k same = e.symm p q ∙ e.congr q k p same ∙ e.symm k p
+
+-- the write is stored under an equal key, where one stands
+abbrev pub IsStoredUnder : {K V : Type 0} → (K → K → Bool) → K → Option (Write K V) → Type 0
+IsStoredUnder eq k None = Unit {0}
+IsStoredUnder eq k (Some w) = eq w.key k ≡ true
+
+module _ {K V : Type 0} (eq : K → K → Bool) (rules : Rules) where
+  -- a hit keeps the stored key
+  IsStoredUnder-after_look : (k : K) (at : ℕ) (o : Option (Write K V)) → IsStoredUnder eq k o → IsStoredUnder eq k (option_map (after_look rules at) o)
+  IsStoredUnder-after_look k at None s = tt
+  IsStoredUnder-after_look k at (Some w) s = cond_both (is_live rules w at) (record w { used = max w.used at }) w (λ (u : Write K V). eq u.key k ≡ true) (λ _. s) (λ _. s)
+
+  -- a write keeps the stored key, and else brings its own
+  IsStoredUnder-after_write : (k q : K) (v : V) (at : ℕ) (o : Option (Write K V)) → eq q k ≡ true → IsStoredUnder eq k o → IsStoredUnder eq k (Some (after_write rules q v at o))
+  IsStoredUnder-after_write k q v at None same s = same
+  IsStoredUnder-after_write k q v at (Some w) same s = s
+
+  -- what stands for a key is stored under an equal one
+  pub stored_key : (k : K) (h : List (Event K V)) → IsStoredUnder eq k (standing eq rules k h)
+  stored_key k [] = tt
+  stored_key k (Get q at ∷ h) = cond_both (eq q k) (option_map (after_look rules (latest (Get q at ∷ h))) (standing eq rules k h)) (standing eq rules k h) (IsStoredUnder eq k) (λ _. IsStoredUnder-after_look k (latest (Get q at ∷ h)) (standing eq rules k h) (stored_key k h)) (λ _. stored_key k h)
+  stored_key k (ContainsKey q at ∷ h) = stored_key k h
+  stored_key k (Insert q v at ∷ h) = cond_both (eq q k) (Some (after_write rules q v (latest (Insert q v at ∷ h)) (standing eq rules k h))) (standing eq rules k h) (IsStoredUnder eq k) (λ same. IsStoredUnder-after_write k q v (latest (Insert q v at ∷ h)) (standing eq rules k h) same (stored_key k h)) (λ _. stored_key k h)
+  stored_key k (Invalidate q at ∷ h) = cond_both (eq q k) None (standing eq rules k h) (IsStoredUnder eq k) (λ _. tt) (λ _. stored_key k h)
+  stored_key k (TakeNotice ∷ h) = stored_key k h
+
+  -- the same write stands for equal keys
+  pub standing_congr : IsEquivalence eq → (q k : K) (h : List (Event K V)) → eq q k ≡ true → standing eq rules q h ≡ standing eq rules k h
+  standing_congr e q k [] same = refl
+  standing_congr e q k (Get p at ∷ h) same = rw (eq_congr_right e p q k same, standing_congr e q k h same)
+  standing_congr e q k (ContainsKey p at ∷ h) same = standing_congr e q k h same
+  standing_congr e q k (Insert p v at ∷ h) same = rw (eq_congr_right e p q k same, standing_congr e q k h same)
+  standing_congr e q k (Invalidate p at ∷ h) same = rw (eq_congr_right e p q k same, standing_congr e q k h same)
+  standing_congr e q k (TakeNotice ∷ h) same = standing_congr e q k h same

@@ -1,0 +1,40 @@
+-- The rules and the events of the worked cases. Keys and values are numbers.
+use Rattle.std.specs.Prelude.{ℕ, ◌*◌, ◌%◌, Bool, nat_eq, Some, None, List, [], ◌∷◌}
+use Rattle.moka_base.specs.declared.notification.RemovalCause.{RemovalCause}
+use Rattle.moka_base.specs.History.{Event, Insert, Rules, Leaving}
+
+-- some seconds, in nanoseconds
+abbrev pub seconds : ℕ → ℕ
+seconds n = n * 1_000_000_000
+
+-- no life ends
+abbrev pub without_lives : Rules
+without_lives = record { time_to_live = None; time_to_idle = None; first_number = 0 }
+
+-- ten seconds to live
+abbrev pub ten_to_live : Rules
+ten_to_live = record { time_to_live = Some (seconds 10); time_to_idle = None; first_number = 0 }
+
+-- five seconds to idle
+abbrev pub five_to_idle : Rules
+five_to_idle = record { time_to_live = None; time_to_idle = Some (seconds 5); first_number = 0 }
+
+-- ten seconds to live, and five to idle
+abbrev pub both_lives : Rules
+both_lives = record { time_to_live = Some (seconds 10); time_to_idle = Some (seconds 5); first_number = 0 }
+
+-- one number is left to draw
+abbrev pub at_the_last_number : Rules
+at_the_last_number = record { time_to_live = None; time_to_idle = None; first_number = 18446744073709551614 }
+
+-- the value 7 is written to the key 1 at 0
+abbrev pub written : List (Event ℕ ℕ)
+written = Insert 1 7 0 ∷ []
+
+-- numbers that are equal as keys where their last digits are
+abbrev pub same_last_digit : ℕ → ℕ → Bool
+same_last_digit a b = nat_eq (a % 10) (b % 10)
+
+-- a value that left, under its key
+abbrev pub left_as : ℕ → ℕ → RemovalCause → Leaving ℕ ℕ
+left_as k v cause = record { key = k; value = v; cause = cause }

@@ -1,0 +1,147 @@
+-- From what a state stands for, to what it stands for after one more event.
+use Rattle.std.proofs.Common.{◌≡◌, ℕ, ◌+◌, ◌<◌, ◌≤◌, nat_le, max, min, Bool, true, false, cond, List, [], ◌∷◌, ◌++◌, length, take, drop, Option, Some, None, option_map, refl, sym, ap, ◌∙◌, subst, arith, length-append, length-drop, add-zero}
+use Rattle.std.specs.Option.{option_to_list}
+use Rattle.std.specs.Cmp.{IsEquivalence}
+use Rattle.std.proofs.lemmas.List.{append-nil, drop-append-le, drop-drop, drop_all}
+use Rattle.std.proofs.lemmas.Bool.{leb-true, leb-false}
+use Rattle.moka_base.specs.declared.notification.RemovalCause.TheVariants.{Explicit, Replaced}
+use Rattle.moka_base.specs.History.{Event, Get, ContainsKey, Insert, Invalidate, TakeNotice, Rules, Write, Leaving, latest, standing, after_look, after_write, left, leaving, leavings, taken, noticed, drawn, next_number}
+use Rattle.moka_base.specs.StandsFor.{Holdings, StandsFor, writes_of}
+use Rattle.moka_state.proofs.Changes.{ChangesAt, OneEach, writes_of-equal, option_to_list-same}
+
+max-zero : (n : ℕ) → max n 0 ≡ n
+max-zero n = omega arith
+
+-- to drop one more is to drop up to the end
+one-less : {A : Type 0} (n : ℕ) (xs : List A) → n ≤ length xs → drop 1 (drop n xs) ≡ drop (min (n + 1) (length xs)) xs
+one-less n xs short = drop-drop 1 n xs ∙ ends (nat_le (n + 1) (length xs)) refl
+  where
+    ends : (t : Bool) → nat_le (n + 1) (length xs) ≡ t → drop (n + 1) xs ≡ drop (min (n + 1) (length xs)) xs
+    ends true h = let within : n + 1 ≤ length xs = leb-true (n + 1) (length xs) h in let same : n + 1 ≡ min (n + 1) (length xs) = omega arith in ap (λ m. drop m xs) same
+    ends false h =
+        let past : length xs < n + 1 = leb-false (n + 1) (length xs) h in
+        let same : min (n + 1) (length xs) ≡ length xs = omega arith in
+        drop_all (n + 1) xs (omega arith) ∙ sym (drop_all (length xs) xs (omega arith)) ∙ ap (λ m. drop m xs) (sym same)
+
+module _ {K V : Type 0} (eq : K → K → Bool) (rules : Rules) where
+  -- no more leavings were given out than there are
+  pub taken-≤ : (h : List (Event K V)) → taken eq rules h ≤ length (leavings eq rules h)
+  taken-≤ [] = omega arith
+  taken-≤ (Get k at ∷ h) = omega (arith, taken-≤ h, length-append (leavings eq rules h) [])
+  taken-≤ (ContainsKey k at ∷ h) = omega (arith, taken-≤ h, length-append (leavings eq rules h) [])
+  taken-≤ (Insert k v at ∷ h) = omega (arith, taken-≤ h, length-append (leavings eq rules h) (leaving eq rules (Insert k v at) h))
+  taken-≤ (Invalidate k at ∷ h) = omega (arith, taken-≤ h, length-append (leavings eq rules h) (leaving eq rules (Invalidate k at) h))
+  taken-≤ (TakeNotice ∷ h) = omega (arith, taken-≤ h, length-append (leavings eq rules h) [])
+
+  -- what leaves is noticed behind what was noticed before
+  pub noticed-more : (h : List (Event K V)) (more : List (Leaving K V)) → drop (taken eq rules h) (leavings eq rules h ++ more) ≡ noticed eq rules h ++ more
+  noticed-more h more = drop-append-le (taken eq rules h) (leavings eq rules h) more (taken-≤ h)
+
+module _ {K V : Type 0} (eq : K → K → Bool) (laws : IsEquivalence eq) (rules : Rules) (state : Holdings K V) (h : List (Event K V)) (stands : StandsFor eq rules state h) where
+  -- each key has one stored write at most
+  pub one-each : OneEach eq laws state.writes
+  one-each q = (standing eq rules q h, stands.writes q)
+
+  -- the same write stands for equal keys
+  pub standing-equal : (a b : K) → eq a b ≡ true → standing eq rules a h ≡ standing eq rules b h
+  standing-equal a b same = option_to_list-same (standing eq rules a h) (standing eq rules b h) (sym (stands.writes a) ∙ writes_of-equal eq laws a b state.writes same ∙ stands.writes b)
+
+  -- what a key's writes become, by the event's definition
+  pub stands-after : (new : Holdings K V) (e : Event K V) (k : K) (o : Option (Write K V))
+      → ChangesAt eq laws k state.writes new.writes o
+      → ((q : K) → standing eq rules q (e ∷ h) ≡ cond (eq k q) o (standing eq rules q h))
+      → new.time_to_live ≡ state.time_to_live
+      → new.time_to_idle ≡ state.time_to_idle
+      → new.notices ≡ noticed eq rules (e ∷ h)
+      → new.latest ≡ latest (e ∷ h)
+      → new.next_number ≡ next_number rules h + drawn e
+      → StandsFor eq rules new (e ∷ h)
+  stands-after new e k o changes defined live idle notices moment number = record {
+    time_to_live = live ∙ stands.time_to_live;
+    time_to_idle = idle ∙ stands.time_to_idle;
+    writes = λ q. changes q ∙ go q (eq k q) ∙ ap option_to_list (sym (defined q));
+    notices = notices;
+    latest = moment;
+    next_number = number;
+  }
+    where
+      go : (q : K) (t : Bool) → cond t (option_to_list o) (writes_of eq q state.writes) ≡ option_to_list (cond t o (standing eq rules q h))
+      go q true = refl
+      go q false = stands.writes q
+
+  -- a look by `get` at a key, which changes its write as the definition says
+  pub stands-after-get : (new : Holdings K V) (k : K) (at : ℕ)
+      → ChangesAt eq laws k state.writes new.writes (option_map (after_look rules (max state.latest at)) (standing eq rules k h))
+      → new.time_to_live ≡ state.time_to_live → new.time_to_idle ≡ state.time_to_idle → new.notices ≡ state.notices
+      → new.latest ≡ max state.latest at → new.next_number ≡ state.next_number
+      → StandsFor eq rules new (Get k at ∷ h)
+  stands-after-get new k at changes live idle notices moment number =
+      stands-after new (Get k at) k (option_map (after_look rules (max (latest h) at)) (standing eq rules k h))
+      (rw stands.latest at changes)
+      (λ q. go q (eq k q) refl)
+      live idle
+      (notices ∙ stands.notices ∙ sym (ap (drop (taken eq rules h)) (append-nil (leavings eq rules h))))
+      (moment ∙ ap (λ m. max m at) stands.latest)
+      (number ∙ stands.next_number ∙ sym (add-zero (next_number rules h)))
+    where
+      go : (q : K) (t : Bool) → eq k q ≡ t → cond t (option_map (after_look rules (max (latest h) at)) (standing eq rules q h)) (standing eq rules q h) ≡ cond t (option_map (after_look rules (max (latest h) at)) (standing eq rules k h)) (standing eq rules q h)
+      go q true same = ap (option_map (after_look rules (max (latest h) at))) (sym (standing-equal k q same))
+      go q false same = refl
+
+  -- a write
+  pub stands-after-insert : (new : Holdings K V) (k : K) (v : V) (at : ℕ)
+      → ChangesAt eq laws k state.writes new.writes (Some (after_write rules k v (max state.latest at) (standing eq rules k h)))
+      → new.time_to_live ≡ state.time_to_live → new.time_to_idle ≡ state.time_to_idle
+      → new.notices ≡ state.notices ++ left rules Replaced (max state.latest at) (standing eq rules k h)
+      → new.latest ≡ max state.latest at → new.next_number ≡ state.next_number + 1
+      → StandsFor eq rules new (Insert k v at ∷ h)
+  stands-after-insert new k v at changes live idle notices moment number =
+      stands-after new (Insert k v at) k (Some (after_write rules k v (max (latest h) at) (standing eq rules k h)))
+      (rw stands.latest at changes)
+      (λ q. go q (eq k q) refl)
+      live idle
+      (notices ∙ ap (λ m. state.notices ++ left rules Replaced (max m at) (standing eq rules k h)) stands.latest ∙ ap (λ l. l ++ left rules Replaced (max (latest h) at) (standing eq rules k h)) stands.notices ∙ sym (noticed-more eq rules h (left rules Replaced (max (latest h) at) (standing eq rules k h))))
+      (moment ∙ ap (λ m. max m at) stands.latest)
+      (number ∙ ap (λ n. n + 1) stands.next_number)
+    where
+      go : (q : K) (t : Bool) → eq k q ≡ t → cond t (Some (after_write rules k v (max (latest h) at) (standing eq rules q h))) (standing eq rules q h) ≡ cond t (Some (after_write rules k v (max (latest h) at) (standing eq rules k h))) (standing eq rules q h)
+      go q true same = ap (λ o. Some (after_write rules k v (max (latest h) at) o)) (sym (standing-equal k q same))
+      go q false same = refl
+
+  -- a removal
+  pub stands-after-invalidate : (new : Holdings K V) (k : K) (at : ℕ)
+      → ChangesAt eq laws k state.writes new.writes None
+      → new.time_to_live ≡ state.time_to_live → new.time_to_idle ≡ state.time_to_idle
+      → new.notices ≡ state.notices ++ left rules Explicit (max state.latest at) (standing eq rules k h)
+      → new.latest ≡ max state.latest at → new.next_number ≡ state.next_number
+      → StandsFor eq rules new (Invalidate k at ∷ h)
+  stands-after-invalidate new k at changes live idle notices moment number =
+      stands-after new (Invalidate k at) k None changes (λ q. refl) live idle
+      (notices ∙ ap (λ m. state.notices ++ left rules Explicit (max m at) (standing eq rules k h)) stands.latest ∙ ap (λ l. l ++ left rules Explicit (max (latest h) at) (standing eq rules k h)) stands.notices ∙ sym (noticed-more eq rules h (left rules Explicit (max (latest h) at) (standing eq rules k h))))
+      (moment ∙ ap (λ m. max m at) stands.latest)
+      (number ∙ stands.next_number ∙ sym (add-zero (next_number rules h)))
+
+  -- a look by `contains_key`, which changes nothing
+  pub stands-after-contains_key : (k : K) (at : ℕ) → StandsFor eq rules state (ContainsKey k at ∷ h)
+  stands-after-contains_key k at = record {
+    time_to_live = stands.time_to_live;
+    time_to_idle = stands.time_to_idle;
+    writes = stands.writes;
+    notices = stands.notices ∙ sym (ap (drop (taken eq rules h)) (append-nil (leavings eq rules h)));
+    latest = stands.latest ∙ sym (max-zero (latest h));
+    next_number = stands.next_number ∙ sym (add-zero (next_number rules h));
+  }
+
+  -- the first notice is taken
+  pub stands-after-take_notice : (new : Holdings K V)
+      → new.writes ≡ state.writes → new.time_to_live ≡ state.time_to_live → new.time_to_idle ≡ state.time_to_idle
+      → new.notices ≡ drop 1 state.notices → new.latest ≡ state.latest → new.next_number ≡ state.next_number
+      → StandsFor eq rules new (TakeNotice ∷ h)
+  stands-after-take_notice new same live idle notices moment number = record {
+    time_to_live = live ∙ stands.time_to_live;
+    time_to_idle = idle ∙ stands.time_to_idle;
+    writes = λ q. ap (writes_of eq q) same ∙ stands.writes q;
+    notices = notices ∙ ap (drop 1) stands.notices ∙ one-less (taken eq rules h) (leavings eq rules h) (taken-≤ eq rules h) ∙ ap (drop (min (taken eq rules h + 1) (length (leavings eq rules h)))) (sym (append-nil (leavings eq rules h)));
+    latest = moment ∙ stands.latest ∙ sym (max-zero (latest h));
+    next_number = number ∙ stands.next_number ∙ sym (add-zero (next_number rules h));
+  }

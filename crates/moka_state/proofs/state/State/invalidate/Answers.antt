@@ -1,0 +1,39 @@
+use Rattle.std.proofs.Common.{◌≡◌, ℕ, max, Bool, true, false, not, cond, Option, Some, None, ◌∙◌, ap, sym, refl}
+use Rattle.std.specs.Arc.{arc_value}
+use Rattle.moka_base.specs.declared.notification.RemovalCause.TheVariants.{Expired, Explicit}
+use Rattle.moka_base.specs.History.{has_come}
+use Rattle.moka_state.specs.Lives.{deadline_of}
+use Rattle.moka_state.proofs.Found.{same-key}
+use Rattle.moka_state.proofs.Sound.{all-append, of-row, of-taken}
+use Rattle.moka_state.proofs.Stands.{standing-absent}
+use Rattle.moka_state.proofs.Cases.{stands-after-nothing, stands-after-let_go}
+use Rattle.moka_state.proofs.state.State.invalidate.Goals as goal
+
+pub invariant_of-self : goal.invariant_of-self
+invariant_of-self g c =
+    let s = c.self.inside in
+    let row = c.row.result.now in
+    let leaves = rw c.row.ensures at c.let_go.ensures.notices in
+    record {
+      hashed = of-taken _ c.in-Some.number row s.table c.let_go.new.self c.self.invariant.hashed c.row.ensures c.let_go.ensures.rows;
+      kept = of-taken _ c.in-Some.number row s.table c.let_go.new.self c.self.invariant.kept c.row.ensures c.let_go.ensures.rows;
+      notices_kept = rw leaves (all-append _ s.table.notices _ c.self.invariant.notices_kept (of-row (λ r. g.C.CacheTypes.keeps (arc_value r.key) r.value) c.in-Some.number _ row c.self.invariant.kept c.row.ensures, tt));
+    }
+
+pub returns-in-Some : goal.returns-in-Some
+returns-in-Some g c rules h stands =
+    let s = c.self.inside in
+    let same = rw (← c.self.view_is) at stands in
+    let row = c.row.result.now in
+    let key = same-key g.K.PartialEq.eq c.args.key.now c.hash_of-hash.result row (rw c.row.ensures at c.in-Some.ensures.found) in
+    let why = c.cause-cause.ensures ∙ ap (λ m. cond (has_come (deadline_of s.lives row.info) m) Expired Explicit) c.max-now.ensures in
+    rw c.max-now.ensures (stands-after-let_go g.K.PartialEq.eq g.met.K.Eq.laws rules s.lives s.table s.latest s.next_number h same c.let_go.new.self c.args.key.now c.args.now c.in-Some.number row c.cause-cause.result
+    c.row.ensures key why c.let_go.ensures.rows (rw c.row.ensures at c.let_go.ensures.notices))
+
+pub returns-in_default : goal.returns-in_default
+returns-in_default g c rules h stands =
+    let s = c.self.inside in
+    let same = rw (← c.self.view_is) at stands in
+    let none = standing-absent g.K.PartialEq.eq g.met.K.Eq.laws rules s.lives s.table s.latest s.next_number h same c.self.invariant (λ a b e. cc (g.met.K.Hash.respects_eq a b e))
+    c.args.key.now c.hash_of-hash.result c.hash_of-hash.ensures c.in_default.ensures.absent in
+    rw c.max-now.ensures (stands-after-nothing g.K.PartialEq.eq g.met.K.Eq.laws rules s.lives s.table s.latest s.next_number h same c.args.key.now c.args.now none)

@@ -1,0 +1,33 @@
+-- What a state holds, and what its fields keep.
+use Rattle.std.specs.Prelude.{◌≡◌, ℕ, map, option_map, List, Option}
+use Rattle.std.specs.Arc.{arc_value}
+use Rattle.std.specs.List.{AllByRecursion}
+use Rattle.std.specs.Duration.{as_nanos}
+use Rattle.std.specs.declared.time.Duration.{Duration}
+use Rattle.moka_base.specs.History.{Rules}
+use Rattle.moka_base.specs.StandsFor.{Holdings}
+use Rattle.moka_state.specs.declared.lives.Lives.{Lives}
+use Rattle.moka_state.specs.Table.{Contents, entries, stored_writes, leaving_of}
+
+-- the rules of a cache that is built with these settings
+abbrev pub rules_of : Option Duration → Option Duration → ℕ → Rules
+rules_of time_to_live time_to_idle first_number = record { time_to_live = option_map as_nanos time_to_live; time_to_idle = option_map as_nanos time_to_idle; first_number = first_number }
+
+module _ {K V : Type 0} where
+  -- what a state holds, by its fields
+  abbrev pub holdings : Lives → Contents K V → ℕ → ℕ → Holdings K V
+  holdings lives contents latest next_number = record {
+    time_to_live = option_map as_nanos lives.time_to_live;
+    time_to_idle = option_map as_nanos lives.time_to_idle;
+    writes = stored_writes (entries contents);
+    notices = map leaving_of contents.notices;
+    latest = latest;
+    next_number = next_number;
+  }
+
+  -- Each row has the hash of its key, and each key and value, stored or noticed, are in the relation that the cache
+  -- keeps.
+  pub record IsSound (keeps : K → V → Type 0) (hash_of : K → ℕ) (contents : Contents K V) : Type 0 where
+    pub hashed : AllByRecursion (λ p. p.1.hash ≡ hash_of (arc_value p.1.key)) (entries contents)
+    pub kept : AllByRecursion (λ p. keeps (arc_value p.1.key) p.1.value) (entries contents)
+    pub notices_kept : AllByRecursion (λ n. keeps (arc_value n.key) n.value) contents.notices
