@@ -2,6 +2,8 @@ pub mod CommandLaws
 pub mod EventsBy
 pub mod FieldLaws
 pub mod FieldTexts
+pub mod NoticeLaws
 pub mod NumberLaws
+pub mod SessionLaws
 pub mod SettingLaws
 pub mod Truth
