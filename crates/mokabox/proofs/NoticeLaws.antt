@@ -63,7 +63,7 @@ next_notice cache moment rules before count printed notice has reply within =
     let is = has.is_at in
     let all = noticed nat_eq rules before.events in
     let said : answer nat_eq rules history.TakeNotice course.events ≡ replies.Noticed (option_map (leaving_by string_bytes) notice) =
-        answered cache moment rules course history.TakeNotice is ∙ ap (answer_by string_bytes) (reply rules is.events is.stands) in
+    answered cache moment rules course history.TakeNotice is ∙ ap (answer_by string_bytes) (reply rules is.events is.stands) in
     let first : slice_get (noticed nat_eq rules course.events) 0 ≡ option_map (leaving_by string_bytes) notice = cc in
     let so_far : noticed nat_eq rules course.events ≡ drop count all = noticed-taking rules (take count all) before.events ∙ ap (λ n. drop n all) (length-take-le count all (omega arith)) in
     ap (λ left. slice_get left 0) (sym so_far) ∙ first
@@ -80,7 +80,7 @@ one_taken cache after moment rules before count printed left has reply follows w
     let is = accepted cache after moment rules (after_taking rules before count) history.TakeNotice has.is_at follows in
     record {
       is_at = record { events = is.events; stands = is.stands; same = is.same ∙ sym events; now = is.now };
-      lines = ap (λ lines. lines ++ notice_text one ∷ []) has.lines ∙ sym (map-append notice_text (take count all) (one ∷ [])) ∙ ap (map notice_text) (sym more)
+      lines = ap (λ lines. lines ++ notice_text one ∷ []) has.lines ∙ sym (map-append notice_text (take count all) (one ∷ [])) ∙ ap (map notice_text) (sym more);
     }
 
 left_over : {A : Type 0} (xs : List A) (n : ℕ) → n < length xs → slice_get (drop n xs) 0 ≡ None → ⊥
@@ -125,7 +125,8 @@ pub all_taken : (old cache : Held) (at moment : ℕ) (count : ℕ) (printed : Li
 all_taken old cache at moment count printed counted has rules before is =
     let all = noticed nat_eq rules before.events in
     let taken = has rules before is in
-    let whole : take count all ≡ all = ap (λ n. take n all) (counted ∙ notice_length old at rules before is) ∙ take-length all in
-    (record before { events = taking all before.events },
-    (ap (λ lines. lines ++ codes "end" ∷ []) (taken.lines ∙ ap (map notice_text) whole), refl),
-    subst (λ xs. IsAt cache moment rules (record before { events = taking xs before.events })) whole taken.is_at)
+    let whole : take count all ≡ all = ap (λ n. take n all) (counted ∙ notice_length old at rules before is) ∙ take-length all in (
+      record before { events = taking all before.events },
+      (ap (λ lines. lines ++ codes "end" ∷ []) (taken.lines ∙ ap (map notice_text) whole), refl),
+      subst (λ xs. IsAt cache moment rules (record before { events = taking xs before.events })) whole taken.is_at,
+    )

@@ -34,7 +34,7 @@ accepted cache after moment rules before event is follows = record {
   events = event ∷ is.events;
   stands = follows rules is.events is.stands;
   same = ap (λ rest. event_by string_bytes event ∷ rest) is.same;
-  now = is.now
+  now = is.now;
 }
 
 -- the answer of the definitions, its values being bytes
@@ -45,7 +45,7 @@ answered cache moment rules before event is = ap (answer nat_eq rules (event_by 
 accepts : (cache : Held) (moment : ℕ) (rules : Rules) (before : Course) (event : Event ℕ Text) (text : List ℕ) (is : IsAt cache moment rules before) → text ≡ reply_text (answer_by string_bytes (answer nat_eq rules event is.events)) → Accepts rules before (event_by string_bytes event) (text ∷ []) (course_with before (event_by string_bytes event))
 accepts cache moment rules before event text is same = record {
   printed = ap (λ line. line ∷ []) (same ∙ ap reply_text (sym (answered cache moment rules before event is)));
-  after = refl
+  after = refl;
 }
 
 -- the next number is that of the events

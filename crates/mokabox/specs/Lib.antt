@@ -6,3 +6,4 @@ pub mod FieldsLeft
 pub mod Script
 pub mod Session
 pub mod Settings
+pub mod Status

@@ -1,11 +1,12 @@
-use Rattle.std.specs.Prelude.{◌≡◌, ℕ, List, String, map, nat_eq}
+use Rattle.std.specs.Prelude.{◌≡◌, ℕ, Bool, List, Option, String, map, nat_eq}
+use Rattle.std.specs.Io.KnownBytes.{Appends}
 use Rattle.std.specs.String.{string_bytes}
 use Rattle.std.specs.declared.alloc.Global.{Global}
 use Rattle.moka_base.specs.History.{Event, Rules}
 use Rattle.moka_base.specs.StandsFor.{Holdings, StandsFor}
-use Rattle.mokabox.specs.Command.{Said}
+use Rattle.mokabox.specs.Command.{Said, said_by}
 use Rattle.mokabox.specs.Events.{event_by}
-use Rattle.mokabox.specs.Script.{Course, CommandPrints}
+use Rattle.mokabox.specs.Script.{Course, CommandPrints, LinePrints, lines_text}
 
 -- what a cache of a script holds
 abbrev pub Held : Type 0
@@ -23,3 +24,9 @@ pub record IsAt (cache : Held) (moment : ℕ) (rules : Rules) (course : Course) 
 abbrev pub Prints : Held → ℕ → Said → List (List ℕ) → Held → ℕ → Type 0
 Prints cache moment command printed cache_after moment_after = (rules : Rules) (before : Course) → IsAt cache moment rules before →
     (after : Course) × CommandPrints rules before command printed after × IsAt cache_after moment_after rules after
+
+-- Wherever the script has come, the line prints what is written, and the session is where it comes.
+abbrev pub DoesLine : Held → ℕ → List ℕ → Bool → Held → ℕ → Option (List ℕ) → Option (List ℕ) → Type 0
+DoesLine cache moment line bad cache_after moment_after held held_after = (rules : Rules) (before : Course) → IsAt cache moment rules before →
+    (printed : List (List ℕ)) × (after : Course) × LinePrints rules before (said_by line) printed after bad
+    × IsAt cache_after moment_after rules after × Appends held held_after (lines_text printed)

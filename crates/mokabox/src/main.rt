@@ -4,6 +4,7 @@
 mod answer;
 mod command;
 mod fields;
+mod script;
 mod session;
 mod settings;
 

@@ -10,12 +10,12 @@ use Rattle.mokabox.proofs.session.Session.notices.Goals.{in-Some+in_ok-push, in_
 
 pub loop-preserved : goal.loop-preserved
 loop-preserved g c = elim c.match-take_notice.branch [
-    in-Some+in_ok-push w ↦ (λ rules before is.
+  | in-Some+in_ok-push w ↦ (λ rules before is.
       let lines = ap (λ v. map answer_text v.items) w.answers-is ∙ one_more_left c.loop.answers.items w.push.new.self.items _ _ w.in-Some.notice.value w.in-Some.notice.cause w.in_ok-push.ensures.items w.deref.ensures in
       subst (λ printed. HasTaken c.take_notice.new.self c.loop.self.moment rules before (c.loop.counter + 1) printed) (sym lines)
       (notice_step _ _ _ _ _ c.loop.counter c.notice_count-end.result _ (leaving_of w.in-Some.notice) c.notice_count-end.ensures c.loop-test.true c.loop.invariant w.in-Some.ensures.reply c.take_notice.ensures.stands rules before is))
   | in_default w ↦ (λ rules before is. absurd (no_step _ _ _ _ c.loop.counter c.notice_count-end.result _ c.notice_count-end.ensures c.loop-test.true c.loop.invariant w.in_default.ensures.reply rules before is))
-  ]
+]
 
 pub returns : goal.returns
 returns g c =
