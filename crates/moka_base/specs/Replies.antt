@@ -1,6 +1,6 @@
 -- What each step answers, as a function of the events before it.
-use Rattle.std.specs.Prelude.{⊤, ◌≡◌, Bool, max, Option, Some, None, List, option_map, is_some, slice_get}
-use Rattle.moka_base.specs.History.{Event, Get, ContainsKey, Insert, Invalidate, TakeNotice, Rules, Leaving, latest, live, noticed, next_number, greatest_number}
+use Rattle.std.specs.Prelude.{⊤, ◌≡◌, Bool, max, Option, Some, None, List, option_map, is_some, slice_get, ◌≢◌, ◌<◌, ℕ}
+use Rattle.moka_base.specs.History.{Event, Get, ContainsKey, Insert, Invalidate, TakeNotice, Rules, Leaving, latest, live, noticed, next_number, greatest_number, drawn}
 
 -- An answer, with the values themselves. What a step hands out is a copy of them.
 pub data Answer (K V : Type 0) : Type 0 where
@@ -18,10 +18,6 @@ answer eq rules (Insert k v at) h = Done
 answer eq rules (Invalidate k at) h = Done
 answer eq rules TakeNotice h = Noticed (slice_get (noticed eq rules h) 0)
 
--- A step is refused for want of numbers exactly where it must draw one and the greatest number is next.
-abbrev pub IsOutOfNumbers : {K V : Type 0} → Rules → List (Event K V) → Type 0
-IsOutOfNumbers rules h = next_number rules h ≡ greatest_number
-
 -- One value is there where the other is, and is a copy of it.
 abbrev pub IsCopyOf : {V : Type 0} → (V → V → Type 0) → Option V → Option V → Type 0
 IsCopyOf is_clone None None = ⊤
@@ -38,3 +34,15 @@ IsAnswer is_clone (Found v) (Noticed l) = ⊥
 IsAnswer is_clone (Contains b) a = a ≡ Contains b
 IsAnswer is_clone Done a = a ≡ Done
 IsAnswer is_clone (Noticed l) a = a ≡ Noticed l
+
+-- Memory may be refused to a step only where it copies a value or grows: a `get` that finds one, and a write.
+abbrev pub MayTakeMemory : {K V : Type 0} → (K → K → Bool) → Rules → Event K V → List (Event K V) → Type 0
+MayTakeMemory {K} {V} eq rules (Get k at) h = answer eq rules (Get k at) h ≢ Found None
+MayTakeMemory eq rules (ContainsKey k at) h = ⊥
+MayTakeMemory eq rules (Insert k v at) h = ⊤
+MayTakeMemory eq rules (Invalidate k at) h = ⊥
+MayTakeMemory eq rules TakeNotice h = ⊥
+
+-- A step is refused for want of numbers exactly where it draws one and none is left.
+abbrev pub IsOutOfNumbers : {K V : Type 0} → Rules → Event K V → List (Event K V) → Type 0
+IsOutOfNumbers rules e h = (0 < drawn e) × (next_number rules h ≡ greatest_number)

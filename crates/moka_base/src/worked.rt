@@ -69,5 +69,5 @@ pub fn notices()
 pub fn numbers()
     ensures drawn { next_number without_lives (Get 1 3 ∷ Invalidate 1 2 ∷ Insert 1 8 1 ∷ written) ≡ 2 }
     ensures used_up { next_number at_the_last_number written ≡ greatest_number }
-    ensures none_left { IsOutOfNumbers at_the_last_number written }
+    ensures none_left { IsOutOfNumbers at_the_last_number (Insert 2 7 0) written }
 {}

@@ -1,6 +1,7 @@
 -- A list of numbered rows, cut at the first row under a number.
 use Rattle.std.proofs.Common.{◌≡◌, ℕ, ◌+◌, ◌==◌, Bool, true, false, cond, List, [], ◌∷◌, ◌++◌, length, Option, Some, None, IsSome, MatchOption, suc, refl, sym, ap, ◌∙◌, arith, length-append, append_assoc}
 use Rattle.moka_state.specs.Rows.{row_under, with_row, without_row}
+use Rattle.moka_state.proofs.RowLemmas.{row_under-append_right, length-with_row, length-without_row}
 
 module _ {R : Type 0} where
   -- where the first row under a number stands, and what a change or a removal of it leaves
@@ -35,33 +36,6 @@ module _ {R : Type 0} where
         rest = rw h (ap (λ qs. p ∷ qs) c.rest);
       }
 
-  -- a number that the first list lacks is looked up in the second
-  pub row_under-append : (n : ℕ) (ps qs : List (ℕ × R)) → row_under n ps ≡ None → row_under n (ps ++ qs) ≡ row_under n qs
-  row_under-append n [] qs absent = refl
-  row_under-append n (p ∷ ps) qs absent = go (p.0 == n) refl (λ h. row_under-append n ps qs h)
-    where
-      go : (b : Bool) → (p.0 == n) ≡ b → (row_under n ps ≡ None → row_under n (ps ++ qs) ≡ row_under n qs) → row_under n (p ∷ (ps ++ qs)) ≡ row_under n qs
-      go true h more = let found : Some p.1 ≡ None = rw h at absent in cc
-      go false h more = rw h (more (rw h at absent))
-
-  -- a change keeps how many rows there are
-  pub length-with_row : (n : ℕ) (change : R → R) (ps : List (ℕ × R)) → length (with_row n change ps) ≡ length ps
-  length-with_row n change [] = refl
-  length-with_row n change (p ∷ ps) = go (p.0 == n) (length-with_row n change ps)
-    where
-      go : (b : Bool) → length (with_row n change ps) ≡ length ps → length (cond b ((p.0, change p.1) ∷ ps) (p ∷ with_row n change ps)) ≡ length (p ∷ ps)
-      go true h = refl
-      go false h = ap suc h
-
-  -- a removal takes one away
-  pub length-without_row : (n : ℕ) (ps : List (ℕ × R)) (row : R) → row_under n ps ≡ Some row → length (without_row n ps) + 1 ≡ length ps
-  length-without_row n ps row e =
-      let c = cut n ps row e in
-      let shorter = length-append c.before c.after in
-      let longer = length-append c.before ((c.number, row) ∷ c.after) in
-      let whole = ap length c.whole in
-      rw c.rest (omega (arith, shorter, longer, whole))
-
   -- a use of a row keeps how many rows there are in both orders together
   pub length-used : (n : ℕ) (change : R → R) (admitted waiting admitted' waiting' : List (ℕ × R))
       → MatchOption (row_under n admitted)
@@ -90,5 +64,5 @@ module _ {R : Type 0} where
           ((admitted' ≡ admitted) × (waiting' ≡ without_row n waiting))
           (λ _. (admitted' ≡ without_row n admitted) × (waiting' ≡ waiting))
           → length (admitted' ++ waiting') + 1 ≡ length (admitted ++ waiting)
-      go None e h = rw (h.0, h.1) (omega (arith, length-append admitted (without_row n waiting), length-append admitted waiting, length-without_row n waiting row (sym (row_under-append n admitted waiting e) ∙ there)))
+      go None e h = rw (h.0, h.1) (omega (arith, length-append admitted (without_row n waiting), length-append admitted waiting, length-without_row n waiting row (sym (row_under-append_right n admitted waiting e) ∙ there)))
       go (Some r) e h = rw (h.0, h.1) (omega (arith, length-append (without_row n admitted) waiting, length-append admitted waiting, length-without_row n admitted r e))

@@ -9,17 +9,9 @@ use Rattle.moka_base.specs.StandsFor.{writes_of}
 use Rattle.moka_state.specs.declared.rows.Row.{Row}
 use Rattle.moka_state.specs.Rows.{row_under, with_row, without_row, is_row_of, IsRowOf, NoneIsRowOf}
 use Rattle.moka_state.specs.Table.{Contents, entries, stored_write, stored_writes, UsesRow, TakesRow}
-use Rattle.moka_state.proofs.Cuts.{Cut, cut, row_under-append}
+use Rattle.moka_state.proofs.RowLemmas.{row_under-append_left, row_under-append_right}
+use Rattle.moka_state.proofs.Cuts.{Cut, cut}
 use Rattle.moka_state.proofs.Changes.{ChangesAt, OneEach, writes_of-found, changed, removed}
-
--- a number that the first list has is not looked up in the second
-pub row_under-front : {R : Type 0} (n : ℕ) (ps qs : List (ℕ × R)) (row : R) → row_under n ps ≡ Some row → row_under n (ps ++ qs) ≡ Some row
-row_under-front n [] qs row there = let h : Some row ≡ None = sym there in cc
-row_under-front n (p ∷ ps) qs row there = go (p.0 == n) refl (row_under-front n ps qs row)
-  where
-    go : (t : Bool) → (p.0 == n) ≡ t → (row_under n ps ≡ Some row → row_under n (ps ++ qs) ≡ Some row) → row_under n (p ∷ (ps ++ qs)) ≡ Some row
-    go true h more = rw h (rw h at there)
-    go false h more = rw h (more (rw h at there))
 
 -- both of two tests that hold together
 and-second : (a b : Bool) → (a && b) ≡ true → b ≡ true
@@ -76,13 +68,13 @@ module _ {K V : Type 0} (eq : K → K → Bool) (laws : IsEquivalence eq) where
           (λ r. (new.admitted ≡ without_row n old.admitted ++ (n, change r) ∷ []) × (new.waiting ≡ old.waiting))
           → ChangesAt eq laws k (stored_writes (entries old)) (stored_writes (entries new)) (Some (stored_write (change row)))
       go None e h =
-          let c = cut n old.waiting row (sym (row_under-append n old.admitted old.waiting e) ∙ there) in
+          let c = cut n old.waiting row (sym (row_under-append_right n old.admitted old.waiting e) ∙ there) in
           let was = ap (λ w. stored_writes (old.admitted ++ w)) c.whole ∙ stored-append old.admitted (c.before ++ (c.number, row) ∷ c.after) ∙ ap (λ w. stored_writes old.admitted ++ w) (stored-around c.number c.before c.after row) ∙ sym (append_assoc (stored_writes old.admitted) (stored_writes c.before) (stored_write row ∷ stored_writes c.after)) in
           let is = ap (λ a. stored_writes (a ++ new.waiting)) h.0 ∙ ap (λ w. stored_writes (old.admitted ++ w)) (h.1 ∙ c.changed change) ∙ stored-append old.admitted (c.before ++ (c.number, change row) ∷ c.after) ∙ ap (λ w. stored_writes old.admitted ++ w) (stored-around c.number c.before c.after (change row)) ∙ sym (append_assoc (stored_writes old.admitted) (stored_writes c.before) (stored_write (change row) ∷ stored_writes c.after)) in
           let front = stored_writes old.admitted ++ stored_writes c.before in
           changes-along k (Some (stored_write (change row))) was is (changed eq laws k front (stored_writes c.after) front (stored_writes c.after) (stored_write row) (stored_write (change row)) refl same same' (rw was at one))
       go (Some r) e h =
-          let found : Some r ≡ Some row = sym (row_under-front n old.admitted old.waiting r e) ∙ there in
+          let found : Some r ≡ Some row = sym (row_under-append_left n old.admitted old.waiting r e) ∙ there in
           let it : r ≡ row = cc in
           let c = cut n old.admitted row (e ∙ found) in
           let was = ap (λ a. stored_writes (a ++ old.waiting)) c.whole ∙ ap stored_writes (append_assoc c.before ((c.number, row) ∷ c.after) old.waiting) ∙ stored-around c.number c.before (c.after ++ old.waiting) row in
@@ -103,12 +95,12 @@ module _ {K V : Type 0} (eq : K → K → Bool) (laws : IsEquivalence eq) where
           (λ _. (new.admitted ≡ without_row n old.admitted) × (new.waiting ≡ old.waiting))
           → ChangesAt eq laws k (stored_writes (entries old)) (stored_writes (entries new)) None
       go None e h =
-          let c = cut n old.waiting row (sym (row_under-append n old.admitted old.waiting e) ∙ there) in
+          let c = cut n old.waiting row (sym (row_under-append_right n old.admitted old.waiting e) ∙ there) in
           let was = ap (λ w. stored_writes (old.admitted ++ w)) c.whole ∙ stored-append old.admitted (c.before ++ (c.number, row) ∷ c.after) ∙ ap (λ w. stored_writes old.admitted ++ w) (stored-around c.number c.before c.after row) ∙ sym (append_assoc (stored_writes old.admitted) (stored_writes c.before) (stored_write row ∷ stored_writes c.after)) in
           let is = ap (λ a. stored_writes (a ++ new.waiting)) h.0 ∙ ap (λ w. stored_writes (old.admitted ++ w)) (h.1 ∙ c.rest) ∙ stored-append old.admitted (c.before ++ c.after) ∙ ap (λ w. stored_writes old.admitted ++ w) (stored-append c.before c.after) ∙ sym (append_assoc (stored_writes old.admitted) (stored_writes c.before) (stored_writes c.after)) in
           changes-along k None was is (removed eq laws k (stored_writes old.admitted ++ stored_writes c.before) (stored_writes c.after) (stored_write row) same (rw was at one))
       go (Some r) e h =
-          let found : Some r ≡ Some row = sym (row_under-front n old.admitted old.waiting r e) ∙ there in
+          let found : Some r ≡ Some row = sym (row_under-append_left n old.admitted old.waiting r e) ∙ there in
           let c = cut n old.admitted row (e ∙ found) in
           let was = ap (λ a. stored_writes (a ++ old.waiting)) c.whole ∙ ap stored_writes (append_assoc c.before ((c.number, row) ∷ c.after) old.waiting) ∙ stored-around c.number c.before (c.after ++ old.waiting) row in
           let is = ap (λ w. stored_writes (new.admitted ++ w)) h.1 ∙ ap (λ a. stored_writes (a ++ old.waiting)) (h.0 ∙ c.rest) ∙ ap stored_writes (append_assoc c.before c.after old.waiting) ∙ stored-append c.before (c.after ++ old.waiting) in

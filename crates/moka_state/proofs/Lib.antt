@@ -2,7 +2,10 @@ pub mod Cases
 pub mod Changes
 pub mod Cuts
 pub mod Found
+pub mod NumberLemmas
 pub mod Places
+pub mod RowLemmas
+pub mod Runs
 pub mod Sound
 pub mod Stands
 pub mod Steps

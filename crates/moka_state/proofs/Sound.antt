@@ -8,8 +8,8 @@ use Rattle.std.specs.List.{AllByRecursion}
 use Rattle.moka_state.specs.declared.rows.Row.{Row}
 use Rattle.moka_state.specs.Rows.{row_under, with_row, without_row, overwritten}
 use Rattle.moka_state.specs.Table.{Contents, entries, SameRows, UsesRow, TakesRow}
-use Rattle.moka_state.proofs.Cuts.{Cut, cut, row_under-append}
-use Rattle.moka_state.proofs.Found.{row_under-front}
+use Rattle.moka_state.proofs.RowLemmas.{row_under-append_left, row_under-append_right}
+use Rattle.moka_state.proofs.Cuts.{Cut, cut}
 
 module _ {A : Type 0} (P : A → Type 0) where
   pub all-append : (xs ys : List A) → AllByRecursion P xs → AllByRecursion P ys → AllByRecursion P (xs ++ ys)
@@ -61,10 +61,10 @@ module _ {K V : Type 0} (P : Row K V → Type 0) where
       go None e h =
           let Q : ℕ × Row K V → Type 0 = λ p. P p.1 in
           rw (h.0, h.1) (all-append Q old.admitted (with_row n change old.waiting) (all-front Q old.admitted old.waiting all)
-          (of-changed n change old.waiting row (all-back Q old.admitted old.waiting all) (sym (row_under-append n old.admitted old.waiting e) ∙ there) it))
+          (of-changed n change old.waiting row (all-back Q old.admitted old.waiting all) (sym (row_under-append_right n old.admitted old.waiting e) ∙ there) it))
       go (Some r) e h =
           let Q : ℕ × Row K V → Type 0 = λ p. P p.1 in
-          let found : Some r ≡ Some row = sym (row_under-front n old.admitted old.waiting r e) ∙ there in
+          let found : Some r ≡ Some row = sym (row_under-append_left n old.admitted old.waiting r e) ∙ there in
           let same : row ≡ r = cc in
           rw (h.0, h.1) (all-append Q (without_row n old.admitted ++ (n, change r) ∷ []) old.waiting
           (all-append Q (without_row n old.admitted) ((n, change r) ∷ []) (of-rest n old.admitted row (all-front Q old.admitted old.waiting all) (e ∙ found)) (rw same at it, tt))
@@ -82,10 +82,10 @@ module _ {K V : Type 0} (P : Row K V → Type 0) where
       go None e h =
           let Q : ℕ × Row K V → Type 0 = λ p. P p.1 in
           rw (h.0, h.1) (all-append Q old.admitted (without_row n old.waiting) (all-front Q old.admitted old.waiting all)
-          (of-rest n old.waiting row (all-back Q old.admitted old.waiting all) (sym (row_under-append n old.admitted old.waiting e) ∙ there)))
+          (of-rest n old.waiting row (all-back Q old.admitted old.waiting all) (sym (row_under-append_right n old.admitted old.waiting e) ∙ there)))
       go (Some r) e h =
           let Q : ℕ × Row K V → Type 0 = λ p. P p.1 in
-          let found : Some r ≡ Some row = sym (row_under-front n old.admitted old.waiting r e) ∙ there in
+          let found : Some r ≡ Some row = sym (row_under-append_left n old.admitted old.waiting r e) ∙ there in
           rw (h.0, h.1) (all-append Q (without_row n old.admitted) old.waiting (of-rest n old.admitted row (all-front Q old.admitted old.waiting all) (e ∙ found)) (all-back Q old.admitted old.waiting all))
 
 -- the same rows keep all

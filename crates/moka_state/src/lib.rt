@@ -1,8 +1,10 @@
 //! The cache as a plain value: its rows, its state, and its calls.
 #![tactic(auto)]
 
-pub mod lives;
+pub mod list_rows;
+mod lives;
 pub mod rows;
-pub mod shared_key;
+mod shared_key;
 pub mod state;
-pub mod table;
+pub mod step;
+mod table;

@@ -2,10 +2,11 @@
 //!
 //! A row has a number, which stays its own as long as it is stored. The store keeps two orders of rows: those that
 //! wait for admission, in the order in which their keys came, and those that are admitted, in the order of use.
-ghost use Rattle.std.specs.Prelude.{◌≡◌, ℕ, ◌+◌, ◌<◌, ◌≤◌, List, [], ◌∷◌, ◌++◌, length, IsSome, IfSome, IfNone, OnOk, OnErr, Some, None, MatchOption};
+ghost use Rattle.std.specs.Prelude.{◌≡◌, ℕ, ◌+◌, ◌<◌, ◌≤◌, List, [], ◌∷◌, ◌++◌, length, IsSome, IfSome, IfNone, OnOk, OnErr, OnSome, Some, None, MatchOption};
 ghost use Rattle.moka_state.specs.Rows.{row_under, with_row, without_row, touched, overwritten, IsRowOf, NoneIsRowOf};
 
 use std::alloc::{AllocError, Global};
+use std::mem;
 use std::sync::Arc;
 
 /// The moments that a row keeps of its value, in nanoseconds.
@@ -30,6 +31,17 @@ pub struct Row<K, V> {
     pub info: EntryInfo,
 }
 
+impl<K, V> Row<K, V> {
+    /// Gives the row another value and its moments, and answers the value before.
+    pub fn overwrite(&mut self, value: V, info: EntryInfo) -> V
+        ensures before { result ≡ self.old.value }
+        ensures after { self.new ≡ overwritten value info self.old }
+    {
+        self.info = info;
+        mem::replace(&mut self.value, value)
+    }
+}
+
 /// A store of rows.
 pub trait RowStore<K: Eq, V>: Drop {
     ghost use Rattle.moka_state.specs.declared.rows.Row.{Row};
@@ -52,13 +64,15 @@ pub trait RowStore<K: Eq, V>: Drop {
     fn len(&self) -> usize
         ensures { result ≡ length (admitted self.now ++ waiting self.now) };
 
-    /// The number of the row of a key, given the key's hash. Adds one to `reads` for each row that it reads.
+    /// The number of the row of a key, given the key's hash. Adds one to `reads` for each row that it reads, and so at
+    /// least one where it finds a row.
     fn find(&self, key: &K, hash: u64, reads: &mut u64) -> Option<usize>
         requires { reads.old ≡ 0 }
         ensures found { IfSome result (λ number. IfSome (row_under number (admitted self.now ++ waiting self.now)) (IsRowOf K.eq key.now hash)) }
         ensures stored { IfSome result (λ number. IsSome (row_under number (admitted self.now ++ waiting self.now))) }
         ensures absent { IfNone result (NoneIsRowOf K.eq key.now hash (admitted self.now ++ waiting self.now)) }
-        ensures counted { reads.new ≤ length (admitted self.now ++ waiting self.now) };
+        ensures counted { reads.new ≤ length (admitted self.now ++ waiting self.now) }
+        ensures read { OnSome result (0 < reads.new) };
 
     /// The row under a number.
     fn row(&self, number: usize) -> &Row<K, V>
@@ -78,26 +92,30 @@ pub trait RowStore<K: Eq, V>: Drop {
         ensures waiting { waiting self.new ≡ waiting self.old ++ (result, row) ∷ [] }
         ensures admitted { admitted self.new ≡ admitted self.old };
 
-    /// A use of a row: it gets these moments, and where it is admitted it becomes the most recently used.
+    /// A use of a row: it gets these moments, and where it is admitted it becomes the most recently used. It
+    /// takes none of the room.
     fn touch(&mut self, number: usize, info: EntryInfo)
         requires { IsSome (row_under number (admitted self.old ++ waiting self.old)) }
-        ensures { MatchOption (row_under number (admitted self.old))
+        ensures after { MatchOption (row_under number (admitted self.old))
             ((admitted self.new ≡ admitted self.old) × (waiting self.new ≡ with_row number (touched info) (waiting self.old)))
-            (λ row. (admitted self.new ≡ without_row number (admitted self.old) ++ (number, touched info row) ∷ []) × (waiting self.new ≡ waiting self.old)) };
+            (λ row. (admitted self.new ≡ without_row number (admitted self.old) ++ (number, touched info row) ∷ []) × (waiting self.new ≡ waiting self.old)) }
+        ensures room { room self.old ≤ room self.new };
 
-    /// A use of a row that gives it another value, and answers the one before.
+    /// A use of a row that gives it another value, and answers the one before. It takes none of the room.
     fn overwrite(&mut self, number: usize, value: V, info: EntryInfo) -> V
         requires { IsSome (row_under number (admitted self.old ++ waiting self.old)) }
         ensures before { IfSome (row_under number (admitted self.old ++ waiting self.old)) (λ row. result ≡ row.value) }
         ensures after { MatchOption (row_under number (admitted self.old))
             ((admitted self.new ≡ admitted self.old) × (waiting self.new ≡ with_row number (overwritten value info) (waiting self.old)))
-            (λ row. (admitted self.new ≡ without_row number (admitted self.old) ++ (number, overwritten value info row) ∷ []) × (waiting self.new ≡ waiting self.old)) };
+            (λ row. (admitted self.new ≡ without_row number (admitted self.old) ++ (number, overwritten value info row) ∷ []) × (waiting self.new ≡ waiting self.old)) }
+        ensures room { room self.old ≤ room self.new };
 
-    /// Takes a row out.
+    /// Takes a row out. It takes none of the room.
     fn remove(&mut self, number: usize) -> Row<K, V>
         requires { IsSome (row_under number (admitted self.old ++ waiting self.old)) }
         ensures row { row_under number (admitted self.old ++ waiting self.old) ≡ Some result }
         ensures rest { MatchOption (row_under number (admitted self.old))
             ((admitted self.new ≡ admitted self.old) × (waiting self.new ≡ without_row number (waiting self.old)))
-            (λ _. (admitted self.new ≡ without_row number (admitted self.old)) × (waiting self.new ≡ waiting self.old)) };
+            (λ _. (admitted self.new ≡ without_row number (admitted self.old)) × (waiting self.new ≡ waiting self.old)) }
+        ensures room { room self.old ≤ room self.new };
 }

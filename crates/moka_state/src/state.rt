@@ -7,6 +7,7 @@ ghost use Rattle.moka_base.specs.StandsFor.{Holdings, StandsFor, Follows, AtEach
 ghost use Rattle.moka_state.specs.Table.{leaving_of};
 ghost use Rattle.moka_state.specs.State.{holdings, rules_of, IsSound};
 
+use crate::list_rows::ListRows;
 use crate::lives::Lives;
 use crate::rows::{EntryInfo, Row, RowStore};
 use crate::shared_key::{IntoShared, Owned};
@@ -53,6 +54,9 @@ pub struct State<K: Hash + Drop, V: Clone, C: CacheTypes<K, V>, R: RowStore<K, V
     hasher: Arc<C::Hasher>,
     alloc: Global,
 }
+
+/// A cache over the rows of a list.
+pub type CacheState<K, V, C> = State<K, V, C, ListRows<K, V>>;
 
 impl<K: Hash + Drop, V: Clone, C: CacheTypes<K, V>, R: RowStore<K, V>> Model for State<K, V, C, R> {
     ghost Value = { Holdings K V };
@@ -234,6 +238,11 @@ impl<K: Hash + Drop, V: Clone, C: CacheTypes<K, V>, R: RowStore<K, V>> State<K, 
         ensures kept { IfSome result (λ notice. C.keeps (arc_value notice.key) notice.value) }
     {
         self.table.take_notice()
+    }
+
+    // The allocator that it keeps.
+    pub(crate) fn alloc(&self) -> Global {
+        self.alloc
     }
 
     /// How many notices have not been taken.

@@ -1,0 +1,22 @@
+use Rattle.std.proofs.Common.{◌≡◌, ◌+◌, ◌≤◌, List, ◌++◌, vec_len}
+use Rattle.std.specs.Vec.{vec_capacity}
+use Rattle.std.specs.VecDeque.{deque_len}
+use Rattle.std.specs.List.{AllByRecursion}
+use Rattle.moka_base.specs.History.{Rules, Event}
+use Rattle.moka_base.specs.StandsFor.{StandsFor}
+use Rattle.moka_state.specs.declared.step.Step.{Step}
+use Rattle.moka_state.specs.Step.{StepKeeps, IsRun, after_all}
+use Rattle.moka_state.proofs.state.State.run.Given as goal
+
+-- The steps done so far and their replies are a run, and the state stands for what it leaves; there is room for a
+-- reply to each step that is left.
+abbrev pub invariant-loop-step : goal.invariant-loop-step
+invariant-loop-step g l = record {
+  kept : AllByRecursion (StepKeeps g.C.CacheTypes.keeps) l.left.items;
+  room : vec_len l.replies + deque_len l.left ≤ vec_capacity l.replies;
+  so_far : (rules : Rules) (h : List (Event _ _)) → StandsFor g.K.PartialEq.eq rules l.fn.self h
+      → (done : List (Step _ _)) × (l.fn.steps.items ≡ done ++ l.left.items) × IsRun g.K.PartialEq.eq g.V.Clone.is_clone rules h done l.replies.items × StandsFor g.K.PartialEq.eq rules l.self (after_all done l.replies.items h);
+}
+
+abbrev pub decreases-loop-step : goal.decreases-loop-step
+decreases-loop-step g l = deque_len l.left

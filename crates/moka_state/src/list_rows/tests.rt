@@ -1,0 +1,93 @@
+//! The plain row store through its bound.
+ghost use Rattle.std.specs.Prelude.{◌++◌, IsSome, IfSome};
+ghost use Rattle.moka_state.specs.Rows.{row_under};
+
+use super::ListRows;
+use crate::rows::{EntryInfo, Row, RowStore};
+use std::alloc::{AllocError, Global};
+use std::process::Abort;
+use std::sync::Arc;
+use std::test::Fail;
+
+const FIRST: EntryInfo = EntryInfo {
+    last_modified: 5,
+    last_accessed: 5,
+};
+
+const LATER: EntryInfo = EntryInfo {
+    last_modified: 8,
+    last_accessed: 8,
+};
+
+/// Adds a row for a key of this hash.
+fn add<R: RowStore<u64, String>>(
+    alloc: Global,
+    rows: &mut R,
+    key: u64,
+    hash: u64,
+    value: &str,
+) -> Result<usize, AllocError> {
+    let key = Arc::new(alloc, key)?;
+    let value = String::from_str(alloc, value)?;
+    rows.reserve()?;
+    Ok(rows.add(Row {
+        key,
+        hash,
+        value,
+        info: FIRST,
+    }))
+}
+
+/// The number of a key of this hash.
+fn number_of<R: RowStore<u64, String>>(rows: &R, key: u64, hash: u64) -> Option<usize>
+    ensures { IfSome result (λ number. IsSome (row_under number (R.admitted rows.now ++ R.waiting rows.now))) }
+{
+    let mut reads = 0;
+    rows.find(&key, hash, &mut reads)
+}
+
+/// The value of a key of this hash.
+fn value_of<R: RowStore<u64, String>>(rows: &R, key: u64, hash: u64) -> Option<&str> {
+    let number = number_of(rows, key, hash)?;
+    Some(rows.row(number).value.as_str())
+}
+
+fn keeps_rows<R: RowStore<u64, String>>(rt: &impl Abort, alloc: Global) -> Result<(), AllocError> {
+    let mut rows: R = R::new(alloc);
+    let one = add(alloc, &mut rows, 1, 7, "one")?;
+    let two = add(alloc, &mut rows, 2, 7, "two")?;
+    let three = add(alloc, &mut rows, 3, 9, "three")?;
+    assert_eq!(rt; rows.len(), 3);
+    assert_eq!(rt; number_of(&rows, 1, 7), Some(one));
+    assert_eq!(rt; number_of(&rows, 2, 7), Some(two));
+    assert_eq!(rt; number_of(&rows, 3, 9), Some(three));
+    assert_eq!(rt; number_of(&rows, 4, 7), None);
+    assert_eq!(rt; value_of(&rows, 2, 7), Some("two"));
+
+    let again = String::from_str(alloc, "two again")?;
+    let number = number_of(&rows, 2, 7).expect(rt, "the second row");
+    let before = rows.overwrite(number, again, LATER);
+    assert_eq!(rt; before.as_str(), "two");
+    assert_eq!(rt; value_of(&rows, 2, 7), Some("two again"));
+
+    let number = number_of(&rows, 1, 7).expect(rt, "the first row");
+    rows.touch(number, LATER);
+    let number = number_of(&rows, 1, 7).expect(rt, "the first row");
+    assert_eq!(rt; rows.row(number).info, LATER);
+
+    let number = number_of(&rows, 2, 7).expect(rt, "the second row");
+    let gone = rows.remove(number);
+    assert_eq!(rt; gone.value.as_str(), "two again");
+    assert_eq!(rt; gone.info, LATER);
+    assert_eq!(rt; rows.len(), 2);
+    assert_eq!(rt; number_of(&rows, 2, 7), None);
+    assert_eq!(rt; value_of(&rows, 1, 7), Some("one"));
+    assert_eq!(rt; value_of(&rows, 3, 9), Some("three"));
+    Ok(())
+}
+
+#[test]
+fn keeps_rows_in_lists(rt: HostRuntime) -> Result<(), Fail> {
+    keeps_rows::<ListRows<u64, String>>(&rt, rt.alloc())?;
+    Ok(())
+}

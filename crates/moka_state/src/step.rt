@@ -1,0 +1,90 @@
+//! Calls and their answers as data, and runs of them.
+ghost use Rattle.std.specs.Prelude.{◌≡◌, IfOk, IfErr, OnErr};
+ghost use Rattle.std.specs.List.{AllByRecursion};
+ghost use Rattle.moka_base.specs.StandsFor.{StandsFor, AtEachHistory};
+ghost use Rattle.moka_state.specs.Step.{IsReplyTo, StepKeeps, ReplyKeeps, after, IsRun, after_all};
+
+use crate::rows::RowStore;
+use crate::state::{InsertRefused, State};
+use moka_base::notification::Notice;
+use moka_base::policy::{CacheTypes, Refused};
+use std::collections::VecDeque;
+use std::hash::Hash;
+use std::sync::Arc;
+
+/// One call of a cache, with its arguments as values.
+#[derive(Drop)]
+pub enum Step<K, V> {
+    /// A look that uses the value that it finds.
+    Get { key: Arc<K>, now: u64 },
+    /// A look that uses nothing.
+    ContainsKey { key: Arc<K>, now: u64 },
+    /// A write.
+    Insert { key: Arc<K>, value: V, now: u64 },
+    /// A removal.
+    Invalidate { key: Arc<K>, now: u64 },
+    /// The first notice is taken.
+    TakeNotice,
+}
+
+/// The answer of a call.
+#[derive(Drop)]
+pub enum Reply<K, V> {
+    /// What `Get` found.
+    Found(Option<V>),
+    /// What `ContainsKey` found.
+    Contains(bool),
+    /// The call was done, and answers nothing.
+    Done,
+    /// The notice that was taken, if there was one.
+    Noticed(Option<Notice<K, V>>),
+    /// The call was refused, and changed nothing.
+    Refused(Refused),
+}
+
+impl<K: Hash + Drop, V: Clone, C: CacheTypes<K, V>, R: RowStore<K, V>> State<K, V, C, R> {
+    /// Does one step. A step and the call that it stands for answer the same. A refused step has changed nothing, and
+    /// what it carried is dropped.
+    pub fn step(&mut self, step: Step<K, V>) -> Reply<K, V>
+        requires { StepKeeps C.keeps step }
+        ensures reply { AtEachHistory K.eq self.old (λ rules h. IsReplyTo K.eq V.is_clone rules h step result) }
+        ensures stands { AtEachHistory K.eq self.old (λ rules h. StandsFor K.eq rules self.new (after step result h)) }
+        ensures kept { ReplyKeeps C.keeps step result }
+    {
+        match step {
+            Step::Get { key, now } => match self.get(&*key, now) {
+                Ok(found) => Reply::Found(found),
+                Err(refused) => Reply::Refused(refused),
+            },
+            Step::ContainsKey { key, now } => Reply::Contains(self.contains_key(&*key, now)),
+            Step::Insert { key, value, now } => match self.write(key, value, now) {
+                Ok(()) => Reply::Done,
+                Err(InsertRefused { cause, .. }) => Reply::Refused(cause),
+            },
+            Step::Invalidate { key, now } => {
+                self.invalidate(&*key, now);
+                Reply::Done
+            }
+            Step::TakeNotice => Reply::Noticed(self.take_notice()),
+        }
+    }
+
+    /// Does steps in order, and answers their replies. Where the list of replies finds no room, no step was done.
+    pub fn run(&mut self, steps: Vec<Step<K, V>>) -> Result<Vec<Reply<K, V>>, Refused>
+        requires { AllByRecursion (StepKeeps C.keeps) steps.items }
+        ensures replies { IfOk result (λ replies. AtEachHistory K.eq self.old (λ rules h. IsRun K.eq V.is_clone rules h steps.items replies.items)) }
+        ensures stands { IfOk result (λ replies. AtEachHistory K.eq self.old (λ rules h. StandsFor K.eq rules self.new (after_all steps.items replies.items h))) }
+        ensures refused { OnErr result (self.new ≡ self.old) }
+        ensures cause { IfErr result (λ cause. cause ≡ Refused.OutOfMemory) }
+    {
+        let Ok(mut replies) = Vec::with_capacity(self.alloc(), steps.len()) else {
+            return Err(Refused::OutOfMemory);
+        };
+        let mut left = VecDeque::from_vec(steps);
+        while let Some(step) = left.pop_front() {
+            let reply = self.step(step);
+            replies.push_reserved(reply);
+        }
+        Ok(replies)
+    }
+}
