@@ -105,7 +105,7 @@ pub written : (cache after : Held) (moment key : ℕ) (text : Text) (value : Lis
 written cache after moment key text value spelled follows room rules before is =
     let event : Event ℕ Text = history.Insert key text moment in
     let course = course_with before (history.Insert key (string_bytes text) moment) in
-    let out : IsOutOfNumbers rules before.events → ⊥ = λ e. room (sym (numbers cache moment rules before is) ∙ e) in
+    let out : IsOutOfNumbers rules (history.Insert key value before.moment) before.events → ⊥ = λ e. room (sym (numbers cache moment rules before is) ∙ e.1) in
     let accept : Accepts rules before (history.Insert key (string_bytes text) moment) (codes "ok" ∷ []) course = accepts cache moment rules before event (codes "ok") is refl in
     let at_moment : Accepts rules before (history.Insert key (string_bytes text) before.moment) (codes "ok" ∷ []) course = subst (λ at. Accepts rules before (history.Insert key (string_bytes text) at) (codes "ok" ∷ []) course) is.now accept in
     let of_value : Accepts rules before (history.Insert key value before.moment) (codes "ok" ∷ []) course = subst (λ bytes. Accepts rules before (history.Insert key bytes before.moment) (codes "ok" ∷ []) course) spelled at_moment in
@@ -114,10 +114,10 @@ written cache after moment key text value spelled follows room rules before is =
 -- a write that is refused
 pub write_refused : (cache after : Held) (moment key : ℕ) (value : List ℕ) (cause : moka_refused.Refused) → after ≡ cache → (cause ≡ refusals.NumbersUsedUp) ↔ (cache.next_number ≡ greatest_number) → Prints cache moment (commands.Insert key value) ((codes "refused " ++ decimal (refusal_number cause)) ∷ []) after moment
 write_refused cache after moment key value refusals.OutOfMemory same used_up rules before is =
-    let room : IsOutOfNumbers rules before.events → ⊥ = λ e. (let both : refusals.OutOfMemory ≡ refusals.NumbersUsedUp = used_up.1 (sym (numbers cache moment rules before is) ∙ e) in cc) in
+    let room : IsOutOfNumbers rules (history.Insert key value before.moment) before.events → ⊥ = λ e. (let both : refusals.OutOfMemory ≡ refusals.NumbersUsedUp = used_up.1 (sym (numbers cache moment rules before is) ∙ e.1) in cc) in
     (before, inr (inr (room, refuses before)), subst (λ held. IsAt held moment rules before) (sym same) is)
 write_refused cache after moment key value refusals.NumbersUsedUp same used_up rules before is =
-    (before, inr (inl (numbers cache moment rules before is ∙ used_up.0 refl, refuses_numbers before)), subst (λ held. IsAt held moment rules before) (sym same) is)
+    (before, inr (inl ((lit< tt, numbers cache moment rules before is ∙ used_up.0 refl), refuses_numbers before)), subst (λ held. IsAt held moment rules before) (sym same) is)
 
 whether_text : (b : Bool) → answer_text (answers.Whether b) ≡ reply_text (replies.Contains b)
 whether_text true = refl

@@ -58,10 +58,10 @@ taking (left ∷ more) events = taking more (history.TakeNotice ∷ events)
 abbrev pub CommandPrints : Rules → Course → Said → List (List ℕ) → Course → Type 0
 CommandPrints rules before (commands.At moment) printed after = (printed ≡ []) × (after ≡ record before { moment = moment })
 -- a write is refused where no number is left to draw, or for want of memory
-CommandPrints rules before (commands.Insert key value) printed after =
-    ((IsOutOfNumbers rules before.events → ⊥) × Accepts rules before (history.Insert key value before.moment) printed after)
-    ⊎ (IsOutOfNumbers rules before.events × Refuses before (codes "2") printed after)
-    ⊎ ((IsOutOfNumbers rules before.events → ⊥) × Refuses before (codes "1") printed after)
+CommandPrints rules before (commands.Insert key value) printed after = (let event : Happened = history.Insert key value before.moment in
+    ((IsOutOfNumbers rules event before.events → ⊥) × Accepts rules before event printed after)
+    ⊎ (IsOutOfNumbers rules event before.events × Refuses before (codes "2") printed after)
+    ⊎ ((IsOutOfNumbers rules event before.events → ⊥) × Refuses before (codes "1") printed after))
 -- a look that finds a value is refused for want of memory for its copy
 CommandPrints rules before (commands.Get key) printed after =
     Accepts rules before (history.Get key before.moment) printed after

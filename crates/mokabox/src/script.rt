@@ -12,7 +12,6 @@ use crate::answer::{Answer, write_answer};
 use crate::session::Session;
 use crate::settings::Settings;
 use crate::{command, settings};
-use moka_state::rows::RowStore;
 use std::alloc::Global;
 use std::io;
 use std::io::{BufRead, Split, Write};
@@ -41,29 +40,21 @@ impl Status {
     }
 }
 
-/// Runs a script over a store of rows, and writes what it prints.
+/// Runs a script, and writes what it prints.
 ///
 /// Where it fails, the lines before may be written.
-pub fn run_script<S: RowStore<u64, String>, R: BufRead + Drop, W: Write>(
-    alloc: Global,
-    reader: R,
-    writer: &mut W,
-) -> Status
+pub fn run_script<R: BufRead + Drop, W: Write>(alloc: Global, reader: R, writer: &mut W) -> Status
     ensures { result ≢ Status.Failed → IfSome (R.remaining reader) (λ input.
         (printed : List (List ℕ)) × ScriptPrints (lines_of input) printed (code_of result)
         × Appends (W.contents writer.old) (W.contents writer.new) (lines_text printed)) }
 {
-    match run::<S, R, W>(alloc, reader, writer) {
+    match run(alloc, reader, writer) {
         Ok(status) => status,
         Err(_) => Status::Failed,
     }
 }
 
-fn run<S: RowStore<u64, String>, R: BufRead + Drop, W: Write>(
-    alloc: Global,
-    reader: R,
-    writer: &mut W,
-) -> io::Result<Status>
+fn run<R: BufRead + Drop, W: Write>(alloc: Global, reader: R, writer: &mut W) -> io::Result<Status>
     ensures { IfOk result (λ status. IfSome (R.remaining reader) (λ input.
         (printed : List (List ℕ)) × ScriptPrints (lines_of input) printed (code_of status)
         × Appends (W.contents writer.old) (W.contents writer.new) (lines_text printed))) }
@@ -73,13 +64,13 @@ fn run<S: RowStore<u64, String>, R: BufRead + Drop, W: Write>(
         writer.flush()?;
         return Ok(Status::Done);
     };
-    let status = begin::<S, R, W>(alloc, settings::parse(&first?), lines, writer)?;
+    let status = begin(alloc, settings::parse(&first?), lines, writer)?;
     writer.flush()?;
     Ok(status)
 }
 
 // What the first line begins, and the lines after it.
-fn begin<S: RowStore<u64, String>, R: BufRead + Drop, W: Write>(
+fn begin<R: BufRead + Drop, W: Write>(
     alloc: Global,
     settings: Option<Settings>,
     lines: Split<R>,
@@ -94,7 +85,7 @@ fn begin<S: RowStore<u64, String>, R: BufRead + Drop, W: Write>(
         write_answer(writer, &Answer::BadLine)?;
         return Ok(Status::Bad);
     };
-    match Session::<S>::new(alloc, settings) {
+    match Session::new(alloc, settings) {
         Ok(session) => {
             write_answer(writer, &Answer::Done)?;
             let is_bad = go_on(session, lines, writer)?;
@@ -108,8 +99,8 @@ fn begin<S: RowStore<u64, String>, R: BufRead + Drop, W: Write>(
 }
 
 // The lines after the first. Answers whether one of them is bad.
-fn go_on<S: RowStore<u64, String>, R: BufRead + Drop, W: Write>(
-    mut session: Session<S>,
+fn go_on<R: BufRead + Drop, W: Write>(
+    mut session: Session,
     lines: Split<R>,
     writer: &mut W,
 ) -> io::Result<bool>
@@ -128,11 +119,7 @@ fn go_on<S: RowStore<u64, String>, R: BufRead + Drop, W: Write>(
 }
 
 // Does the command of a line. Answers whether the line is bad.
-fn do_line<S: RowStore<u64, String>, W: Write>(
-    session: &mut Session<S>,
-    line: &[u8],
-    writer: &mut W,
-) -> io::Result<bool>
+fn do_line<W: Write>(session: &mut Session, line: &[u8], writer: &mut W) -> io::Result<bool>
     ensures { IfOk result (λ bad. DoesLine session.old.cache session.old.moment line.now bad
         session.new.cache session.new.moment (W.contents writer.old) (W.contents writer.new)) }
 {

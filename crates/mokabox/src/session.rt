@@ -9,9 +9,8 @@ ghost use Rattle.mokabox.specs.declared.command.Command.TheVariants as commands;
 use crate::answer::{Answer, BuildRefusal};
 use crate::command::Command;
 use crate::settings;
-use moka_base::policy::{CacheTypes, NumberHash};
-use moka_state::rows::RowStore;
-use moka_state::state::{Settings, State};
+use moka::policy::{CacheTypes, NumberHash};
+use moka::state::{CacheState, Settings};
 use std::alloc::{AllocError, Global};
 use std::hash::BuildHasherDefault;
 use std::sync::Arc;
@@ -32,13 +31,13 @@ impl CacheTypes<u64, String> for ScriptTypes {
 
 /// A cache and the moment of the commands.
 #[derive(Drop)]
-pub struct Session<R: RowStore<u64, String>> {
+pub struct Session {
     alloc: Global,
-    cache: State<u64, String, ScriptTypes, R>,
+    cache: CacheState<u64, String, ScriptTypes>,
     moment: u64,
 }
 
-impl<R: RowStore<u64, String>> Session<R> {
+impl Session {
     /// A cache with these settings, at moment 0.
     pub fn new(alloc: Global, settings: settings::Settings) -> Result<Self, BuildRefusal>
         ensures { IfOk result (λ session. IsAt session.cache session.moment (rules_by settings) beginning) }
@@ -52,7 +51,7 @@ impl<R: RowStore<u64, String>> Session<R> {
             first_number: settings.first_number.unwrap_or(0),
             hasher,
         };
-        match State::new(alloc, settings) {
+        match CacheState::new(alloc, settings) {
             Ok(cache) => Ok(Session {
                 alloc,
                 cache,

@@ -9,7 +9,7 @@ use Rattle.mokabox.proofs.session.Session.notices.Goals as goal
 use Rattle.mokabox.proofs.session.Session.notices.Goals.{in-Some+in_ok-push, in_default}
 
 pub loop-preserved : goal.loop-preserved
-loop-preserved g c = elim c.match-take_notice.branch [
+loop-preserved c = elim c.match-take_notice.branch [
   | in-Some+in_ok-push w ↦ (λ rules before is.
       let lines = ap (λ v. map answer_text v.items) w.answers-is ∙ one_more_left c.loop.answers.items w.push.new.self.items _ _ w.in-Some.notice.value w.in-Some.notice.cause w.in_ok-push.ensures.items w.deref.ensures in
       subst (λ printed. HasTaken c.take_notice.new.self c.loop.self.moment rules before (c.loop.counter + 1) printed) (sym lines)
@@ -18,7 +18,7 @@ loop-preserved g c = elim c.match-take_notice.branch [
 ]
 
 pub returns : goal.returns
-returns g c =
+returns c =
     let all : c.loop.counter ≡ c.notice_count-end.result = omega arith in
     let lines = one_more c.loop.answers.items c.push-2.new.self.items answers.End c.in_ok-push-2.ensures.items in
     subst (λ printed. Prints c.args.self.now.cache c.args.self.now.moment commands.Notices printed c.loop.self.cache c.loop.self.moment) (sym lines)
