@@ -142,3 +142,6 @@ fn write_answers<W: Write>(writer: &mut W, answers: &[Answer]) -> io::Result<()>
     }
     Ok(())
 }
+
+#[cfg(test)]
+mod tests;
