@@ -5,6 +5,7 @@ pub mod Looks
 pub mod Maintenance
 pub mod MaintenanceCounted
 pub mod MaintenanceLimits
+pub mod MaintenanceOnes
 pub mod MaintenanceOrder
 pub mod Notices
 pub mod Places

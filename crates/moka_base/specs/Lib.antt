@@ -6,3 +6,4 @@ pub mod NumberHash
 pub mod Replies
 pub mod StandsFor
 pub mod Worked
+pub mod WorkedMaintenance

@@ -7,3 +7,4 @@ pub mod maintenance_laws;
 pub mod notification;
 pub mod policy;
 pub mod worked;
+pub mod worked_maintenance;

@@ -66,3 +66,14 @@ pub fn a_limit_is_kept<X>()
     ensures next { (ps : List (Part X)) (limit : ℕ)
         → (done (Some limit) ps ≡ ps) ⊎ ((p : Part X) × (rest : List (Part X)) × (ps ≡ done (Some limit) ps ++ p ∷ rest) × (limit < length (leaving_in (done (Some limit) ps)) + length p.leaves)) }
 {}
+
+/// Where each weighs one and each wins, as under least recently used, just so many leave behind the dead as the
+/// living pass the capacity: the least recently used.
+pub fn the_least_recently_used_leave<X>()
+    ensures leaving { (weight : X → ℕ) (capacity : ℕ) (is_live : X → Bool) (wins : X → List X → Bool) (q : Queues X)
+        → ((x : X) → weight x ≡ 1) → ((x : X) (victims : List X) → wins x victims ≡ true)
+        → behind_the_dead is_live q (leaving_within weight (Some capacity) is_live wins None q) ≡ take (length (the_living is_live q) - capacity) (the_living is_live q) }
+    ensures admitted { (weight : X → ℕ) (capacity : ℕ) (is_live : X → Bool) (wins : X → List X → Bool) (q : Queues X)
+        → ((x : X) → weight x ≡ 1) → ((x : X) (victims : List X) → wins x victims ≡ true)
+        → (after_within weight (Some capacity) is_live wins None q).admitted ≡ drop (length (the_living is_live q) - capacity) (the_living is_live q) }
+{}
