@@ -6,6 +6,7 @@ pub mod Maintenance
 pub mod MaintenanceCounted
 pub mod MaintenanceLimits
 pub mod MaintenanceOnes
+pub mod MaintenanceShortest
 pub mod MaintenanceOrder
 pub mod Notices
 pub mod Places

@@ -80,6 +80,13 @@ module _ {X : Type 0} (weight : X → ℕ) (capacity : Option ℕ) where
   after-over [] waiting = refl
   after-over (x ∷ xs) waiting = ⊎_elim (λ e. rw e refl) (λ e. rw e (rw add-one (after-over xs waiting))) (cases_Bool (fits weight capacity 0 (x ∷ xs)))
 
+-- one that fits alone fits beside what the front leaves behind
+pub fits-admitted : {X : Type 0} (weight : X → ℕ) (capacity : Option ℕ) (admitted : List X) (x : X) → fits weight capacity (weight x) [] ≡ true → fits weight capacity 0 (drop (front weight capacity (weight x) admitted) admitted ++ x ∷ []) ≡ true
+fits-admitted weight capacity admitted x alone =
+    let kept = drop (front weight capacity (weight x) admitted) admitted in
+    let same : 0 + total weight (kept ++ x ∷ []) ≡ weight x + total weight kept = let parts_of = total-append weight kept (x ∷ []) in omega arith in
+    fits-same weight capacity 0 (weight x) (kept ++ x ∷ []) kept same ∙ fits-drop_front weight capacity (weight x) admitted alone
+
 -- the first that waits is admitted after a number of victims
 abbrev pub admitting : {X : Type 0} → ℕ → List X → X → List X → Part X
 admitting victims admitted x waiting = record { leaves = take victims admitted; after = queues (drop victims admitted ++ x ∷ []) waiting }
@@ -114,12 +121,8 @@ module _ {X : Type 0} (weight : X → ℕ) (capacity : Option ℕ) (wins : X →
   pub admitted_after-fits : (admitted waiting : List X) → fits weight capacity 0 admitted ≡ true → fits weight capacity 0 (admitted_after admitted waiting) ≡ true
   admitted_after-fits admitted [] fit = fit
   admitted_after-fits admitted (x ∷ xs) fit =
-      let kept : List X = drop (front weight capacity (weight x) admitted) admitted in
-      let same : 0 + total weight (kept ++ x ∷ []) ≡ weight x + total weight kept = let parts_of = total-append weight kept (x ∷ []) in omega arith in
       admitted_after-fits (judge weight capacity wins admitted x xs).after.admitted xs
-      (judge_both admitted x xs (λ p. fits weight capacity 0 p.after.admitted ≡ true)
-      (λ alone. fits-same weight capacity 0 (weight x) (kept ++ x ∷ []) kept same ∙ fits-drop_front weight capacity (weight x) admitted alone)
-      fit)
+        (judge_both admitted x xs (λ p. fits weight capacity 0 p.after.admitted ≡ true) (fits-admitted weight capacity admitted x) fit)
 
   -- what is true of all that was admitted or waited is true of all that is admitted
   pub All-admitted_after : (P : X → Type 0) (admitted waiting : List X) → All P admitted → All P waiting → All P (admitted_after admitted waiting)

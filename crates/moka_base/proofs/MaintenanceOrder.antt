@@ -127,7 +127,7 @@ module _ {X : Type 0} (weight : X → ℕ) (capacity : Option ℕ) (wins : X →
 
 module _ {X : Type 0} (weight : X → ℕ) (capacity : ℕ) where
   -- what is no heavier than the capacity fits alone
-  all_fit_alone : (xs : List X) → AllByRecursion (λ x. weight x ≤ capacity) xs → AllByRecursion (λ x. fits weight (Some capacity) (weight x) [] ≡ true) xs
+  pub all_fit_alone : (xs : List X) → AllByRecursion (λ x. weight x ≤ capacity) xs → AllByRecursion (λ x. fits weight (Some capacity) (weight x) [] ≡ true) xs
   all_fit_alone [] light = tt
   all_fit_alone (x ∷ xs) light = let here : weight x ≤ capacity = light.0 in (le-leb (weight x + 0) capacity (omega arith), all_fit_alone xs light.1)
 

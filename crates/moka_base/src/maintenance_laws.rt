@@ -43,17 +43,27 @@ pub fn nothing_is_lost<X>()
         → count test (leaving_within weight capacity is_live wins limit q) + count test (everything (after_within weight capacity is_live wins limit q)) ≡ count test (everything q) }
 {}
 
-/// The dead leave first, the admitted before the waiting, and what leaves behind them is live. Where
-/// each wins, as under least recently used, and none that waits is heavier than the capacity, the
-/// order of use alone says what leaves behind the dead: a front of the living, and the rest stays.
+/// The dead leave first, the admitted before the waiting, and what leaves behind them is live.
 pub fn the_dead_leave_first<X>()
     ensures dead { (weight : X → ℕ) (capacity : Option ℕ) (is_live : X → Bool) (wins : X → List X → Bool) (q : Queues X)
         → take (length (the_dead is_live q)) (leaving_within weight capacity is_live wins None q) ≡ the_dead is_live q }
     ensures live { (weight : X → ℕ) (capacity : Option ℕ) (is_live : X → Bool) (wins : X → List X → Bool) (q : Queues X)
         → AllByRecursion (λ x. is_live x ≡ true) (behind_the_dead is_live q (leaving_within weight capacity is_live wins None q)) }
-    ensures order_of_use { (weight : X → ℕ) (capacity : ℕ) (is_live : X → Bool) (wins : X → List X → Bool) (q : Queues X)
+{}
+
+/// Where each wins, as under least recently used, and none that waits is heavier than the capacity,
+/// the order of use alone decides: behind the dead the shortest front of the living leaves that
+/// brings them within the capacity, and the rest stays, in order.
+pub fn the_order_of_use_decides<X>()
+    ensures in_order { (weight : X → ℕ) (capacity : ℕ) (is_live : X → Bool) (wins : X → List X → Bool) (q : Queues X)
         → ((x : X) (victims : List X) → wins x victims ≡ true) → AllByRecursion (λ x. weight x ≤ capacity) (filter is_live q.waiting)
         → behind_the_dead is_live q (leaving_within weight (Some capacity) is_live wins None q) ++ (after_within weight (Some capacity) is_live wins None q).admitted ≡ the_living is_live q }
+    ensures leaving { (weight : X → ℕ) (capacity : ℕ) (is_live : X → Bool) (wins : X → List X → Bool) (q : Queues X)
+        → ((x : X) (victims : List X) → wins x victims ≡ true) → AllByRecursion (λ x. weight x ≤ capacity) (filter is_live q.waiting)
+        → behind_the_dead is_live q (leaving_within weight (Some capacity) is_live wins None q) ≡ take (front weight (Some capacity) 0 (the_living is_live q)) (the_living is_live q) }
+    ensures admitted { (weight : X → ℕ) (capacity : ℕ) (is_live : X → Bool) (wins : X → List X → Bool) (q : Queues X)
+        → ((x : X) (victims : List X) → wins x victims ≡ true) → AllByRecursion (λ x. weight x ≤ capacity) (filter is_live q.waiting)
+        → (after_within weight (Some capacity) is_live wins None q).admitted ≡ drop (front weight (Some capacity) 0 (the_living is_live q)) (the_living is_live q) }
 {}
 
 /// At most as many leave as a limit allows. What is done is a front of the parts, and all of them
@@ -67,8 +77,8 @@ pub fn a_limit_is_kept<X>()
         → (done (Some limit) ps ≡ ps) ⊎ ((p : Part X) × (rest : List (Part X)) × (ps ≡ done (Some limit) ps ++ p ∷ rest) × (limit < length (leaving_in (done (Some limit) ps)) + length p.leaves)) }
 {}
 
-/// Where each weighs one and each wins, as under least recently used, just so many leave behind the dead as the
-/// living pass the capacity: the least recently used.
+/// Where each weighs one and each wins, as under least recently used, just as many leave behind the
+/// dead as the living pass the capacity: the least recently used.
 pub fn the_least_recently_used_leave<X>()
     ensures leaving { (weight : X → ℕ) (capacity : ℕ) (is_live : X → Bool) (wins : X → List X → Bool) (q : Queues X)
         → ((x : X) → weight x ≡ 1) → ((x : X) (victims : List X) → wins x victims ≡ true)
