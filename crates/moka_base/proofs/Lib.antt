@@ -8,6 +8,7 @@ pub mod MaintenanceLimits
 pub mod MaintenanceOnes
 pub mod MaintenanceShortest
 pub mod MaintenanceOrder
+pub mod MaintenanceResumed
 pub mod Notices
 pub mod Places
 pub mod Standing

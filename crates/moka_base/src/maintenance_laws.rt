@@ -3,7 +3,7 @@
 //! live, admission rule and pair of queues.
 ghost use Rattle.std.specs.Prelude.{◌≡◌, ◌⊎◌, ℕ, ◌+◌, ◌-◌, ◌<◌, ◌≤◌, Bool, true, false, Option, Some, None, List, [], ◌∷◌, ◌++◌, length, take, drop, filter};
 ghost use Rattle.std.specs.List.{AllByRecursion};
-ghost use Rattle.moka_base.specs.Maintenance.{Queues, Part, total, fits, front, done, leaving_in};
+ghost use Rattle.moka_base.specs.Maintenance.{Queues, Part, total, fits, front, parts, done, leaving_in, after_parts};
 ghost use Rattle.moka_base.specs.MaintenanceLaws.{everything, count, the_dead, the_living, behind_the_dead, leaving_within, after_within};
 
 /// The shortest front: where more fits alone, it fits beside what the front leaves behind, and it
@@ -86,4 +86,18 @@ pub fn the_least_recently_used_leave<X>()
     ensures admitted { (weight : X → ℕ) (capacity : ℕ) (is_live : X → Bool) (wins : X → List X → Bool) (q : Queues X)
         → ((x : X) → weight x ≡ 1) → ((x : X) (victims : List X) → wins x victims ≡ true)
         → (after_within weight (Some capacity) is_live wins None q).admitted ≡ drop (length (the_living is_live q) - capacity) (the_living is_live q) }
+{}
+
+/// A maintenance that a limit ended goes on where it ended: after the first parts of it, the parts
+/// that are left are the parts of the next one, and together they do what one without a limit does.
+/// After that one there is nothing to do.
+pub fn it_goes_on_where_it_ended<X>()
+    ensures parts { (weight : X → ℕ) (capacity : Option ℕ) (is_live : X → Bool) (wins : X → List X → Bool) (q : Queues X) (n : ℕ)
+        → parts weight capacity is_live wins (after_parts q (take n (parts weight capacity is_live wins q))) ≡ drop n (parts weight capacity is_live wins q) }
+    ensures leaving { (weight : X → ℕ) (capacity : Option ℕ) (is_live : X → Bool) (wins : X → List X → Bool) (limit : Option ℕ) (q : Queues X)
+        → leaving_within weight capacity is_live wins limit q ++ leaving_within weight capacity is_live wins None (after_within weight capacity is_live wins limit q) ≡ leaving_within weight capacity is_live wins None q }
+    ensures after { (weight : X → ℕ) (capacity : Option ℕ) (is_live : X → Bool) (wins : X → List X → Bool) (limit : Option ℕ) (q : Queues X)
+        → after_within weight capacity is_live wins None (after_within weight capacity is_live wins limit q) ≡ after_within weight capacity is_live wins None q }
+    ensures nothing_to_do { (weight : X → ℕ) (capacity : Option ℕ) (is_live : X → Bool) (wins : X → List X → Bool) (q : Queues X)
+        → parts weight capacity is_live wins (after_within weight capacity is_live wins None q) ≡ [] }
 {}
