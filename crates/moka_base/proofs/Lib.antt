@@ -4,6 +4,7 @@ pub mod Leavings
 pub mod Looks
 pub mod Maintenance
 pub mod MaintenanceCounted
+pub mod MaintenanceJudged
 pub mod MaintenanceLimits
 pub mod MaintenanceOnes
 pub mod MaintenanceShortest

@@ -1,7 +1,7 @@
 -- What leaves in each stage of a maintenance, and how the queues stand after it.
 use Rattle.std.proofs.Common.{◌≡◌, ℕ, zero, suc, ◌+◌, ◌<◌, ◌≤◌, ◌||◌, ◌==◌, Bool, true, false, not, if◌then◌else◌, nat_le, Option, Some, None, List, [], ◌∷◌, ◌++◌, length, take, drop, filter, refl, sym, ap, ◌∙◌, ⊎_elim, append_assoc, add-one, arith}
 use Rattle.std.specs.List.{All}
-use Rattle.std.proofs.lemmas.Bool.{cond_both, cases_Bool, leb-true, le-leb}
+use Rattle.std.proofs.lemmas.Bool.{cond_both, cases_Bool, cond-true, leb-true, le-leb}
 use Rattle.std.proofs.lemmas.List.Elements.{All-drop, All-push, filter_passes, All-head, All-tail}
 use Rattle.moka_base.specs.Maintenance.{Queues, Part, total, fits, front, dead_admitted, dead_waiting, over, judge, judged, parts, leaving_in, after_parts}
 use Rattle.moka_base.specs.MaintenanceLaws.{queues}
@@ -25,6 +25,11 @@ module _ {X : Type 0} (weight : X → ℕ) where
   fits-same None m n xs ys e = refl
   fits-same (Some c) m n xs ys e = ap (λ k. nat_le k c) e
 
+  -- what is no heavier fits too
+  pub lighter-fits : (capacity : Option ℕ) (m n : ℕ) (xs ys : List X) → n + total weight ys ≤ m + total weight xs → fits weight capacity m xs ≡ true → fits weight capacity n ys ≡ true
+  lighter-fits None m n xs ys le fit = refl
+  lighter-fits (Some c) m n xs ys le fit = let within = leb-true (m + total weight xs) c fit in le-leb (n + total weight ys) c (omega arith)
+
   -- nothing fits beside nothing
   pub fits-none : (capacity : Option ℕ) → fits weight capacity 0 [] ≡ true
   fits-none None = refl
@@ -41,6 +46,11 @@ module _ {X : Type 0} (weight : X → ℕ) (capacity : Option ℕ) (more : ℕ) 
   fits-drop_shorter [] m less = absurd (omega arith)
   fits-drop_shorter (x ∷ xs) zero less = cond_both (fits weight capacity more (x ∷ xs)) 0 (front weight capacity more xs + 1) (λ n. 0 < n → fits weight capacity more (x ∷ xs) ≡ false) (λ _ none. absurd (omega arith)) (λ e _. e) less
   fits-drop_shorter (x ∷ xs) (suc m) less = cond_both (fits weight capacity more (x ∷ xs)) 0 (front weight capacity more xs + 1) (λ n. suc m < n → fits weight capacity more (drop m xs) ≡ false) (λ _ none. absurd (omega arith)) (λ _ below. fits-drop_shorter xs m (omega arith)) less
+
+  -- where all fits, no front has to leave
+  pub front-fits : (xs : List X) → fits weight capacity more xs ≡ true → front weight capacity more xs ≡ 0
+  front-fits [] fit = refl
+  front-fits (x ∷ xs) fit = cond-true (fits weight capacity more (x ∷ xs)) 0 (front weight capacity more xs + 1) fit
 
   pub front-le : (xs : List X) → front weight capacity more xs ≤ length xs
   front-le [] = omega arith

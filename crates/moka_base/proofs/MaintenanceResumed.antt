@@ -6,7 +6,7 @@ use Rattle.std.proofs.lemmas.List.{take_all, drop_all}
 use Rattle.std.proofs.lemmas.List.Elements.{All-nil, All-head, All-tail, All-drop, All-push, filter_passes}
 use Rattle.moka_base.specs.Maintenance.{Queues, Part, fits, front, dead_admitted, dead_waiting, over, judge, judged, parts, done, leaving_in, after_parts}
 use Rattle.moka_base.specs.MaintenanceLaws.{queues}
-use Rattle.moka_base.proofs.Maintenance.{judge_both, leaving_in-append, after_parts-append, fits-none, fits-admitted}
+use Rattle.moka_base.proofs.Maintenance.{judge_both, leaving_in-append, after_parts-append, front-fits, fits-none, fits-admitted}
 use Rattle.moka_base.proofs.MaintenanceLimits.{done_front}
 
 module _ {X : Type 0} (is_live : X → Bool) where
@@ -46,17 +46,13 @@ module _ {X : Type 0} (is_live : X → Bool) where
 
 module _ {X : Type 0} (weight : X → ℕ) (capacity : Option ℕ) where
   -- where the admitted fit, none of them leaves
-  front-fit : (more : ℕ) (xs : List X) → fits weight capacity more xs ≡ true → front weight capacity more xs ≡ 0
-  front-fit more [] fit = refl
-  front-fit more (x ∷ xs) fit = cond-true (fits weight capacity more (x ∷ xs)) 0 (front weight capacity more xs + 1) fit
-
   over-fit : (xs waiting : List X) → fits weight capacity 0 xs ≡ true → over weight capacity xs waiting ≡ []
   over-fit [] waiting fit = refl
   over-fit (x ∷ xs) waiting fit = cond-true (fits weight capacity 0 (x ∷ xs)) [] (record { leaves = x ∷ []; after = queues xs waiting } ∷ over weight capacity xs waiting) fit
 
 module _ {X : Type 0} (weight : X → ℕ) (capacity : Option ℕ) (is_live : X → Bool) (wins : X → List X → Bool) where
   -- what a maintenance does once the dead are gone
-  abbrev by_weight : List X → List X → List (Part X)
+  abbrev pub by_weight : List X → List X → List (Part X)
   by_weight admitted waiting = over weight capacity admitted waiting ++ judged weight capacity wins (drop (front weight capacity 0 admitted) admitted) waiting
 
   -- these are the parts, and after each the rest are the parts
@@ -68,12 +64,12 @@ module _ {X : Type 0} (weight : X → ℕ) (capacity : Option ℕ) (is_live : X 
   parts-live_admitted admitted kept xs live_a live_k =
       rw (dead_admitted-none is_live admitted (kept ++ xs) live_a, filter-live is_live admitted live_a, filter-append-live is_live kept xs live_k, dead_waiting-live is_live admitted [] kept xs live_k)
 
-  parts-live : (admitted waiting : List X) → AllLive is_live admitted → AllLive is_live waiting → parts weight capacity is_live wins (queues admitted waiting) ≡ by_weight admitted waiting
+  pub parts-live : (admitted waiting : List X) → AllLive is_live admitted → AllLive is_live waiting → parts weight capacity is_live wins (queues admitted waiting) ≡ by_weight admitted waiting
   parts-live admitted waiting live_a live_w =
       rw (dead_admitted-none is_live admitted waiting live_a, filter-live is_live admitted live_a, filter-live is_live waiting live_w, dead_waiting-none is_live admitted waiting live_w)
 
-  by_weight-fit : (admitted waiting : List X) → fits weight capacity 0 admitted ≡ true → by_weight admitted waiting ≡ judged weight capacity wins admitted waiting
-  by_weight-fit admitted waiting fit = rw (over-fit weight capacity admitted waiting fit, front-fit weight capacity 0 admitted fit)
+  pub by_weight-fit : (admitted waiting : List X) → fits weight capacity 0 admitted ≡ true → by_weight admitted waiting ≡ judged weight capacity wins admitted waiting
+  by_weight-fit admitted waiting fit = rw (over-fit weight capacity admitted waiting fit, front-fits weight capacity 0 admitted fit)
 
   Resumes-judged : (admitted waiting : List X) → AllLive is_live admitted → AllLive is_live waiting → fits weight capacity 0 admitted ≡ true → Resumes (queues admitted waiting) (judged weight capacity wins admitted waiting)
   Resumes-judged admitted [] live_a live_w fit = parts-live admitted [] live_a live_w ∙ by_weight-fit admitted [] fit

@@ -5,7 +5,7 @@ use Rattle.std.proofs.lemmas.Bool.{cases_Bool, cond-true, cond-false, both_ways,
 use Rattle.std.proofs.lemmas.List.{take_at, drop_at, drop-append-le}
 use Rattle.moka_base.specs.Maintenance.{Queues, Part, total, fits, front, judge, judged, parts, leaving_in, after_parts}
 use Rattle.moka_base.specs.MaintenanceLaws.{the_living, behind_the_dead}
-use Rattle.moka_base.proofs.Maintenance.{total-append, front-le, fits-none, fits-drop_front, fits-admitted}
+use Rattle.moka_base.proofs.Maintenance.{total-append, front-fits, front-le, fits-none, fits-drop_front, fits-admitted}
 use Rattle.moka_base.proofs.MaintenanceOrder.{behind, behind_the_dead-leaving, judge-wins, all_fit_alone, behind-append-admitted}
 
 module _ {X : Type 0} (weight : X → ℕ) where
@@ -62,14 +62,9 @@ module _ {X : Type 0} (weight : X → ℕ) (capacity : Option ℕ) where
       omega arith
 
 module _ {X : Type 0} (weight : X → ℕ) (capacity : Option ℕ) (wins : X → List X → Bool) (always : (x : X) (victims : List X) → wins x victims ≡ true) where
-  -- no front leaves where all fits
-  front-fits : (more : ℕ) (xs : List X) → fits weight capacity more xs ≡ true → front weight capacity more xs ≡ 0
-  front-fits more [] fit = refl
-  front-fits more (x ∷ xs) fit = cond-true (fits weight capacity more (x ∷ xs)) 0 (front weight capacity more xs + 1) fit
-
   -- what leaves as the waiting are judged is as long as the front of all
   length-leaving-wins : (admitted waiting : List X) → fits weight capacity 0 admitted ≡ true → AllByRecursion (λ x. fits weight capacity (weight x) [] ≡ true) waiting → length (leaving_in (judged weight capacity wins admitted waiting)) ≡ front weight capacity 0 (admitted ++ waiting)
-  length-leaving-wins admitted [] fit light = sym (ap (front weight capacity 0) (append-nil admitted) ∙ front-fits 0 admitted fit)
+  length-leaving-wins admitted [] fit light = sym (ap (front weight capacity 0) (append-nil admitted) ∙ front-fits weight capacity 0 admitted fit)
   length-leaving-wins admitted (x ∷ xs) fit light =
       let n : ℕ = front weight capacity (weight x) admitted in
       let kept : List X = drop n admitted in

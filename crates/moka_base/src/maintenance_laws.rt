@@ -4,7 +4,7 @@
 ghost use Rattle.std.specs.Prelude.{◌≡◌, ◌⊎◌, ℕ, ◌+◌, ◌-◌, ◌<◌, ◌≤◌, Bool, true, false, Option, Some, None, List, [], ◌∷◌, ◌++◌, length, take, drop, filter};
 ghost use Rattle.std.specs.List.{AllByRecursion};
 ghost use Rattle.moka_base.specs.Maintenance.{Queues, Part, total, fits, front, parts, done, leaving_in, after_parts};
-ghost use Rattle.moka_base.specs.MaintenanceLaws.{everything, count, the_dead, the_living, behind_the_dead, leaving_within, after_within};
+ghost use Rattle.moka_base.specs.MaintenanceLaws.{queues, everything, count, the_dead, the_living, behind_the_dead, leaving_within, after_within};
 
 /// The shortest front: where more fits alone, it fits beside what the front leaves behind, and it
 /// fits behind no shorter one.
@@ -27,8 +27,16 @@ pub fn all_is_done<X>()
         → total weight (after_within weight (Some capacity) is_live wins None q).admitted ≤ capacity }
 {}
 
-/// Without a capacity just the dead leave, the admitted before the waiting, and each that waits is
-/// admitted, in order.
+/// Where all that live fit within the capacity, just the dead leave, the admitted before the waiting,
+/// and each that waits is admitted, in order, whatever the admission rule.
+pub fn where_all_fit_just_the_dead_leave<X>()
+    ensures leaving { (weight : X → ℕ) (capacity : ℕ) (is_live : X → Bool) (wins : X → List X → Bool) (q : Queues X) → total weight (the_living is_live q) ≤ capacity
+        → leaving_within weight (Some capacity) is_live wins None q ≡ the_dead is_live q }
+    ensures admitted { (weight : X → ℕ) (capacity : ℕ) (is_live : X → Bool) (wins : X → List X → Bool) (q : Queues X) → total weight (the_living is_live q) ≤ capacity
+        → (after_within weight (Some capacity) is_live wins None q).admitted ≡ the_living is_live q }
+{}
+
+/// So it is without a capacity.
 pub fn without_a_capacity<X>()
     ensures leaving { (weight : X → ℕ) (is_live : X → Bool) (wins : X → List X → Bool) (q : Queues X)
         → leaving_within weight None is_live wins None q ≡ the_dead is_live q }
@@ -100,4 +108,24 @@ pub fn it_goes_on_where_it_ended<X>()
         → after_within weight capacity is_live wins None (after_within weight capacity is_live wins limit q) ≡ after_within weight capacity is_live wins None q }
     ensures nothing_to_do { (weight : X → ℕ) (capacity : Option ℕ) (is_live : X → Bool) (wins : X → List X → Bool) (q : Queues X)
         → parts weight capacity is_live wins (after_within weight capacity is_live wins None q) ≡ [] }
+{}
+
+/// One that waits, where all that are admitted live and are within the capacity: it is dropped where
+/// it is heavier than the capacity, and admitted where there is room. Else the shortest front that
+/// makes room is against it: where it wins they leave, and it is admitted; where it does not it is dropped.
+pub fn one_that_waits_is_judged<X>()
+    ensures too_heavy { (weight : X → ℕ) (capacity : ℕ) (is_live : X → Bool) (wins : X → List X → Bool) (admitted : List X) (x : X)
+        → AllByRecursion (λ y. is_live y ≡ true) (x ∷ admitted) → total weight admitted ≤ capacity → capacity < weight x
+        → parts weight (Some capacity) is_live wins (queues admitted (x ∷ [])) ≡ record { leaves = x ∷ []; after = queues admitted [] } ∷ [] }
+    ensures room { (weight : X → ℕ) (capacity : ℕ) (is_live : X → Bool) (wins : X → List X → Bool) (admitted : List X) (x : X)
+        → AllByRecursion (λ y. is_live y ≡ true) (x ∷ admitted) → weight x + total weight admitted ≤ capacity
+        → parts weight (Some capacity) is_live wins (queues admitted (x ∷ [])) ≡ record { leaves = []; after = queues (admitted ++ x ∷ []) [] } ∷ [] }
+    ensures wins { (weight : X → ℕ) (capacity : ℕ) (is_live : X → Bool) (wins : X → List X → Bool) (admitted : List X) (x : X)
+        → AllByRecursion (λ y. is_live y ≡ true) (x ∷ admitted) → total weight admitted ≤ capacity → weight x ≤ capacity
+        → wins x (take (front weight (Some capacity) (weight x) admitted) admitted) ≡ true
+        → parts weight (Some capacity) is_live wins (queues admitted (x ∷ [])) ≡ record { leaves = take (front weight (Some capacity) (weight x) admitted) admitted; after = queues (drop (front weight (Some capacity) (weight x) admitted) admitted ++ x ∷ []) [] } ∷ [] }
+    ensures loses { (weight : X → ℕ) (capacity : ℕ) (is_live : X → Bool) (wins : X → List X → Bool) (admitted : List X) (x : X)
+        → AllByRecursion (λ y. is_live y ≡ true) (x ∷ admitted) → total weight admitted ≤ capacity → capacity < weight x + total weight admitted
+        → wins x (take (front weight (Some capacity) (weight x) admitted) admitted) ≡ false
+        → parts weight (Some capacity) is_live wins (queues admitted (x ∷ [])) ≡ record { leaves = x ∷ []; after = queues admitted [] } ∷ [] }
 {}
