@@ -7,9 +7,9 @@ pub mod MaintenanceCounted
 pub mod MaintenanceJudged
 pub mod MaintenanceLimits
 pub mod MaintenanceOnes
-pub mod MaintenanceShortest
 pub mod MaintenanceOrder
 pub mod MaintenanceResumed
+pub mod MaintenanceShortest
 pub mod Notices
 pub mod Places
 pub mod Standing

@@ -132,7 +132,7 @@ module _ {X : Type 0} (weight : X → ℕ) (capacity : Option ℕ) (wins : X →
   admitted_after-fits admitted [] fit = fit
   admitted_after-fits admitted (x ∷ xs) fit =
       admitted_after-fits (judge weight capacity wins admitted x xs).after.admitted xs
-        (judge_both admitted x xs (λ p. fits weight capacity 0 p.after.admitted ≡ true) (fits-admitted weight capacity admitted x) fit)
+      (judge_both admitted x xs (λ p. fits weight capacity 0 p.after.admitted ≡ true) (fits-admitted weight capacity admitted x) fit)
 
   -- what is true of all that was admitted or waited is true of all that is admitted
   pub All-admitted_after : (P : X → Type 0) (admitted waiting : List X) → All P admitted → All P waiting → All P (admitted_after admitted waiting)

@@ -1,5 +1,5 @@
 -- In which order a maintenance keeps what stays.
-use Rattle.std.proofs.Common.{◌≡◌, ℕ, ◌+◌, ◌≤◌, ◌||◌, ◌==◌, Bool, true, not, if◌then◌else◌, Option, Some, None, List, [], ◌∷◌, ◌++◌, length, take, drop, filter, refl, sym, ap, ◌∙◌, append_assoc, append-nil, take-append-drop, arith}
+use Rattle.std.proofs.Common.{◌≡◌, ℕ, ◌+◌, ◌≤◌, ◌||◌, ◌==◌, Bool, true, not, if◌then◌else◌, Option, Some, List, [], ◌∷◌, ◌++◌, length, take, drop, filter, refl, sym, ap, ◌∙◌, append_assoc, append-nil, take-append-drop, arith}
 use Rattle.std.specs.List.{All, AllByRecursion}
 use Rattle.std.proofs.lemmas.Bool.{cond-true, le-leb, or_left, or_right}
 use Rattle.std.proofs.lemmas.List.{take_at, drop_at}
@@ -16,8 +16,8 @@ module _ {X : Type 0} (weight : X → ℕ) (capacity : Option ℕ) (wins : X →
       let none : victims ≡ 0 = front-fits weight capacity (weight x) admitted room in
       let wins_here : Bool = victims == 0 || wins x (take victims admitted) in
       cond-true (fits weight capacity (weight x) []) (if wins_here then admitting victims admitted x waiting else dropping admitted x waiting) (dropping admitted x waiting) (lighter-fits weight capacity (weight x) (weight x) admitted [] (omega arith) room)
-        ∙ cond-true wins_here (admitting victims admitted x waiting) (dropping admitted x waiting) (or_left (victims == 0) (wins x (take victims admitted)) (ap (λ n. n == 0) none))
-        ∙ ap (λ n. admitting n admitted x waiting) none
+      ∙ cond-true wins_here (admitting victims admitted x waiting) (dropping admitted x waiting) (or_left (victims == 0) (wins x (take victims admitted)) (ap (λ n. n == 0) none))
+      ∙ ap (λ n. admitting n admitted x waiting) none
 
   -- where all fit there is room for the first that waits
   room_for_first : (admitted : List X) (x : X) (xs : List X) → fits weight capacity 0 (admitted ++ x ∷ xs) ≡ true → fits weight capacity (weight x) admitted ≡ true
@@ -27,14 +27,14 @@ module _ {X : Type 0} (weight : X → ℕ) (capacity : Option ℕ) (wins : X →
   leaving-judged-room admitted [] room = refl
   leaving-judged-room admitted (x ∷ xs) room =
       ap (λ (p : Part X). p.leaves ++ leaving_in (judged weight capacity wins p.after.admitted xs)) (judge-room admitted x xs (room_for_first admitted x xs room))
-        ∙ leaving-judged-room (admitted ++ x ∷ []) xs (ap (fits weight capacity 0) (append_assoc admitted (x ∷ []) xs) ∙ room)
+      ∙ leaving-judged-room (admitted ++ x ∷ []) xs (ap (fits weight capacity 0) (append_assoc admitted (x ∷ []) xs) ∙ room)
 
   admitted_after-room : (admitted waiting : List X) → fits weight capacity 0 (admitted ++ waiting) ≡ true → admitted_after weight capacity wins admitted waiting ≡ admitted ++ waiting
   admitted_after-room admitted [] room = sym (append-nil admitted)
   admitted_after-room admitted (x ∷ xs) room =
       ap (λ (p : Part X). admitted_after weight capacity wins p.after.admitted xs) (judge-room admitted x xs (room_for_first admitted x xs room))
-        ∙ admitted_after-room (admitted ++ x ∷ []) xs (ap (fits weight capacity 0) (append_assoc admitted (x ∷ []) xs) ∙ room)
-        ∙ append_assoc admitted (x ∷ []) xs
+      ∙ admitted_after-room (admitted ++ x ∷ []) xs (ap (fits weight capacity 0) (append_assoc admitted (x ∷ []) xs) ∙ room)
+      ∙ append_assoc admitted (x ∷ []) xs
 
 module _ {X : Type 0} (weight : X → ℕ) (capacity : Option ℕ) (is_live : X → Bool) (wins : X → List X → Bool) (q : Queues X) (room : fits weight capacity 0 (the_living is_live q) ≡ true) where
   front-room : front weight capacity 0 (filter is_live q.admitted) ≡ 0
@@ -56,18 +56,18 @@ module _ {X : Type 0} (weight : X → ℕ) (capacity : Option ℕ) (is_live : X 
       let dead_waiting : List X = filter (λ x. not (is_live x)) q.waiting in
       let waiting : List X = filter is_live q.waiting in
       leaving-parts weight capacity is_live wins q
-        ∙ ap (λ ys. dead ++ (dead_waiting ++ (ys ++ leaving_in (judged weight capacity wins (within weight capacity is_live wins q) waiting)))) too_much-room
-        ∙ ap (λ ys. dead ++ (dead_waiting ++ leaving_in (judged weight capacity wins ys waiting))) within-room
-        ∙ ap (λ ys. dead ++ (dead_waiting ++ ys)) (leaving-judged-room weight capacity wins (filter is_live q.admitted) waiting room)
-        ∙ ap (λ ys. dead ++ ys) (append-nil dead_waiting)
+      ∙ ap (λ ys. dead ++ (dead_waiting ++ (ys ++ leaving_in (judged weight capacity wins (within weight capacity is_live wins q) waiting)))) too_much-room
+      ∙ ap (λ ys. dead ++ (dead_waiting ++ leaving_in (judged weight capacity wins ys waiting))) within-room
+      ∙ ap (λ ys. dead ++ (dead_waiting ++ ys)) (leaving-judged-room weight capacity wins (filter is_live q.admitted) waiting room)
+      ∙ ap (λ ys. dead ++ ys) (append-nil dead_waiting)
 
   -- and all that live are admitted
   pub admitted-room : (after_parts q (parts weight capacity is_live wins q)).admitted ≡ the_living is_live q
   admitted-room =
       let waiting : List X = filter is_live q.waiting in
       ap (λ (after : Queues X). after.admitted) (after-parts weight capacity is_live wins q)
-        ∙ ap (λ ys. admitted_after weight capacity wins ys waiting) within-room
-        ∙ admitted_after-room weight capacity wins (filter is_live q.admitted) waiting room
+      ∙ ap (λ ys. admitted_after weight capacity wins ys waiting) within-room
+      ∙ admitted_after-room weight capacity wins (filter is_live q.admitted) waiting room
 
 module _ {X : Type 0} (weight : X → ℕ) (capacity : Option ℕ) (is_live : X → Bool) (wins : X → List X → Bool) (q : Queues X) where
   -- what leaves behind the dead: what is too much, and then what leaves as the waiting are judged

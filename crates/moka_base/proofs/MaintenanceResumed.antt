@@ -1,9 +1,9 @@
 -- A maintenance that ended early goes on where it ended.
-use Rattle.std.proofs.Common.{◌≡◌, ℕ, zero, suc, ◌+◌, ◌≤◌, Bool, true, false, Option, Some, None, List, [], ◌∷◌, ◌++◌, length, take, drop, filter, refl, sym, ap, ◌∙◌, ⊎_elim, append_assoc, append-nil, take-append-drop, add-one, arith}
-use Rattle.std.specs.List.{All, AllByRecursion}
-use Rattle.std.proofs.lemmas.Bool.{cond_both, cond-true, cases_Bool}
+use Rattle.std.proofs.Common.{◌≡◌, ℕ, zero, suc, Bool, true, Option, Some, None, List, [], ◌∷◌, ◌++◌, length, take, drop, filter, refl, sym, ap, ◌∙◌, ⊎_elim, append_assoc, append-nil, take-append-drop, add-one, arith}
+use Rattle.std.specs.List.{All}
+use Rattle.std.proofs.lemmas.Bool.{cond-true, cases_Bool}
 use Rattle.std.proofs.lemmas.List.{take_all, drop_all}
-use Rattle.std.proofs.lemmas.List.Elements.{All-nil, All-head, All-tail, All-drop, All-push, filter_passes}
+use Rattle.std.proofs.lemmas.List.Elements.{All-nil, All-head, All-tail, All-drop, All-push}
 use Rattle.moka_base.specs.Maintenance.{Queues, Part, fits, front, dead_admitted, dead_waiting, over, judge, judged, parts, done, leaving_in, after_parts}
 use Rattle.moka_base.specs.MaintenanceLaws.{queues}
 use Rattle.moka_base.proofs.Maintenance.{judge_both, leaving_in-append, after_parts-append, front-fits, fits-none, fits-admitted}
@@ -28,15 +28,15 @@ module _ {X : Type 0} (is_live : X → Bool) where
   dead_admitted-live before [] xs waiting live = ap (λ ys. dead_admitted is_live ys xs waiting) (sym (append-nil before))
   dead_admitted-live before (y ∷ ys) xs waiting live =
       rw (All-head (λ z. is_live z ≡ true) y ys live)
-        (dead_admitted-live (before ++ y ∷ []) ys xs waiting (All-tail (λ z. is_live z ≡ true) y ys live)
-          ∙ ap (λ zs. dead_admitted is_live zs xs waiting) (append_assoc before (y ∷ []) ys))
+      (dead_admitted-live (before ++ y ∷ []) ys xs waiting (All-tail (λ z. is_live z ≡ true) y ys live)
+      ∙ ap (λ zs. dead_admitted is_live zs xs waiting) (append_assoc before (y ∷ []) ys))
 
   dead_waiting-live : (admitted before kept xs : List X) → AllLive kept → dead_waiting is_live admitted before (kept ++ xs) ≡ dead_waiting is_live admitted (before ++ kept) xs
   dead_waiting-live admitted before [] xs live = ap (λ ys. dead_waiting is_live admitted ys xs) (sym (append-nil before))
   dead_waiting-live admitted before (y ∷ ys) xs live =
       rw (All-head (λ z. is_live z ≡ true) y ys live)
-        (dead_waiting-live admitted (before ++ y ∷ []) ys xs (All-tail (λ z. is_live z ≡ true) y ys live)
-          ∙ ap (λ zs. dead_waiting is_live admitted zs xs) (append_assoc before (y ∷ []) ys))
+      (dead_waiting-live admitted (before ++ y ∷ []) ys xs (All-tail (λ z. is_live z ≡ true) y ys live)
+      ∙ ap (λ zs. dead_waiting is_live admitted zs xs) (append_assoc before (y ∷ []) ys))
 
   dead_admitted-none : (xs waiting : List X) → AllLive xs → dead_admitted is_live [] xs waiting ≡ []
   dead_admitted-none xs waiting live = ap (λ ys. dead_admitted is_live [] ys waiting) (sym (append-nil xs)) ∙ dead_admitted-live [] xs [] waiting live
@@ -79,9 +79,10 @@ module _ {X : Type 0} (weight : X → ℕ) (capacity : Option ℕ) (is_live : X 
       let n : ℕ = front weight capacity (weight x) admitted in
       let still : p.after ≡ queues p.after.admitted xs = judge_both weight capacity wins admitted x xs (λ r. r.after ≡ queues r.after.admitted xs) (λ _. refl) refl in
       let live_now : All live p.after.admitted = judge_both weight capacity wins admitted x xs (λ r. All live r.after.admitted) (λ _. All-push live (drop n admitted) x (All-drop live n admitted live_a) (All-head live x xs live_w)) live_a in
-      let fit_now : fits weight capacity 0 p.after.admitted ≡ true = judge_both weight capacity wins admitted x xs (λ r. fits weight capacity 0 r.after.admitted ≡ true) (fits-admitted weight capacity admitted x) fit in
-      ( parts-live admitted (x ∷ xs) live_a live_w ∙ by_weight-fit admitted (x ∷ xs) fit
-      , rw still (Resumes-judged p.after.admitted xs live_now (All-tail live x xs live_w) fit_now))
+      let fit_now : fits weight capacity 0 p.after.admitted ≡ true = judge_both weight capacity wins admitted x xs (λ r. fits weight capacity 0 r.after.admitted ≡ true) (fits-admitted weight capacity admitted x) fit in (
+        parts-live admitted (x ∷ xs) live_a live_w ∙ by_weight-fit admitted (x ∷ xs) fit,
+        rw still (Resumes-judged p.after.admitted xs live_now (All-tail live x xs live_w) fit_now),
+      )
 
   Resumes-by_weight : (admitted waiting : List X) → AllLive is_live admitted → AllLive is_live waiting → Resumes (queues admitted waiting) (by_weight admitted waiting)
   Resumes-by_weight [] waiting live_a live_w = Resumes-judged [] waiting live_a live_w (fits-none weight capacity)
@@ -91,9 +92,9 @@ module _ {X : Type 0} (weight : X → ℕ) (capacity : Option ℕ) (is_live : X 
       ⊎_elim
       (λ fit. rw (by_weight-fit (x ∷ xs) waiting fit) (Resumes-judged (x ∷ xs) waiting live_a live_w fit))
       (λ past.
-        let all : parts weight capacity is_live wins (queues (x ∷ xs) waiting) ≡ by_weight (x ∷ xs) waiting = parts-live (x ∷ xs) waiting live_a live_w in
-        let step : by_weight (x ∷ xs) waiting ≡ record { leaves = x ∷ []; after = queues xs waiting } ∷ by_weight xs waiting = rw past (rw add-one refl) in
-        rw step (all ∙ step, Resumes-by_weight xs waiting (All-tail live x xs live_a) live_w))
+      let all : parts weight capacity is_live wins (queues (x ∷ xs) waiting) ≡ by_weight (x ∷ xs) waiting = parts-live (x ∷ xs) waiting live_a live_w in
+      let step : by_weight (x ∷ xs) waiting ≡ record { leaves = x ∷ []; after = queues xs waiting } ∷ by_weight xs waiting = rw past (rw add-one refl) in
+      rw step (all ∙ step, Resumes-by_weight xs waiting (All-tail live x xs live_a) live_w))
       (cases_Bool test)
 
   Resumes-waiting : (admitted kept xs : List X) → AllLive is_live admitted → AllLive is_live kept → Resumes (queues admitted (kept ++ xs)) (dead_waiting is_live admitted kept xs ++ by_weight admitted (kept ++ filter is_live xs))
@@ -103,8 +104,8 @@ module _ {X : Type 0} (weight : X → ℕ) (capacity : Option ℕ) (is_live : X 
       ⊎_elim
       (λ e. rw e (rw (append_assoc kept (x ∷ []) xs, append_assoc kept (x ∷ []) (filter is_live xs)) at (Resumes-waiting admitted (kept ++ x ∷ []) xs live_a (All-push live kept x live_k e))))
       (λ e.
-        let all : parts weight capacity is_live wins (queues admitted (kept ++ x ∷ xs)) ≡ dead_waiting is_live admitted kept (x ∷ xs) ++ by_weight admitted (kept ++ filter is_live (x ∷ xs)) = parts-live_admitted admitted kept (x ∷ xs) live_a live_k in
-        rw e (rw e at all, Resumes-waiting admitted kept xs live_a live_k))
+      let all : parts weight capacity is_live wins (queues admitted (kept ++ x ∷ xs)) ≡ dead_waiting is_live admitted kept (x ∷ xs) ++ by_weight admitted (kept ++ filter is_live (x ∷ xs)) = parts-live_admitted admitted kept (x ∷ xs) live_a live_k in
+      rw e (rw e at all, Resumes-waiting admitted kept xs live_a live_k))
       (cases_Bool (is_live x))
 
   -- what a maintenance does once the dead admitted are gone
@@ -121,8 +122,8 @@ module _ {X : Type 0} (weight : X → ℕ) (capacity : Option ℕ) (is_live : X 
       ⊎_elim
       (λ e. rw e (rw (append_assoc kept (x ∷ []) xs, append_assoc kept (x ∷ []) (filter is_live xs)) at (Resumes-kept (kept ++ x ∷ []) xs waiting (All-push live kept x live_k e))))
       (λ e.
-        let all : parts weight capacity is_live wins (queues (kept ++ x ∷ xs) waiting) ≡ dead_admitted is_live kept (x ∷ xs) waiting ++ behind_admitted (kept ++ filter is_live (x ∷ xs)) waiting = parts-kept kept (x ∷ xs) waiting live_k in
-        rw e (rw e at all, Resumes-kept kept xs waiting live_k))
+      let all : parts weight capacity is_live wins (queues (kept ++ x ∷ xs) waiting) ≡ dead_admitted is_live kept (x ∷ xs) waiting ++ behind_admitted (kept ++ filter is_live (x ∷ xs)) waiting = parts-kept kept (x ∷ xs) waiting live_k in
+      rw e (rw e at all, Resumes-kept kept xs waiting live_k))
       (cases_Bool (is_live x))
 
   -- after the first of these parts the rest are the parts
@@ -142,25 +143,25 @@ module _ {X : Type 0} (weight : X → ℕ) (capacity : Option ℕ) (is_live : X 
     parts_none_left =
         let ps : List (Part X) = parts weight capacity is_live wins q in
         ap (λ rs. parts weight capacity is_live wins (after_parts q rs)) (sym (take_all (length ps) ps (omega arith)))
-          ∙ parts_left (length ps)
-          ∙ drop_all (length ps) ps (omega arith)
+        ∙ parts_left (length ps)
+        ∙ drop_all (length ps) ps (omega arith)
 
     -- what leaves in the first parts and then in those left is what leaves in all
     leaving_resumed : (n : ℕ) (ds : List (Part X)) → ds ≡ take n (parts weight capacity is_live wins q) → leaving_in ds ++ leaving_in (parts weight capacity is_live wins (after_parts q ds)) ≡ leaving_in (parts weight capacity is_live wins q)
     leaving_resumed n ds first =
         let ps : List (Part X) = parts weight capacity is_live wins q in
         ap (λ rs. leaving_in rs ++ leaving_in (parts weight capacity is_live wins (after_parts q rs))) first
-          ∙ ap (λ rs. leaving_in (take n ps) ++ leaving_in rs) (parts_left n)
-          ∙ sym (leaving_in-append (take n ps) (drop n ps))
-          ∙ ap leaving_in (take-append-drop n ps)
+        ∙ ap (λ rs. leaving_in (take n ps) ++ leaving_in rs) (parts_left n)
+        ∙ sym (leaving_in-append (take n ps) (drop n ps))
+        ∙ ap leaving_in (take-append-drop n ps)
 
     after_resumed : (n : ℕ) (ds : List (Part X)) → ds ≡ take n (parts weight capacity is_live wins q) → after_parts (after_parts q ds) (parts weight capacity is_live wins (after_parts q ds)) ≡ after_parts q (parts weight capacity is_live wins q)
     after_resumed n ds first =
         let ps : List (Part X) = parts weight capacity is_live wins q in
         ap (λ rs. after_parts (after_parts q rs) (parts weight capacity is_live wins (after_parts q rs))) first
-          ∙ ap (after_parts (after_parts q (take n ps))) (parts_left n)
-          ∙ sym (after_parts-append q (take n ps) (drop n ps))
-          ∙ ap (after_parts q) (take-append-drop n ps)
+        ∙ ap (after_parts (after_parts q (take n ps))) (parts_left n)
+        ∙ sym (after_parts-append q (take n ps) (drop n ps))
+        ∙ ap (after_parts q) (take-append-drop n ps)
 
     pub leaving_in_turn : (limit : Option ℕ) → leaving_in (done limit (parts weight capacity is_live wins q)) ++ leaving_in (parts weight capacity is_live wins (after_parts q (done limit (parts weight capacity is_live wins q)))) ≡ leaving_in (parts weight capacity is_live wins q)
     leaving_in_turn None = leaving_resumed (length (parts weight capacity is_live wins q)) (parts weight capacity is_live wins q) (sym (take_all (length (parts weight capacity is_live wins q)) (parts weight capacity is_live wins q) (omega arith)))

@@ -1,9 +1,9 @@
 -- Where each wins, what leaves behind the dead is the shortest front that brings the living within the capacity.
-use Rattle.std.proofs.Common.{◌≡◌, ℕ, zero, suc, ◌+◌, ◌<◌, ◌≤◌, min, Bool, true, false, Option, Some, None, List, [], ◌∷◌, ◌++◌, length, take, drop, filter, refl, sym, ap, ◌∙◌, ⊎_elim, length-append, length-take, append_assoc, append-nil, add-one, arith}
+use Rattle.std.proofs.Common.{◌≡◌, ℕ, zero, suc, ◌+◌, ◌≤◌, min, Bool, true, false, Option, Some, None, List, [], ◌∷◌, ◌++◌, length, take, drop, filter, refl, sym, ap, ◌∙◌, ⊎_elim, length-append, length-take, append_assoc, append-nil, arith}
 use Rattle.std.specs.List.{AllByRecursion}
 use Rattle.std.proofs.lemmas.Bool.{cases_Bool, cond-true, cond-false, both_ways, leb-false, lt-leb}
 use Rattle.std.proofs.lemmas.List.{take_at, drop_at, drop-append-le}
-use Rattle.moka_base.specs.Maintenance.{Queues, Part, total, fits, front, judge, judged, parts, leaving_in, after_parts}
+use Rattle.moka_base.specs.Maintenance.{Queues, Part, total, fits, front, judged, parts, leaving_in, after_parts}
 use Rattle.moka_base.specs.MaintenanceLaws.{the_living, behind_the_dead}
 use Rattle.moka_base.proofs.Maintenance.{total-append, front-fits, front-le, fits-none, fits-drop_front, fits-admitted}
 use Rattle.moka_base.proofs.MaintenanceOrder.{behind, behind_the_dead-leaving, judge-wins, all_fit_alone, behind-append-admitted}
@@ -28,10 +28,10 @@ module _ {X : Type 0} (weight : X → ℕ) (capacity : Option ℕ) where
       ⊎_elim
       (λ e. let none = cond-true here 0 (short + 1) e in omega arith)
       (λ e.
-        let some = cond-false here 0 (short + 1) e in
-        let past : there ≡ false = heavier-fits weight capacity m n (x ∷ xs) (x ∷ (xs ++ ys)) (omega arith) e in
-        let more = cond-false there 0 (long + 1) past in
-        omega arith)
+      let some = cond-false here 0 (short + 1) e in
+      let past : there ≡ false = heavier-fits weight capacity m n (x ∷ xs) (x ∷ (xs ++ ys)) (omega arith) e in
+      let more = cond-false there 0 (long + 1) past in
+      omega arith)
       (cases_Bool here)
 
   -- a front goes on behind a part of it
@@ -51,7 +51,7 @@ module _ {X : Type 0} (weight : X → ℕ) (capacity : Option ℕ) where
   front-turn more xs ys le =
       let n : ℕ = front weight capacity more xs in
       ap (λ zs. n + front weight capacity 0 zs) (sym (drop-append-le n xs ys (front-le weight capacity more xs)))
-        ∙ front-drop 0 n (xs ++ ys) (front-append-le more 0 xs ys le)
+      ∙ front-drop 0 n (xs ++ ys) (front-append-le more 0 xs ys le)
 
   -- a front has its length
   length-take_front : (more : ℕ) (xs : List X) → length (take (front weight capacity more xs) xs) ≡ front weight capacity more xs
@@ -71,11 +71,11 @@ module _ {X : Type 0} (weight : X → ℕ) (capacity : Option ℕ) (wins : X →
       let now : List X = kept ++ x ∷ [] in
       let rest : List X = leaving_in (judged weight capacity wins now xs) in
       ap (λ (p : Part X). length (p.leaves ++ leaving_in (judged weight capacity wins p.after.admitted xs))) (judge-wins weight capacity wins always admitted x xs light.0)
-        ∙ length-append (take n admitted) rest
-        ∙ ap (λ k. k + length rest) (length-take_front weight capacity (weight x) admitted)
-        ∙ ap (λ k. n + k) (length-leaving-wins now xs (fits-admitted weight capacity admitted x light.0) light.1)
-        ∙ ap (λ ys. n + front weight capacity 0 ys) (append_assoc kept (x ∷ []) xs)
-        ∙ front-turn weight capacity (weight x) admitted (x ∷ xs) (omega arith)
+      ∙ length-append (take n admitted) rest
+      ∙ ap (λ k. k + length rest) (length-take_front weight capacity (weight x) admitted)
+      ∙ ap (λ k. n + k) (length-leaving-wins now xs (fits-admitted weight capacity admitted x light.0) light.1)
+      ∙ ap (λ ys. n + front weight capacity 0 ys) (append_assoc kept (x ∷ []) xs)
+      ∙ front-turn weight capacity (weight x) admitted (x ∷ xs) (omega arith)
 
   -- so is what leaves behind the dead
   length-behind-wins : (is_live : X → Bool) (q : Queues X) → AllByRecursion (λ x. fits weight capacity (weight x) [] ≡ true) (filter is_live q.waiting) → length (behind weight capacity is_live wins q) ≡ front weight capacity 0 (the_living is_live q)
@@ -85,9 +85,9 @@ module _ {X : Type 0} (weight : X → ℕ) (capacity : Option ℕ) (wins : X →
       let n : ℕ = front weight capacity 0 admitted in
       let rest : List X = leaving_in (judged weight capacity wins (drop n admitted) waiting) in
       length-append (take n admitted) rest
-        ∙ ap (λ k. k + length rest) (length-take_front weight capacity 0 admitted)
-        ∙ ap (λ k. n + k) (length-leaving-wins (drop n admitted) waiting (fits-drop_front weight capacity 0 admitted (fits-none weight capacity)) light)
-        ∙ front-turn weight capacity 0 admitted waiting (omega arith)
+      ∙ ap (λ k. k + length rest) (length-take_front weight capacity 0 admitted)
+      ∙ ap (λ k. n + k) (length-leaving-wins (drop n admitted) waiting (fits-drop_front weight capacity 0 admitted (fits-none weight capacity)) light)
+      ∙ front-turn weight capacity 0 admitted waiting (omega arith)
 
 module _ {X : Type 0} (weight : X → ℕ) (capacity : ℕ) (is_live : X → Bool) (wins : X → List X → Bool) (q : Queues X) (always : (x : X) (victims : List X) → wins x victims ≡ true) (light : AllByRecursion (λ x. weight x ≤ capacity) (filter is_live q.waiting)) where
   length-behind-light : length (behind weight (Some capacity) is_live wins q) ≡ front weight (Some capacity) 0 (the_living is_live q)
@@ -100,11 +100,11 @@ module _ {X : Type 0} (weight : X → ℕ) (capacity : ℕ) (is_live : X → Boo
   leaving-shortest =
       let n : ℕ = front weight (Some capacity) 0 (the_living is_live q) in
       behind_the_dead-leaving weight (Some capacity) is_live wins q
-        ∙ sym (take_at (behind weight (Some capacity) is_live wins q) (after_parts q (parts weight (Some capacity) is_live wins q)).admitted n length-behind-light)
-        ∙ ap (take n) behind-append-light
+      ∙ sym (take_at (behind weight (Some capacity) is_live wins q) (after_parts q (parts weight (Some capacity) is_live wins q)).admitted n length-behind-light)
+      ∙ ap (take n) behind-append-light
 
   pub admitted-shortest : (after_parts q (parts weight (Some capacity) is_live wins q)).admitted ≡ drop (front weight (Some capacity) 0 (the_living is_live q)) (the_living is_live q)
   admitted-shortest =
       let n : ℕ = front weight (Some capacity) 0 (the_living is_live q) in
       sym (drop_at (behind weight (Some capacity) is_live wins q) (after_parts q (parts weight (Some capacity) is_live wins q)).admitted n length-behind-light)
-        ∙ ap (drop n) behind-append-light
+      ∙ ap (drop n) behind-append-light

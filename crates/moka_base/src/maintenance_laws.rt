@@ -27,7 +27,7 @@ pub fn all_is_done<X>()
         → total weight (after_within weight (Some capacity) is_live wins None q).admitted ≤ capacity }
 {}
 
-/// Where all that live fit within the capacity, just the dead leave, the admitted before the waiting,
+/// Where all that live fit the capacity, just the dead leave, the admitted before the waiting,
 /// and each that waits is admitted, in order, whatever the admission rule.
 pub fn where_all_fit_just_the_dead_leave<X>()
     ensures leaving { (weight : X → ℕ) (capacity : ℕ) (is_live : X → Bool) (wins : X → List X → Bool) (q : Queues X) → total weight (the_living is_live q) ≤ capacity
@@ -110,9 +110,9 @@ pub fn it_goes_on_where_it_ended<X>()
         → parts weight capacity is_live wins (after_within weight capacity is_live wins None q) ≡ [] }
 {}
 
-/// One that waits, where all that are admitted live and are within the capacity: it is dropped where
-/// it is heavier than the capacity, and admitted where there is room. Else the shortest front that
-/// makes room is against it: where it wins they leave, and it is admitted; where it does not it is dropped.
+/// One that waits beside live ones within the capacity is dropped where it is heavier than the
+/// capacity, and admitted where there is room. Else the shortest front that makes room stands
+/// against it: where it wins they leave and it is admitted, and where it does not it is dropped.
 pub fn one_that_waits_is_judged<X>()
     ensures too_heavy { (weight : X → ℕ) (capacity : ℕ) (is_live : X → Bool) (wins : X → List X → Bool) (admitted : List X) (x : X)
         → AllByRecursion (λ y. is_live y ≡ true) (x ∷ admitted) → total weight admitted ≤ capacity → capacity < weight x
