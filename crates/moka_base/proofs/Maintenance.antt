@@ -1,7 +1,7 @@
 -- What leaves in each stage of a maintenance, and how the queues stand after it.
 use Rattle.std.proofs.Common.{◌≡◌, ℕ, zero, suc, ◌+◌, ◌<◌, ◌≤◌, ◌||◌, ◌==◌, Bool, true, false, not, if◌then◌else◌, nat_le, Option, Some, None, List, [], ◌∷◌, ◌++◌, length, take, drop, filter, refl, sym, ap, ◌∙◌, ⊎_elim, append_assoc, add-one, arith}
 use Rattle.std.specs.List.{All}
-use Rattle.std.proofs.lemmas.Bool.{cond_both, cases_Bool, leb-true, le-leb}
+use Rattle.std.proofs.lemmas.Bool.{cond_both, cases_Bool, cond-true, leb-true, le-leb}
 use Rattle.std.proofs.lemmas.List.Elements.{All-drop, All-push, filter_passes, All-head, All-tail}
 use Rattle.moka_base.specs.Maintenance.{Queues, Part, total, fits, front, dead_admitted, dead_waiting, over, judge, judged, parts, leaving_in, after_parts}
 use Rattle.moka_base.specs.MaintenanceLaws.{queues}
@@ -25,6 +25,11 @@ module _ {X : Type 0} (weight : X → ℕ) where
   fits-same None m n xs ys e = refl
   fits-same (Some c) m n xs ys e = ap (λ k. nat_le k c) e
 
+  -- what is no heavier fits too
+  pub lighter-fits : (capacity : Option ℕ) (m n : ℕ) (xs ys : List X) → n + total weight ys ≤ m + total weight xs → fits weight capacity m xs ≡ true → fits weight capacity n ys ≡ true
+  lighter-fits None m n xs ys le fit = refl
+  lighter-fits (Some c) m n xs ys le fit = let within = leb-true (m + total weight xs) c fit in le-leb (n + total weight ys) c (omega arith)
+
   -- nothing fits beside nothing
   pub fits-none : (capacity : Option ℕ) → fits weight capacity 0 [] ≡ true
   fits-none None = refl
@@ -41,6 +46,11 @@ module _ {X : Type 0} (weight : X → ℕ) (capacity : Option ℕ) (more : ℕ) 
   fits-drop_shorter [] m less = absurd (omega arith)
   fits-drop_shorter (x ∷ xs) zero less = cond_both (fits weight capacity more (x ∷ xs)) 0 (front weight capacity more xs + 1) (λ n. 0 < n → fits weight capacity more (x ∷ xs) ≡ false) (λ _ none. absurd (omega arith)) (λ e _. e) less
   fits-drop_shorter (x ∷ xs) (suc m) less = cond_both (fits weight capacity more (x ∷ xs)) 0 (front weight capacity more xs + 1) (λ n. suc m < n → fits weight capacity more (drop m xs) ≡ false) (λ _ none. absurd (omega arith)) (λ _ below. fits-drop_shorter xs m (omega arith)) less
+
+  -- where all fits, no front has to leave
+  pub front-fits : (xs : List X) → fits weight capacity more xs ≡ true → front weight capacity more xs ≡ 0
+  front-fits [] fit = refl
+  front-fits (x ∷ xs) fit = cond-true (fits weight capacity more (x ∷ xs)) 0 (front weight capacity more xs + 1) fit
 
   pub front-le : (xs : List X) → front weight capacity more xs ≤ length xs
   front-le [] = omega arith
@@ -80,6 +90,13 @@ module _ {X : Type 0} (weight : X → ℕ) (capacity : Option ℕ) where
   after-over [] waiting = refl
   after-over (x ∷ xs) waiting = ⊎_elim (λ e. rw e refl) (λ e. rw e (rw add-one (after-over xs waiting))) (cases_Bool (fits weight capacity 0 (x ∷ xs)))
 
+-- one that fits alone fits beside what the front leaves behind
+pub fits-admitted : {X : Type 0} (weight : X → ℕ) (capacity : Option ℕ) (admitted : List X) (x : X) → fits weight capacity (weight x) [] ≡ true → fits weight capacity 0 (drop (front weight capacity (weight x) admitted) admitted ++ x ∷ []) ≡ true
+fits-admitted weight capacity admitted x alone =
+    let kept = drop (front weight capacity (weight x) admitted) admitted in
+    let same : 0 + total weight (kept ++ x ∷ []) ≡ weight x + total weight kept = let parts_of = total-append weight kept (x ∷ []) in omega arith in
+    fits-same weight capacity 0 (weight x) (kept ++ x ∷ []) kept same ∙ fits-drop_front weight capacity (weight x) admitted alone
+
 -- the first that waits is admitted after a number of victims
 abbrev pub admitting : {X : Type 0} → ℕ → List X → X → List X → Part X
 admitting victims admitted x waiting = record { leaves = take victims admitted; after = queues (drop victims admitted ++ x ∷ []) waiting }
@@ -114,12 +131,8 @@ module _ {X : Type 0} (weight : X → ℕ) (capacity : Option ℕ) (wins : X →
   pub admitted_after-fits : (admitted waiting : List X) → fits weight capacity 0 admitted ≡ true → fits weight capacity 0 (admitted_after admitted waiting) ≡ true
   admitted_after-fits admitted [] fit = fit
   admitted_after-fits admitted (x ∷ xs) fit =
-      let kept : List X = drop (front weight capacity (weight x) admitted) admitted in
-      let same : 0 + total weight (kept ++ x ∷ []) ≡ weight x + total weight kept = let parts_of = total-append weight kept (x ∷ []) in omega arith in
       admitted_after-fits (judge weight capacity wins admitted x xs).after.admitted xs
-      (judge_both admitted x xs (λ p. fits weight capacity 0 p.after.admitted ≡ true)
-      (λ alone. fits-same weight capacity 0 (weight x) (kept ++ x ∷ []) kept same ∙ fits-drop_front weight capacity (weight x) admitted alone)
-      fit)
+      (judge_both admitted x xs (λ p. fits weight capacity 0 p.after.admitted ≡ true) (fits-admitted weight capacity admitted x) fit)
 
   -- what is true of all that was admitted or waited is true of all that is admitted
   pub All-admitted_after : (P : X → Type 0) (admitted waiting : List X) → All P admitted → All P waiting → All P (admitted_after admitted waiting)
