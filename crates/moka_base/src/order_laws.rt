@@ -1,9 +1,10 @@
 //! The laws of the two orders in which the stored writes stand: those that are admitted, and those
 //! that wait.
-ghost use Rattle.std.specs.Prelude.{◌≡◌, ◌≢◌, ℕ, Bool, not, true, List, [], ◌∷◌, ◌++◌, max, filter, option_to_list};
+ghost use Rattle.std.specs.Prelude.{nat_eq, ◌≡◌, ◌≢◌, ℕ, Bool, not, true, List, [], ◌∷◌, ◌++◌, max, filter, option_to_list};
 ghost use Rattle.moka_base.specs.Maintenance.{Queues};
 ghost use Rattle.moka_base.specs.History.{Event, Rules, Write, is_live, after_look, is_hit, standing, used_where, written_in, removed_in, queues};
-ghost use Rattle.moka_base.specs.OrderLaws.{keys, held, HasOneEach, with_admitted, with_waiting, hit_at, written_over, written_anew, lasts, openings, waits};
+ghost use Rattle.moka_base.specs.Worked.{without_lives, five_to_idle, seconds};
+ghost use Rattle.moka_base.specs.OrderLaws.{keys, held, HasOneEach, with_admitted, with_waiting, hit_at, written_over, written_anew, lasts, openings, waits, three_come, first_again, second_hit, first_removed, first_anew, three_admitted};
 
 /// The two orders hold just what stands: the write that stands for a key is in one of them, once, and
 /// nothing else is in either.
@@ -64,4 +65,28 @@ pub fn nothing_is_admitted_yet<K: Eq, V>()
 pub fn waiting_is_the_order_of_arrival<K: Eq, V>()
     ensures { (rules : Rules) (h : List (Event K V))
         → keys (queues K.eq rules h).waiting ≡ filter (waits K.eq rules h) (lasts K.eq (openings K.eq rules h)) }
+{}
+
+/// Three keys come and wait in that order. An overwrite and a hit keep it; a removal takes out its
+/// key, which waits behind all others once it comes anew.
+pub fn waiting_keys()
+    ensures come { keys (queues nat_eq without_lives three_come).waiting ≡ 1 ∷ 2 ∷ 3 ∷ [] }
+    ensures overwritten { keys (queues nat_eq without_lives first_again).waiting ≡ 1 ∷ 2 ∷ 3 ∷ [] }
+    ensures hit { keys (queues nat_eq without_lives second_hit).waiting ≡ 1 ∷ 2 ∷ 3 ∷ [] }
+    ensures removed { keys (queues nat_eq without_lives first_removed).waiting ≡ 2 ∷ 3 ∷ [] }
+    ensures anew { keys (queues nat_eq without_lives first_anew).waiting ≡ 2 ∷ 3 ∷ 1 ∷ [] }
+    ensures openings { openings nat_eq without_lives first_anew ≡ 1 ∷ 2 ∷ 3 ∷ 1 ∷ [] }
+    ensures lasts { lasts nat_eq (1 ∷ 2 ∷ 3 ∷ 1 ∷ []) ≡ 2 ∷ 3 ∷ 1 ∷ [] }
+{}
+
+/// Three keys are admitted. A hit and an overwrite put their key behind the others; a look at an
+/// expired write, or at a key that is not there, moves nothing; nor does a hit on a key that waits.
+pub fn admitted_keys()
+    ensures hit { keys (used_where nat_eq without_lives (is_hit nat_eq without_lives 1 4) (after_look without_lives 4) three_admitted).admitted ≡ 2 ∷ 3 ∷ 1 ∷ [] }
+    ensures expired { used_where nat_eq five_to_idle (is_hit nat_eq five_to_idle 1 (seconds 5)) (after_look five_to_idle (seconds 5)) three_admitted ≡ three_admitted }
+    ensures missing { used_where nat_eq without_lives (is_hit nat_eq without_lives 5 4) (after_look without_lives 4) three_admitted ≡ three_admitted }
+    ensures waiting { keys (used_where nat_eq without_lives (is_hit nat_eq without_lives 4 4) (after_look without_lives 4) three_admitted).admitted ≡ 1 ∷ 2 ∷ 3 ∷ [] }
+    ensures overwritten { keys (written_in nat_eq without_lives 2 21 4 three_admitted).admitted ≡ 1 ∷ 3 ∷ 2 ∷ [] }
+    ensures removed { keys (removed_in nat_eq without_lives 2 three_admitted).admitted ≡ 1 ∷ 3 ∷ [] }
+    ensures anew { keys (written_in nat_eq without_lives 5 50 4 three_admitted).waiting ≡ 4 ∷ 5 ∷ [] }
 {}
