@@ -91,6 +91,17 @@ module _ {K V : Type 0} (eq : K → K → Bool) (rules : Rules) (laws : IsEquiva
       others : (x : K) → (not (eq x p) && stands (Insert p v at ∷ h) x) ≡ stands h x
       others x = rw (laws.symm x p) (is_some-opened (eq p x) (after_write rules p v (latest (Insert p v at ∷ h)) (standing eq rules x h)) (standing eq rules x h) (λ same. ap is_some (sym (standing_congr eq rules laws p x h same) ∙ none)))
 
+  -- a write of a key that does not stand puts it behind those that wait
+  pub opening-waiting_keys : (p : K) (v : V) (at : ℕ) (h : List (Event K V)) → standing eq rules p h ≡ None → keys (queues eq rules (Insert p v at ∷ h)).waiting ≡ keys (queues eq rules h).waiting ++ p ∷ []
+  opening-waiting_keys p v at h none =
+      ap (λ (r : Queues (Write K V)). keys r.waiting) (written_in-anew eq rules p (queues eq rules h) v (latest (Insert p v at ∷ h)) (held-queues eq rules laws p h ∙ ap option_to_list none))
+        ∙ map-append (λ (w : Write K V). w.key) (queues eq rules h).waiting (opening eq rules p v (latest (Insert p v at ∷ h)) ∷ [])
+
+  -- and a write of a key that stands leaves them
+  pub standing-waiting_keys : (p : K) (v : V) (at : ℕ) (h : List (Event K V)) (w : Write K V) → standing eq rules p h ≡ Some w → keys (queues eq rules (Insert p v at ∷ h)).waiting ≡ keys (queues eq rules h).waiting
+  standing-waiting_keys p v at h w there =
+      overwrite-waiting_keys eq rules p (queues eq rules h) v (latest (Insert p v at ∷ h)) (λ none. let no : w ∷ [] ≡ [] = sym (held-queues eq rules laws p h ∙ ap option_to_list there) ∙ none in cc)
+
   -- the waiting keys are the last openings of the keys that stand, in order
   pub waiting_keys : (h : List (Event K V)) → keys (queues eq rules h).waiting ≡ filter (stands h) (lasts eq (openings eq rules h))
   waiting_keys [] = refl
@@ -103,13 +114,9 @@ module _ {K V : Type 0} (eq : K → K → Bool) (rules : Rules) (laws : IsEquiva
     where
       go : (o : Option (Write K V)) → standing eq rules p h ≡ o → keys (queues eq rules h).waiting ≡ filter (stands h) (lasts eq (openings eq rules h))
           → keys (queues eq rules (Insert p v at ∷ h)).waiting ≡ filter (stands (Insert p v at ∷ h)) (lasts eq (cond (is_some o) (openings eq rules h) (openings eq rules h ++ p ∷ [])))
-      go None e ih =
-          ap (λ (r : Queues (Write K V)). keys r.waiting) (written_in-anew eq rules p (queues eq rules h) v (latest (Insert p v at ∷ h)) (held-queues eq rules laws p h ∙ ap option_to_list e))
-            ∙ map-append (λ (w : Write K V). w.key) (queues eq rules h).waiting (opening eq rules p v (latest (Insert p v at ∷ h)) ∷ [])
-            ∙ ap (λ l. l ++ p ∷ []) ih
-            ∙ sym (stands-opening p v at h (openings eq rules h) e)
+      go None e ih = opening-waiting_keys p v at h e ∙ ap (λ l. l ++ p ∷ []) ih ∙ sym (stands-opening p v at h (openings eq rules h) e)
       go (Some w) e ih =
-          overwrite-waiting_keys eq rules p (queues eq rules h) v (latest (Insert p v at ∷ h)) (λ none. let no : w ∷ [] ≡ [] = sym (held-queues eq rules laws p h ∙ ap option_to_list e) ∙ none in cc)
+          standing-waiting_keys p v at h w e
             ∙ ih
             ∙ filter_agree (stands h) (stands (Insert p v at ∷ h)) (λ k. is_some-written (eq p k) (after_write rules p v (latest (Insert p v at ∷ h)) (standing eq rules k h)) (standing eq rules k h) (λ same. ap is_some (sym (standing_congr eq rules laws p k h same) ∙ e))) (lasts eq (openings eq rules h))
   waiting_keys (Invalidate p at ∷ h) =

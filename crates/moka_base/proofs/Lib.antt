@@ -1,11 +1,13 @@
 pub mod Arrivals
 pub mod Conserved
 pub mod Expiry
+pub mod HeldOnes
 pub mod Leavings
 pub mod ListLemmas
 pub mod Looks
 pub mod Moves
 pub mod Notices
 pub mod Places
+pub mod Positions
 pub mod QueuesHold
 pub mod Standing

@@ -75,6 +75,10 @@ module _ {K V : Type 0} (eq : K → K → Bool) (rules : Rules) (k : K) (q : Que
     rest_empty : (xs ys : List (Write K V)) → q.admitted ++ q.waiting ≡ xs ++ w ∷ ys → (writes_of eq k xs ≡ []) × (writes_of eq k ys ≡ [])
     rest_empty xs ys place = alone (writes_of eq k xs) (writes_of eq k ys) w (one k).0 (sym (held-around xs ys place) ∙ (one k).1)
 
+    -- so its write is all that is held for it
+    pub held-alone : (xs ys : List (Write K V)) → q.admitted ++ q.waiting ≡ xs ++ w ∷ ys → held eq k q ≡ w ∷ []
+    held-alone xs ys place = let others = rest_empty xs ys place in held-around xs ys place ∙ ap (λ l. l ++ w ∷ writes_of eq k ys) others.0 ∙ ap (λ l. w ∷ l) others.1
+
     -- a hit on the key is of its write
     hit_is_of : (at : ℕ) (u : Write K V) → is_hit eq rules k at u ≡ true → eq u.key k ≡ true
     hit_is_of at u hit = (and_parts (eq u.key k) (is_live rules u at) hit).0

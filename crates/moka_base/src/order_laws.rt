@@ -1,8 +1,10 @@
 //! The laws of the two orders in which the stored writes stand: those that are admitted, and those
 //! that wait.
-ghost use Rattle.std.specs.Prelude.{nat_eq, ◌≡◌, ◌≢◌, ℕ, Bool, not, true, List, [], ◌∷◌, ◌++◌, max, filter, option_to_list};
+ghost use Rattle.std.specs.Prelude.{nat_eq, ◌≡◌, ◌≢◌, ◌⊎◌, ◌<◌, length, ℕ, Bool, not, true, List, [], ◌∷◌, ◌++◌, max, filter, option_to_list};
 ghost use Rattle.moka_base.specs.Maintenance.{Queues};
 ghost use Rattle.moka_base.specs.History.{Event, Rules, Write, is_live, after_look, is_hit, standing, used_where, written_in, removed_in, queues};
+ghost use Rattle.moka_base.specs.Laws.{FirstWrite};
+ghost use Rattle.moka_base.specs.StandsFor.{writes_of};
 ghost use Rattle.moka_base.specs.Worked.{without_lives, five_to_idle, seconds};
 ghost use Rattle.moka_base.specs.OrderLaws.{keys, held, HasOneEach, with_admitted, with_waiting, hit_at, written_over, written_anew, lasts, openings, waits, three_come, first_again, second_hit, first_removed, first_anew, three_admitted};
 
@@ -12,6 +14,12 @@ pub fn the_queues_hold_what_stands<K: Eq, V>()
     ensures held { (rules : Rules) (h : List (Event K V)) (k : K)
         → held K.eq k (queues K.eq rules h) ≡ option_to_list (standing K.eq rules k h) }
     ensures one_each { (rules : Rules) (h : List (Event K V)) → HasOneEach K.eq (queues K.eq rules h) }
+    ensures each_stands { (rules : Rules) (h : List (Event K V)) (before after : List (Write K V)) (w : Write K V)
+        → (queues K.eq rules h).admitted ++ (queues K.eq rules h).waiting ≡ before ++ w ∷ after
+        → standing K.eq rules w.key h ≡ Some w }
+    ensures in_one_order { (rules : Rules) (h : List (Event K V)) (k : K) (w : Write K V) → standing K.eq rules k h ≡ Some w
+        → ((writes_of K.eq k (queues K.eq rules h).admitted ≡ w ∷ []) × (writes_of K.eq k (queues K.eq rules h).waiting ≡ []))
+        ⊎ ((writes_of K.eq k (queues K.eq rules h).admitted ≡ []) × (writes_of K.eq k (queues K.eq rules h).waiting ≡ w ∷ [])) }
 {}
 
 /// A key that waits keeps its place until it is removed. A look, whether it hits or not, and a write
@@ -61,10 +69,14 @@ pub fn nothing_is_admitted_yet<K: Eq, V>()
 {}
 
 /// What waits stands in the order of arrival: the waiting keys are those of the writes that found
-/// their key not standing, each at its last such write, kept where the key still waits.
+/// their key not standing, each at its last such write, kept where the key still waits. So of two
+/// that wait, the one whose first write is the older stands before the other.
 pub fn waiting_is_the_order_of_arrival<K: Eq, V>()
-    ensures { (rules : Rules) (h : List (Event K V))
+    ensures in_order { (rules : Rules) (h : List (Event K V))
         → keys (queues K.eq rules h).waiting ≡ filter (waits K.eq rules h) (lasts K.eq (openings K.eq rules h)) }
+    ensures older_first { (rules : Rules) (h : List (Event K V)) (before middle after : List (Write K V)) (a b : Write K V)
+        → (queues K.eq rules h).waiting ≡ before ++ a ∷ (middle ++ b ∷ after)
+        → (x : FirstWrite K.eq a.key h) (y : FirstWrite K.eq b.key h) → length x.before < length y.before }
 {}
 
 /// Three keys come and wait in that order. An overwrite and a hit keep it; a removal takes out its
