@@ -1,6 +1,5 @@
 -- Of two keys that wait, the one with the older opening write stands before the other.
-use Rattle.std.proofs.Common.{◌≡◌, ℕ, ◌<◌, ◌≤◌, suc, Bool, true, false, not, cond, ◌&&◌, is_some, List, [], ◌∷◌, ◌++◌, map, length, Option, Some, None, refl, sym, ap, ◌∙◌, subst, arith}
-use Rattle.std.specs.Option.{option_to_list}
+use Rattle.std.proofs.Common.{◌≡◌, ℕ, ◌<◌, ◌≤◌, suc, Bool, true, false, not, cond, ◌&&◌, is_some, List, [], ◌∷◌, ◌++◌, length, Option, Some, None, refl, sym, ap, ◌∙◌, subst, arith}
 use Rattle.std.specs.List.{filter}
 use Rattle.std.specs.Cmp.{IsEquivalence}
 use Rattle.std.proofs.lemmas.List.{map-append}
@@ -159,7 +158,7 @@ module _ {K V : Type 0} (eq : K → K → Bool) (rules : Rules) where
     older_first h before middle after a b is x y =
         let read = λ (w : Write K V). w.key in
         let names : keys (queues eq rules h).waiting ≡ keys before ++ a.key ∷ (keys middle ++ b.key ∷ keys after) =
-          ap keys is ∙ map-append read before (a ∷ (middle ++ b ∷ after)) ∙ ap (λ l. keys before ++ a.key ∷ l) (map-append read middle (b ∷ after)) in
+        ap keys is ∙ map-append read before (a ∷ (middle ++ b ∷ after)) ∙ ap (λ l. keys before ++ a.key ∷ l) (map-append read middle (b ∷ after)) in
         let older : place h a.key < place h b.key = InOrder-at (place h) (keys before) (keys middle) (keys after) a.key b.key (subst (InOrder (place h)) names (waiting_in_places h)) in
         let at_a = place-first a.key h x in
         let at_b = place-first b.key h y in

@@ -1,6 +1,6 @@
 //! The laws of the two orders in which the stored writes stand: those that are admitted, and those
 //! that wait.
-ghost use Rattle.std.specs.Prelude.{nat_eq, ◌≡◌, ◌≢◌, ◌⊎◌, ◌<◌, length, ℕ, Bool, not, true, List, [], ◌∷◌, ◌++◌, max, filter, option_to_list};
+ghost use Rattle.std.specs.Prelude.{nat_eq, ◌≡◌, ◌≢◌, ◌⊎◌, ◌<◌, length, ℕ, not, true, List, [], ◌∷◌, ◌++◌, filter, option_to_list};
 ghost use Rattle.moka_base.specs.Maintenance.{Queues};
 ghost use Rattle.moka_base.specs.History.{Event, Rules, Write, is_live, after_look, is_hit, standing, used_where, written_in, removed_in, queues};
 ghost use Rattle.moka_base.specs.Laws.{FirstWrite};
