@@ -16,7 +16,7 @@ same_queues us vs xs ys e d = rw (e, d)
 
 module _ {K V : Type 0} (eq : K → K → Bool) (rules : Rules) (k : K) (q : Queues (Write K V)) where
   -- each order has no write of a key that neither has
-  none_held : held eq k q ≡ [] → (writes_of eq k q.admitted ≡ []) × (writes_of eq k q.waiting ≡ [])
+  pub none_held : held eq k q ≡ [] → (writes_of eq k q.admitted ≡ []) × (writes_of eq k q.waiting ≡ [])
   none_held none = empty_parts (writes_of eq k q.admitted) (writes_of eq k q.waiting) (sym (held-append eq rules k q) ∙ none)
 
   -- where none passes, both orders stay

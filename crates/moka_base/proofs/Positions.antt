@@ -1,14 +1,15 @@
 -- Of two keys that wait, the one with the older opening write stands before the other.
 use Rattle.std.proofs.Common.{◌≡◌, ℕ, ◌<◌, ◌≤◌, suc, Bool, true, false, not, cond, ◌&&◌, is_some, List, [], ◌∷◌, ◌++◌, length, Option, Some, None, refl, sym, ap, ◌∙◌, subst, arith}
-use Rattle.std.specs.List.{filter}
+use Rattle.std.specs.List.{filter, list_any}
+use Rattle.std.proofs.lemmas.Bool.{and_parts}
 use Rattle.std.specs.Cmp.{IsEquivalence}
 use Rattle.std.proofs.lemmas.List.{map-append}
 use Rattle.moka_base.specs.History.{Event, Get, ContainsKey, Insert, Invalidate, TakeNotice, Rules, Write, latest, standing, queues}
 use Rattle.moka_base.specs.Laws.{IsUnremoved, NothingStands, FirstWrite}
-use Rattle.moka_base.specs.OrderLaws.{keys, lasts, openings}
+use Rattle.moka_base.specs.OrderLaws.{keys, lasts, openings, waits}
 use Rattle.moka_base.proofs.Places.{standing-nothing, stored_under_first_write}
 use Rattle.moka_base.proofs.Moves.{look-waiting_keys, removed_in-waiting_keys}
-use Rattle.moka_base.proofs.Arrivals.{opening-waiting_keys, standing-waiting_keys, waiting_keys}
+use Rattle.moka_base.proofs.Arrivals.{opening-waiting_keys, standing-waiting_keys, waiting_in_order}
 
 module _ {A : Type 0} where
   -- a fact holds of each
@@ -127,7 +128,16 @@ module _ {K V : Type 0} (eq : K → K → Bool) (rules : Rules) where
   module _ (laws : IsEquivalence eq) where
     -- each key that waits stands
     waiting_stand : (h : List (Event K V)) → Each (λ k. is_some (standing eq rules k h) ≡ true) (keys (queues eq rules h).waiting)
-    waiting_stand h = subst (Each (λ k. is_some (standing eq rules k h) ≡ true)) (sym (waiting_keys eq rules laws h)) (Each-filtered (λ k. is_some (standing eq rules k h)) (lasts eq (openings eq rules h)))
+    waiting_stand h =
+        let wait : Each (λ k. waits eq rules h k ≡ true) (keys (queues eq rules h).waiting) = subst (Each (λ k. waits eq rules h k ≡ true)) (sym (waiting_in_order eq rules laws h)) (Each-filtered (waits eq rules h) (lasts eq (openings eq rules h))) in
+        Each-from
+        (λ k. waits eq rules h k ≡ true)
+        (λ k. waits eq rules h k ≡ true)
+        (λ k. is_some (standing eq rules k h) ≡ true)
+        (λ k it _. (and_parts (is_some (standing eq rules k h)) (not (list_any (λ (w : Write K V). eq w.key k) (queues eq rules h).admitted)) it).0)
+        (keys (queues eq rules h).waiting)
+        wait
+        wait
 
     -- one more event leaves the places of those that wait
     places_stay : (e : Event K V) (h : List (Event K V)) → Each (λ k. place (e ∷ h) k ≡ place h k) (keys (queues eq rules h).waiting)
