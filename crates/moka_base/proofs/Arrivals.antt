@@ -1,17 +1,17 @@
 -- Nothing is admitted, and what waits stands in the order of its opening writes.
-use Rattle.std.proofs.Common.{◌≡◌, ℕ, Bool, true, false, not, cond, ◌&&◌, ◌||◌, is_some, List, [], ◌∷◌, ◌++◌, Option, Some, None, option_map, refl, sym, ap, ◌∙◌}
+use Rattle.std.proofs.Common.{◌≡◌, subst, ⊎_elim, ℕ, Bool, true, false, not, cond, ◌&&◌, ◌||◌, is_some, List, [], ◌∷◌, ◌++◌, Option, Some, None, refl, sym, ap, ◌∙◌, map}
 use Rattle.std.specs.Option.{option_to_list}
 use Rattle.std.specs.List.{filter, list_any}
 use Rattle.std.specs.Cmp.{IsEquivalence}
 use Rattle.std.proofs.lemmas.List.{map-append}
 use Rattle.std.proofs.lemmas.List.Elements.{filter-append, filter_agree}
 use Rattle.moka_base.specs.Maintenance.{Queues}
-use Rattle.moka_base.specs.History.{Event, Get, ContainsKey, Insert, Invalidate, TakeNotice, Rules, Write, latest, after_look, after_write, standing, moved_last, is_of, is_hit, opened_by, queues}
+use Rattle.moka_base.specs.History.{Event, Get, ContainsKey, Insert, Invalidate, TakeNotice, Rules, Write, latest, after_look, standing, moved_last, is_of, is_hit, opened_by, queues}
+use Rattle.moka_base.specs.StandsFor.{writes_of}
 use Rattle.moka_base.specs.OrderLaws.{keys, held, lasts, openings, waits}
-use Rattle.moka_base.proofs.Standing.{standing_congr}
-use Rattle.moka_base.proofs.ListLemmas.{filter-both}
-use Rattle.moka_base.proofs.QueuesHold.{opening, overwrite, overwritten, held-queues}
-use Rattle.moka_base.proofs.Moves.{written_in-anew, look-waiting_keys, overwrite-waiting_keys, removed_in-waiting_keys}
+use Rattle.moka_base.proofs.ListLemmas.{filter-both, one_side}
+use Rattle.moka_base.proofs.QueuesHold.{opening, overwrite, overwritten, held-queues, held-append}
+use Rattle.moka_base.proofs.Moves.{none_held, written_in-anew, look-waiting_keys, overwrite-waiting_keys, removed_in-waiting_keys}
 
 module _ {K V : Type 0} (eq : K → K → Bool) (rules : Rules) where
   -- a write admits nothing
@@ -30,20 +30,20 @@ module _ {K V : Type 0} (eq : K → K → Bool) (rules : Rules) where
   admitted-queues (Invalidate k at ∷ h) = ap (filter (λ (w : Write K V). not (eq w.key k))) (admitted-queues h)
   admitted-queues (TakeNotice ∷ h) = admitted-queues h
 
-module _ {K : Type 0} (eq : K → K → Bool) where
-  -- one more element that a test may find
-  list_any-push : (p : K → Bool) (ks : List K) (k : K) → list_any p (ks ++ k ∷ []) ≡ (list_any p ks || p k)
-  list_any-push p [] k = go (p k)
-    where
-      go : (t : Bool) → (t || false) ≡ t
-      go true = refl
-      go false = refl
-  list_any-push p (x ∷ ks) k = rw (list_any-push p ks k) (go (p x))
-    where
-      go : (t : Bool) → (t || (list_any p ks || p k)) ≡ ((t || list_any p ks) || p k)
-      go true = refl
-      go false = refl
+-- one more element that a test may find
+list_any-push : {K : Type 0} (p : K → Bool) (ks : List K) (k : K) → list_any p (ks ++ k ∷ []) ≡ (list_any p ks || p k)
+list_any-push p [] k = go (p k)
+  where
+    go : (t : Bool) → (t || false) ≡ t
+    go true = refl
+    go false = refl
+list_any-push p (x ∷ ks) k = rw (list_any-push p ks k) (go (p x))
+  where
+    go : (t : Bool) → (t || (list_any p ks || p k)) ≡ ((t || list_any p ks) || p k)
+    go true = refl
+    go false = refl
 
+module _ {K : Type 0} (eq : K → K → Bool) where
   -- one more key stands behind all others, and nowhere else
   lasts-push : (ks : List K) (k : K) → lasts eq (ks ++ k ∷ []) ≡ filter (λ x. not (eq x k)) (lasts eq ks) ++ k ∷ []
   lasts-push [] k = refl
@@ -54,79 +54,152 @@ module _ {K : Type 0} (eq : K → K → Bool) where
       go false true e = rw e
       go false false e = rw e
 
--- what stands under a choice
-is_some-same : {A : Type 0} (t : Bool) (f : A → A) (o : Option A) → is_some o ≡ is_some (cond t (option_map f o) o)
-is_some-same true f None = refl
-is_some-same true f (Some x) = refl
-is_some-same false f o = refl
+-- of a test with a known one
+and_false : (t : Bool) → (t && false) ≡ false
+and_false true = refl
+and_false false = refl
 
-is_some-removed : {A : Type 0} (t : Bool) (o : Option A) → (is_some o && not t) ≡ is_some (cond t None o)
-is_some-removed true None = refl
-is_some-removed true (Some x) = refl
-is_some-removed false None = refl
-is_some-removed false (Some x) = refl
+and_true : (t : Bool) → (t && true) ≡ t
+and_true true = refl
+and_true false = refl
 
-is_some-written : {A : Type 0} (t : Bool) (x : A) (o : Option A) → (t ≡ true → is_some o ≡ true) → is_some o ≡ is_some (cond t (Some x) o)
-is_some-written true x o there = there refl
-is_some-written false x o there = refl
+and_not : (t : Bool) → (t && not t) ≡ false
+and_not true = refl
+and_not false = refl
 
-is_some-opened : {A : Type 0} (t : Bool) (x : A) (o : Option A) → (t ≡ true → is_some o ≡ false) → (not t && is_some (cond t (Some x) o)) ≡ is_some o
-is_some-opened true x o none = sym (none refl)
-is_some-opened false x o none = refl
+or_false : (t : Bool) → (t || false) ≡ t
+or_false true = refl
+or_false false = refl
+
+or_true : (t : Bool) → (t || true) ≡ true
+or_true true = refl
+or_true false = refl
+
+-- a test finds an element where a filter keeps one
+abbrev is_some_of : {A : Type 0} → List A → Bool
+is_some_of [] = false
+is_some_of (x ∷ xs) = true
+
+list_any-filter : {A : Type 0} (p : A → Bool) (xs : List A) → list_any p xs ≡ is_some_of (filter p xs)
+list_any-filter p [] = refl
+list_any-filter p (x ∷ xs) = rw (list_any-filter p xs) (go (p x))
+  where
+    go : (t : Bool) → (t || is_some_of (filter p xs)) ≡ is_some_of (cond t (x ∷ filter p xs) (filter p xs))
+    go true = refl
+    go false = refl
+
+-- a test of what is read of each element
+list_any-map : {A B : Type 0} (read : A → B) (p : B → Bool) (xs : List A) → list_any p (map read xs) ≡ list_any (λ x. p (read x)) xs
+list_any-map read p [] = refl
+list_any-map read p (x ∷ xs) = ap (λ t. p (read x) || t) (list_any-map read p xs)
+
+module _ {K : Type 0} (eq : K → K → Bool) where
+  -- a key is among others
+  abbrev pub is_among : List K → K → Bool
+  is_among ks k = list_any (λ x. eq x k) ks
+
+  -- a list has the last places of those of its keys, among all that came
+  abbrev pub KeepsArrival : List K → List K → Type 0
+  KeepsArrival ks all = ks ≡ filter (is_among ks) (lasts eq all)
+
+  module _ (laws : IsEquivalence eq) where
+    -- equal keys are among the same
+    is_among-congr : (p x : K) (ks : List K) → eq p x ≡ true → is_among ks x ≡ is_among ks p
+    is_among-congr p x [] same = refl
+    is_among-congr p x (y ∷ ks) same = rw (is_among-congr p x ks same, laws.symm y x, sym (laws.congr p x y same), laws.symm p y)
+
+    -- where a key is taken out, it is not among the others
+    is_among-filter : (p x : K) (ks : List K) → is_among (filter (λ y. not (eq y p)) ks) x ≡ (is_among ks x && not (eq x p))
+    is_among-filter p x [] = refl
+    is_among-filter p x (y ∷ ks) = go (eq y x) refl (eq y p) refl (eq x p) refl (is_among-filter p x ks)
+      where
+        go : (s : Bool) → eq y x ≡ s → (t : Bool) → eq y p ≡ t → (u : Bool) → eq x p ≡ u → is_among (filter (λ z. not (eq z p)) ks) x ≡ (is_among ks x && not (eq x p))
+            → is_among (filter (λ z. not (eq z p)) (y ∷ ks)) x ≡ (is_among (y ∷ ks) x && not (eq x p))
+        go true e true d true f ih = rw (d, e, f) (ih ∙ ap (λ t. is_among ks x && not t) f ∙ and_false (is_among ks x))
+        go true e true d false f ih = let no = sym d ∙ laws.congr y x p e ∙ f in cc
+        go true e false d true f ih = let no = sym d ∙ laws.congr y x p e ∙ f in cc
+        go true e false d false f ih = rw (d, e, f)
+        go false e true d u f ih = rw (d, e) ih
+        go false e false d u f ih = rw (d, e) ih
+
+    -- a new key comes last
+    KeepsArrival-push : (ks all : List K) (p : K) → is_among ks p ≡ false → KeepsArrival ks all → KeepsArrival (ks ++ p ∷ []) (all ++ p ∷ [])
+    KeepsArrival-push ks all p new kept =
+        ap (λ l. l ++ p ∷ []) kept
+        ∙ ap (λ l. l ++ p ∷ []) (sym (filter_agree (λ x. not (eq x p) && is_among (ks ++ p ∷ []) x) (is_among ks) others (lasts eq all)) ∙ filter-both (λ x. not (eq x p)) (is_among (ks ++ p ∷ [])) (lasts eq all))
+        ∙ ap (λ t. filter (is_among (ks ++ p ∷ [])) (filter (λ x. not (eq x p)) (lasts eq all)) ++ cond t (p ∷ []) []) (sym last)
+        ∙ sym (filter-append (is_among (ks ++ p ∷ [])) (filter (λ x. not (eq x p)) (lasts eq all)) (p ∷ []))
+        ∙ sym (ap (filter (is_among (ks ++ p ∷ []))) (lasts-push eq all p))
+      where
+        last : is_among (ks ++ p ∷ []) p ≡ true
+        last = list_any-push (λ x. eq x p) ks p ∙ ap (λ t. is_among ks p || t) (laws.refl p) ∙ or_true (is_among ks p)
+
+        others : (x : K) → (not (eq x p) && is_among (ks ++ p ∷ []) x) ≡ is_among ks x
+        others x = rw (list_any-push (λ y. eq y x) ks p, laws.symm x p) (go (eq p x) refl)
+          where
+            go : (t : Bool) → eq p x ≡ t → (not t && (is_among ks x || t)) ≡ is_among ks x
+            go true e = sym (is_among-congr p x ks e ∙ new)
+            go false e = or_false (is_among ks x)
+
+    -- a key is taken out
+    KeepsArrival-filter : (ks all : List K) (p : K) → KeepsArrival ks all → KeepsArrival (filter (λ x. not (eq x p)) ks) all
+    KeepsArrival-filter ks all p kept =
+        ap (filter (λ x. not (eq x p))) kept
+        ∙ sym (filter-both (is_among ks) (λ x. not (eq x p)) (lasts eq all))
+        ∙ filter_agree (λ x. is_among ks x && not (eq x p)) (is_among (filter (λ x. not (eq x p)) ks)) (λ x. sym (is_among-filter p x ks)) (lasts eq all)
 
 module _ {K V : Type 0} (eq : K → K → Bool) (rules : Rules) (laws : IsEquivalence eq) where
-  -- a key stands
-  abbrev stands : List (Event K V) → K → Bool
-  stands h k = is_some (standing eq rules k h)
+  -- a write of a key that does not stand puts it behind those that wait
+  pub opening-waiting_keys : (p : K) (v : V) (at : ℕ) (h : List (Event K V)) → standing eq rules p h ≡ None → keys (queues eq rules (Insert p v at ∷ h)).waiting ≡ keys (queues eq rules h).waiting ++ p ∷ []
+  opening-waiting_keys p v at h none =
+      ap (λ (r : Queues (Write K V)). keys r.waiting) (written_in-anew eq rules p (queues eq rules h) v (latest (Insert p v at ∷ h)) (held-queues eq rules laws p h ∙ ap option_to_list none))
+      ∙ map-append (λ (w : Write K V). w.key) (queues eq rules h).waiting (opening eq rules p v (latest (Insert p v at ∷ h)) ∷ [])
 
-  -- one more opening, of a key that stands from then on
-  stands-opening : (p : K) (v : V) (at : ℕ) (h : List (Event K V)) (ks : List K) → standing eq rules p h ≡ None
-      → filter (stands (Insert p v at ∷ h)) (lasts eq (ks ++ p ∷ [])) ≡ filter (stands h) (lasts eq ks) ++ p ∷ []
-  stands-opening p v at h ks none =
-      ap (filter (stands (Insert p v at ∷ h))) (lasts-push eq ks p)
-      ∙ filter-append (stands (Insert p v at ∷ h)) (filter (λ x. not (eq x p)) (lasts eq ks)) (p ∷ [])
-      ∙ ap (λ l. l ++ cond (stands (Insert p v at ∷ h) p) (p ∷ []) []) (sym (filter-both (λ x. not (eq x p)) (stands (Insert p v at ∷ h)) (lasts eq ks)) ∙ filter_agree (λ x. not (eq x p) && stands (Insert p v at ∷ h) x) (stands h) others (lasts eq ks))
-      ∙ ap (λ t. filter (stands h) (lasts eq ks) ++ cond (is_some (cond t (Some (after_write rules p v (latest (Insert p v at ∷ h)) (standing eq rules p h))) (standing eq rules p h))) (p ∷ []) []) (laws.refl p)
+  -- and a write of a key that stands leaves them
+  pub standing-waiting_keys : (p : K) (v : V) (at : ℕ) (h : List (Event K V)) (w : Write K V) → standing eq rules p h ≡ Some w → keys (queues eq rules (Insert p v at ∷ h)).waiting ≡ keys (queues eq rules h).waiting
+  standing-waiting_keys p v at h w there =
+      overwrite-waiting_keys eq rules p (queues eq rules h) v (latest (Insert p v at ∷ h)) (λ none. let no : w ∷ [] ≡ [] = sym (held-queues eq rules laws p h ∙ ap option_to_list there) ∙ none in cc)
+
+  -- a key is among those that wait where one of its writes waits
+  is_among-waiting : (h : List (Event K V)) (k : K) → is_among eq (keys (queues eq rules h).waiting) k ≡ is_some_of (writes_of eq k (queues eq rules h).waiting)
+  is_among-waiting h k = list_any-map (λ (w : Write K V). w.key) (λ x. eq x k) (queues eq rules h).waiting ∙ list_any-filter (λ (w : Write K V). eq w.key k) (queues eq rules h).waiting
+
+  -- a key that does not stand is not among them
+  is_among-none : (h : List (Event K V)) (p : K) → standing eq rules p h ≡ None → is_among eq (keys (queues eq rules h).waiting) p ≡ false
+  is_among-none h p none = is_among-waiting h p ∙ ap is_some_of (none_held eq rules p (queues eq rules h) (held-queues eq rules laws p h ∙ ap option_to_list none)).1
+
+  -- a key waits where it is among them
+  pub waits-is_among : (h : List (Event K V)) (k : K) → waits eq rules h k ≡ is_among eq (keys (queues eq rules h).waiting) k
+  waits-is_among h k =
+      ap (λ t. is_some (standing eq rules k h) && not t) (list_any-filter (λ (w : Write K V). eq w.key k) (queues eq rules h).admitted)
+      ∙ go (standing eq rules k h) (writes_of eq k (queues eq rules h).admitted) (writes_of eq k (queues eq rules h).waiting) (sym (held-append eq rules k (queues eq rules h)) ∙ held-queues eq rules laws k h)
+      ∙ sym (is_among-waiting h k)
     where
-      others : (x : K) → (not (eq x p) && stands (Insert p v at ∷ h) x) ≡ stands h x
-      others x = rw (laws.symm x p) (is_some-opened (eq p x) (after_write rules p v (latest (Insert p v at ∷ h)) (standing eq rules x h)) (standing eq rules x h) (λ same. ap is_some (sym (standing_congr eq rules laws p x h same) ∙ none)))
+      is_some_of-option : (o : Option (Write K V)) → is_some_of (option_to_list o) ≡ is_some o
+      is_some_of-option None = refl
+      is_some_of-option (Some w) = refl
 
-  -- the waiting keys are the last openings of the keys that stand, in order
-  pub waiting_keys : (h : List (Event K V)) → keys (queues eq rules h).waiting ≡ filter (stands h) (lasts eq (openings eq rules h))
-  waiting_keys [] = refl
-  waiting_keys (Get p at ∷ h) =
-      look-waiting_keys eq rules p (queues eq rules h) (latest (Get p at ∷ h))
-      ∙ waiting_keys h
-      ∙ filter_agree (stands h) (stands (Get p at ∷ h)) (λ k. is_some-same (eq p k) (after_look rules (latest (Get p at ∷ h))) (standing eq rules k h)) (lasts eq (openings eq rules h))
-  waiting_keys (ContainsKey p at ∷ h) = waiting_keys h
-  waiting_keys (Insert p v at ∷ h) = go (standing eq rules p h) refl (waiting_keys h)
+      go : (o : Option (Write K V)) (xs ys : List (Write K V)) → xs ++ ys ≡ option_to_list o → (is_some o && not (is_some_of xs)) ≡ is_some_of ys
+      go o xs ys e =
+          ⊎_elim
+          (λ (s : (xs ≡ []) × (ys ≡ option_to_list o)). rw (s.0, s.1) (and_true (is_some o) ∙ sym (is_some_of-option o)))
+          (λ (s : (xs ≡ option_to_list o) × (ys ≡ [])). rw (s.0, s.1, is_some_of-option o) (and_not (is_some o)))
+          (one_side xs ys o e)
+
+  -- the waiting keys keep the order in which their last openings came
+  keeps_arrival : (h : List (Event K V)) → KeepsArrival eq (keys (queues eq rules h).waiting) (openings eq rules h)
+  keeps_arrival [] = refl
+  keeps_arrival (Get p at ∷ h) = subst (λ ks. KeepsArrival eq ks (openings eq rules h)) (sym (look-waiting_keys eq rules p (queues eq rules h) (latest (Get p at ∷ h)))) (keeps_arrival h)
+  keeps_arrival (ContainsKey p at ∷ h) = keeps_arrival h
+  keeps_arrival (Insert p v at ∷ h) = go (standing eq rules p h) refl (keeps_arrival h)
     where
-      go : (o : Option (Write K V)) → standing eq rules p h ≡ o → keys (queues eq rules h).waiting ≡ filter (stands h) (lasts eq (openings eq rules h))
-          → keys (queues eq rules (Insert p v at ∷ h)).waiting ≡ filter (stands (Insert p v at ∷ h)) (lasts eq (cond (is_some o) (openings eq rules h) (openings eq rules h ++ p ∷ [])))
-      go None e ih =
-          ap (λ (r : Queues (Write K V)). keys r.waiting) (written_in-anew eq rules p (queues eq rules h) v (latest (Insert p v at ∷ h)) (held-queues eq rules laws p h ∙ ap option_to_list e))
-          ∙ map-append (λ (w : Write K V). w.key) (queues eq rules h).waiting (opening eq rules p v (latest (Insert p v at ∷ h)) ∷ [])
-          ∙ ap (λ l. l ++ p ∷ []) ih
-          ∙ sym (stands-opening p v at h (openings eq rules h) e)
-      go (Some w) e ih =
-          overwrite-waiting_keys eq rules p (queues eq rules h) v (latest (Insert p v at ∷ h)) (λ none. let no : w ∷ [] ≡ [] = sym (held-queues eq rules laws p h ∙ ap option_to_list e) ∙ none in cc)
-          ∙ ih
-          ∙ filter_agree (stands h) (stands (Insert p v at ∷ h)) (λ k. is_some-written (eq p k) (after_write rules p v (latest (Insert p v at ∷ h)) (standing eq rules k h)) (standing eq rules k h) (λ same. ap is_some (sym (standing_congr eq rules laws p k h same) ∙ e))) (lasts eq (openings eq rules h))
-  waiting_keys (Invalidate p at ∷ h) =
-      removed_in-waiting_keys eq rules p (queues eq rules h)
-      ∙ ap (filter (λ x. not (eq x p))) (waiting_keys h)
-      ∙ sym (filter-both (stands h) (λ x. not (eq x p)) (lasts eq (openings eq rules h)))
-      ∙ filter_agree (λ x. stands h x && not (eq x p)) (stands (Invalidate p at ∷ h)) (λ x. rw (laws.symm x p) (is_some-removed (eq p x) (standing eq rules x h))) (lasts eq (openings eq rules h))
-  waiting_keys (TakeNotice ∷ h) = waiting_keys h
+      go : (o : Option (Write K V)) → standing eq rules p h ≡ o → KeepsArrival eq (keys (queues eq rules h).waiting) (openings eq rules h)
+          → KeepsArrival eq (keys (queues eq rules (Insert p v at ∷ h)).waiting) (cond (is_some o) (openings eq rules h) (openings eq rules h ++ p ∷ []))
+      go None e kept = subst (λ ks. KeepsArrival eq ks (openings eq rules h ++ p ∷ [])) (sym (opening-waiting_keys p v at h e)) (KeepsArrival-push eq laws (keys (queues eq rules h).waiting) (openings eq rules h) p (is_among-none h p e) kept)
+      go (Some w) e kept = subst (λ ks. KeepsArrival eq ks (openings eq rules h)) (sym (standing-waiting_keys p v at h w e)) kept
+  keeps_arrival (Invalidate p at ∷ h) = subst (λ ks. KeepsArrival eq ks (openings eq rules h)) (sym (removed_in-waiting_keys eq rules p (queues eq rules h))) (KeepsArrival-filter eq laws (keys (queues eq rules h).waiting) (openings eq rules h) p (keeps_arrival h))
+  keeps_arrival (TakeNotice ∷ h) = keeps_arrival h
 
-  -- a key that stands waits, since nothing is admitted
-  stands-waits : (h : List (Event K V)) (k : K) → stands h k ≡ waits eq rules h k
-  stands-waits h k = rw (admitted-queues eq rules h) (go (stands h k))
-    where
-      go : (t : Bool) → t ≡ (t && true)
-      go true = refl
-      go false = refl
-
-  -- so they are those of the keys that wait
+  -- so they are the last openings of the keys that wait
   pub waiting_in_order : (h : List (Event K V)) → keys (queues eq rules h).waiting ≡ filter (waits eq rules h) (lasts eq (openings eq rules h))
-  waiting_in_order h = waiting_keys h ∙ filter_agree (stands h) (waits eq rules h) (stands-waits h) (lasts eq (openings eq rules h))
+  waiting_in_order h = keeps_arrival h ∙ filter_agree (is_among eq (keys (queues eq rules h).waiting)) (waits eq rules h) (λ k. sym (waits-is_among h k)) (lasts eq (openings eq rules h))

@@ -1,6 +1,7 @@
 pub mod Arrivals
 pub mod Conserved
 pub mod Expiry
+pub mod HeldOnes
 pub mod Leavings
 pub mod ListLemmas
 pub mod Looks
@@ -16,5 +17,6 @@ pub mod Moves
 pub mod Notices
 pub mod NumberHashes
 pub mod Places
+pub mod Positions
 pub mod QueuesHold
 pub mod Standing

@@ -16,7 +16,7 @@ same_queues us vs xs ys e d = rw (e, d)
 
 module _ {K V : Type 0} (eq : K → K → Bool) (rules : Rules) (k : K) (q : Queues (Write K V)) where
   -- each order has no write of a key that neither has
-  none_held : held eq k q ≡ [] → (writes_of eq k q.admitted ≡ []) × (writes_of eq k q.waiting ≡ [])
+  pub none_held : held eq k q ≡ [] → (writes_of eq k q.admitted ≡ []) × (writes_of eq k q.waiting ≡ [])
   none_held none = empty_parts (writes_of eq k q.admitted) (writes_of eq k q.waiting) (sym (held-append eq rules k q) ∙ none)
 
   -- where none passes, both orders stay
@@ -72,6 +72,10 @@ module _ {K V : Type 0} (eq : K → K → Bool) (rules : Rules) (k : K) (q : Que
     -- and no other
     rest_empty : (xs ys : List (Write K V)) → q.admitted ++ q.waiting ≡ xs ++ w ∷ ys → (writes_of eq k xs ≡ []) × (writes_of eq k ys ≡ [])
     rest_empty xs ys place = alone (writes_of eq k xs) (writes_of eq k ys) w (one k).0 (sym (held-around xs ys place) ∙ (one k).1)
+
+    -- so its write is all that is held for it
+    pub held-alone : (xs ys : List (Write K V)) → q.admitted ++ q.waiting ≡ xs ++ w ∷ ys → held eq k q ≡ w ∷ []
+    held-alone xs ys place = let others = rest_empty xs ys place in held-around xs ys place ∙ ap (λ l. l ++ w ∷ writes_of eq k ys) others.0 ∙ ap (λ l. w ∷ l) others.1
 
     -- a hit on the key is of its write
     hit_is_of : (at : ℕ) (u : Write K V) → is_hit eq rules k at u ≡ true → eq u.key k ≡ true

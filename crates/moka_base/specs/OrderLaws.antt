@@ -57,3 +57,27 @@ module _ {K : Type 0} (eq : K → K → Bool) where
     -- a key waits where it stands and is not admitted
     abbrev pub waits : List (Event K V) → K → Bool
     waits h k = is_some (standing eq rules k h) && not (list_any (λ w. eq w.key k) (queues eq rules h).admitted)
+
+-- The worked case: three keys come,
+abbrev pub three_come : List (Event ℕ ℕ)
+three_come = Insert 3 30 2 ∷ Insert 2 20 1 ∷ Insert 1 10 0 ∷ []
+
+-- the first is written again,
+abbrev pub first_again : List (Event ℕ ℕ)
+first_again = Insert 1 11 3 ∷ three_come
+
+-- the second is looked up,
+abbrev pub second_hit : List (Event ℕ ℕ)
+second_hit = Get 2 4 ∷ first_again
+
+-- the first is removed,
+abbrev pub first_removed : List (Event ℕ ℕ)
+first_removed = Invalidate 1 5 ∷ second_hit
+
+-- and it comes anew
+abbrev pub first_anew : List (Event ℕ ℕ)
+first_anew = Insert 1 12 6 ∷ first_removed
+
+-- the three admitted, the first the least recently used, and a fourth that waits
+abbrev pub three_admitted : Queues (Write ℕ ℕ)
+three_admitted = record { admitted = written_anew 1 10 0 ∷ written_anew 2 20 1 ∷ written_anew 3 30 2 ∷ []; waiting = written_anew 4 40 3 ∷ [] }
