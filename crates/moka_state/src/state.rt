@@ -75,7 +75,7 @@ impl<K: Hash + Drop, V: Clone, C: CacheTypes<K, V>, R: RowStore<K, V>> State<K, 
     /// A cache without values. It takes no memory.
     pub fn new(alloc: Global, settings: Settings<K, V, C>) -> Result<Self, Refused>
         ensures empty { IfOk result (λ state. StandsFor K.eq (rules_of settings.time_to_live settings.time_to_idle settings.first_number) state []) }
-        ensures only_memory { IfErr result (λ refused. refused ≡ Refused.OutOfMemory) }
+        ensures succeeds { IsOk result }
     {
         Ok(State {
             table: Table::new(alloc),
