@@ -1,5 +1,5 @@
 -- From rows by their numbers to stored writes by their keys.
-use Rattle.std.proofs.Common.{◌≡◌, ℕ, ◌==◌, Bool, true, false, cond, ◌&&◌, List, [], ◌∷◌, ◌++◌, map, Option, Some, None, MatchOption, refl, sym, ap, ◌∙◌, append_assoc, eq-eqb}
+use Rattle.std.proofs.Common.{◌≡◌, ℕ, ◌==◌, Bool, true, false, ◌&&◌, List, [], ◌∷◌, ◌++◌, Option, Some, None, MatchOption, refl, sym, ap, ◌∙◌, append_assoc, eq-eqb}
 use Rattle.std.specs.Arc.{arc_value}
 use Rattle.std.specs.List.{filter, AllByRecursion}
 use Rattle.std.specs.Cmp.{IsEquivalence}
@@ -9,7 +9,7 @@ use Rattle.moka_base.specs.StandsFor.{writes_of}
 use Rattle.moka_state.specs.declared.rows.Row.{Row}
 use Rattle.moka_state.specs.Rows.{row_under, with_row, without_row, is_row_of, IsRowOf, NoneIsRowOf}
 use Rattle.moka_state.specs.Table.{Contents, entries, stored_write, stored_writes, UsesRow, TakesRow}
-use Rattle.moka_state.proofs.RowLemmas.{row_under-append_left, row_under-append_right, SplitsAt, split_at_row}
+use Rattle.moka_state.proofs.RowLemmas.{row_under-append_left, row_under-append_right, split_at_row}
 use Rattle.moka_state.proofs.Changes.{ChangesAt, OneEach, writes_of-found, changed, removed}
 
 -- both of two tests that hold together

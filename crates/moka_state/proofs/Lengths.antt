@@ -1,5 +1,5 @@
 -- How many rows stand in both orders after a change of one.
-use Rattle.std.proofs.Common.{◌≡◌, ℕ, ◌+◌, ◌==◌, Bool, true, false, cond, List, [], ◌∷◌, ◌++◌, length, Option, Some, None, IsSome, MatchOption, suc, refl, sym, ap, ◌∙◌, arith, length-append, append_assoc}
+use Rattle.std.proofs.Common.{◌≡◌, ℕ, ◌+◌, List, [], ◌∷◌, ◌++◌, length, Option, Some, None, MatchOption, refl, sym, ◌∙◌, arith, length-append}
 use Rattle.moka_state.specs.Rows.{row_under, with_row, without_row}
 use Rattle.moka_state.proofs.RowLemmas.{row_under-append_right, length-with_row, length-without_row}
 

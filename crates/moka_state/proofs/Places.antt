@@ -4,7 +4,6 @@ use Rattle.std.specs.Arc.{arc_value}
 use Rattle.std.specs.declared.sync.Arc.{Arc}
 use Rattle.std.specs.declared.alloc.Global.{Global}
 use Rattle.moka_state.specs.declared.rows.Row.{Row}
-use Rattle.moka_state.specs.declared.table.Place.{Place}
 use Rattle.moka_state.specs.declared.table.Place.TheVariants.{Stored}
 use Rattle.moka_state.specs.Rows.{row_under}
 use Rattle.moka_state.specs.Place.{IsPlaceOf}

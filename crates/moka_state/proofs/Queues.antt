@@ -11,7 +11,7 @@ use Rattle.moka_base.specs.StandsFor.{writes_of}
 use Rattle.moka_state.specs.declared.rows.Row.{Row}
 use Rattle.moka_state.specs.Rows.{row_under, with_row, without_row}
 use Rattle.moka_state.specs.Table.{Contents, entries, stored_write, stored_writes, UsesRow, TakesRow}
-use Rattle.moka_state.proofs.RowLemmas.{row_under-append_left, row_under-append_right, SplitsAt, split_at_row}
+use Rattle.moka_state.proofs.RowLemmas.{row_under-append_left, row_under-append_right, split_at_row}
 use Rattle.moka_state.proofs.Changes.{OneEach, empty-before, empty-after, rest-empty}
 use Rattle.moka_state.proofs.Found.{stored-append, stored-around}
 
@@ -86,87 +86,86 @@ module _ {K V : Type 0} (eq : K → K → Bool) (laws : IsEquivalence eq) (k : K
 
   module _ (n : ℕ) (row : Row K V) (old new : Contents K V) (one : OneEach eq laws (stored_writes (entries old))) (there : row_under n (entries old) ≡ Some row) (same : eq (arc_value row.key) k ≡ true) where
     pub queues-used : (p : Write K V → Bool) (change : Row K V → Row K V) (change' : Write K V → Write K V)
-      → ((w : Write K V) → p w ≡ true → eq w.key k ≡ true) → p (stored_write row) ≡ true → change' (stored_write row) ≡ stored_write (change row) → UsesRow n change old new → UsedQueues p change' old new
+        → ((w : Write K V) → p w ≡ true → eq w.key k ≡ true) → p (stored_write row) ≡ true → change' (stored_write row) ≡ stored_write (change row) → UsesRow n change old new → UsedQueues p change' old new
     queues-used p change change' narrow passes changes used = go (row_under n old.admitted) refl used
       where
         none : (xs : List (Write K V)) → writes_of eq k xs ≡ [] → filter p xs ≡ []
         none xs h = filter-narrower (λ (w : Write K V). eq w.key k) p xs narrow h
 
         go : (o : Option (Row K V)) → row_under n old.admitted ≡ o
-          → MatchOption o
-              ((new.admitted ≡ old.admitted) × (new.waiting ≡ with_row n change old.waiting))
-              (λ r. (new.admitted ≡ without_row n old.admitted ++ (n, change r) ∷ []) × (new.waiting ≡ old.waiting))
-          → UsedQueues p change' old new
+            → MatchOption o
+            ((new.admitted ≡ old.admitted) × (new.waiting ≡ with_row n change old.waiting))
+            (λ r. (new.admitted ≡ without_row n old.admitted ++ (n, change r) ∷ []) × (new.waiting ≡ old.waiting))
+            → UsedQueues p change' old new
         go None e h =
-          let c = split_at_row n row old.waiting (sym (row_under-append_right n old.admitted old.waiting e) ∙ there) in
-          let whole = ap (λ w. stored_writes (old.admitted ++ w)) c.2.whole ∙ ap stored_writes (sym (append_assoc old.admitted c.0 ((n, row) ∷ c.1))) ∙ stored-around eq laws n (old.admitted ++ c.0) c.1 row in
-          let others = rest-empty eq laws k (stored_writes (old.admitted ++ c.0)) (stored_writes c.1) (stored_write row) (rw whole at one) same in
-          let front = rw (stored-append eq laws old.admitted c.0) at (none-front (stored_writes (old.admitted ++ c.0)) (stored_writes c.1) others) in
-          let in_admitted = none-front (stored_writes old.admitted) (stored_writes c.0) front in
-          let in_before = none-back (stored_writes old.admitted) (stored_writes c.0) front in
-          let in_after = none-back (stored_writes (old.admitted ++ c.0)) (stored_writes c.1) others in
-          record {
-            admitted = ap stored_writes h.0 ∙ sym (moved_last-none p change' (stored_writes old.admitted) (none _ in_admitted));
-            waiting = ap stored_writes (h.1 ∙ c.2.changed change) ∙ stored-around eq laws n c.0 c.1 (change row) ∙ ap (λ w. stored_writes c.0 ++ w ∷ stored_writes c.1) (sym changes)
-              ∙ sym (changed_where-one p change' (stored_writes c.0) (stored_writes c.1) (stored_write row) passes (none _ in_before) (none _ in_after))
-              ∙ sym (ap (λ ws. changed_where p change' ws) (ap stored_writes c.2.whole ∙ stored-around eq laws n c.0 c.1 row));
-          }
+            let c = split_at_row n row old.waiting (sym (row_under-append_right n old.admitted old.waiting e) ∙ there) in
+            let whole = ap (λ w. stored_writes (old.admitted ++ w)) c.2.whole ∙ ap stored_writes (sym (append_assoc old.admitted c.0 ((n, row) ∷ c.1))) ∙ stored-around eq laws n (old.admitted ++ c.0) c.1 row in
+            let others = rest-empty eq laws k (stored_writes (old.admitted ++ c.0)) (stored_writes c.1) (stored_write row) (rw whole at one) same in
+            let front = rw (stored-append eq laws old.admitted c.0) at (none-front (stored_writes (old.admitted ++ c.0)) (stored_writes c.1) others) in
+            let in_admitted = none-front (stored_writes old.admitted) (stored_writes c.0) front in
+            let in_before = none-back (stored_writes old.admitted) (stored_writes c.0) front in
+            let in_after = none-back (stored_writes (old.admitted ++ c.0)) (stored_writes c.1) others in
+            record {
+              admitted = ap stored_writes h.0 ∙ sym (moved_last-none p change' (stored_writes old.admitted) (none _ in_admitted));
+              waiting = ap stored_writes (h.1 ∙ c.2.changed change) ∙ stored-around eq laws n c.0 c.1 (change row) ∙ ap (λ w. stored_writes c.0 ++ w ∷ stored_writes c.1) (sym changes)
+                  ∙ sym (changed_where-one p change' (stored_writes c.0) (stored_writes c.1) (stored_write row) passes (none _ in_before) (none _ in_after))
+                  ∙ sym (ap (λ ws. changed_where p change' ws) (ap stored_writes c.2.whole ∙ stored-around eq laws n c.0 c.1 row));
+            }
         go (Some r) e h =
-          let found : Some r ≡ Some row = sym (row_under-append_left n old.admitted old.waiting r e) ∙ there in
-          let it : r ≡ row = cc in
-          let c = split_at_row n row old.admitted (e ∙ found) in
-          let whole = ap (λ a. stored_writes (a ++ old.waiting)) c.2.whole ∙ ap stored_writes (append_assoc c.0 ((n, row) ∷ c.1) old.waiting) ∙ stored-around eq laws n c.0 (c.1 ++ old.waiting) row in
-          let others = rest-empty eq laws k (stored_writes c.0) (stored_writes (c.1 ++ old.waiting)) (stored_write row) (rw whole at one) same in
-          let in_before = none-front (stored_writes c.0) (stored_writes (c.1 ++ old.waiting)) others in
-          let back = rw (stored-append eq laws c.1 old.waiting) at (none-back (stored_writes c.0) (stored_writes (c.1 ++ old.waiting)) others) in
-          let in_after = none-front (stored_writes c.1) (stored_writes old.waiting) back in
-          let in_waiting = none-back (stored_writes c.1) (stored_writes old.waiting) back in
-          record {
-            admitted = ap stored_writes (h.0 ∙ ap (λ b. b ++ (n, change r) ∷ []) c.2.rest ∙ ap (λ (s : Row K V). (c.0 ++ c.1) ++ (n, change s) ∷ []) it) ∙ stored-append eq laws (c.0 ++ c.1) ((n, change row) ∷ [])
-              ∙ ap (λ ws. ws ++ stored_write (change row) ∷ []) (stored-append eq laws c.0 c.1) ∙ ap (λ w. (stored_writes c.0 ++ stored_writes c.1) ++ w ∷ []) (sym changes)
-              ∙ sym (moved_last-one p change' (stored_writes c.0) (stored_writes c.1) (stored_write row) passes (none _ in_before) (none _ in_after))
-              ∙ sym (ap (λ ws. moved_last p change' ws) (ap stored_writes c.2.whole ∙ stored-around eq laws n c.0 c.1 row));
-            waiting = ap stored_writes h.1 ∙ sym (changed_where-none p change' (stored_writes old.waiting) (none _ in_waiting));
-          }
+            let found : Some r ≡ Some row = sym (row_under-append_left n old.admitted old.waiting r e) ∙ there in
+            let it : r ≡ row = cc in
+            let c = split_at_row n row old.admitted (e ∙ found) in
+            let whole = ap (λ a. stored_writes (a ++ old.waiting)) c.2.whole ∙ ap stored_writes (append_assoc c.0 ((n, row) ∷ c.1) old.waiting) ∙ stored-around eq laws n c.0 (c.1 ++ old.waiting) row in
+            let others = rest-empty eq laws k (stored_writes c.0) (stored_writes (c.1 ++ old.waiting)) (stored_write row) (rw whole at one) same in
+            let in_before = none-front (stored_writes c.0) (stored_writes (c.1 ++ old.waiting)) others in
+            let back = rw (stored-append eq laws c.1 old.waiting) at (none-back (stored_writes c.0) (stored_writes (c.1 ++ old.waiting)) others) in
+            let in_after = none-front (stored_writes c.1) (stored_writes old.waiting) back in
+            let in_waiting = none-back (stored_writes c.1) (stored_writes old.waiting) back in
+            record {
+              admitted = ap stored_writes (h.0 ∙ ap (λ b. b ++ (n, change r) ∷ []) c.2.rest ∙ ap (λ (s : Row K V). (c.0 ++ c.1) ++ (n, change s) ∷ []) it) ∙ stored-append eq laws (c.0 ++ c.1) ((n, change row) ∷ [])
+                  ∙ ap (λ ws. ws ++ stored_write (change row) ∷ []) (stored-append eq laws c.0 c.1) ∙ ap (λ w. (stored_writes c.0 ++ stored_writes c.1) ++ w ∷ []) (sym changes)
+                  ∙ sym (moved_last-one p change' (stored_writes c.0) (stored_writes c.1) (stored_write row) passes (none _ in_before) (none _ in_after))
+                  ∙ sym (ap (λ ws. moved_last p change' ws) (ap stored_writes c.2.whole ∙ stored-around eq laws n c.0 c.1 row));
+              waiting = ap stored_writes h.1 ∙ sym (changed_where-none p change' (stored_writes old.waiting) (none _ in_waiting));
+            }
 
     pub queues-taken : TakesRow n old new → TakenQueues old new
     queues-taken taken = go (row_under n old.admitted) refl taken
       where
-
         go : (o : Option (Row K V)) → row_under n old.admitted ≡ o
-          → MatchOption o
-              ((new.admitted ≡ old.admitted) × (new.waiting ≡ without_row n old.waiting))
-              (λ _. (new.admitted ≡ without_row n old.admitted) × (new.waiting ≡ old.waiting))
-          → TakenQueues old new
+            → MatchOption o
+            ((new.admitted ≡ old.admitted) × (new.waiting ≡ without_row n old.waiting))
+            (λ _. (new.admitted ≡ without_row n old.admitted) × (new.waiting ≡ old.waiting))
+            → TakenQueues old new
         go None e h =
-          let c = split_at_row n row old.waiting (sym (row_under-append_right n old.admitted old.waiting e) ∙ there) in
-          let whole = ap (λ w. stored_writes (old.admitted ++ w)) c.2.whole ∙ ap stored_writes (sym (append_assoc old.admitted c.0 ((n, row) ∷ c.1))) ∙ stored-around eq laws n (old.admitted ++ c.0) c.1 row in
-          let others = rest-empty eq laws k (stored_writes (old.admitted ++ c.0)) (stored_writes c.1) (stored_write row) (rw whole at one) same in
-          let front = rw (stored-append eq laws old.admitted c.0) at (none-front (stored_writes (old.admitted ++ c.0)) (stored_writes c.1) others) in
-          let in_admitted = none-front (stored_writes old.admitted) (stored_writes c.0) front in
-          let in_before = none-back (stored_writes old.admitted) (stored_writes c.0) front in
-          let in_after = none-back (stored_writes (old.admitted ++ c.0)) (stored_writes c.1) others in
-          record {
-            admitted = ap stored_writes h.0 ∙ sym (rest-all (λ (w : Write K V). eq w.key k) (stored_writes old.admitted) in_admitted);
-            waiting = ap stored_writes (h.1 ∙ c.2.rest) ∙ stored-append eq laws c.0 c.1
-              ∙ sym (rest-one (λ (w : Write K V). eq w.key k) (λ w. w) (stored_writes c.0) (stored_writes c.1) (stored_write row) same in_before in_after)
-              ∙ sym (ap (filter (λ (w : Write K V). not (eq w.key k))) (ap stored_writes c.2.whole ∙ stored-around eq laws n c.0 c.1 row));
-          }
+            let c = split_at_row n row old.waiting (sym (row_under-append_right n old.admitted old.waiting e) ∙ there) in
+            let whole = ap (λ w. stored_writes (old.admitted ++ w)) c.2.whole ∙ ap stored_writes (sym (append_assoc old.admitted c.0 ((n, row) ∷ c.1))) ∙ stored-around eq laws n (old.admitted ++ c.0) c.1 row in
+            let others = rest-empty eq laws k (stored_writes (old.admitted ++ c.0)) (stored_writes c.1) (stored_write row) (rw whole at one) same in
+            let front = rw (stored-append eq laws old.admitted c.0) at (none-front (stored_writes (old.admitted ++ c.0)) (stored_writes c.1) others) in
+            let in_admitted = none-front (stored_writes old.admitted) (stored_writes c.0) front in
+            let in_before = none-back (stored_writes old.admitted) (stored_writes c.0) front in
+            let in_after = none-back (stored_writes (old.admitted ++ c.0)) (stored_writes c.1) others in
+            record {
+              admitted = ap stored_writes h.0 ∙ sym (rest-all (λ (w : Write K V). eq w.key k) (stored_writes old.admitted) in_admitted);
+              waiting = ap stored_writes (h.1 ∙ c.2.rest) ∙ stored-append eq laws c.0 c.1
+                  ∙ sym (rest-one (λ (w : Write K V). eq w.key k) (λ w. w) (stored_writes c.0) (stored_writes c.1) (stored_write row) same in_before in_after)
+                  ∙ sym (ap (filter (λ (w : Write K V). not (eq w.key k))) (ap stored_writes c.2.whole ∙ stored-around eq laws n c.0 c.1 row));
+            }
         go (Some r) e h =
-          let found : Some r ≡ Some row = sym (row_under-append_left n old.admitted old.waiting r e) ∙ there in
-          let c = split_at_row n row old.admitted (e ∙ found) in
-          let whole = ap (λ a. stored_writes (a ++ old.waiting)) c.2.whole ∙ ap stored_writes (append_assoc c.0 ((n, row) ∷ c.1) old.waiting) ∙ stored-around eq laws n c.0 (c.1 ++ old.waiting) row in
-          let others = rest-empty eq laws k (stored_writes c.0) (stored_writes (c.1 ++ old.waiting)) (stored_write row) (rw whole at one) same in
-          let in_before = none-front (stored_writes c.0) (stored_writes (c.1 ++ old.waiting)) others in
-          let back = rw (stored-append eq laws c.1 old.waiting) at (none-back (stored_writes c.0) (stored_writes (c.1 ++ old.waiting)) others) in
-          let in_after = none-front (stored_writes c.1) (stored_writes old.waiting) back in
-          let in_waiting = none-back (stored_writes c.1) (stored_writes old.waiting) back in
-          record {
-            admitted = ap stored_writes (h.0 ∙ c.2.rest) ∙ stored-append eq laws c.0 c.1
-              ∙ sym (rest-one (λ (w : Write K V). eq w.key k) (λ w. w) (stored_writes c.0) (stored_writes c.1) (stored_write row) same in_before in_after)
-              ∙ sym (ap (filter (λ (w : Write K V). not (eq w.key k))) (ap stored_writes c.2.whole ∙ stored-around eq laws n c.0 c.1 row));
-            waiting = ap stored_writes h.1 ∙ sym (rest-all (λ (w : Write K V). eq w.key k) (stored_writes old.waiting) in_waiting);
-          }
+            let found : Some r ≡ Some row = sym (row_under-append_left n old.admitted old.waiting r e) ∙ there in
+            let c = split_at_row n row old.admitted (e ∙ found) in
+            let whole = ap (λ a. stored_writes (a ++ old.waiting)) c.2.whole ∙ ap stored_writes (append_assoc c.0 ((n, row) ∷ c.1) old.waiting) ∙ stored-around eq laws n c.0 (c.1 ++ old.waiting) row in
+            let others = rest-empty eq laws k (stored_writes c.0) (stored_writes (c.1 ++ old.waiting)) (stored_write row) (rw whole at one) same in
+            let in_before = none-front (stored_writes c.0) (stored_writes (c.1 ++ old.waiting)) others in
+            let back = rw (stored-append eq laws c.1 old.waiting) at (none-back (stored_writes c.0) (stored_writes (c.1 ++ old.waiting)) others) in
+            let in_after = none-front (stored_writes c.1) (stored_writes old.waiting) back in
+            let in_waiting = none-back (stored_writes c.1) (stored_writes old.waiting) back in
+            record {
+              admitted = ap stored_writes (h.0 ∙ c.2.rest) ∙ stored-append eq laws c.0 c.1
+                  ∙ sym (rest-one (λ (w : Write K V). eq w.key k) (λ w. w) (stored_writes c.0) (stored_writes c.1) (stored_write row) same in_before in_after)
+                  ∙ sym (ap (filter (λ (w : Write K V). not (eq w.key k))) (ap stored_writes c.2.whole ∙ stored-around eq laws n c.0 c.1 row));
+              waiting = ap stored_writes h.1 ∙ sym (rest-all (λ (w : Write K V). eq w.key k) (stored_writes old.waiting) in_waiting);
+            }
 
 -- those that pass both of two tests
 pub filter-both : {A : Type 0} (p q : A → Bool) (xs : List A) → filter (λ x. p x && q x) xs ≡ filter q (filter p xs)
@@ -181,29 +180,29 @@ module _ {K V : Type 0} (eq : K → K → Bool) (rules : Rules) where
   -- where none passes, both orders stay
   pub used_where-none : (p : Write K V → Bool) (change : Write K V → Write K V) (q : Queues (Write K V)) → filter p (q.admitted ++ q.waiting) ≡ [] → used_where eq rules p change q ≡ q
   used_where-none p change q none =
-    let parts = sym (filter-append p q.admitted q.waiting) ∙ none in
-    let in_admitted = empty-before (filter p q.admitted) (filter p q.waiting) parts in
-    let in_waiting = empty-after (filter p q.admitted) (filter p q.waiting) parts in
-    ap (λ a. let r : Queues (Write K V) = record { admitted = a; waiting = changed_where p change q.waiting } in r) (moved_last-none p change q.admitted in_admitted)
+      let parts = sym (filter-append p q.admitted q.waiting) ∙ none in
+      let in_admitted = empty-before (filter p q.admitted) (filter p q.waiting) parts in
+      let in_waiting = empty-after (filter p q.admitted) (filter p q.waiting) parts in
+      ap (λ a. let r : Queues (Write K V) = record { admitted = a; waiting = changed_where p change q.waiting } in r) (moved_last-none p change q.admitted in_admitted)
       ∙ ap (λ w. let r : Queues (Write K V) = record { admitted = q.admitted; waiting = w } in r) (changed_where-none p change q.waiting in_waiting)
 
   -- a removal of a key without a write leaves both
   pub removed_in-none : (k : K) (q : Queues (Write K V)) → writes_of eq k (q.admitted ++ q.waiting) ≡ [] → removed_in eq rules k q ≡ q
   removed_in-none k q none =
-    let parts = sym (filter-append (λ (w : Write K V). eq w.key k) q.admitted q.waiting) ∙ none in
-    let in_admitted = empty-before (writes_of eq k q.admitted) (writes_of eq k q.waiting) parts in
-    let in_waiting = empty-after (writes_of eq k q.admitted) (writes_of eq k q.waiting) parts in
-    ap (λ a. let r : Queues (Write K V) = record { admitted = a; waiting = filter (λ (w : Write K V). not (eq w.key k)) q.waiting } in r) (rest-all (λ (w : Write K V). eq w.key k) q.admitted in_admitted)
+      let parts = sym (filter-append (λ (w : Write K V). eq w.key k) q.admitted q.waiting) ∙ none in
+      let in_admitted = empty-before (writes_of eq k q.admitted) (writes_of eq k q.waiting) parts in
+      let in_waiting = empty-after (writes_of eq k q.admitted) (writes_of eq k q.waiting) parts in
+      ap (λ a. let r : Queues (Write K V) = record { admitted = a; waiting = filter (λ (w : Write K V). not (eq w.key k)) q.waiting } in r) (rest-all (λ (w : Write K V). eq w.key k) q.admitted in_admitted)
       ∙ ap (λ w. let r : Queues (Write K V) = record { admitted = q.admitted; waiting = w } in r) (rest-all (λ (w : Write K V). eq w.key k) q.waiting in_waiting)
 
   -- a write of a key with a write changes that one
   pub written_in-over : (k : K) (v : V) (at : ℕ) (q : Queues (Write K V)) (w : Write K V) → writes_of eq k (q.admitted ++ q.waiting) ≡ w ∷ []
-    → written_in eq rules k v at q ≡ used_where eq rules (is_of eq rules k) (λ old. after_write rules k v at (Some old)) q
+      → written_in eq rules k v at q ≡ used_where eq rules (is_of eq rules k) (λ old. after_write rules k v at (Some old)) q
   written_in-over k v at q w one = ap (λ l. opened_by eq rules (after_write rules k v at None) l (used_where eq rules (is_of eq rules k) (λ old. after_write rules k v at (Some old)) q)) one
 
   -- a write of a key without one waits behind all others
   pub written_in-anew : (k : K) (v : V) (at : ℕ) (q : Queues (Write K V)) → writes_of eq k (q.admitted ++ q.waiting) ≡ []
-    → written_in eq rules k v at q ≡ record { admitted = q.admitted; waiting = q.waiting ++ after_write rules k v at None ∷ [] }
+      → written_in eq rules k v at q ≡ record { admitted = q.admitted; waiting = q.waiting ++ after_write rules k v at None ∷ [] }
   written_in-anew k v at q none =
-    ap (λ l. opened_by eq rules (after_write rules k v at None) l (used_where eq rules (is_of eq rules k) (λ old. after_write rules k v at (Some old)) q)) none
+      ap (λ l. opened_by eq rules (after_write rules k v at None) l (used_where eq rules (is_of eq rules k) (λ old. after_write rules k v at (Some old)) q)) none
       ∙ ap (opened_by eq rules (after_write rules k v at None) []) (used_where-none (is_of eq rules k) (λ old. after_write rules k v at (Some old)) q none)

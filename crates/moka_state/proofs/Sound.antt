@@ -8,7 +8,7 @@ use Rattle.std.specs.List.{AllByRecursion}
 use Rattle.moka_state.specs.declared.rows.Row.{Row}
 use Rattle.moka_state.specs.Rows.{row_under, with_row, without_row, overwritten}
 use Rattle.moka_state.specs.Table.{Contents, entries, SameRows, UsesRow, TakesRow}
-use Rattle.moka_state.proofs.RowLemmas.{row_under-append_left, row_under-append_right, SplitsAt, split_at_row}
+use Rattle.moka_state.proofs.RowLemmas.{row_under-append_left, row_under-append_right, split_at_row}
 
 module _ {A : Type 0} (P : A → Type 0) where
   pub all-append : (xs ys : List A) → AllByRecursion P xs → AllByRecursion P ys → AllByRecursion P (xs ++ ys)

@@ -1,16 +1,14 @@
 -- What stands for a key in a list that a state stands for, by the row that is found for the key.
-use Rattle.std.proofs.Common.{◌≡◌, ℕ, max, Bool, true, false, not, cond, List, [], ◌∷◌, ◌++◌, Option, Some, None, option_map, is_some, IsTrue, IfSome, refl, sym, ap, ◌∙◌}
+use Rattle.std.proofs.Common.{◌≡◌, ℕ, max, Bool, true, false, not, cond, List, Option, Some, None, option_map, refl, sym, ap, ◌∙◌}
 use Rattle.std.specs.Option.{option_to_list}
 use Rattle.std.specs.Arc.{arc_value}
 use Rattle.std.specs.Duration.{as_nanos}
-use Rattle.std.specs.List.{AllByRecursion}
 use Rattle.std.specs.Cmp.{IsEquivalence}
-use Rattle.moka_base.specs.History.{Event, Get, ContainsKey, Rules, Write, latest, standing, live, live_one, deadline, earlier, ends_at, has_come}
-use Rattle.moka_base.specs.Replies.{answer, Contains, Found}
-use Rattle.moka_base.specs.StandsFor.{Holdings, StandsFor, writes_of}
+use Rattle.moka_base.specs.History.{Event, Rules, Write, latest, standing, live, live_one, deadline, earlier, ends_at, has_come}
+use Rattle.moka_base.specs.StandsFor.{StandsFor, writes_of}
 use Rattle.moka_state.specs.declared.rows.Row.{Row}
 use Rattle.moka_state.specs.declared.lives.Lives.{Lives}
-use Rattle.moka_state.specs.Rows.{row_under, IsRowOf, NoneIsRowOf}
+use Rattle.moka_state.specs.Rows.{row_under, NoneIsRowOf}
 use Rattle.moka_state.specs.Lives.{deadline_of}
 use Rattle.moka_state.specs.Table.{Contents, entries, stored_write, stored_writes}
 use Rattle.moka_state.specs.State.{holdings, IsSound}

@@ -1,5 +1,5 @@
 -- What a state holds, and what its fields keep.
-use Rattle.std.specs.Prelude.{◌≡◌, ℕ, map, option_map, List, Option}
+use Rattle.std.specs.Prelude.{◌≡◌, ℕ, map, option_map, Option}
 use Rattle.std.specs.Arc.{arc_value}
 use Rattle.std.specs.List.{AllByRecursion}
 use Rattle.std.specs.Duration.{as_nanos}

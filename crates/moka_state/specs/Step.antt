@@ -1,5 +1,5 @@
 -- Steps and replies as data, and what a run of steps answers.
-use Rattle.std.specs.Prelude.{⊤, ◌≡◌, ◌≢◌, Bool, List, [], ◌∷◌, Option, Some, None, option_map}
+use Rattle.std.specs.Prelude.{⊤, Bool, List, [], ◌∷◌, Some, option_map}
 use Rattle.std.specs.Arc.{arc_value}
 use Rattle.moka_base.specs.declared.policy.Refused.TheVariants.{OutOfMemory, NumbersUsedUp}
 use Rattle.moka_base.specs.History.{Event, Rules}

@@ -1,12 +1,10 @@
 -- What a table holds: the rows in their two orders, the notices not taken, and for how many more rows it has room.
-use Rattle.std.specs.Prelude.{◌≡◌, ℕ, ◌+◌, ◌≤◌, List, [], ◌∷◌, ◌++◌, map, Option, Some, None, length, MatchOption}
+use Rattle.std.specs.Prelude.{◌≡◌, ℕ, List, [], ◌∷◌, ◌++◌, map, MatchOption}
 use Rattle.std.specs.Arc.{arc_value}
 use Rattle.moka_base.specs.declared.notification.Notice.{Notice}
-use Rattle.moka_base.specs.declared.notification.RemovalCause.{RemovalCause}
 use Rattle.moka_base.specs.History.{Write, Leaving}
 use Rattle.moka_state.specs.declared.rows.Row.{Row}
-use Rattle.moka_state.specs.declared.rows.EntryInfo.{EntryInfo}
-use Rattle.moka_state.specs.Rows.{with_row, without_row, row_under, touched, overwritten}
+use Rattle.moka_state.specs.Rows.{with_row, without_row, row_under}
 
 pub record Contents (K V : Type 0) : Type 0 where
   pub admitted : List (ℕ × Row K V)

@@ -1,4 +1,4 @@
-use Rattle.std.proofs.Common.{◌≡◌, Bool, true, false, not, cond, max, Option, Some, None, is_some, ◌∙◌, ap, sym, refl}
+use Rattle.std.proofs.Common.{◌≡◌, Bool, true, false, not, cond, max, Some, None, is_some, ◌∙◌, ap, sym, refl}
 use Rattle.moka_base.specs.Replies.{Contains}
 use Rattle.moka_base.specs.History.{has_come}
 use Rattle.moka_state.specs.Lives.{deadline_of}

@@ -1,7 +1,6 @@
-use Rattle.std.proofs.Common.{◌≡◌, ℕ, max, Bool, true, false, not, cond, Option, Some, None, option_map, ◌∙◌, ap, sym, refl}
+use Rattle.std.proofs.Common.{max, ◌∙◌, ap, sym, refl}
 use Rattle.std.specs.Arc.{arc_value}
-use Rattle.moka_base.specs.History.{has_come, live, latest}
-use Rattle.moka_base.specs.Replies.{IsCopyOf, Found}
+use Rattle.moka_base.specs.History.{has_come}
 use Rattle.moka_state.specs.Lives.{deadline_of}
 use Rattle.moka_state.specs.Rows.{touched}
 use Rattle.moka_state.proofs.Found.{same-key}

@@ -1,4 +1,4 @@
-use Rattle.std.proofs.Common.{◌≡◌, ℕ, max, Bool, true, false, not, cond, Option, Some, None, ◌∙◌, ap, sym, refl}
+use Rattle.std.proofs.Common.{cond, ◌∙◌, ap}
 use Rattle.std.specs.Arc.{arc_value}
 use Rattle.moka_base.specs.declared.notification.RemovalCause.TheVariants.{Expired, Explicit}
 use Rattle.moka_base.specs.History.{has_come}

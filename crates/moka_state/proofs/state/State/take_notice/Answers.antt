@@ -1,4 +1,4 @@
-use Rattle.std.proofs.Common.{◌≡◌, ◌++◌, List, [], ◌∷◌, drop, map, Option, Some, None, ◌∙◌, ap, sym, refl}
+use Rattle.std.proofs.Common.{◌≡◌, ◌++◌, List, [], drop, map, Option, Some, None, ◌∙◌, ap, sym, refl}
 use Rattle.std.specs.Option.{option_to_list}
 use Rattle.moka_state.specs.Table.{leaving_of, stored_writes}
 use Rattle.moka_state.proofs.Steps.{stands-after-take_notice}

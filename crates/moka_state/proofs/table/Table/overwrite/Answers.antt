@@ -1,4 +1,4 @@
-use Rattle.std.proofs.Common.{arith, min}
+use Rattle.std.proofs.Common.{arith}
 use Rattle.moka_state.specs.Rows.{overwritten}
 use Rattle.moka_state.proofs.Lengths.{length-used}
 use Rattle.moka_state.proofs.table.Table.overwrite.Goals as goal
