@@ -1,13 +1,15 @@
 -- Rows under numbers in a list, and in two lists one after the other.
 use Rattle.std.proofs.Common.{◌≡◌, ℕ, suc, ◌+◌, ◌≢◌, ◌==◌, Bool, true, false, Option, Some, None, MatchOption, List, [], ◌∷◌, ◌++◌, length, if◌then◌else◌, refl, sym, ap, ◌∙◌, arith}
 use Rattle.std.specs.Option.{option_or}
-use Rattle.std.proofs.lemmas.Bool.{eqb-true, ne_eqb}
+use Rattle.std.proofs.lemmas.Bool.{eq-eqb, eqb-true, ne_eqb}
 use Rattle.moka_state.specs.Rows.{row_under, with_row, without_row}
 
+-- a number that is n is not another one
 eqb-other : (k m n : ℕ) → (k == n) ≡ true → m ≢ n → (k == m) ≡ false
 eqb-other k m n is other = ne_eqb k m (λ same. other (sym same ∙ eqb-true k n is))
 
 module _ {R : Type 0} where
+  -- the row under a number in two lists, one after the other
   pub row_under-append : (n : ℕ) (xs ys : List (ℕ × R)) → row_under n (xs ++ ys) ≡ option_or (row_under n xs) (row_under n ys)
   row_under-append n [] ys = refl
   row_under-append n (p ∷ ps) ys =
@@ -22,6 +24,7 @@ module _ {R : Type 0} where
   pub row_under-append_right : (n : ℕ) (xs ys : List (ℕ × R)) → row_under n xs ≡ None → row_under n (xs ++ ys) ≡ row_under n ys
   row_under-append_right n xs ys absent = row_under-append n xs ys ∙ rw absent refl
 
+  -- a change, and a removal, in two lists, one after the other
   pub with_row-append_left : (n : ℕ) (change : R → R) (xs ys : List (ℕ × R)) (r : R) → row_under n xs ≡ Some r → with_row n change (xs ++ ys) ≡ with_row n change xs ++ ys
   with_row-append_left n change [] ys r found = cc
   with_row-append_left n change (p ∷ ps) ys r found =
@@ -58,7 +61,7 @@ module _ {R : Type 0} where
         | false ↦ λ later. ap (λ rest. p ∷ rest) (without_row-append_right n ps ys later)
       ] absent
 
-  -- a change where no row stands under the number changes nothing
+  -- a change and a removal where no row stands under the number
   pub with_row-absent : (n : ℕ) (change : R → R) (xs : List (ℕ × R)) → row_under n xs ≡ None → with_row n change xs ≡ xs
   with_row-absent n change [] absent = refl
   with_row-absent n change (p ∷ ps) absent =
@@ -75,6 +78,7 @@ module _ {R : Type 0} where
         | false ↦ λ later. ap (λ rest. p ∷ rest) (without_row-absent n ps later)
       ] absent
 
+  -- how many rows a change and a removal leave
   pub length-with_row : (n : ℕ) (change : R → R) (xs : List (ℕ × R)) → length (with_row n change xs) ≡ length xs
   length-with_row n change [] = refl
   length-with_row n change (p ∷ ps) =
@@ -134,6 +138,21 @@ module _ {R : Type 0} where
       go : (b : Bool) → (p.0 == n) ≡ b → row_under m (without_row n ps) ≡ row_under m ps → row_under m (without_row n (p ∷ ps)) ≡ row_under m (p ∷ ps)
       go true is later = rw (without_row-here n p ps is, row_under-there m p ps (eqb-other p.0 m n is other)) refl
       go false is later = rw (without_row-there n p ps is) (ap (λ o. if p.0 == m then Some p.1 else o) later)
+
+  -- the row under a number after a row was added as the last, or moved there
+  pub row_under-push_same : (n : ℕ) (r : R) (xs : List (ℕ × R)) → row_under n xs ≡ None → row_under n (xs ++ (n, r) ∷ []) ≡ Some r
+  row_under-push_same n r xs absent = row_under-append_right n xs ((n, r) ∷ []) absent ∙ row_under-here n (n, r) [] (eq-eqb n n refl)
+
+  pub row_under-push_other : (m n : ℕ) (r : R) (xs : List (ℕ × R)) → m ≢ n → row_under m (xs ++ (n, r) ∷ []) ≡ row_under m xs
+  row_under-push_other m n r xs other =
+      row_under-append m xs ((n, r) ∷ []) ∙ (rw (row_under-there m (n, r) [] (ne_eqb n m (λ same. other (sym same)))) (or_none (row_under m xs)))
+    where
+      or_none : (o : Option R) → option_or o None ≡ o
+      or_none None = refl
+      or_none (Some r) = refl
+
+  pub row_under-moved_other : (m n : ℕ) (r : R) (xs : List (ℕ × R)) → m ≢ n → row_under m (without_row n xs ++ (n, r) ∷ []) ≡ row_under m xs
+  row_under-moved_other m n r xs other = row_under-push_other m n r (without_row n xs) other ∙ row_under-without_row_other m n xs other
 
   -- where the first row under a number stands in a list, and what a change there and its removal leave
   pub record SplitsAt (n : ℕ) (r : R) (rows front back : List (ℕ × R)) : Type 0 where

@@ -2,9 +2,9 @@
 #![tactic(auto)]
 
 pub mod list_rows;
-pub mod lives;
+mod lives;
 pub mod rows;
-pub mod shared_key;
+mod shared_key;
 pub mod state;
 pub mod step;
-pub mod table;
+mod table;

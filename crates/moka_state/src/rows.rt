@@ -64,7 +64,8 @@ pub trait RowStore<K: Eq, V>: Drop {
     fn len(&self) -> usize
         ensures { result ≡ length (admitted self.now ++ waiting self.now) };
 
-    /// The number of the row of a key, given the key's hash. Adds one to `reads` for each row that it reads.
+    /// The number of the row of a key, given the key's hash. Adds one to `reads` for each row that it reads, and so at
+    /// least one where it finds a row.
     fn find(&self, key: &K, hash: u64, reads: &mut u64) -> Option<usize>
         requires { reads.old ≡ 0 }
         ensures found { IfSome result (λ number. IfSome (row_under number (admitted self.now ++ waiting self.now)) (IsRowOf K.eq key.now hash)) }
@@ -91,8 +92,8 @@ pub trait RowStore<K: Eq, V>: Drop {
         ensures waiting { waiting self.new ≡ waiting self.old ++ (result, row) ∷ [] }
         ensures admitted { admitted self.new ≡ admitted self.old };
 
-    /// A use of a row: it gets these moments, and where it is admitted it becomes the most recently used. The room
-    /// stays.
+    /// A use of a row: it gets these moments, and where it is admitted it becomes the most recently used. It
+    /// takes none of the room.
     fn touch(&mut self, number: usize, info: EntryInfo)
         requires { IsSome (row_under number (admitted self.old ++ waiting self.old)) }
         ensures after { MatchOption (row_under number (admitted self.old))
@@ -100,7 +101,7 @@ pub trait RowStore<K: Eq, V>: Drop {
             (λ row. (admitted self.new ≡ without_row number (admitted self.old) ++ (number, touched info row) ∷ []) × (waiting self.new ≡ waiting self.old)) }
         ensures room { room self.old ≤ room self.new };
 
-    /// A use of a row that gives it another value, and answers the one before. The room stays.
+    /// A use of a row that gives it another value, and answers the one before. It takes none of the room.
     fn overwrite(&mut self, number: usize, value: V, info: EntryInfo) -> V
         requires { IsSome (row_under number (admitted self.old ++ waiting self.old)) }
         ensures before { IfSome (row_under number (admitted self.old ++ waiting self.old)) (λ row. result ≡ row.value) }
@@ -109,7 +110,7 @@ pub trait RowStore<K: Eq, V>: Drop {
             (λ row. (admitted self.new ≡ without_row number (admitted self.old) ++ (number, overwritten value info row) ∷ []) × (waiting self.new ≡ waiting self.old)) }
         ensures room { room self.old ≤ room self.new };
 
-    /// Takes a row out. The room stays, or grows.
+    /// Takes a row out. It takes none of the room.
     fn remove(&mut self, number: usize) -> Row<K, V>
         requires { IsSome (row_under number (admitted self.old ++ waiting self.old)) }
         ensures row { row_under number (admitted self.old ++ waiting self.old) ≡ Some result }
