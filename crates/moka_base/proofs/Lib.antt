@@ -5,3 +5,4 @@ pub mod Looks
 pub mod Notices
 pub mod Places
 pub mod Standing
+pub mod NumberHashes

@@ -34,7 +34,7 @@ pub struct Settings<K: Eq, V: Clone, C: CacheTypes<K, V>> {
 }
 
 /// A refused `insert`, with the key and the value that it was given.
-#[derive(Drop)]
+#[derive(Debug, Drop)]
 pub struct InsertRefused<K, V> {
     /// The key, as it was given.
     pub key: K,

@@ -13,7 +13,7 @@ use std::hash::Hash;
 use std::sync::Arc;
 
 /// One call of a cache, with its arguments as values.
-#[derive(Drop)]
+#[derive(Debug, Drop)]
 pub enum Step<K, V> {
     /// A look that uses the value that it finds.
     Get { key: Arc<K>, now: u64 },
@@ -28,7 +28,7 @@ pub enum Step<K, V> {
 }
 
 /// The answer of a call.
-#[derive(Drop)]
+#[derive(Debug, Drop)]
 pub enum Reply<K, V> {
     /// What `Get` found.
     Found(Option<V>),

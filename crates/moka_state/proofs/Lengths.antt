@@ -1,41 +1,9 @@
--- A list of numbered rows, cut at the first row under a number.
+-- How many rows stand in both orders after a change of one.
 use Rattle.std.proofs.Common.{◌≡◌, ℕ, ◌+◌, ◌==◌, Bool, true, false, cond, List, [], ◌∷◌, ◌++◌, length, Option, Some, None, IsSome, MatchOption, suc, refl, sym, ap, ◌∙◌, arith, length-append, append_assoc}
 use Rattle.moka_state.specs.Rows.{row_under, with_row, without_row}
 use Rattle.moka_state.proofs.RowLemmas.{row_under-append_right, length-with_row, length-without_row}
 
 module _ {R : Type 0} where
-  -- where the first row under a number stands, and what a change or a removal of it leaves
-  pub record Cut (n : ℕ) (ps : List (ℕ × R)) (row : R) : Type 0 where
-    pub before : List (ℕ × R)
-    pub number : ℕ
-    pub after : List (ℕ × R)
-    pub whole : ps ≡ before ++ (number, row) ∷ after
-    pub changed : (change : R → R) → with_row n change ps ≡ before ++ (number, change row) ∷ after
-    pub rest : without_row n ps ≡ before ++ after
-
-  -- a row that stands under a number has such a place
-  pub cut : (n : ℕ) (ps : List (ℕ × R)) (row : R) → row_under n ps ≡ Some row → Cut n ps row
-  cut n [] row e = absurd (let h : Some row ≡ None = sym e in cc)
-  cut n (p ∷ ps) row e = go (p.0 == n) refl (λ _ h. cut n ps row h)
-    where
-      go : (b : Bool) → (p.0 == n) ≡ b → (b ≡ false → row_under n ps ≡ Some row → Cut n ps row) → Cut n (p ∷ ps) row
-      go true h more = let same : Some p.1 ≡ Some row = rw h at e in let here : p.1 ≡ row = cc in record {
-        before = [];
-        number = p.0;
-        after = ps;
-        whole = ap (λ (r : R). let q : ℕ × R = (p.0, r) in q ∷ ps) here;
-        changed = λ change. rw (h, here);
-        rest = rw h;
-      }
-      go false h more = let c = more refl (rw h at e) in record {
-        before = p ∷ c.before;
-        number = c.number;
-        after = c.after;
-        whole = ap (λ qs. p ∷ qs) c.whole;
-        changed = λ change. rw h (ap (λ qs. p ∷ qs) (c.changed change));
-        rest = rw h (ap (λ qs. p ∷ qs) c.rest);
-      }
-
   -- a use of a row keeps how many rows there are in both orders together
   pub length-used : (n : ℕ) (change : R → R) (admitted waiting admitted' waiting' : List (ℕ × R))
       → MatchOption (row_under n admitted)
