@@ -12,3 +12,6 @@ pub mod state {
     pub use moka_state::state::{CacheState, InsertRefused, Settings, State};
     pub use moka_state::step::{Reply, Step};
 }
+
+#[cfg(test)]
+mod example;
