@@ -7,6 +7,9 @@ ghost use Rattle.moka_base.specs.StandsFor.{Holdings, StandsFor, Follows, AtEach
 ghost use Rattle.moka_state.specs.Table.{leaving_of};
 ghost use Rattle.moka_state.specs.State.{holdings, rules_of, IsSound};
 
+#[cfg(test)]
+pub(crate) mod tests;
+
 use crate::list_rows::ListRows;
 use crate::lives::Lives;
 use crate::rows::{EntryInfo, Row, RowStore};

@@ -4,6 +4,9 @@ ghost use Rattle.std.specs.List.{AllByRecursion};
 ghost use Rattle.moka_base.specs.StandsFor.{StandsFor, AtEachHistory};
 ghost use Rattle.moka_state.specs.Step.{IsReplyTo, StepKeeps, ReplyKeeps, after, IsRun, after_all};
 
+#[cfg(test)]
+mod tests;
+
 use crate::rows::RowStore;
 use crate::state::{InsertRefused, State};
 use moka_base::notification::Notice;

@@ -1,0 +1,11 @@
+pub mod CommandLaws
+pub mod EventsBy
+pub mod FieldLaws
+pub mod FieldTexts
+pub mod LineLaws
+pub mod NoticeLaws
+pub mod NumberLaws
+pub mod RunLaws
+pub mod SessionLaws
+pub mod SettingLaws
+pub mod Truth

@@ -1,0 +1,25 @@
+use Rattle.std.proofs.Common.{◌≡◌, ap, sym, subst, map}
+use Rattle.mokabox.proofs.SessionLaws.{moved, contained, invalidated, one_line}
+use Rattle.mokabox.specs.Answer.{answer_text}
+use Rattle.mokabox.specs.Command.{said}
+use Rattle.mokabox.specs.declared.answer.Answer.TheVariants as answers
+use Rattle.mokabox.specs.declared.command.Command.TheVariants as commands
+use Rattle.mokabox.proofs.session.Session.execute.Goals as goal
+
+pub returns-in-At : goal.returns-in-At
+returns-in-At c = rw (c.in-At.is, c.new.ensures.items) (moved _ _ c.in-At.moment)
+
+pub returns-in_ok-answer-in-Insert : goal.returns-in_ok-answer-in-Insert
+returns-in_ok-answer-in-Insert c = rw c.in-Insert.is (one_line c.one.result _ _ _ _ (commands.Insert c.in-Insert.key c.in-Insert.value.now) _ c.one.ensures c.in_ok-answer-in-Insert.ensures)
+
+pub returns-in-Get : goal.returns-in-Get
+returns-in-Get c = rw c.in-Get.is (one_line c.one-in-Get.result _ _ _ _ (commands.Get c.in-Get.key) _ c.one-in-Get.ensures c.get-answer.ensures)
+
+pub returns-in-Has : goal.returns-in-Has
+returns-in-Has c = rw c.in-Has.is (one_line c.one-in-Has.result _ _ _ _ (commands.Has c.in-Has.key) _ c.one-in-Has.ensures (contained _ _ c.in-Has.key c.contains_key-is_there.result c.contains_key-is_there.ensures.reply c.contains_key-is_there.ensures.stands))
+
+pub returns-in-Invalidate : goal.returns-in-Invalidate
+returns-in-Invalidate c = rw c.in-Invalidate.is (one_line c.one-in-Invalidate.result _ _ _ _ (commands.Invalidate c.in-Invalidate.key) answers.Done c.one-in-Invalidate.ensures (invalidated _ _ _ c.in-Invalidate.key c.invalidate.ensures))
+
+pub returns-in-Notices : goal.returns-in-Notices
+returns-in-Notices c = rw c.in-Notices.is c.notices.ensures

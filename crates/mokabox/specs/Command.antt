@@ -1,0 +1,77 @@
+use Rattle.std.specs.Prelude.{ℕ, ◌^◌, ◌<◌, List, [], ◌∷◌, Option, Some, None, option_map, option_and_then, codes, if◌then◌else◌}
+use Rattle.std.specs.Borrow.{Bor}
+use Rattle.std.specs.Fmt.{decimal}
+use Rattle.std.specs.List.{join_with_byte}
+use Rattle.std.specs.Str.{bytes_eq}
+use Rattle.mokabox.specs.Fields.{line_says, number_of, sole_number_of, sole_text_of, IsText}
+use Rattle.mokabox.specs.declared.command.Command.{Command}
+use Rattle.mokabox.specs.declared.command.Command.TheVariants.{At, Insert, Get, Has, Invalidate, Notices}
+
+-- a command with the bytes of its texts
+abbrev pub Said : Type 0
+Said = Command (List ℕ)
+
+abbrev pub said : Command (Bor (List ℕ)) → Said
+said (At moment) = At moment
+said (Insert key value) = Insert key value.now
+said (Get key) = Get key
+said (Has key) = Has key
+said (Invalidate key) = Invalidate key
+said Notices = Notices
+
+-- the fields that a command is written as
+abbrev pub written : Said → List (List ℕ)
+written (At moment) = codes "at" ∷ decimal moment ∷ []
+written (Insert key value) = codes "insert" ∷ decimal key ∷ value ∷ []
+written (Get key) = codes "get" ∷ decimal key ∷ []
+written (Has key) = codes "has" ∷ decimal key ∷ []
+written (Invalidate key) = codes "invalidate" ∷ decimal key ∷ []
+written Notices = codes "notices" ∷ []
+
+-- the line that a command is written as, its fields separated by one space
+abbrev pub line_of : Said → List ℕ
+line_of command = join_with_byte 32 (written command)
+
+-- the numbers are below 2 ^ 64, and the texts are texts
+abbrev pub IsSayable : Said → Type 0
+IsSayable (At moment) = moment < 2 ^ 64
+IsSayable (Insert key value) = (key < 2 ^ 64) × IsText value
+IsSayable (Get key) = key < 2 ^ 64
+IsSayable (Has key) = key < 2 ^ 64
+IsSayable (Invalidate key) = key < 2 ^ 64
+IsSayable Notices = Unit {0}
+
+-- what reads the fields behind a command's word
+abbrev pub Reader : Type 0
+Reader = List (List ℕ) → Option Said
+
+abbrev pub insert_of : Reader
+insert_of [] = None
+insert_of (key ∷ rest) = option_and_then (λ number. option_map (Insert number) (sole_text_of rest)) (number_of key)
+
+abbrev pub alone : Said → Reader
+alone command [] = Some command
+alone command (field ∷ more) = None
+
+-- each command's word, and what reads the fields behind it
+abbrev pub words : List (List ℕ × Reader)
+words = (codes "at", λ rest. option_map At (sole_number_of rest))
+    ∷ (codes "insert", insert_of)
+    ∷ (codes "get", λ rest. option_map Get (sole_number_of rest))
+    ∷ (codes "has", λ rest. option_map Has (sole_number_of rest))
+    ∷ (codes "invalidate", λ rest. option_map Invalidate (sole_number_of rest))
+    ∷ (codes "notices", alone Notices)
+    ∷ []
+
+abbrev pub read_by : List (List ℕ × Reader) → List ℕ → Reader
+read_by [] word rest = None
+read_by (entry ∷ entries) word rest = if bytes_eq word entry.0 then entry.1 rest else read_by entries word rest
+
+-- the command that the fields write
+abbrev pub command_of : List (List ℕ) → Option Said
+command_of [] = None
+command_of (word ∷ rest) = read_by words word rest
+
+-- the command that a line writes, if it is UTF-8
+abbrev pub said_by : List ℕ → Option Said
+said_by = line_says command_of

@@ -1,0 +1,171 @@
+// Whole scripts over memory, and readers and writers that fail.
+use super::*;
+use std::io::{Error, ErrorKind, Read};
+use std::test::Fail;
+
+// What a script prints, and the status at its end.
+fn ran(alloc: Global, script: &[u8]) -> (Vec<u8>, Status) {
+    let mut printed = Vec::new(alloc);
+    let status = run_script(alloc, script, &mut printed);
+    (printed, status)
+}
+
+#[test]
+fn scripts_print(rt: HostRuntime) -> Result<(), Fail> {
+    for (script, wanted, status) in [
+        (
+            "new ttl=10\ninsert 1 one\nget 1\nat 10000000000\nget 1\n",
+            "ok\nok\nsome one\nnone\n",
+            Status::Done,
+        ),
+        (
+            "new first=18446744073709551614\ninsert 1 a\ninsert 2 b\nget 1\ninvalidate 1\nnotices\n",
+            "ok\nok\nrefused 2\nsome a\nok\nnotice 1 a Explicit\nend\n",
+            Status::Done,
+        ),
+        (
+            "new ttl=10\ninsert 1 a\nat 10000000000\ninsert 1 b\nnotices\n",
+            "ok\nok\nok\nnotice 1 a Expired\nend\n",
+            Status::Done,
+        ),
+        (
+            "new tti=5 ttl=7\ninsert 1 a\ninsert 1 b\nhas 1\nat 5000000000\nhas 1\nnotices",
+            "ok\nok\nok\ntrue\nfalse\nnotice 1 a Replaced\nend\n",
+            Status::Done,
+        ),
+        ("", "", Status::Done),
+        ("\n", "bad line\n", Status::Bad),
+        ("insert 1 a\nnew\n", "bad line\n", Status::Bad),
+        ("new ttl=1 ttl=2\nhas 1\n", "bad line\n", Status::Bad),
+        ("new ttl=01\n", "bad line\n", Status::Bad),
+        ("new\nhas 1", "ok\nfalse\n", Status::Done),
+    ] {
+        let (printed, ended) = ran(rt.alloc(), script.as_bytes());
+        assert_eq!(rt; printed.as_slice(), wanted.as_bytes(), "of {script:?}");
+        assert_eq!(rt; ended, status, "of {script:?}");
+    }
+    Ok(())
+}
+
+#[test]
+fn bad_lines_are_said(rt: HostRuntime) -> Result<(), Fail> {
+    for line in [
+        b"".as_slice(),
+        b"new",
+        b" has 1",
+        b"has 1 ",
+        b"has  1",
+        b"has 1\r",
+        b"has",
+        b"has 01",
+        b"has +1",
+        b"has -1",
+        b"has 18446744073709551616",
+        b"has 1 2",
+        b"Has 1",
+        b"insert 1 ",
+        b"insert 1",
+        b"insert 1 a b",
+        b"notices 1",
+        b"at",
+        b"insert 1 \xff\xfe",
+        b"insert 1 \xed\xa0\x80",
+    ] {
+        let mut script = Vec::new(rt.alloc());
+        script.extend_from_slice(b"new\n")?;
+        script.extend_from_slice(line)?;
+        script.extend_from_slice(b"\nhas 18446744073709551615\n")?;
+        let (printed, ended) = ran(rt.alloc(), &script);
+        assert_eq!(rt;
+            printed.as_slice(),
+            b"ok\nbad line\nfalse\n".as_slice(),
+            "of {line:?}"
+        );
+        assert_eq!(rt; ended, Status::Bad, "of {line:?}");
+    }
+    Ok(())
+}
+
+#[test]
+fn a_value_keeps_its_bytes(rt: HostRuntime) -> Result<(), Fail> {
+    let (printed, ended) = ran(rt.alloc(), b"new\ninsert 1 caf\xc3\xa9\t=\r\nget 1\n");
+    assert_eq!(rt;
+        printed.as_slice(),
+        b"ok\nok\nsome caf\xc3\xa9\t=\r\n".as_slice()
+    );
+    assert_eq!(rt; ended, Status::Done);
+    Ok(())
+}
+
+// A writer that takes so many bytes and then fails.
+#[derive(Drop)]
+struct Full {
+    taken: Vec<u8>,
+    room: usize,
+}
+
+impl Write for Full {
+    fn write(&mut self, buf: &[u8]) -> io::Result<usize> {
+        if buf.len() > self.room {
+            return Err(Error::from(ErrorKind::Other));
+        }
+        self.taken.extend_from_slice(buf)?;
+        self.room -= buf.len();
+        Ok(buf.len())
+    }
+
+    fn flush(&mut self) -> io::Result<()> {
+        Ok(())
+    }
+}
+
+#[test]
+fn a_full_writer_fails_the_run(rt: HostRuntime) -> Result<(), Fail> {
+    let script = b"new\ninsert 1 a\nget 1\n";
+    let wanted = b"ok\nok\nsome a\n".as_slice();
+    for room in 0..wanted.len() + 1 {
+        let mut writer = Full {
+            taken: Vec::new(rt.alloc()),
+            room,
+        };
+        let status = run_script(rt.alloc(), script.as_slice(), &mut writer);
+        assert_eq!(rt;
+            status == Status::Done,
+            room == wanted.len(),
+            "with room for {room}"
+        );
+        assert_eq!(rt;
+            status == Status::Failed,
+            room < wanted.len(),
+            "with room for {room}"
+        );
+        assert!(rt;
+            wanted.starts_with(writer.taken.as_slice()),
+            "with room for {room}"
+        );
+    }
+    Ok(())
+}
+
+// A reader that fails behind what it has.
+#[derive(Drop)]
+struct Broken<'a>(&'a [u8]);
+
+impl Read for Broken<'_> {
+    fn read(&mut self, buf: &mut [u8]) -> io::Result<usize> {
+        if self.0.is_empty() {
+            return Err(Error::from(ErrorKind::Other));
+        }
+        self.0.read(buf)
+    }
+}
+
+#[test]
+fn a_broken_reader_fails_the_run(rt: HostRuntime) -> Result<(), Fail> {
+    let mut printed = Vec::new(rt.alloc());
+    let reader = io::BufReader::new(rt.alloc(), Broken(b"new\ninsert 1 a\nget 1"))?;
+    let status = run_script(rt.alloc(), reader, &mut printed);
+    assert_eq!(rt; status, Status::Failed);
+    assert_eq!(rt; printed.as_slice(), b"ok\nok\n".as_slice());
+    Ok(())
+}
