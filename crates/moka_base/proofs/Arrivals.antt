@@ -1,5 +1,5 @@
 -- Nothing is admitted, and what waits stands in the order of its opening writes.
-use Rattle.std.proofs.Common.{◌≡◌, ◌≢◌, ℕ, max, Bool, true, false, not, cond, ◌&&◌, ◌||◌, is_some, List, [], ◌∷◌, ◌++◌, map, Option, Some, None, option_map, refl, sym, ap, ◌∙◌}
+use Rattle.std.proofs.Common.{◌≡◌, ℕ, Bool, true, false, not, cond, ◌&&◌, ◌||◌, is_some, List, [], ◌∷◌, ◌++◌, Option, Some, None, option_map, refl, sym, ap, ◌∙◌}
 use Rattle.std.specs.Option.{option_to_list}
 use Rattle.std.specs.List.{filter, list_any}
 use Rattle.std.specs.Cmp.{IsEquivalence}
@@ -7,7 +7,7 @@ use Rattle.std.proofs.lemmas.List.{map-append}
 use Rattle.std.proofs.lemmas.List.Elements.{filter-append, filter_agree}
 use Rattle.moka_base.specs.Maintenance.{Queues}
 use Rattle.moka_base.specs.History.{Event, Get, ContainsKey, Insert, Invalidate, TakeNotice, Rules, Write, latest, after_look, after_write, standing, moved_last, is_of, is_hit, opened_by, queues}
-use Rattle.moka_base.specs.OrderLaws.{keys, held, with_waiting, lasts, openings, waits}
+use Rattle.moka_base.specs.OrderLaws.{keys, held, lasts, openings, waits}
 use Rattle.moka_base.proofs.Standing.{standing_congr}
 use Rattle.moka_base.proofs.ListLemmas.{filter-both}
 use Rattle.moka_base.proofs.QueuesHold.{opening, overwrite, overwritten, held-queues}
@@ -26,7 +26,7 @@ module _ {K V : Type 0} (eq : K → K → Bool) (rules : Rules) where
   admitted-queues (ContainsKey k at ∷ h) = admitted-queues h
   admitted-queues (Insert k v at ∷ h) =
       opened_by-admitted (opening eq rules k v (latest (Insert k v at ∷ h))) (held eq k (queues eq rules h)) (overwritten eq rules k v (latest (Insert k v at ∷ h)) (queues eq rules h))
-        ∙ ap (moved_last (is_of eq rules k) (overwrite eq rules k v (latest (Insert k v at ∷ h)))) (admitted-queues h)
+      ∙ ap (moved_last (is_of eq rules k) (overwrite eq rules k v (latest (Insert k v at ∷ h)))) (admitted-queues h)
   admitted-queues (Invalidate k at ∷ h) = ap (filter (λ (w : Write K V). not (eq w.key k))) (admitted-queues h)
   admitted-queues (TakeNotice ∷ h) = admitted-queues h
 
@@ -84,9 +84,9 @@ module _ {K V : Type 0} (eq : K → K → Bool) (rules : Rules) (laws : IsEquiva
       → filter (stands (Insert p v at ∷ h)) (lasts eq (ks ++ p ∷ [])) ≡ filter (stands h) (lasts eq ks) ++ p ∷ []
   stands-opening p v at h ks none =
       ap (filter (stands (Insert p v at ∷ h))) (lasts-push eq ks p)
-        ∙ filter-append (stands (Insert p v at ∷ h)) (filter (λ x. not (eq x p)) (lasts eq ks)) (p ∷ [])
-        ∙ ap (λ l. l ++ cond (stands (Insert p v at ∷ h) p) (p ∷ []) []) (sym (filter-both (λ x. not (eq x p)) (stands (Insert p v at ∷ h)) (lasts eq ks)) ∙ filter_agree (λ x. not (eq x p) && stands (Insert p v at ∷ h) x) (stands h) others (lasts eq ks))
-        ∙ ap (λ t. filter (stands h) (lasts eq ks) ++ cond (is_some (cond t (Some (after_write rules p v (latest (Insert p v at ∷ h)) (standing eq rules p h))) (standing eq rules p h))) (p ∷ []) []) (laws.refl p)
+      ∙ filter-append (stands (Insert p v at ∷ h)) (filter (λ x. not (eq x p)) (lasts eq ks)) (p ∷ [])
+      ∙ ap (λ l. l ++ cond (stands (Insert p v at ∷ h) p) (p ∷ []) []) (sym (filter-both (λ x. not (eq x p)) (stands (Insert p v at ∷ h)) (lasts eq ks)) ∙ filter_agree (λ x. not (eq x p) && stands (Insert p v at ∷ h) x) (stands h) others (lasts eq ks))
+      ∙ ap (λ t. filter (stands h) (lasts eq ks) ++ cond (is_some (cond t (Some (after_write rules p v (latest (Insert p v at ∷ h)) (standing eq rules p h))) (standing eq rules p h))) (p ∷ []) []) (laws.refl p)
     where
       others : (x : K) → (not (eq x p) && stands (Insert p v at ∷ h) x) ≡ stands h x
       others x = rw (laws.symm x p) (is_some-opened (eq p x) (after_write rules p v (latest (Insert p v at ∷ h)) (standing eq rules x h)) (standing eq rules x h) (λ same. ap is_some (sym (standing_congr eq rules laws p x h same) ∙ none)))
@@ -96,8 +96,8 @@ module _ {K V : Type 0} (eq : K → K → Bool) (rules : Rules) (laws : IsEquiva
   waiting_keys [] = refl
   waiting_keys (Get p at ∷ h) =
       look-waiting_keys eq rules p (queues eq rules h) (latest (Get p at ∷ h))
-        ∙ waiting_keys h
-        ∙ filter_agree (stands h) (stands (Get p at ∷ h)) (λ k. is_some-same (eq p k) (after_look rules (latest (Get p at ∷ h))) (standing eq rules k h)) (lasts eq (openings eq rules h))
+      ∙ waiting_keys h
+      ∙ filter_agree (stands h) (stands (Get p at ∷ h)) (λ k. is_some-same (eq p k) (after_look rules (latest (Get p at ∷ h))) (standing eq rules k h)) (lasts eq (openings eq rules h))
   waiting_keys (ContainsKey p at ∷ h) = waiting_keys h
   waiting_keys (Insert p v at ∷ h) = go (standing eq rules p h) refl (waiting_keys h)
     where
@@ -105,18 +105,18 @@ module _ {K V : Type 0} (eq : K → K → Bool) (rules : Rules) (laws : IsEquiva
           → keys (queues eq rules (Insert p v at ∷ h)).waiting ≡ filter (stands (Insert p v at ∷ h)) (lasts eq (cond (is_some o) (openings eq rules h) (openings eq rules h ++ p ∷ [])))
       go None e ih =
           ap (λ (r : Queues (Write K V)). keys r.waiting) (written_in-anew eq rules p (queues eq rules h) v (latest (Insert p v at ∷ h)) (held-queues eq rules laws p h ∙ ap option_to_list e))
-            ∙ map-append (λ (w : Write K V). w.key) (queues eq rules h).waiting (opening eq rules p v (latest (Insert p v at ∷ h)) ∷ [])
-            ∙ ap (λ l. l ++ p ∷ []) ih
-            ∙ sym (stands-opening p v at h (openings eq rules h) e)
+          ∙ map-append (λ (w : Write K V). w.key) (queues eq rules h).waiting (opening eq rules p v (latest (Insert p v at ∷ h)) ∷ [])
+          ∙ ap (λ l. l ++ p ∷ []) ih
+          ∙ sym (stands-opening p v at h (openings eq rules h) e)
       go (Some w) e ih =
           overwrite-waiting_keys eq rules p (queues eq rules h) v (latest (Insert p v at ∷ h)) (λ none. let no : w ∷ [] ≡ [] = sym (held-queues eq rules laws p h ∙ ap option_to_list e) ∙ none in cc)
-            ∙ ih
-            ∙ filter_agree (stands h) (stands (Insert p v at ∷ h)) (λ k. is_some-written (eq p k) (after_write rules p v (latest (Insert p v at ∷ h)) (standing eq rules k h)) (standing eq rules k h) (λ same. ap is_some (sym (standing_congr eq rules laws p k h same) ∙ e))) (lasts eq (openings eq rules h))
+          ∙ ih
+          ∙ filter_agree (stands h) (stands (Insert p v at ∷ h)) (λ k. is_some-written (eq p k) (after_write rules p v (latest (Insert p v at ∷ h)) (standing eq rules k h)) (standing eq rules k h) (λ same. ap is_some (sym (standing_congr eq rules laws p k h same) ∙ e))) (lasts eq (openings eq rules h))
   waiting_keys (Invalidate p at ∷ h) =
       removed_in-waiting_keys eq rules p (queues eq rules h)
-        ∙ ap (filter (λ x. not (eq x p))) (waiting_keys h)
-        ∙ sym (filter-both (stands h) (λ x. not (eq x p)) (lasts eq (openings eq rules h)))
-        ∙ filter_agree (λ x. stands h x && not (eq x p)) (stands (Invalidate p at ∷ h)) (λ x. rw (laws.symm x p) (is_some-removed (eq p x) (standing eq rules x h))) (lasts eq (openings eq rules h))
+      ∙ ap (filter (λ x. not (eq x p))) (waiting_keys h)
+      ∙ sym (filter-both (stands h) (λ x. not (eq x p)) (lasts eq (openings eq rules h)))
+      ∙ filter_agree (λ x. stands h x && not (eq x p)) (stands (Invalidate p at ∷ h)) (λ x. rw (laws.symm x p) (is_some-removed (eq p x) (standing eq rules x h))) (lasts eq (openings eq rules h))
   waiting_keys (TakeNotice ∷ h) = waiting_keys h
 
   -- a key that stands waits, since nothing is admitted

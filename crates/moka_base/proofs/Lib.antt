@@ -6,8 +6,12 @@ pub mod ListLemmas
 pub mod Looks
 pub mod Maintenance
 pub mod MaintenanceCounted
+pub mod MaintenanceJudged
 pub mod MaintenanceLimits
+pub mod MaintenanceOnes
 pub mod MaintenanceOrder
+pub mod MaintenanceResumed
+pub mod MaintenanceShortest
 pub mod Moves
 pub mod Notices
 pub mod NumberHashes

@@ -64,8 +64,8 @@ module _ {A : Type 0} (p : A → Bool) (change : A → A) where
     pub filter-moved_last : (xs : List A) → filter q (moved_last p change xs) ≡ moved_last p change (filter q xs)
     filter-moved_last xs =
         filter-append q (filter (λ x. not (p x)) xs) (map change (filter p xs))
-          ∙ ap (λ l. l ++ filter q (map change (filter p xs))) (filter_comm (λ x. not (p x)) q xs)
-          ∙ ap (λ l. filter (λ x. not (p x)) (filter q xs) ++ l) (filter-map q change kept (filter p xs) ∙ ap (map change) (filter_comm p q xs))
+        ∙ ap (λ l. l ++ filter q (map change (filter p xs))) (filter_comm (λ x. not (p x)) q xs)
+        ∙ ap (λ l. filter (λ x. not (p x)) (filter q xs) ++ l) (filter-map q change kept (filter p xs) ∙ ap (map change) (filter_comm p q xs))
 
   -- a move in a list of one at most is a change of that one
   moved_last-option : (o : Option A) → moved_last p change (option_to_list o) ≡ option_to_list (option_map changed_if o)

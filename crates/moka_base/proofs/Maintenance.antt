@@ -1,8 +1,8 @@
 -- What leaves in each stage of a maintenance, and how the queues stand after it.
-use Rattle.std.proofs.Common.{◌≡◌, ℕ, zero, suc, ◌+◌, ◌<◌, ◌≤◌, ◌||◌, ◌==◌, Bool, true, false, not, if◌then◌else◌, nat_le, Option, Some, None, List, [], ◌∷◌, ◌++◌, length, take, drop, filter, refl, sym, ap, ◌∙◌, ⊎_elim, append_assoc, append-nil, add-one, arith}
+use Rattle.std.proofs.Common.{◌≡◌, ℕ, zero, suc, ◌+◌, ◌<◌, ◌≤◌, ◌||◌, ◌==◌, Bool, true, false, not, if◌then◌else◌, nat_le, Option, Some, None, List, [], ◌∷◌, ◌++◌, length, take, drop, filter, refl, sym, ap, ◌∙◌, ⊎_elim, append_assoc, add-one, arith}
 use Rattle.std.specs.List.{All}
-use Rattle.std.proofs.lemmas.Bool.{cond_both, cases_Bool, cond-true, cond-false, leb-true, le-leb}
-use Rattle.std.proofs.lemmas.List.Elements.{All-drop, All-push, All-filter, filter_passes, All-head, All-tail}
+use Rattle.std.proofs.lemmas.Bool.{cond_both, cases_Bool, cond-true, leb-true, le-leb}
+use Rattle.std.proofs.lemmas.List.Elements.{All-drop, All-push, filter_passes, All-head, All-tail}
 use Rattle.moka_base.specs.Maintenance.{Queues, Part, total, fits, front, dead_admitted, dead_waiting, over, judge, judged, parts, leaving_in, after_parts}
 use Rattle.moka_base.specs.MaintenanceLaws.{queues}
 
@@ -25,6 +25,11 @@ module _ {X : Type 0} (weight : X → ℕ) where
   fits-same None m n xs ys e = refl
   fits-same (Some c) m n xs ys e = ap (λ k. nat_le k c) e
 
+  -- what is no heavier fits too
+  pub lighter-fits : (capacity : Option ℕ) (m n : ℕ) (xs ys : List X) → n + total weight ys ≤ m + total weight xs → fits weight capacity m xs ≡ true → fits weight capacity n ys ≡ true
+  lighter-fits None m n xs ys le fit = refl
+  lighter-fits (Some c) m n xs ys le fit = let within = leb-true (m + total weight xs) c fit in le-leb (n + total weight ys) c (omega arith)
+
   -- nothing fits beside nothing
   pub fits-none : (capacity : Option ℕ) → fits weight capacity 0 [] ≡ true
   fits-none None = refl
@@ -41,6 +46,11 @@ module _ {X : Type 0} (weight : X → ℕ) (capacity : Option ℕ) (more : ℕ) 
   fits-drop_shorter [] m less = absurd (omega arith)
   fits-drop_shorter (x ∷ xs) zero less = cond_both (fits weight capacity more (x ∷ xs)) 0 (front weight capacity more xs + 1) (λ n. 0 < n → fits weight capacity more (x ∷ xs) ≡ false) (λ _ none. absurd (omega arith)) (λ e _. e) less
   fits-drop_shorter (x ∷ xs) (suc m) less = cond_both (fits weight capacity more (x ∷ xs)) 0 (front weight capacity more xs + 1) (λ n. suc m < n → fits weight capacity more (drop m xs) ≡ false) (λ _ none. absurd (omega arith)) (λ _ below. fits-drop_shorter xs m (omega arith)) less
+
+  -- where all fits, no front has to leave
+  pub front-fits : (xs : List X) → fits weight capacity more xs ≡ true → front weight capacity more xs ≡ 0
+  front-fits [] fit = refl
+  front-fits (x ∷ xs) fit = cond-true (fits weight capacity more (x ∷ xs)) 0 (front weight capacity more xs + 1) fit
 
   pub front-le : (xs : List X) → front weight capacity more xs ≤ length xs
   front-le [] = omega arith
@@ -80,6 +90,13 @@ module _ {X : Type 0} (weight : X → ℕ) (capacity : Option ℕ) where
   after-over [] waiting = refl
   after-over (x ∷ xs) waiting = ⊎_elim (λ e. rw e refl) (λ e. rw e (rw add-one (after-over xs waiting))) (cases_Bool (fits weight capacity 0 (x ∷ xs)))
 
+-- one that fits alone fits beside what the front leaves behind
+pub fits-admitted : {X : Type 0} (weight : X → ℕ) (capacity : Option ℕ) (admitted : List X) (x : X) → fits weight capacity (weight x) [] ≡ true → fits weight capacity 0 (drop (front weight capacity (weight x) admitted) admitted ++ x ∷ []) ≡ true
+fits-admitted weight capacity admitted x alone =
+    let kept = drop (front weight capacity (weight x) admitted) admitted in
+    let same : 0 + total weight (kept ++ x ∷ []) ≡ weight x + total weight kept = let parts_of = total-append weight kept (x ∷ []) in omega arith in
+    fits-same weight capacity 0 (weight x) (kept ++ x ∷ []) kept same ∙ fits-drop_front weight capacity (weight x) admitted alone
+
 -- the first that waits is admitted after a number of victims
 abbrev pub admitting : {X : Type 0} → ℕ → List X → X → List X → Part X
 admitting victims admitted x waiting = record { leaves = take victims admitted; after = queues (drop victims admitted ++ x ∷ []) waiting }
@@ -95,8 +112,8 @@ module _ {X : Type 0} (weight : X → ℕ) (capacity : Option ℕ) (wins : X →
       let victims : ℕ = front weight capacity (weight x) admitted in
       let wins_here : Bool = victims == 0 || wins x (take victims admitted) in
       cond_both (fits weight capacity (weight x) []) (if wins_here then admitting victims admitted x waiting else dropping admitted x waiting) (dropping admitted x waiting) P
-        (λ alone. cond_both wins_here (admitting victims admitted x waiting) (dropping admitted x waiting) P (λ _. admits alone) (λ _. drops))
-        (λ _. drops)
+      (λ alone. cond_both wins_here (admitting victims admitted x waiting) (dropping admitted x waiting) P (λ _. admits alone) (λ _. drops))
+      (λ _. drops)
 
   -- the admitted after each that waits was judged
   abbrev pub admitted_after : List X → List X → List X
@@ -114,12 +131,8 @@ module _ {X : Type 0} (weight : X → ℕ) (capacity : Option ℕ) (wins : X →
   pub admitted_after-fits : (admitted waiting : List X) → fits weight capacity 0 admitted ≡ true → fits weight capacity 0 (admitted_after admitted waiting) ≡ true
   admitted_after-fits admitted [] fit = fit
   admitted_after-fits admitted (x ∷ xs) fit =
-      let kept : List X = drop (front weight capacity (weight x) admitted) admitted in
-      let same : 0 + total weight (kept ++ x ∷ []) ≡ weight x + total weight kept = let parts_of = total-append weight kept (x ∷ []) in omega arith in
       admitted_after-fits (judge weight capacity wins admitted x xs).after.admitted xs
-        (judge_both admitted x xs (λ p. fits weight capacity 0 p.after.admitted ≡ true)
-          (λ alone. fits-same weight capacity 0 (weight x) (kept ++ x ∷ []) kept same ∙ fits-drop_front weight capacity (weight x) admitted alone)
-          fit)
+      (judge_both admitted x xs (λ p. fits weight capacity 0 p.after.admitted ≡ true) (fits-admitted weight capacity admitted x) fit)
 
   -- what is true of all that was admitted or waited is true of all that is admitted
   pub All-admitted_after : (P : X → Type 0) (admitted waiting : List X) → All P admitted → All P waiting → All P (admitted_after admitted waiting)
@@ -127,8 +140,8 @@ module _ {X : Type 0} (weight : X → ℕ) (capacity : Option ℕ) (wins : X →
   All-admitted_after P admitted (x ∷ xs) a w =
       let victims : ℕ = front weight capacity (weight x) admitted in
       All-admitted_after P (judge weight capacity wins admitted x xs).after.admitted xs
-        (judge_both admitted x xs (λ p. All P p.after.admitted) (λ _. All-push P (drop victims admitted) x (All-drop P victims admitted a) (All-head P x xs w)) a)
-        (All-tail P x xs w)
+      (judge_both admitted x xs (λ p. All P p.after.admitted) (λ _. All-push P (drop victims admitted) x (All-drop P victims admitted a) (All-head P x xs w)) a)
+      (All-tail P x xs w)
 
 module _ {X : Type 0} (weight : X → ℕ) (capacity : Option ℕ) (is_live : X → Bool) (wins : X → List X → Bool) where
   -- what of the live admitted leaves as over the capacity
@@ -160,26 +173,26 @@ module _ {X : Type 0} (weight : X → ℕ) (capacity : Option ℕ) (is_live : X 
       let c : List (Part X) = over weight capacity admitted waiting in
       let d : List (Part X) = judged weight capacity wins (within q) waiting in
       after_parts-append q a (b ++ (c ++ d))
-        ∙ ap (λ r. after_parts r (b ++ (c ++ d))) (after-dead_admitted is_live [] q.admitted q.waiting)
-        ∙ after_parts-append (queues admitted q.waiting) b (c ++ d)
-        ∙ ap (λ r. after_parts r (c ++ d)) (after-dead_waiting is_live admitted [] q.waiting)
-        ∙ after_parts-append (queues admitted waiting) c d
-        ∙ ap (λ r. after_parts r d) (after-over weight capacity admitted waiting)
-        ∙ after-judged weight capacity wins (within q) waiting
+      ∙ ap (λ r. after_parts r (b ++ (c ++ d))) (after-dead_admitted is_live [] q.admitted q.waiting)
+      ∙ after_parts-append (queues admitted q.waiting) b (c ++ d)
+      ∙ ap (λ r. after_parts r (c ++ d)) (after-dead_waiting is_live admitted [] q.waiting)
+      ∙ after_parts-append (queues admitted waiting) c d
+      ∙ ap (λ r. after_parts r d) (after-over weight capacity admitted waiting)
+      ∙ after-judged weight capacity wins (within q) waiting
 
   -- all that stands is live
   pub All-live-after : (q : Queues X) → All (λ x. is_live x ≡ true) (after_parts q (parts weight capacity is_live wins q)).admitted
   All-live-after q =
       rw (after-parts q)
-        (All-admitted_after weight capacity wins (λ x. is_live x ≡ true) (within q) (filter is_live q.waiting)
-          (All-drop (λ x. is_live x ≡ true) (front weight capacity 0 (filter is_live q.admitted)) (filter is_live q.admitted) (filter_passes is_live q.admitted))
-          (filter_passes is_live q.waiting))
+      (All-admitted_after weight capacity wins (λ x. is_live x ≡ true) (within q) (filter is_live q.waiting)
+      (All-drop (λ x. is_live x ≡ true) (front weight capacity 0 (filter is_live q.admitted)) (filter is_live q.admitted) (filter_passes is_live q.admitted))
+      (filter_passes is_live q.waiting))
 
   -- its weight is within the capacity
   pub fits-after : (q : Queues X) → fits weight capacity 0 (after_parts q (parts weight capacity is_live wins q)).admitted ≡ true
   fits-after q =
       rw (after-parts q)
-        (admitted_after-fits weight capacity wins (within q) (filter is_live q.waiting) (fits-drop_front weight capacity 0 (filter is_live q.admitted) (fits-none weight capacity)))
+      (admitted_after-fits weight capacity wins (within q) (filter is_live q.waiting) (fits-drop_front weight capacity 0 (filter is_live q.admitted) (fits-none weight capacity)))
 
 module _ {X : Type 0} (weight : X → ℕ) (capacity : ℕ) (is_live : X → Bool) (wins : X → List X → Bool) where
   pub total-after-le : (q : Queues X) → total weight (after_parts q (parts weight (Some capacity) is_live wins q)).admitted ≤ capacity

@@ -1,6 +1,6 @@
 -- A maintenance loses nothing, and doubles nothing.
-use Rattle.std.proofs.Common.{◌≡◌, ℕ, zero, suc, ◌+◌, ◌-◌, ◌<◌, ◌≤◌, ◌||◌, ◌==◌, Bool, true, false, not, nat_le, Option, Some, None, List, [], ◌∷◌, ◌++◌, length, take, drop, filter, refl, sym, ap, ◌∙◌, ⊎_elim, append_assoc, append-nil, length-append, take-append-drop, arith}
-use Rattle.std.proofs.lemmas.Bool.{cond_both, cases_Bool}
+use Rattle.std.proofs.Common.{◌≡◌, ℕ, ◌+◌, ◌-◌, Bool, nat_le, Option, Some, None, List, [], ◌∷◌, ◌++◌, length, take, drop, filter, refl, sym, ap, ◌∙◌, append_assoc, length-append, take-append-drop, arith}
+use Rattle.std.proofs.lemmas.Bool.{cond_both}
 use Rattle.std.proofs.lemmas.List.Elements.{filter-append}
 use Rattle.moka_base.specs.Maintenance.{Queues, Part, fits, front, dead_admitted, dead_waiting, over, judge, judged, parts, done, leaving_in, after_parts}
 use Rattle.moka_base.specs.MaintenanceLaws.{queues, everything, count}
@@ -39,9 +39,9 @@ module _ {X : Type 0} (test : X → Bool) where
       let first = count-cons x xs in
       let moves : count test (x ∷ []) + (count test rest + count test waiting) ≡ count test (kept ++ x ∷ xs) + count test waiting = omega arith in
       cond_both (is_live x) (dead_admitted is_live (kept ++ x ∷ []) xs waiting) (record { leaves = x ∷ []; after = queues rest waiting } ∷ dead_admitted is_live kept xs waiting)
-        (AllMove (queues (kept ++ x ∷ xs) waiting))
-        (λ _. rw (append_assoc kept (x ∷ []) xs) at (AllMove-dead_admitted is_live (kept ++ x ∷ []) xs waiting))
-        (λ _. (moves, AllMove-dead_admitted is_live kept xs waiting))
+      (AllMove (queues (kept ++ x ∷ xs) waiting))
+      (λ _. rw (append_assoc kept (x ∷ []) xs) at (AllMove-dead_admitted is_live (kept ++ x ∷ []) xs waiting))
+      (λ _. (moves, AllMove-dead_admitted is_live kept xs waiting))
 
   AllMove-dead_waiting : (is_live : X → Bool) (admitted kept xs : List X) → AllMove (queues admitted (kept ++ xs)) (dead_waiting is_live admitted kept xs)
   AllMove-dead_waiting is_live admitted kept [] = tt
@@ -52,9 +52,9 @@ module _ {X : Type 0} (test : X → Bool) where
       let first = count-cons x xs in
       let moves : count test (x ∷ []) + (count test admitted + count test rest) ≡ count test admitted + count test (kept ++ x ∷ xs) = omega arith in
       cond_both (is_live x) (dead_waiting is_live admitted (kept ++ x ∷ []) xs) (record { leaves = x ∷ []; after = queues admitted rest } ∷ dead_waiting is_live admitted kept xs)
-        (AllMove (queues admitted (kept ++ x ∷ xs)))
-        (λ _. rw (append_assoc kept (x ∷ []) xs) at (AllMove-dead_waiting is_live admitted (kept ++ x ∷ []) xs))
-        (λ _. (moves, AllMove-dead_waiting is_live admitted kept xs))
+      (AllMove (queues admitted (kept ++ x ∷ xs)))
+      (λ _. rw (append_assoc kept (x ∷ []) xs) at (AllMove-dead_waiting is_live admitted (kept ++ x ∷ []) xs))
+      (λ _. (moves, AllMove-dead_waiting is_live admitted kept xs))
 
   AllMove-over : (weight : X → ℕ) (capacity : Option ℕ) (xs waiting : List X) → AllMove (queues xs waiting) (over weight capacity xs waiting)
   AllMove-over weight capacity [] waiting = tt
@@ -62,9 +62,9 @@ module _ {X : Type 0} (test : X → Bool) where
       let first = count-cons x xs in
       let moves : count test (x ∷ []) + (count test xs + count test waiting) ≡ count test (x ∷ xs) + count test waiting = omega arith in
       cond_both (fits weight capacity 0 (x ∷ xs)) [] (record { leaves = x ∷ []; after = queues xs waiting } ∷ over weight capacity xs waiting)
-        (AllMove (queues (x ∷ xs) waiting))
-        (λ _. tt)
-        (λ _. (moves, AllMove-over weight capacity xs waiting))
+      (AllMove (queues (x ∷ xs) waiting))
+      (λ _. tt)
+      (λ _. (moves, AllMove-over weight capacity xs waiting))
 
   AllMove-judged : (weight : X → ℕ) (capacity : Option ℕ) (wins : X → List X → Bool) (admitted waiting : List X) → AllMove (queues admitted waiting) (judged weight capacity wins admitted waiting)
   AllMove-judged weight capacity wins admitted [] = tt
@@ -76,9 +76,10 @@ module _ {X : Type 0} (test : X → Bool) where
       let admits : Moves (queues admitted (x ∷ xs)) (admitting victims admitted x xs) = omega arith in
       let drops : Moves (queues admitted (x ∷ xs)) (dropping admitted x xs) = omega arith in
       let now : List X = (judge weight capacity wins admitted x xs).after.admitted in
-      let still : (judge weight capacity wins admitted x xs).after ≡ queues now xs = judge_both weight capacity wins admitted x xs (λ p. p.after ≡ queues p.after.admitted xs) (λ _. refl) refl in
-      ( judge_both weight capacity wins admitted x xs (Moves (queues admitted (x ∷ xs))) (λ _. admits) drops
-      , rw still (AllMove-judged weight capacity wins now xs))
+      let still : (judge weight capacity wins admitted x xs).after ≡ queues now xs = judge_both weight capacity wins admitted x xs (λ p. p.after ≡ queues p.after.admitted xs) (λ _. refl) refl in (
+        judge_both weight capacity wins admitted x xs (Moves (queues admitted (x ∷ xs))) (λ _. admits) drops,
+        rw still (AllMove-judged weight capacity wins now xs),
+      )
 
   AllMove-parts : (weight : X → ℕ) (capacity : Option ℕ) (is_live : X → Bool) (wins : X → List X → Bool) (q : Queues X) → AllMove q (parts weight capacity is_live wins q)
   AllMove-parts weight capacity is_live wins q =
@@ -89,11 +90,11 @@ module _ {X : Type 0} (test : X → Bool) where
       let c : List (Part X) = over weight capacity admitted waiting in
       let d : List (Part X) = judged weight capacity wins (within weight capacity is_live wins q) waiting in
       AllMove-append q a (b ++ (c ++ d)) (AllMove-dead_admitted is_live [] q.admitted q.waiting)
-        (rw (after-dead_admitted is_live [] q.admitted q.waiting)
-          (AllMove-append (queues admitted q.waiting) b (c ++ d) (AllMove-dead_waiting is_live admitted [] q.waiting)
-            (rw (after-dead_waiting is_live admitted [] q.waiting)
-              (AllMove-append (queues admitted waiting) c d (AllMove-over weight capacity admitted waiting)
-                (rw (after-over weight capacity admitted waiting) (AllMove-judged weight capacity wins (within weight capacity is_live wins q) waiting))))))
+      (rw (after-dead_admitted is_live [] q.admitted q.waiting)
+      (AllMove-append (queues admitted q.waiting) b (c ++ d) (AllMove-dead_waiting is_live admitted [] q.waiting)
+      (rw (after-dead_waiting is_live admitted [] q.waiting)
+      (AllMove-append (queues admitted waiting) c d (AllMove-over weight capacity admitted waiting)
+      (rw (after-over weight capacity admitted waiting) (AllMove-judged weight capacity wins (within weight capacity is_live wins q) waiting))))))
 
   -- what all parts move is still there
   counted_parts : (q : Queues X) (ps : List (Part X)) → AllMove q ps → count test (leaving_in ps) + (count test (after_parts q ps).admitted + count test (after_parts q ps).waiting) ≡ count test q.admitted + count test q.waiting

@@ -12,8 +12,8 @@ module _ {X : Type 0} where
       let rest = leaving-done-le ps (limit - length p.leaves) in
       let all = length-append p.leaves (leaving_in more) in
       cond_both (nat_le (length p.leaves) limit) (p ∷ more) [] (λ ds. length (leaving_in ds) ≤ limit)
-        (λ e. let within = leb-true (length p.leaves) limit e in omega arith)
-        (λ _. omega arith)
+      (λ e. let within = leb-true (length p.leaves) limit e in omega arith)
+      (λ _. omega arith)
 
   -- where the limit is enough, all is done
   pub done-enough : (ps : List (Part X)) (limit : ℕ) → length (leaving_in ps) ≤ limit → done (Some limit) ps ≡ ps
@@ -22,7 +22,7 @@ module _ {X : Type 0} where
       let all = length-append p.leaves (leaving_in ps) in
       let more : List (Part X) = done (Some (limit - length p.leaves)) ps in
       rw (cond-true (nat_le (length p.leaves) limit) (p ∷ more) [] (le-leb (length p.leaves) limit (omega arith)))
-        (ap (λ rs. p ∷ rs) (done-enough ps (limit - length p.leaves) (omega arith)))
+      (ap (λ rs. p ∷ rs) (done-enough ps (limit - length p.leaves) (omega arith)))
 
   -- what is done is a front of the parts
   pub done_front : (ps : List (Part X)) (limit : ℕ) → (n : ℕ) × (done (Some limit) ps ≡ take n ps)
@@ -31,8 +31,8 @@ module _ {X : Type 0} where
       let more : List (Part X) = done (Some (limit - length p.leaves)) ps in
       let rest = done_front ps (limit - length p.leaves) in
       cond_both (nat_le (length p.leaves) limit) (p ∷ more) [] (λ ds. (n : ℕ) × (ds ≡ take n (p ∷ ps)))
-        (λ _. (suc rest.0, ap (λ rs. p ∷ rs) rest.1))
-        (λ _. (0, refl))
+      (λ _. (suc rest.0, ap (λ rs. p ∷ rs) rest.1))
+      (λ _. (0, refl))
 
   -- the part with which a limit would be passed
   abbrev Passes : List (Part X) → ℕ → List (Part X) → Type 0
@@ -45,9 +45,9 @@ module _ {X : Type 0} where
       let more : List (Part X) = done (Some (limit - length p.leaves)) ps in
       let all = length-append p.leaves (leaving_in more) in
       cond_both (nat_le (length p.leaves) limit) (p ∷ more) [] (Passes (p ∷ ps) limit)
-        (λ e. let within = leb-true (length p.leaves) limit e in
-          ⊎_elim
-          (λ whole. inl (ap (λ rs. p ∷ rs) whole))
-          (λ next. inr (next.0, next.1, ap (λ rs. p ∷ rs) next.2, omega arith))
-          (done_next ps (limit - length p.leaves)))
-        (λ e. let past = leb-false (length p.leaves) limit e in inr (p, ps, refl, omega arith))
+      (λ e. let within = leb-true (length p.leaves) limit e in
+      ⊎_elim
+      (λ whole. inl (ap (λ rs. p ∷ rs) whole))
+      (λ next. inr (next.0, next.1, ap (λ rs. p ∷ rs) next.2, omega arith))
+      (done_next ps (limit - length p.leaves)))
+      (λ e. let past = leb-false (length p.leaves) limit e in inr (p, ps, refl, omega arith))

@@ -1,12 +1,10 @@
 -- What a use, a write and a removal make of two orders in which each key has one write at most.
-use Rattle.std.proofs.Common.{◌≡◌, ◌≢◌, ℕ, max, Bool, true, false, not, cond, ◌&&◌, List, [], ◌∷◌, ◌++◌, map, Option, Some, None, refl, sym, ap, ◌∙◌, append_assoc}
-use Rattle.std.specs.Option.{option_to_list}
+use Rattle.std.proofs.Common.{◌≡◌, ◌≢◌, ℕ, Bool, true, not, cond, List, [], ◌∷◌, ◌++◌, refl, sym, ap, ◌∙◌, append_assoc}
 use Rattle.std.specs.List.{filter}
-use Rattle.std.proofs.lemmas.List.{append-nil}
 use Rattle.std.proofs.lemmas.Bool.{and_parts, and_from, cond-true}
 use Rattle.std.proofs.lemmas.List.Elements.{filter-append}
 use Rattle.moka_base.specs.Maintenance.{Queues}
-use Rattle.moka_base.specs.History.{Rules, Write, is_live, after_look, after_write, changed_where, moved_last, is_of, is_hit, used_where, opened_by, written_in, removed_in}
+use Rattle.moka_base.specs.History.{Rules, Write, is_live, after_look, changed_where, moved_last, is_of, is_hit, used_where, opened_by, written_in, removed_in}
 use Rattle.moka_base.specs.StandsFor.{writes_of}
 use Rattle.moka_base.specs.OrderLaws.{keys, held, HasOneEach, with_admitted, with_waiting, hit_at, written_over, written_anew}
 use Rattle.moka_base.proofs.ListLemmas.{filter-both, rest-all, changed_where-none, moved_last-none, rest-one, moved_last-one, changed_where-one, filter-narrower, alone, empty_parts, map-changed_where, map-filter}
@@ -39,7 +37,7 @@ module _ {K V : Type 0} (eq : K → K → Bool) (rules : Rules) (k : K) (q : Que
   pub written_in-anew : (v : V) (at : ℕ) → held eq k q ≡ [] → written_in eq rules k v at q ≡ with_waiting q (q.waiting ++ written_anew k v at ∷ [])
   written_in-anew v at none =
       ap (λ l. opened_by eq rules (opening eq rules k v at) l (overwritten eq rules k v at q)) none
-        ∙ ap (opened_by eq rules (opening eq rules k v at) []) (used_where-none (is_of eq rules k) (overwrite eq rules k v at) none)
+      ∙ ap (opened_by eq rules (opening eq rules k v at) []) (used_where-none (is_of eq rules k) (overwrite eq rules k v at) none)
 
   -- a write of a key with one changes that one
   pub written_in-over : (v : V) (at : ℕ) → held eq k q ≢ [] → written_in eq rules k v at q ≡ overwritten eq rules k v at q
@@ -102,7 +100,7 @@ module _ {K V : Type 0} (eq : K → K → Bool) (rules : Rules) (k : K) (q : Que
       pub hit-admitted : (at : ℕ) → is_live rules w at ≡ true → used_where eq rules (is_hit eq rules k at) (after_look rules at) q ≡ with_admitted q ((before ++ after) ++ hit_at at w ∷ [])
       hit-admitted at live =
           used-admitted (is_hit eq rules k at) (after_look rules at) (hit_is_of at) (and_from (eq w.key k) (is_live rules w at) same live)
-            ∙ ap (λ (u : Write K V). with_admitted q ((before ++ after) ++ u ∷ [])) (cond-true (is_live rules w at) (hit_at at w) w live)
+          ∙ ap (λ (u : Write K V). with_admitted q ((before ++ after) ++ u ∷ [])) (cond-true (is_live rules w at) (hit_at at w) w live)
 
       -- and where it is written over
       pub written-admitted : (v : V) (at : ℕ) → written_in eq rules k v at q ≡ with_admitted q ((before ++ after) ++ written_over v at w ∷ [])
@@ -137,7 +135,7 @@ module _ {K V : Type 0} (eq : K → K → Bool) (rules : Rules) (k : K) (q : Que
       pub hit-waiting : (at : ℕ) → is_live rules w at ≡ true → used_where eq rules (is_hit eq rules k at) (after_look rules at) q ≡ with_waiting q (before ++ hit_at at w ∷ after)
       hit-waiting at live =
           used-waiting (is_hit eq rules k at) (after_look rules at) (hit_is_of at) (and_from (eq w.key k) (is_live rules w at) same live)
-            ∙ ap (λ (u : Write K V). with_waiting q (before ++ u ∷ after)) (cond-true (is_live rules w at) (hit_at at w) w live)
+          ∙ ap (λ (u : Write K V). with_waiting q (before ++ u ∷ after)) (cond-true (is_live rules w at) (hit_at at w) w live)
 
       -- and where it is written over
       pub written-waiting : (v : V) (at : ℕ) → written_in eq rules k v at q ≡ with_waiting q (before ++ written_over v at w ∷ after)

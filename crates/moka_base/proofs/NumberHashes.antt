@@ -1,5 +1,5 @@
 -- The hash that leaves a number as it is.
-use Rattle.std.proofs.Common.{◌≡◌, ℕ, ◌+◌, ◌*◌, ◌/◌, ◌%◌, ◌^◌, ◌<◌, List, [], ◌∷◌, ap, ◌∙◌, arith}
+use Rattle.std.proofs.Common.{◌≡◌, ℕ, ◌+◌, ◌*◌, ◌/◌, ◌%◌, ◌^◌, ◌<◌, [], ◌∷◌, ap, ◌∙◌, arith}
 use Rattle.std.specs.Hash.{le_bytes}
 use Rattle.moka_base.specs.NumberHash.{byte_hash, number_hash}
 
@@ -9,7 +9,7 @@ moved rest low byte = omega arith
 
 -- what a hash was before is gone after eight bytes, and each byte is worth its place
 eight_bytes : (hash a b c d e f g h : ℕ) → hash < 2 ^ 64
-  → number_hash hash (a ∷ b ∷ c ∷ d ∷ e ∷ f ∷ g ∷ h ∷ []) ≡ a + b * 2 ^ 8 + c * 2 ^ 16 + d * 2 ^ 24 + e * 2 ^ 32 + f * 2 ^ 40 + g * 2 ^ 48 + h * 2 ^ 56
+    → number_hash hash (a ∷ b ∷ c ∷ d ∷ e ∷ f ∷ g ∷ h ∷ []) ≡ a + b * 2 ^ 8 + c * 2 ^ 16 + d * 2 ^ 24 + e * 2 ^ 32 + f * 2 ^ 40 + g * 2 ^ 48 + h * 2 ^ 56
 eight_bytes hash a b c d e f g h small =
     let h1 = hash / 256 in
     let h2 = h1 / 256 in

@@ -1,9 +1,8 @@
 -- The two orders hold what stands, and nothing else.
-use Rattle.std.proofs.Common.{◌≡◌, ℕ, max, Bool, true, false, not, cond, ◌&&◌, if◌then◌else◌, List, [], ◌∷◌, ◌++◌, Option, Some, None, option_map, refl, sym, ap, ◌∙◌, append_assoc}
+use Rattle.std.proofs.Common.{◌≡◌, ℕ, max, Bool, true, false, not, cond, ◌&&◌, List, [], ◌∷◌, ◌++◌, Option, Some, None, option_map, refl, sym, ap, ◌∙◌, append_assoc}
 use Rattle.std.specs.Option.{option_to_list}
 use Rattle.std.specs.List.{filter}
 use Rattle.std.specs.Cmp.{IsEquivalence}
-use Rattle.std.proofs.lemmas.List.{append-nil}
 use Rattle.std.proofs.lemmas.List.Elements.{filter-append}
 use Rattle.moka_base.specs.Maintenance.{Queues}
 use Rattle.moka_base.specs.History.{Event, Get, ContainsKey, Insert, Invalidate, TakeNotice, Rules, Write, latest, is_live, after_look, after_write, standing, changed_where, moved_last, is_of, is_hit, used_where, opened_by, written_in, removed_in, queues}
@@ -34,25 +33,25 @@ module _ {K V : Type 0} (eq : K → K → Bool) (rules : Rules) where
       → held eq k q ≡ option_to_list o → held eq k (used_where eq rules p change q) ≡ option_to_list (option_map (changed_if p change) o)
   held-used_where k p change q o kept one =
       held-append k (used_where eq rules p change q)
-        ∙ ap (λ l. l ++ writes_of eq k (changed_where p change q.waiting)) (filter-moved_last p change (λ (w : Write K V). eq w.key k) kept q.admitted)
-        ∙ ap (λ l. moved_last p change (writes_of eq k q.admitted) ++ l) (filter-changed_where p change (λ (w : Write K V). eq w.key k) kept q.waiting)
-        ∙ used-option p change (writes_of eq k q.admitted) (writes_of eq k q.waiting) o (sym (held-append k q) ∙ one)
+      ∙ ap (λ l. l ++ writes_of eq k (changed_where p change q.waiting)) (filter-moved_last p change (λ (w : Write K V). eq w.key k) kept q.admitted)
+      ∙ ap (λ l. moved_last p change (writes_of eq k q.admitted) ++ l) (filter-changed_where p change (λ (w : Write K V). eq w.key k) kept q.waiting)
+      ∙ used-option p change (writes_of eq k q.admitted) (writes_of eq k q.waiting) o (sym (held-append k q) ∙ one)
 
   -- a removal takes out the writes of its key
   pub held-removed_in : (k p : K) (q : Queues (Write K V)) → held eq k (removed_in eq rules p q) ≡ filter (λ (w : Write K V). not (eq w.key p)) (held eq k q)
   held-removed_in k p q =
       held-append k (removed_in eq rules p q)
-        ∙ ap (λ l. l ++ writes_of eq k (filter (λ (w : Write K V). not (eq w.key p)) q.waiting)) (filter_comm (λ (w : Write K V). not (eq w.key p)) (λ (w : Write K V). eq w.key k) q.admitted)
-        ∙ ap (λ l. filter (λ (w : Write K V). not (eq w.key p)) (writes_of eq k q.admitted) ++ l) (filter_comm (λ (w : Write K V). not (eq w.key p)) (λ (w : Write K V). eq w.key k) q.waiting)
-        ∙ sym (filter-append (λ (w : Write K V). not (eq w.key p)) (writes_of eq k q.admitted) (writes_of eq k q.waiting))
-        ∙ ap (filter (λ (w : Write K V). not (eq w.key p))) (sym (held-append k q))
+      ∙ ap (λ l. l ++ writes_of eq k (filter (λ (w : Write K V). not (eq w.key p)) q.waiting)) (filter_comm (λ (w : Write K V). not (eq w.key p)) (λ (w : Write K V). eq w.key k) q.admitted)
+      ∙ ap (λ l. filter (λ (w : Write K V). not (eq w.key p)) (writes_of eq k q.admitted) ++ l) (filter_comm (λ (w : Write K V). not (eq w.key p)) (λ (w : Write K V). eq w.key k) q.waiting)
+      ∙ sym (filter-append (λ (w : Write K V). not (eq w.key p)) (writes_of eq k q.admitted) (writes_of eq k q.waiting))
+      ∙ ap (filter (λ (w : Write K V). not (eq w.key p))) (sym (held-append k q))
 
   -- a write at the end is that of its key
   pub held-push : (k : K) (q : Queues (Write K V)) (w : Write K V) (r : Queues (Write K V)) → r ≡ record { admitted = q.admitted; waiting = q.waiting ++ w ∷ [] } → held eq k r ≡ held eq k q ++ cond (eq w.key k) (w ∷ []) []
   held-push k q w r e =
       ap (held eq k) e
-        ∙ ap (writes_of eq k) (sym (append_assoc q.admitted q.waiting (w ∷ [])))
-        ∙ filter-append (λ (v : Write K V). eq v.key k) (q.admitted ++ q.waiting) (w ∷ [])
+      ∙ ap (writes_of eq k) (sym (append_assoc q.admitted q.waiting (w ∷ [])))
+      ∙ filter-append (λ (v : Write K V). eq v.key k) (q.admitted ++ q.waiting) (w ∷ [])
 
   -- a look keeps the keys
   pub after_look-key : (at : ℕ) (w : Write K V) → (after_look rules at w).key ≡ w.key
@@ -132,20 +131,20 @@ module _ {K V : Type 0} (eq : K → K → Bool) (rules : Rules) where
         go : (s : Option (Write K V)) → held eq p q ≡ option_to_list s → (eq p k ≡ true → o ≡ s) → held eq k (written_in eq rules p v at q) ≡ option_to_list (cond (eq p k) (Some (after_write rules p v at o)) o)
         go None there same =
             ap (λ l. held eq k (opened_by eq rules (opening p v at) l (overwritten p v at q))) there
-              ∙ held-push k (overwritten p v at q) (opening p v at) (opened_by eq rules (opening p v at) [] (overwritten p v at q)) refl
-              ∙ ap (λ l. l ++ cond (eq p k) (opening p v at ∷ []) []) (held-used_where k (is_of eq rules p) (overwrite p v at) q o (λ w. refl) here)
-              ∙ held-opening k p v at o under same
+            ∙ held-push k (overwritten p v at q) (opening p v at) (opened_by eq rules (opening p v at) [] (overwritten p v at q)) refl
+            ∙ ap (λ l. l ++ cond (eq p k) (opening p v at ∷ []) []) (held-used_where k (is_of eq rules p) (overwrite p v at) q o (λ w. refl) here)
+            ∙ held-opening k p v at o under same
         go (Some w) there same =
             ap (λ l. held eq k (opened_by eq rules (opening p v at) l (overwritten p v at q))) there
-              ∙ held-used_where k (is_of eq rules p) (overwrite p v at) q o (λ w. refl) here
-              ∙ ap option_to_list (held-overwrite k p v at o w under same)
+            ∙ held-used_where k (is_of eq rules p) (overwrite p v at) q o (λ w. refl) here
+            ∙ ap option_to_list (held-overwrite k p v at o w under same)
 
     -- the two orders hold for each key the write that stands
     pub held-queues : (k : K) (h : List (Event K V)) → held eq k (queues eq rules h) ≡ option_to_list (standing eq rules k h)
     held-queues k [] = refl
     held-queues k (Get p at ∷ h) =
         held-used_where k (is_hit eq rules p (latest (Get p at ∷ h))) (after_look rules (latest (Get p at ∷ h))) (queues eq rules h) (standing eq rules k h) (λ w. ap (λ x. eq x k) (after_look-key (latest (Get p at ∷ h)) w)) (held-queues k h)
-          ∙ ap option_to_list (held-look k p (latest (Get p at ∷ h)) (standing eq rules k h) (stored_key eq rules k h))
+        ∙ ap option_to_list (held-look k p (latest (Get p at ∷ h)) (standing eq rules k h) (stored_key eq rules k h))
     held-queues k (ContainsKey p at ∷ h) = held-queues k h
     held-queues k (Insert p v at ∷ h) =
         held-written_in k p v (latest (Insert p v at ∷ h)) (queues eq rules h) (standing eq rules k h) (standing eq rules p h) (stored_key eq rules k h) (held-queues k h) (held-queues p h) (λ same. sym (standing_congr eq rules laws p k h same))

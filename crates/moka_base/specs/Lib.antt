@@ -7,3 +7,4 @@ pub mod OrderLaws
 pub mod Replies
 pub mod StandsFor
 pub mod Worked
+pub mod WorkedMaintenance

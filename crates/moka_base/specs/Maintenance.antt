@@ -1,5 +1,5 @@
 -- A maintenance of two queues, as the list of its parts, over anything that has a weight and may be dead.
-use Rattle.std.specs.Prelude.{ℕ, ◌+◌, ◌-◌, Bool, true, not, ◌||◌, ◌==◌, if◌then◌else◌, nat_le, Option, Some, None, List, [], ◌∷◌, ◌++◌, length, take, drop, filter}
+use Rattle.std.specs.Prelude.{ℕ, ◌+◌, ◌-◌, Bool, true, ◌||◌, ◌==◌, if◌then◌else◌, nat_le, Option, Some, None, List, [], ◌∷◌, ◌++◌, length, take, drop, filter}
 
 -- Two orders: the admitted, the least recently used first, and those that wait for admission, in the order in
 -- which they came.
@@ -50,11 +50,11 @@ module _ {X : Type 0} (weight : X → ℕ) (capacity : Option ℕ) where
   -- does not win it is dropped.
   abbrev pub judge : (X → List X → Bool) → List X → X → List X → Part X
   judge wins admitted x waiting =
-    let victims = front weight capacity (weight x) admitted in
-    if fits weight capacity (weight x) [] then (if victims == 0 || wins x (take victims admitted)
+      let victims = front weight capacity (weight x) admitted in
+      if fits weight capacity (weight x) [] then (if victims == 0 || wins x (take victims admitted)
       then record { leaves = take victims admitted; after = record { admitted = drop victims admitted ++ x ∷ []; waiting = waiting } }
       else record { leaves = x ∷ []; after = record { admitted = admitted; waiting = waiting } })
-    else record { leaves = x ∷ []; after = record { admitted = admitted; waiting = waiting } }
+      else record { leaves = x ∷ []; after = record { admitted = admitted; waiting = waiting } }
 
   -- each that waits is judged, in order
   abbrev pub judged : (X → List X → Bool) → List X → List X → List (Part X)
@@ -65,11 +65,11 @@ module _ {X : Type 0} (weight : X → ℕ) (capacity : Option ℕ) where
   -- waits is judged.
   abbrev pub parts : (X → Bool) → (X → List X → Bool) → Queues X → List (Part X)
   parts is_live wins q =
-    let admitted = filter is_live q.admitted in
-    let waiting = filter is_live q.waiting in
-    dead_admitted is_live [] q.admitted q.waiting
+      let admitted = filter is_live q.admitted in
+      let waiting = filter is_live q.waiting in
+      dead_admitted is_live [] q.admitted q.waiting
       ++ (dead_waiting is_live admitted [] q.waiting
-        ++ (over admitted waiting ++ judged wins (drop (front weight capacity 0 admitted) admitted) waiting))
+      ++ (over admitted waiting ++ judged wins (drop (front weight capacity 0 admitted) admitted) waiting))
 
 module _ {X : Type 0} where
   -- the longest front of the parts in which no more leave than a limit allows, if there is one

@@ -1,5 +1,5 @@
 -- The words of the laws over the two orders.
-use Rattle.std.specs.Prelude.{◌≡◌, ℕ, max, Bool, false, not, ◌&&◌, if◌then◌else◌, Option, List, [], ◌∷◌, ◌++◌, map, is_some, option_to_list}
+use Rattle.std.specs.Prelude.{◌≡◌, ℕ, max, Bool, not, ◌&&◌, if◌then◌else◌, Option, List, [], ◌∷◌, ◌++◌, map, is_some, option_to_list}
 use Rattle.std.specs.List.{list_any}
 use Rattle.moka_base.specs.Maintenance.{Queues}
 use Rattle.moka_base.specs.History.{Event, Get, ContainsKey, Insert, Invalidate, TakeNotice, Rules, Write, standing, queues}

@@ -8,3 +8,4 @@ pub mod notification;
 pub mod order_laws;
 pub mod policy;
 pub mod worked;
+pub mod worked_maintenance;

@@ -1,7 +1,7 @@
 use Rattle.std.proofs.Common.{◌≡◌, true, None}
 use Rattle.std.proofs.lemmas.List.Elements.{recursion_from_All}
 use Rattle.moka_base.specs.MaintenanceLaws.{behind_the_dead, leaving_within}
-use Rattle.moka_base.proofs.MaintenanceOrder.{take-leaving, All-live-behind, behind_the_dead-append-admitted}
+use Rattle.moka_base.proofs.MaintenanceOrder.{take-leaving, All-live-behind}
 use Rattle.moka_base.proofs.maintenance_laws.the_dead_leave_first.Goals as goal
 
 pub returns-clause-dead : goal.returns-clause-dead
@@ -9,6 +9,3 @@ returns-clause-dead g c weight capacity is_live wins q = take-leaving weight cap
 
 pub returns-clause-live : goal.returns-clause-live
 returns-clause-live g c weight capacity is_live wins q = recursion_from_All (λ x. is_live x ≡ true) (behind_the_dead is_live q (leaving_within weight capacity is_live wins None q)) (All-live-behind weight capacity is_live wins q)
-
-pub returns-clause-order_of_use : goal.returns-clause-order_of_use
-returns-clause-order_of_use g c weight capacity is_live wins q always light = behind_the_dead-append-admitted weight capacity is_live wins q always light
