@@ -3,13 +3,15 @@
 //! Every public name stands here under the module path that moka gives it.
 #![tactic(auto)]
 
-pub use moka_base::{laws, notification, policy, worked};
+pub use moka_base::{notification, policy};
 
 /// The cache as a plain value.
 pub mod state {
-    pub use moka_base::notification::Notice;
     pub use moka_state::list_rows::ListRows;
     pub use moka_state::rows::{EntryInfo, Row, RowStore};
     pub use moka_state::state::{CacheState, InsertRefused, Settings, State};
     pub use moka_state::step::{Reply, Step};
 }
+
+#[cfg(test)]
+mod example;

@@ -1,6 +1,7 @@
 -- What a cache means, over the list of its events. A list of events is read from its newest: `e ∷ h` is "the
 -- events of h, and then e". Keys are compared by `eq`, the `Eq` of their type, and never by identity.
-use Rattle.std.specs.Prelude.{ℕ, ◌+◌, ◌-◌, ◌^◌, max, min, Bool, false, not, if◌then◌else◌, nat_le, Option, Some, None, List, [], ◌∷◌, ◌++◌, length, drop, option_map}
+use Rattle.std.specs.Prelude.{ℕ, ◌+◌, ◌-◌, ◌^◌, max, min, Bool, false, not, if◌then◌else◌, nat_le, Option, Some, None, List, [], ◌∷◌, ◌++◌, length, drop, option_map, map, filter, ◌&&◌}
+use Rattle.moka_base.specs.Maintenance.{Queues}
 use Rattle.moka_base.specs.declared.notification.RemovalCause.{RemovalCause}
 use Rattle.moka_base.specs.declared.notification.RemovalCause.TheVariants.{Expired, Explicit, Replaced}
 
@@ -96,6 +97,50 @@ standing eq rules k (ContainsKey q at ∷ h) = standing eq rules k h
 standing eq rules k (Insert q v at ∷ h) = if eq q k then Some (after_write rules q v (latest (Insert q v at ∷ h)) (standing eq rules k h)) else standing eq rules k h
 standing eq rules k (Invalidate q at ∷ h) = if eq q k then None else standing eq rules k h
 standing eq rules k (TakeNotice ∷ h) = standing eq rules k h
+
+module _ {A : Type 0} where
+  -- those that pass a test change, and stay in their places
+  abbrev pub changed_where : (A → Bool) → (A → A) → List A → List A
+  changed_where p change xs = map (λ x. if p x then change x else x) xs
+
+  -- those that pass a test change, and go behind all others
+  abbrev pub moved_last : (A → Bool) → (A → A) → List A → List A
+  moved_last p change xs = filter (λ x. not (p x)) xs ++ map change (filter p xs)
+
+module _ {K V : Type 0} (eq : K → K → Bool) (rules : Rules) where
+  -- the write is that of the key
+  abbrev pub is_of : K → Write K V → Bool
+  is_of k w = eq w.key k
+
+  -- a look at the key at a moment hits the write
+  abbrev pub is_hit : K → ℕ → Write K V → Bool
+  is_hit k at w = eq w.key k && is_live rules w at
+
+  -- A write that passes the test is used, and changes so: where it waits it keeps its place, and where it is
+  -- admitted it goes behind all others.
+  abbrev pub used_where : (Write K V → Bool) → (Write K V → Write K V) → Queues (Write K V) → Queues (Write K V)
+  used_where p change q = record { admitted = moved_last p change q.admitted; waiting = changed_where p change q.waiting }
+
+  -- a write of a key that does not stand waits behind all others
+  abbrev pub opened_by : Write K V → List (Write K V) → Queues (Write K V) → Queues (Write K V)
+  opened_by w [] q = record { admitted = q.admitted; waiting = q.waiting ++ w ∷ [] }
+  opened_by w (standing ∷ more) q = q
+
+  abbrev pub written_in : K → V → ℕ → Queues (Write K V) → Queues (Write K V)
+  written_in k v at q = opened_by (after_write rules k v at None) (filter (is_of k) (q.admitted ++ q.waiting)) (used_where (is_of k) (λ w. after_write rules k v at (Some w)) q)
+
+  -- a key that is removed is in neither order
+  abbrev pub removed_in : K → Queues (Write K V) → Queues (Write K V)
+  removed_in k q = record { admitted = filter (λ w. not (is_of k w)) q.admitted; waiting = filter (λ w. not (is_of k w)) q.waiting }
+
+-- What stands after a list of events, in its two orders.
+abbrev pub queues : {K V : Type 0} → (K → K → Bool) → Rules → List (Event K V) → Queues (Write K V)
+queues eq rules [] = record { admitted = []; waiting = [] }
+queues eq rules (Get k at ∷ h) = used_where eq rules (is_hit eq rules k (latest (Get k at ∷ h))) (after_look rules (latest (Get k at ∷ h))) (queues eq rules h)
+queues eq rules (ContainsKey k at ∷ h) = queues eq rules h
+queues eq rules (Insert k v at ∷ h) = written_in eq rules k v (latest (Insert k v at ∷ h)) (queues eq rules h)
+queues eq rules (Invalidate k at ∷ h) = removed_in eq rules k (queues eq rules h)
+queues eq rules (TakeNotice ∷ h) = queues eq rules h
 
 module _ {K V : Type 0} (rules : Rules) where
   -- The cause under which a write leaves: expired, where its deadline has come, and else the event's own.

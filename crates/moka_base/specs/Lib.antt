@@ -1,6 +1,10 @@
 pub mod History
 pub mod Laws
+pub mod Maintenance
+pub mod MaintenanceLaws
 pub mod NumberHash
+pub mod OrderLaws
 pub mod Replies
 pub mod StandsFor
 pub mod Worked
+pub mod WorkedMaintenance

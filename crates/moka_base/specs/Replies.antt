@@ -1,5 +1,5 @@
 -- What each step answers, as a function of the events before it.
-use Rattle.std.specs.Prelude.{⊤, ◌≡◌, Bool, max, Option, Some, None, List, option_map, is_some, slice_get, ◌≢◌, ◌<◌, ℕ}
+use Rattle.std.specs.Prelude.{⊤, ◌≡◌, Bool, max, Option, Some, None, List, option_map, is_some, slice_get, ◌≢◌, ◌<◌}
 use Rattle.moka_base.specs.History.{Event, Get, ContainsKey, Insert, Invalidate, TakeNotice, Rules, Leaving, latest, live, noticed, next_number, greatest_number, drawn}
 
 -- An answer, with the values themselves. What a step hands out is a copy of them.

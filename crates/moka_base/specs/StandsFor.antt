@@ -1,27 +1,34 @@
 -- What it means that a state stands for a list of events.
-use Rattle.std.specs.Prelude.{◌≡◌, ℕ, Bool, Option, List, ◌∷◌, filter}
+use Rattle.std.specs.Prelude.{◌≡◌, ℕ, Bool, Option, List, ◌∷◌, ◌++◌, filter}
 use Rattle.std.specs.Option.{option_to_list}
-use Rattle.moka_base.specs.History.{Event, Rules, Write, Leaving, latest, standing, noticed, next_number}
+use Rattle.moka_base.specs.History.{Event, Rules, Write, Leaving, latest, standing, queues, noticed, next_number}
 
--- What a state holds: its stored writes, in an order of its own, and the rest that the definitions speak of.
+-- What a state holds: its stored writes in their two orders, and the rest that the definitions speak of.
 pub record Holdings (K V : Type 0) : Type 0 where
   pub time_to_live : Option ℕ
   pub time_to_idle : Option ℕ
-  pub writes : List (Write K V)
+  pub admitted : List (Write K V)
+  pub waiting : List (Write K V)
   pub notices : List (Leaving K V)
   pub latest : ℕ
   pub next_number : ℕ
+
+-- all stored writes
+abbrev pub writes : {K V : Type 0} → Holdings K V → List (Write K V)
+writes state = state.admitted ++ state.waiting
 
 -- those of the stored writes whose key equals this one
 abbrev pub writes_of : {K V : Type 0} → (K → K → Bool) → K → List (Write K V) → List (Write K V)
 writes_of eq k ws = filter (λ w. eq w.key k) ws
 
 -- A state stands for a list of events where it holds what the definitions give for that list: for each key the
--- write that stands and no other, the notices not taken yet, the latest moment and the next number.
+-- write that stands and no other, both orders, the notices not taken yet, the latest moment and the next number.
 pub record StandsFor {K V : Type 0} (eq : K → K → Bool) (rules : Rules) (state : Holdings K V) (h : List (Event K V)) : Type 0 where
   pub time_to_live : state.time_to_live ≡ rules.time_to_live
   pub time_to_idle : state.time_to_idle ≡ rules.time_to_idle
-  pub writes : (k : K) → writes_of eq k state.writes ≡ option_to_list (standing eq rules k h)
+  pub writes : (k : K) → writes_of eq k (writes state) ≡ option_to_list (standing eq rules k h)
+  pub admitted : state.admitted ≡ (queues eq rules h).admitted
+  pub waiting : state.waiting ≡ (queues eq rules h).waiting
   pub notices : state.notices ≡ noticed eq rules h
   pub latest : state.latest ≡ latest h
   pub next_number : state.next_number ≡ next_number rules h

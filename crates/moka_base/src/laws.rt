@@ -1,9 +1,11 @@
 //! The laws of the definitions over the list of events, in the words of the subject. Each stands as
 //! the contract of a function that does nothing, so that the check proves it for every list of events.
-ghost use Rattle.std.specs.Prelude.{◌≡◌, ◌≢◌, ◌⊎◌, ◌↔◌, ℕ, ◌+◌, ◌<◌, ◌≤◌, max, Bool, not, if◌then◌else◌, true, false, List, [], ◌∷◌, ◌++◌, length, filter, slice_get};
+ghost use Rattle.std.specs.Prelude.{◌≡◌, ◌≢◌, ◌⊎◌, ◌↔◌, ℕ, ◌+◌, ◌<◌, ◌≤◌, max, Bool, not, if◌then◌else◌, true, false, List, [], ◌∷◌, ◌++◌, length, filter, slice_get, ◌^◌, fold};
 ghost use Rattle.moka_base.specs.declared.notification.RemovalCause.TheVariants.{Explicit, Replaced};
 ghost use Rattle.moka_base.specs.History.{Event, Get, ContainsKey, Insert, Invalidate, TakeNotice, Rules, Write, Leaving, latest, is_expired, standing, leaving, leavings, taken, noticed, next_number};
 ghost use Rattle.moka_base.specs.Laws.{ends, IsUnwritten, IsUntouched, LastWrite, FirstWrite, FirstEnd, NothingStands, up_to_write, IsAsWritten, IsLeavingOf, HasEnded, is_write, values_written, values_left, value_standing, given_out};
+ghost use Rattle.moka_base.specs.NumberHash.{number_hash};
+ghost use Rattle.std.specs.Hash.{u64 as number_writes};
 ghost use Rattle.moka_base.specs.Replies.{Found, Contains, Noticed, answer};
 
 /// After a write a look at the same moment, or at an earlier one, finds its value; with a life of
@@ -141,4 +143,10 @@ pub fn numbers_never_come_again<K, V>()
     ensures never_falls { (rules : Rules) (later h : List (Event K V)) → next_number rules h ≤ next_number rules (later ++ h) }
     ensures greater { (rules : Rules) (later h : List (Event K V)) (k : K) (v : V) (at : ℕ)
         → next_number rules h < next_number rules (later ++ Insert k v at ∷ h) }
+{}
+
+/// A `u64` key hashes to itself under `NumberHash`: its eight bytes, the least first, leave that number,
+/// whatever was there before.
+pub fn a_number_hashes_to_itself()
+    ensures { (hash number : ℕ) → hash < 2 ^ 64 → number < 2 ^ 64 → fold number_hash hash (number_writes number) ≡ number }
 {}

@@ -3,6 +3,9 @@
 #![tactic(auto)]
 
 pub mod laws;
+pub mod maintenance_laws;
 pub mod notification;
+pub mod order_laws;
 pub mod policy;
 pub mod worked;
+pub mod worked_maintenance;

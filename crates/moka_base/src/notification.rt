@@ -15,7 +15,7 @@ pub enum RemovalCause {
 }
 
 /// One value that has left the cache, with the key that it was stored under and the cause.
-#[derive(Drop)]
+#[derive(Debug, Drop)]
 pub struct Notice<K, V> {
     /// The stored key: the one of the write that found the key not stored.
     pub key: Arc<K>,

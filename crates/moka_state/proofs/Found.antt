@@ -9,8 +9,7 @@ use Rattle.moka_base.specs.StandsFor.{writes_of}
 use Rattle.moka_state.specs.declared.rows.Row.{Row}
 use Rattle.moka_state.specs.Rows.{row_under, with_row, without_row, is_row_of, IsRowOf, NoneIsRowOf}
 use Rattle.moka_state.specs.Table.{Contents, entries, stored_write, stored_writes, UsesRow, TakesRow}
-use Rattle.moka_state.proofs.RowLemmas.{row_under-append_left, row_under-append_right}
-use Rattle.moka_state.proofs.Cuts.{Cut, cut}
+use Rattle.moka_state.proofs.RowLemmas.{row_under-append_left, row_under-append_right, SplitsAt, split_at_row}
 use Rattle.moka_state.proofs.Changes.{ChangesAt, OneEach, writes_of-found, changed, removed}
 
 -- both of two tests that hold together
@@ -24,7 +23,7 @@ same-key eq k hash row is = and-second (row.hash == hash) (eq (arc_value row.key
 
 module _ {K V : Type 0} (eq : K → K → Bool) (laws : IsEquivalence eq) where
   -- the stored writes around a row
-  stored-around : (n : ℕ) (before after : List (ℕ × Row K V)) (row : Row K V) → stored_writes (before ++ (n, row) ∷ after) ≡ stored_writes before ++ stored_write row ∷ stored_writes after
+  pub stored-around : (n : ℕ) (before after : List (ℕ × Row K V)) (row : Row K V) → stored_writes (before ++ (n, row) ∷ after) ≡ stored_writes before ++ stored_write row ∷ stored_writes after
   stored-around n before after row = map-append (λ (p : ℕ × Row K V). stored_write p.1) before ((n, row) ∷ after)
 
   pub stored-append : (ps qs : List (ℕ × Row K V)) → stored_writes (ps ++ qs) ≡ stored_writes ps ++ stored_writes qs
@@ -38,9 +37,9 @@ module _ {K V : Type 0} (eq : K → K → Bool) (laws : IsEquivalence eq) where
   pub writes_of-row : (k : K) (n : ℕ) (ps : List (ℕ × Row K V)) (row : Row K V) → OneEach eq laws (stored_writes ps) → row_under n ps ≡ Some row → eq (arc_value row.key) k ≡ true
       → writes_of eq k (stored_writes ps) ≡ stored_write row ∷ []
   writes_of-row k n ps row one there same =
-      let c = cut n ps row there in
-      let whole = ap stored_writes c.whole ∙ stored-around c.number c.before c.after row in
-      let found = writes_of-found eq laws k (stored_writes c.before) (stored_writes c.after) (stored_write row) (rw whole at one) same in
+      let c = split_at_row n row ps there in
+      let whole = ap stored_writes c.2.whole ∙ stored-around n c.0 c.1 row in
+      let found = writes_of-found eq laws k (stored_writes c.0) (stored_writes c.1) (stored_write row) (rw whole at one) same in
       ap (writes_of eq k) whole ∙ found
 
   -- where no row is that of the key, the key has no stored write
@@ -68,20 +67,20 @@ module _ {K V : Type 0} (eq : K → K → Bool) (laws : IsEquivalence eq) where
           (λ r. (new.admitted ≡ without_row n old.admitted ++ (n, change r) ∷ []) × (new.waiting ≡ old.waiting))
           → ChangesAt eq laws k (stored_writes (entries old)) (stored_writes (entries new)) (Some (stored_write (change row)))
       go None e h =
-          let c = cut n old.waiting row (sym (row_under-append_right n old.admitted old.waiting e) ∙ there) in
-          let was = ap (λ w. stored_writes (old.admitted ++ w)) c.whole ∙ stored-append old.admitted (c.before ++ (c.number, row) ∷ c.after) ∙ ap (λ w. stored_writes old.admitted ++ w) (stored-around c.number c.before c.after row) ∙ sym (append_assoc (stored_writes old.admitted) (stored_writes c.before) (stored_write row ∷ stored_writes c.after)) in
-          let is = ap (λ a. stored_writes (a ++ new.waiting)) h.0 ∙ ap (λ w. stored_writes (old.admitted ++ w)) (h.1 ∙ c.changed change) ∙ stored-append old.admitted (c.before ++ (c.number, change row) ∷ c.after) ∙ ap (λ w. stored_writes old.admitted ++ w) (stored-around c.number c.before c.after (change row)) ∙ sym (append_assoc (stored_writes old.admitted) (stored_writes c.before) (stored_write (change row) ∷ stored_writes c.after)) in
-          let front = stored_writes old.admitted ++ stored_writes c.before in
-          changes-along k (Some (stored_write (change row))) was is (changed eq laws k front (stored_writes c.after) front (stored_writes c.after) (stored_write row) (stored_write (change row)) refl same same' (rw was at one))
+          let c = split_at_row n row old.waiting (sym (row_under-append_right n old.admitted old.waiting e) ∙ there) in
+          let was = ap (λ w. stored_writes (old.admitted ++ w)) c.2.whole ∙ stored-append old.admitted (c.0 ++ (n, row) ∷ c.1) ∙ ap (λ w. stored_writes old.admitted ++ w) (stored-around n c.0 c.1 row) ∙ sym (append_assoc (stored_writes old.admitted) (stored_writes c.0) (stored_write row ∷ stored_writes c.1)) in
+          let is = ap (λ a. stored_writes (a ++ new.waiting)) h.0 ∙ ap (λ w. stored_writes (old.admitted ++ w)) (h.1 ∙ c.2.changed change) ∙ stored-append old.admitted (c.0 ++ (n, change row) ∷ c.1) ∙ ap (λ w. stored_writes old.admitted ++ w) (stored-around n c.0 c.1 (change row)) ∙ sym (append_assoc (stored_writes old.admitted) (stored_writes c.0) (stored_write (change row) ∷ stored_writes c.1)) in
+          let front = stored_writes old.admitted ++ stored_writes c.0 in
+          changes-along k (Some (stored_write (change row))) was is (changed eq laws k front (stored_writes c.1) front (stored_writes c.1) (stored_write row) (stored_write (change row)) refl same same' (rw was at one))
       go (Some r) e h =
           let found : Some r ≡ Some row = sym (row_under-append_left n old.admitted old.waiting r e) ∙ there in
           let it : r ≡ row = cc in
-          let c = cut n old.admitted row (e ∙ found) in
-          let was = ap (λ a. stored_writes (a ++ old.waiting)) c.whole ∙ ap stored_writes (append_assoc c.before ((c.number, row) ∷ c.after) old.waiting) ∙ stored-around c.number c.before (c.after ++ old.waiting) row in
-          let moved = h.0 ∙ ap (λ b. b ++ (n, change r) ∷ []) c.rest ∙ ap (λ (s : Row K V). (c.before ++ c.after) ++ (n, change s) ∷ []) it in
-          let is = ap (λ w. stored_writes (new.admitted ++ w)) h.1 ∙ ap (λ a. stored_writes (a ++ old.waiting)) moved ∙ ap stored_writes (append_assoc (c.before ++ c.after) ((n, change row) ∷ []) old.waiting) ∙ stored-around n (c.before ++ c.after) old.waiting (change row) in
-          let rest = sym (stored-append (c.before ++ c.after) old.waiting) ∙ ap stored_writes (append_assoc c.before c.after old.waiting) ∙ stored-append c.before (c.after ++ old.waiting) in
-          changes-along k (Some (stored_write (change row))) was is (changed eq laws k (stored_writes c.before) (stored_writes (c.after ++ old.waiting)) (stored_writes (c.before ++ c.after)) (stored_writes old.waiting) (stored_write row) (stored_write (change row)) rest same same' (rw was at one))
+          let c = split_at_row n row old.admitted (e ∙ found) in
+          let was = ap (λ a. stored_writes (a ++ old.waiting)) c.2.whole ∙ ap stored_writes (append_assoc c.0 ((n, row) ∷ c.1) old.waiting) ∙ stored-around n c.0 (c.1 ++ old.waiting) row in
+          let moved = h.0 ∙ ap (λ b. b ++ (n, change r) ∷ []) c.2.rest ∙ ap (λ (s : Row K V). (c.0 ++ c.1) ++ (n, change s) ∷ []) it in
+          let is = ap (λ w. stored_writes (new.admitted ++ w)) h.1 ∙ ap (λ a. stored_writes (a ++ old.waiting)) moved ∙ ap stored_writes (append_assoc (c.0 ++ c.1) ((n, change row) ∷ []) old.waiting) ∙ stored-around n (c.0 ++ c.1) old.waiting (change row) in
+          let rest = sym (stored-append (c.0 ++ c.1) old.waiting) ∙ ap stored_writes (append_assoc c.0 c.1 old.waiting) ∙ stored-append c.0 (c.1 ++ old.waiting) in
+          changes-along k (Some (stored_write (change row))) was is (changed eq laws k (stored_writes c.0) (stored_writes (c.1 ++ old.waiting)) (stored_writes (c.0 ++ c.1)) (stored_writes old.waiting) (stored_write row) (stored_write (change row)) rest same same' (rw was at one))
 
   -- a row that is taken out takes the stored write of its key with it
   pub changes-taken : (k : K) (n : ℕ) (row : Row K V) (old new : Contents K V) → OneEach eq laws (stored_writes (entries old)) → row_under n (entries old) ≡ Some row
@@ -95,13 +94,13 @@ module _ {K V : Type 0} (eq : K → K → Bool) (laws : IsEquivalence eq) where
           (λ _. (new.admitted ≡ without_row n old.admitted) × (new.waiting ≡ old.waiting))
           → ChangesAt eq laws k (stored_writes (entries old)) (stored_writes (entries new)) None
       go None e h =
-          let c = cut n old.waiting row (sym (row_under-append_right n old.admitted old.waiting e) ∙ there) in
-          let was = ap (λ w. stored_writes (old.admitted ++ w)) c.whole ∙ stored-append old.admitted (c.before ++ (c.number, row) ∷ c.after) ∙ ap (λ w. stored_writes old.admitted ++ w) (stored-around c.number c.before c.after row) ∙ sym (append_assoc (stored_writes old.admitted) (stored_writes c.before) (stored_write row ∷ stored_writes c.after)) in
-          let is = ap (λ a. stored_writes (a ++ new.waiting)) h.0 ∙ ap (λ w. stored_writes (old.admitted ++ w)) (h.1 ∙ c.rest) ∙ stored-append old.admitted (c.before ++ c.after) ∙ ap (λ w. stored_writes old.admitted ++ w) (stored-append c.before c.after) ∙ sym (append_assoc (stored_writes old.admitted) (stored_writes c.before) (stored_writes c.after)) in
-          changes-along k None was is (removed eq laws k (stored_writes old.admitted ++ stored_writes c.before) (stored_writes c.after) (stored_write row) same (rw was at one))
+          let c = split_at_row n row old.waiting (sym (row_under-append_right n old.admitted old.waiting e) ∙ there) in
+          let was = ap (λ w. stored_writes (old.admitted ++ w)) c.2.whole ∙ stored-append old.admitted (c.0 ++ (n, row) ∷ c.1) ∙ ap (λ w. stored_writes old.admitted ++ w) (stored-around n c.0 c.1 row) ∙ sym (append_assoc (stored_writes old.admitted) (stored_writes c.0) (stored_write row ∷ stored_writes c.1)) in
+          let is = ap (λ a. stored_writes (a ++ new.waiting)) h.0 ∙ ap (λ w. stored_writes (old.admitted ++ w)) (h.1 ∙ c.2.rest) ∙ stored-append old.admitted (c.0 ++ c.1) ∙ ap (λ w. stored_writes old.admitted ++ w) (stored-append c.0 c.1) ∙ sym (append_assoc (stored_writes old.admitted) (stored_writes c.0) (stored_writes c.1)) in
+          changes-along k None was is (removed eq laws k (stored_writes old.admitted ++ stored_writes c.0) (stored_writes c.1) (stored_write row) same (rw was at one))
       go (Some r) e h =
           let found : Some r ≡ Some row = sym (row_under-append_left n old.admitted old.waiting r e) ∙ there in
-          let c = cut n old.admitted row (e ∙ found) in
-          let was = ap (λ a. stored_writes (a ++ old.waiting)) c.whole ∙ ap stored_writes (append_assoc c.before ((c.number, row) ∷ c.after) old.waiting) ∙ stored-around c.number c.before (c.after ++ old.waiting) row in
-          let is = ap (λ w. stored_writes (new.admitted ++ w)) h.1 ∙ ap (λ a. stored_writes (a ++ old.waiting)) (h.0 ∙ c.rest) ∙ ap stored_writes (append_assoc c.before c.after old.waiting) ∙ stored-append c.before (c.after ++ old.waiting) in
-          changes-along k None was is (removed eq laws k (stored_writes c.before) (stored_writes (c.after ++ old.waiting)) (stored_write row) same (rw was at one))
+          let c = split_at_row n row old.admitted (e ∙ found) in
+          let was = ap (λ a. stored_writes (a ++ old.waiting)) c.2.whole ∙ ap stored_writes (append_assoc c.0 ((n, row) ∷ c.1) old.waiting) ∙ stored-around n c.0 (c.1 ++ old.waiting) row in
+          let is = ap (λ w. stored_writes (new.admitted ++ w)) h.1 ∙ ap (λ a. stored_writes (a ++ old.waiting)) (h.0 ∙ c.2.rest) ∙ ap stored_writes (append_assoc c.0 c.1 old.waiting) ∙ stored-append c.0 (c.1 ++ old.waiting) in
+          changes-along k None was is (removed eq laws k (stored_writes c.0) (stored_writes (c.1 ++ old.waiting)) (stored_write row) same (rw was at one))

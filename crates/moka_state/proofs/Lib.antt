@@ -1,9 +1,10 @@
 pub mod Cases
 pub mod Changes
-pub mod Cuts
 pub mod Found
+pub mod Lengths
 pub mod NumberLemmas
 pub mod Places
+pub mod Queues
 pub mod RowLemmas
 pub mod Runs
 pub mod Sound

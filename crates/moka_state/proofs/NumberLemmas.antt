@@ -1,11 +1,11 @@
 -- How often a number stands, rows with numbers of their own, and the place of a row.
-use Rattle.std.proofs.Common.{◌≡◌, ℕ, suc, zero, ◌+◌, ◌<◌, ◌≤◌, ◌≢◌, ◌==◌, Bool, true, false, Option, Some, None, List, [], ◌∷◌, ◌++◌, length, take, get_or, set, if◌then◌else◌, refl, sym, ap, ◌∙◌, arith}
+use Rattle.std.proofs.Common.{◌≡◌, ℕ, suc, zero, ◌+◌, ◌<◌, ◌≤◌, ◌≢◌, ◌==◌, Bool, true, false, Option, Some, None, List, [], ◌∷◌, ◌++◌, length, take, get_or, set, if◌then◌else◌, refl, sym, ap, ◌∙◌, add-one, arith}
 use Rattle.std.specs.List.{find, filter, remove}
 use Rattle.std.specs.Option.{option_map, option_or, IfSome, IfNone, IsSome}
-use Rattle.std.proofs.lemmas.List.{take_more, length-append}
+use Rattle.std.proofs.lemmas.List.{take_more, length-append, get_or_default}
 use Rattle.std.proofs.lemmas.Bool.{eq-eqb, ne_eqb, eqb-true}
-use Rattle.moka_state.specs.Rows.{row_under, with_row, without_row}
-use Rattle.moka_state.specs.Numbers.{count_under, first_number, IsNumbered, IsPlaceOf}
+use Rattle.moka_state.specs.Rows.{row_under, with_row, without_row, number_after}
+use Rattle.moka_state.specs.Numbers.{count_under, number_where, IsNumbered, IsPlaceOf}
 use Rattle.moka_state.proofs.RowLemmas.{row_under-append_right, row_under-here, row_under-there, with_row-here, with_row-there, without_row-here, without_row-there, length-with_row, length-without_row}
 
 module _ {R : Type 0} where
@@ -17,7 +17,11 @@ module _ {R : Type 0} where
         row = λ q read. row_under-here n p ps test ∙ ap (λ r. Some r.1) (sym read);
         changed = λ q change read. ap (λ (r : ℕ × R). (r.0, change r.1) ∷ ps) read ∙ sym (with_row-here n change p ps test);
         rest = sym (without_row-here n p ps test);
+        next = rw test refl;
       }
+
+  number_after-there : (n : ℕ) (p : ℕ × R) (ps : List (ℕ × R)) → (p.0 == n) ≡ false → number_after n (p ∷ ps) ≡ number_after n ps
+  number_after-there n p ps is = rw is refl
 
   IsPlaceOf-there : (n : ℕ) (p : ℕ × R) (ps : List (ℕ × R)) (place : ℕ) → (p.0 == n) ≡ false → IsPlaceOf n ps place → IsPlaceOf n (p ∷ ps) (suc place)
   IsPlaceOf-there n p ps place other later = record {
@@ -26,6 +30,7 @@ module _ {R : Type 0} where
     row = λ q read. row_under-there n p ps other ∙ later.row q read;
     changed = λ q change read. ap (λ rest. p ∷ rest) (later.changed q change read) ∙ sym (with_row-there n change p ps other);
     rest = ap (λ rest. p ∷ rest) later.rest ∙ sym (without_row-there n p ps other);
+    next = number_after-there n p ps other ∙ later.next ∙ rw (add-one, add-one) refl;
   }
 
   -- a row with the number, before which no row has it
@@ -37,6 +42,11 @@ module _ {R : Type 0} where
       go : (b : Bool) → (p.0 == n) ≡ b → (row_under n (take place ps) ≡ None → IsPlaceOf n ps place) → IsPlaceOf n (p ∷ ps) (suc place)
       go true test later = cc (before, row_under-here n p (take place ps) test)
       go false test later = IsPlaceOf-there n p ps place test (later (sym (row_under-there n p (take place ps) test) ∙ before))
+
+  -- a row stands under the number that has a place
+  pub row_under-place : (n : ℕ) (rows : List (ℕ × R)) (place : ℕ) → IsPlaceOf n rows place → (r : R) × (row_under n rows ≡ Some r)
+  row_under-place n [] place at = let within = at.within in absurd (omega arith)
+  row_under-place n (p ∷ ps) place at = ((get_or (p ∷ ps) place p).1, at.row (get_or (p ∷ ps) place p) (get_or_default (p ∷ ps) place p _ at.within))
 
   -- one row more before which no row has the number
   pub row_under-take_more : (n : ℕ) (rows : List (ℕ × R)) (place : ℕ) (d : ℕ × R) → place < length rows → (get_or rows place d).0 ≢ n → row_under n (take place rows) ≡ None → row_under n (take (place + 1) rows) ≡ None
@@ -128,6 +138,14 @@ module _ {R : Type 0} where
       (λ m. omega (arith, count_under-append m front back, count_under-append m (without_row n front ++ (n, s) ∷ []) back, count_under-append m (without_row n front) ((n, s) ∷ []), count_under-without_row m n front p.1 (at.row p read)))
       (omega (arith, length-append front back, length-append (without_row n front ++ (n, s) ∷ []) back, length-append (without_row n front) ((n, s) ∷ []), length-without_row n front p.1 (at.row p read))) numbered)
 
+  -- when a row behind becomes the last in front,
+  pub IsNumbered-admitted : (next n place : ℕ) (front back : List (ℕ × R)) (p : ℕ × R) → IsPlaceOf n back place → p ≡ get_or back place p → IsNumbered next (front ++ back) → IsNumbered next ((front ++ (n, p.1) ∷ []) ++ remove back place)
+  IsNumbered-admitted next n place front back p at read numbered =
+      rw at.rest
+      (IsNumbered-same next (front ++ back) ((front ++ (n, p.1) ∷ []) ++ without_row n back)
+      (λ m. omega (arith, count_under-append m front back, count_under-append m (front ++ (n, p.1) ∷ []) (without_row n back), count_under-append m front ((n, p.1) ∷ []), count_under-without_row m n back p.1 (at.row p read)))
+      (omega (arith, length-append front back, length-append (front ++ (n, p.1) ∷ []) (without_row n back), length-append front ((n, p.1) ∷ []), length-without_row n back p.1 (at.row p read))) numbered)
+
   -- and when a row in front or behind is taken out.
   pub IsNumbered-remove_front : (next n place : ℕ) (front back : List (ℕ × R)) (p : ℕ × R) → IsPlaceOf n front place → p ≡ get_or front place p → IsNumbered next (front ++ back) → IsNumbered next (remove front place ++ back)
   IsNumbered-remove_front next n place front back p at read numbered =
@@ -144,11 +162,11 @@ module _ {R : Type 0} where
       (omega (arith, length-append front back, length-append front (without_row n back), length-without_row n back p.1 (at.row p read))) numbered)
 
   -- a row that a test finds stands under its number
-  row_under-first_number : (test : R → Bool) (n : ℕ) (rows : List (ℕ × R)) → ((m : ℕ) → count_under m rows ≤ 1) → first_number test rows ≡ Some n → (r : R) × (row_under n rows ≡ Some r) × (test r ≡ true)
-  row_under-first_number test n [] apart found = cc
-  row_under-first_number test n (p ∷ ps) apart found = go (test p.1) refl (row_under-first_number test n ps (λ m. let once = apart m in omega arith))
+  row_under-number_where : (test : R → Bool) (n : ℕ) (rows : List (ℕ × R)) → ((m : ℕ) → count_under m rows ≤ 1) → number_where test rows ≡ Some n → (r : R) × (row_under n rows ≡ Some r) × (test r ≡ true)
+  row_under-number_where test n [] apart found = cc
+  row_under-number_where test n (p ∷ ps) apart found = go (test p.1) refl (row_under-number_where test n ps (λ m. let once = apart m in omega arith))
     where
-      go : (b : Bool) → test p.1 ≡ b → (first_number test ps ≡ Some n → (r : R) × (row_under n ps ≡ Some r) × (test r ≡ true)) → (r : R) × (row_under n (p ∷ ps) ≡ Some r) × (test r ≡ true)
+      go : (b : Bool) → test p.1 ≡ b → (number_where test ps ≡ Some n → (r : R) × (row_under n ps ≡ Some r) × (test r ≡ true)) → (r : R) × (row_under n (p ∷ ps) ≡ Some r) × (test r ≡ true)
       go true passes later = (p.1, row_under-here n p ps (eq-eqb p.0 n (let first = rw passes at found in cc)), passes)
       go false fails later = (next.0, row_under-there n p ps (ne_eqb p.0 n other) ∙ next.1, next.2)
         where
@@ -158,18 +176,18 @@ module _ {R : Type 0} where
           other : p.0 ≢ n
           other same = let once = apart n in let twice = count_under-here n p ps (eq-eqb p.0 n same) in let rest = count_under-some n ps next.0 next.1 in omega arith
 
-  pub IfSome-first_number : (test : R → Bool) (next : ℕ) (rows : List (ℕ × R)) (o : Option ℕ) → IsNumbered next rows → o ≡ first_number test rows → IfSome o (λ n. IfSome (row_under n rows) (λ r. test r ≡ true))
-  IfSome-first_number test next rows None numbered is = tt
-  IfSome-first_number test next rows (Some n) numbered is =
-      let found = row_under-first_number test n rows numbered.apart (sym is) in
+  pub IfSome-number_where : (test : R → Bool) (next : ℕ) (rows : List (ℕ × R)) (o : Option ℕ) → IsNumbered next rows → o ≡ number_where test rows → IfSome o (λ n. IfSome (row_under n rows) (λ r. test r ≡ true))
+  IfSome-number_where test next rows None numbered is = tt
+  IfSome-number_where test next rows (Some n) numbered is =
+      let found = row_under-number_where test n rows numbered.apart (sym is) in
       rw found.1 found.2
 
-  pub IsSome-first_number : (test : R → Bool) (next : ℕ) (rows : List (ℕ × R)) (o : Option ℕ) → IsNumbered next rows → o ≡ first_number test rows → IfSome o (λ n. IsSome (row_under n rows))
-  IsSome-first_number test next rows None numbered is = tt
-  IsSome-first_number test next rows (Some n) numbered is = rw (row_under-first_number test n rows numbered.apart (sym is)).1 refl
+  pub IsSome-number_where : (test : R → Bool) (next : ℕ) (rows : List (ℕ × R)) (o : Option ℕ) → IsNumbered next rows → o ≡ number_where test rows → IfSome o (λ n. IsSome (row_under n rows))
+  IsSome-number_where test next rows None numbered is = tt
+  IsSome-number_where test next rows (Some n) numbered is = rw (row_under-number_where test n rows numbered.apart (sym is)).1 refl
 
   -- where a test finds no row, none passes it
-  filter-none_found : (test : R → Bool) (rows : List (ℕ × R)) → first_number test rows ≡ None → filter (λ p. test p.1) rows ≡ []
+  filter-none_found : (test : R → Bool) (rows : List (ℕ × R)) → number_where test rows ≡ None → filter (λ p. test p.1) rows ≡ []
   filter-none_found test [] none = refl
   filter-none_found test (p ∷ ps) none =
       elim (test p.1) as (λ b. option_map (λ (p : ℕ × R). p.0) (if b then Some p else find (λ p. test p.1) ps) ≡ None → (if b then p ∷ filter (λ p. test p.1) ps else filter (λ p. test p.1) ps) ≡ []) [
@@ -177,21 +195,21 @@ module _ {R : Type 0} where
         | false ↦ λ later. filter-none_found test ps later
       ] none
 
-  pub IfNone-first_number : (test : R → Bool) (rows : List (ℕ × R)) (o : Option ℕ) → o ≡ first_number test rows → IfNone o (filter (λ p. test p.1) rows ≡ [])
-  IfNone-first_number test rows None is = filter-none_found test rows (sym is)
-  IfNone-first_number test rows (Some n) is = tt
+  pub IfNone-number_where : (test : R → Bool) (rows : List (ℕ × R)) (o : Option ℕ) → o ≡ number_where test rows → IfNone o (filter (λ p. test p.1) rows ≡ [])
+  IfNone-number_where test rows None is = filter-none_found test rows (sym is)
+  IfNone-number_where test rows (Some n) is = tt
 
   -- the search goes on in the second list where it found nothing in the first
-  first_number-append : (test : R → Bool) (xs ys : List (ℕ × R)) → first_number test (xs ++ ys) ≡ option_or (first_number test xs) (first_number test ys)
-  first_number-append test [] ys = refl
-  first_number-append test (p ∷ ps) ys =
-      elim (test p.1) as (λ b. option_map (λ (p : ℕ × R). p.0) (if b then Some p else find (λ p. test p.1) (ps ++ ys)) ≡ option_or (option_map (λ (p : ℕ × R). p.0) (if b then Some p else find (λ p. test p.1) ps)) (first_number test ys)) [
+  number_where-append : (test : R → Bool) (xs ys : List (ℕ × R)) → number_where test (xs ++ ys) ≡ option_or (number_where test xs) (number_where test ys)
+  number_where-append test [] ys = refl
+  number_where-append test (p ∷ ps) ys =
+      elim (test p.1) as (λ b. option_map (λ (p : ℕ × R). p.0) (if b then Some p else find (λ p. test p.1) (ps ++ ys)) ≡ option_or (option_map (λ (p : ℕ × R). p.0) (if b then Some p else find (λ p. test p.1) ps)) (number_where test ys)) [
         | true ↦ refl
-        | false ↦ first_number-append test ps ys
+        | false ↦ number_where-append test ps ys
       ]
 
-  pub first_number-append_left : (test : R → Bool) (xs ys : List (ℕ × R)) (n : ℕ) → Some n ≡ first_number test xs → Some n ≡ first_number test (xs ++ ys)
-  first_number-append_left test xs ys n found = sym (first_number-append test xs ys ∙ rw (← found) refl)
+  pub number_where-append_left : (test : R → Bool) (xs ys : List (ℕ × R)) (n : ℕ) → Some n ≡ number_where test xs → Some n ≡ number_where test (xs ++ ys)
+  number_where-append_left test xs ys n found = sym (number_where-append test xs ys ∙ rw (← found) refl)
 
-  pub first_number-append_right : (test : R → Bool) (xs ys : List (ℕ × R)) (o : Option ℕ) → None ≡ first_number test xs → o ≡ first_number test ys → o ≡ first_number test (xs ++ ys)
-  first_number-append_right test xs ys o none is = is ∙ sym (first_number-append test xs ys ∙ rw (← none) refl)
+  pub number_where-append_right : (test : R → Bool) (xs ys : List (ℕ × R)) (o : Option ℕ) → None ≡ number_where test xs → o ≡ number_where test ys → o ≡ number_where test (xs ++ ys)
+  number_where-append_right test xs ys o none is = is ∙ sym (number_where-append test xs ys ∙ rw (← none) refl)

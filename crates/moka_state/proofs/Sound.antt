@@ -8,8 +8,7 @@ use Rattle.std.specs.List.{AllByRecursion}
 use Rattle.moka_state.specs.declared.rows.Row.{Row}
 use Rattle.moka_state.specs.Rows.{row_under, with_row, without_row, overwritten}
 use Rattle.moka_state.specs.Table.{Contents, entries, SameRows, UsesRow, TakesRow}
-use Rattle.moka_state.proofs.RowLemmas.{row_under-append_left, row_under-append_right}
-use Rattle.moka_state.proofs.Cuts.{Cut, cut}
+use Rattle.moka_state.proofs.RowLemmas.{row_under-append_left, row_under-append_right, SplitsAt, split_at_row}
 
 module _ {A : Type 0} (P : A → Type 0) where
   pub all-append : (xs ys : List A) → AllByRecursion P xs → AllByRecursion P ys → AllByRecursion P (xs ++ ys)
@@ -32,22 +31,22 @@ module _ {K V : Type 0} (P : Row K V → Type 0) where
   -- of the row under a number
   pub of-row : (n : ℕ) (ps : List (ℕ × Row K V)) (row : Row K V) → OfEach ps → row_under n ps ≡ Some row → P row
   of-row n ps row all there =
-      let c = cut n ps row there in
-      (all-back (λ (p : ℕ × Row K V). P p.1) c.before ((c.number, row) ∷ c.after) (rw c.whole at all)).0
+      let c = split_at_row n row ps there in
+      (all-back (λ (p : ℕ × Row K V). P p.1) c.0 ((n, row) ∷ c.1) (rw c.2.whole at all)).0
 
   of-rest : (n : ℕ) (ps : List (ℕ × Row K V)) (row : Row K V) → OfEach ps → row_under n ps ≡ Some row → OfEach (without_row n ps)
   of-rest n ps row all there =
-      let c = cut n ps row there in
+      let c = split_at_row n row ps there in
       let Q : ℕ × Row K V → Type 0 = λ p. P p.1 in
-      let cutall = rw c.whole at all in
-      rw c.rest (all-append Q c.before c.after (all-front Q c.before ((c.number, row) ∷ c.after) cutall) (all-back Q c.before ((c.number, row) ∷ c.after) cutall).1)
+      let cutall = rw c.2.whole at all in
+      rw c.2.rest (all-append Q c.0 c.1 (all-front Q c.0 ((n, row) ∷ c.1) cutall) (all-back Q c.0 ((n, row) ∷ c.1) cutall).1)
 
   of-changed : (n : ℕ) (change : Row K V → Row K V) (ps : List (ℕ × Row K V)) (row : Row K V) → OfEach ps → row_under n ps ≡ Some row → P (change row) → OfEach (with_row n change ps)
   of-changed n change ps row all there new =
-      let c = cut n ps row there in
+      let c = split_at_row n row ps there in
       let Q : ℕ × Row K V → Type 0 = λ p. P p.1 in
-      let cutall = rw c.whole at all in
-      rw (c.changed change) (all-append Q c.before ((c.number, change row) ∷ c.after) (all-front Q c.before ((c.number, row) ∷ c.after) cutall) (new, (all-back Q c.before ((c.number, row) ∷ c.after) cutall).1))
+      let cutall = rw c.2.whole at all in
+      rw (c.2.changed change) (all-append Q c.0 ((n, change row) ∷ c.1) (all-front Q c.0 ((n, row) ∷ c.1) cutall) (new, (all-back Q c.0 ((n, row) ∷ c.1) cutall).1))
 
   -- after a use of a row
   pub of-used : (n : ℕ) (change : Row K V → Row K V) (row : Row K V) (old new : Contents K V) → OfEach (entries old) → row_under n (entries old) ≡ Some row → P (change row) → UsesRow n change old new → OfEach (entries new)

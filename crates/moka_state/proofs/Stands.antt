@@ -14,19 +14,26 @@ use Rattle.moka_state.specs.Rows.{row_under, IsRowOf, NoneIsRowOf}
 use Rattle.moka_state.specs.Lives.{deadline_of}
 use Rattle.moka_state.specs.Table.{Contents, entries, stored_write, stored_writes}
 use Rattle.moka_state.specs.State.{holdings, IsSound}
-use Rattle.moka_state.proofs.Changes.{ChangesAt, option_to_list-same, writes_of-equal}
-use Rattle.moka_state.proofs.Found.{writes_of-row, writes_of-absent}
-use Rattle.moka_state.proofs.Steps.{one-each}
+use Rattle.moka_state.proofs.Changes.{ChangesAt, OneEach, option_to_list-same, writes_of-equal}
+use Rattle.moka_state.proofs.Found.{writes_of-row, writes_of-absent, stored-append}
 
 module _ {K V : Type 0} (eq : K → K → Bool) (laws : IsEquivalence eq) (rules : Rules) (lives : Lives) (contents : Contents K V) (moment number : ℕ) (h : List (Event K V)) (stands : StandsFor eq rules (holdings lives contents moment number) h) where
+  -- for each key the rows store the write that stands and no other
+  pub stored-standing : (k : K) → writes_of eq k (stored_writes (entries contents)) ≡ option_to_list (standing eq rules k h)
+  stored-standing k = ap (writes_of eq k) (stored-append eq laws contents.admitted contents.waiting) ∙ stands.writes k
+
+  -- so each key has one row at most
+  pub one-each-row : OneEach eq laws (stored_writes (entries contents))
+  one-each-row k = (standing eq rules k h, stored-standing k)
+
   -- the row that is found for a key stores what stands for it
   pub standing-found : (k : K) (n : ℕ) (row : Row K V) → row_under n (entries contents) ≡ Some row → eq (arc_value row.key) k ≡ true → standing eq rules k h ≡ Some (stored_write row)
-  standing-found k n row there same = option_to_list-same (standing eq rules k h) (Some (stored_write row)) (sym (stands.writes k) ∙ writes_of-row eq laws k n (entries contents) row (one-each eq laws rules (holdings lives contents moment number) h stands) there same)
+  standing-found k n row there same = option_to_list-same (standing eq rules k h) (Some (stored_write row)) (sym (stored-standing k) ∙ writes_of-row eq laws k n (entries contents) row one-each-row there same)
 
   -- where no row is found, nothing stands
   pub standing-absent : {keeps : K → V → Type 0} {hash_of : K → ℕ} → IsSound keeps hash_of contents → ((a b : K) → eq a b ≡ true → hash_of a ≡ hash_of b)
       → (k : K) (hash : ℕ) → hash ≡ hash_of k → NoneIsRowOf eq k hash (entries contents) → standing eq rules k h ≡ None
-  standing-absent {hash_of = hash_of} sound respects k hash is none = option_to_list-same (standing eq rules k h) None (sym (stands.writes k) ∙ writes_of-absent eq laws hash_of k (entries contents) respects sound.hashed (rw is at none))
+  standing-absent {hash_of = hash_of} sound respects k hash is none = option_to_list-same (standing eq rules k h) None (sym (stored-standing k) ∙ writes_of-absent eq laws hash_of k (entries contents) respects sound.hashed (rw is at none))
 
   -- the write of a row is expired where its deadline has come
   expired-same : (row : Row K V) (at : ℕ) → has_come (deadline rules (stored_write row)) (max (latest h) at) ≡ has_come (deadline_of lives row.info) (max moment at)
@@ -56,5 +63,5 @@ module _ {K V : Type 0} (eq : K → K → Bool) (laws : IsEquivalence eq) (rules
   unchanged k o is q = go (eq k q) refl
     where
       go : (t : Bool) → eq k q ≡ t → writes_of eq q (stored_writes (entries contents)) ≡ cond t (option_to_list o) (writes_of eq q (stored_writes (entries contents)))
-      go true same = writes_of-equal eq laws q k (stored_writes (entries contents)) (laws.symm q k ∙ same) ∙ stands.writes k ∙ ap option_to_list is
+      go true same = writes_of-equal eq laws q k (stored_writes (entries contents)) (laws.symm q k ∙ same) ∙ stored-standing k ∙ ap option_to_list is
       go false same = refl

@@ -39,3 +39,13 @@ IsRowOf eq key hash row = is_row_of eq key hash row ≡ true
 -- no row is that of the key with this hash
 abbrev pub NoneIsRowOf : {K V : Type 0} → (K → K → Bool) → K → ℕ → List (ℕ × Row K V) → Type 0
 NoneIsRowOf eq key hash rows = filter (λ p. is_row_of eq key hash p.1) rows ≡ []
+
+-- the number of the first row
+abbrev pub first_number : {R : Type 0} → List (ℕ × R) → Option ℕ
+first_number [] = None
+first_number (p ∷ ps) = Some p.0
+
+-- the number of the row behind the first one under a number
+abbrev pub number_after : {R : Type 0} → ℕ → List (ℕ × R) → Option ℕ
+number_after n [] = None
+number_after n (p ∷ ps) = if p.0 == n then first_number ps else number_after n ps

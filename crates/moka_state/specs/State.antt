@@ -19,7 +19,8 @@ module _ {K V : Type 0} where
   holdings lives contents latest next_number = record {
     time_to_live = option_map as_nanos lives.time_to_live;
     time_to_idle = option_map as_nanos lives.time_to_idle;
-    writes = stored_writes (entries contents);
+    admitted = stored_writes contents.admitted;
+    waiting = stored_writes contents.waiting;
     notices = map leaving_of contents.notices;
     latest = latest;
     next_number = next_number;

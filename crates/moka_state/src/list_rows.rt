@@ -1,8 +1,8 @@
 //! The plain row store: two lists, searched from the front.
-ghost use Rattle.std.specs.Prelude.{◌≡◌, ◌+◌, ◌-◌, ◌<◌, ◌≤◌, ◌^◌, [], ◌∷◌, ◌++◌, length, IsSome, IfNone, OnSome, MatchOption, min, vec_len, vec_capacity};
+ghost use Rattle.std.specs.Prelude.{◌≡◌, ◌+◌, ◌-◌, ◌<◌, ◌≤◌, ◌^◌, [], ◌∷◌, ◌++◌, length, drop, IsSome, IfNone, OnSome, MatchOption, min, vec_len, vec_capacity};
 ghost use Rattle.std.below.core.specs.declared.int.usize.TheConstants.{MAX};
-ghost use Rattle.moka_state.specs.Rows.{row_under, is_row_of};
-ghost use Rattle.moka_state.specs.Numbers.{first_number, IsNumbered, IsPlaceOf, IsPlaceIn};
+ghost use Rattle.moka_state.specs.Rows.{row_under, is_row_of, first_number};
+ghost use Rattle.moka_state.specs.Numbers.{number_where, IsNumbered, IsPlaceOf, IsPlaceIn};
 
 #[cfg(test)]
 mod tests;
@@ -19,13 +19,15 @@ enum Place {
 /// Rows in two lists, each in its order, with numbers that are given out in turn.
 ///
 /// Each call on a row searches for it from the front, so it takes time linear in the number of rows. To add a row
-/// takes constant time.
+/// takes constant time. The admitted rows' list has places for all rows, so that a row that waits is admitted
+/// without memory.
 #[derive(Drop)]
 pub struct ListRows<K, V> {
     waiting: Vec<(usize, Row<K, V>)>,
     admitted: Vec<(usize, Row<K, V>)>,
     next: usize,
     ghost numbered: { IsNumbered next (admitted.items ++ waiting.items) },
+    ghost can_admit: { vec_len admitted + vec_len waiting ≤ vec_capacity admitted },
 }
 
 /// The number of the first of these rows that is the key's. Adds one to `reads` for each row that it reads.
@@ -36,7 +38,7 @@ fn number_of<K: Eq, V>(
     reads: &mut u64,
 ) -> Option<usize>
     requires { reads.old + length rows.now < 2 ^ 64 }
-    ensures number { result ≡ first_number (is_row_of K.eq key.now hash) rows.now }
+    ensures number { result ≡ number_where (is_row_of K.eq key.now hash) rows.now }
     ensures at_most { reads.new ≤ reads.old + length rows.now }
     ensures at_least { OnSome result (reads.old < reads.new) }
     ensures all { IfNone result (reads.new ≡ reads.old + length rows.now) }
@@ -62,6 +64,14 @@ fn place_of<K, V>(rows: &[(usize, Row<K, V>)], number: usize) -> Option<usize>
     None
 }
 
+/// The number of the row at a place, where the list goes that far.
+fn number_at<K, V>(rows: &[(usize, Row<K, V>)], place: usize) -> Option<usize>
+    ensures { result ≡ first_number (drop place rows.now) }
+{
+    let (number, _) = rows.get(place)?;
+    Some(*number)
+}
+
 #[tactic(auto, using(crate::proofs::RowLemmas::joins))]
 impl<K, V> ListRows<K, V> {
     /// Where the row under a number stands.
@@ -84,7 +94,7 @@ impl<K: Eq + Drop, V: Drop> RowStore<K, V> for ListRows<K, V> {
 
     ghost admitted = { λ s. s.admitted.items };
 
-    ghost room = { λ s. min (MAX - s.next) (vec_capacity s.waiting - vec_len s.waiting) };
+    ghost room = { λ s. min (MAX - s.next) (min (vec_capacity s.waiting - vec_len s.waiting) (vec_capacity s.admitted - (vec_len s.admitted + vec_len s.waiting))) };
 
     fn new(alloc: Global) -> Self {
         ListRows {
@@ -118,11 +128,12 @@ impl<K: Eq + Drop, V: Drop> RowStore<K, V> for ListRows<K, V> {
         if self.next == usize::MAX {
             return Err(AllocError);
         }
+        self.admitted.reserve(self.waiting.len() + 1)?;
         self.waiting.reserve(1)
     }
 
     fn add(&mut self, row: Row<K, V>) -> usize
-        requires { 0 < min (MAX - self.old.next) (vec_capacity self.old.waiting - vec_len self.old.waiting) }
+        requires { 0 < min (MAX - self.old.next) (min (vec_capacity self.old.waiting - vec_len self.old.waiting) (vec_capacity self.old.admitted - (vec_len self.old.admitted + vec_len self.old.waiting))) }
         ensures fresh { row_under result (self.old.admitted.items ++ self.old.waiting.items) ≡ None }
         ensures waiting { self.new.waiting.items ≡ self.old.waiting.items ++ (result, row) ∷ [] }
         ensures admitted { self.new.admitted.items ≡ self.old.admitted.items }
@@ -153,6 +164,35 @@ impl<K: Eq + Drop, V: Drop> RowStore<K, V> for ListRows<K, V> {
                 before
             }
             Place::Waiting(place) => self.waiting[place].1.overwrite(value, info),
+        }
+    }
+
+    fn waiting_len(&self) -> usize {
+        self.waiting.len()
+    }
+
+    fn first_admitted(&self) -> Option<usize> {
+        number_at(&self.admitted, 0)
+    }
+
+    fn first_waiting(&self) -> Option<usize> {
+        number_at(&self.waiting, 0)
+    }
+
+    fn next(&self, number: usize) -> Option<usize> {
+        match self.place(number) {
+            Place::Admitted(place) => number_at(&self.admitted, place + 1),
+            Place::Waiting(place) => number_at(&self.waiting, place + 1),
+        }
+    }
+
+    fn admit(&mut self, number: usize) {
+        match place_of(&self.waiting, number) {
+            Some(place) => {
+                let (_, row) = self.waiting.remove(place);
+                self.admitted.push_reserved((number, row));
+            }
+            None => unreachable!(),
         }
     }
 

@@ -3,7 +3,7 @@
 //! A row has a number, which stays its own as long as it is stored. The store keeps two orders of rows: those that
 //! wait for admission, in the order in which their keys came, and those that are admitted, in the order of use.
 ghost use Rattle.std.specs.Prelude.{◌≡◌, ℕ, ◌+◌, ◌<◌, ◌≤◌, List, [], ◌∷◌, ◌++◌, length, IsSome, IfSome, IfNone, OnOk, OnErr, OnSome, Some, None, MatchOption};
-ghost use Rattle.moka_state.specs.Rows.{row_under, with_row, without_row, touched, overwritten, IsRowOf, NoneIsRowOf};
+ghost use Rattle.moka_state.specs.Rows.{row_under, with_row, without_row, touched, overwritten, first_number, number_after, IsRowOf, NoneIsRowOf};
 
 use std::alloc::{AllocError, Global};
 use std::mem;
@@ -108,6 +108,32 @@ pub trait RowStore<K: Eq, V>: Drop {
         ensures after { MatchOption (row_under number (admitted self.old))
             ((admitted self.new ≡ admitted self.old) × (waiting self.new ≡ with_row number (overwritten value info) (waiting self.old)))
             (λ row. (admitted self.new ≡ without_row number (admitted self.old) ++ (number, overwritten value info row) ∷ []) × (waiting self.new ≡ waiting self.old)) }
+        ensures room { room self.old ≤ room self.new };
+
+    /// How many rows wait.
+    fn waiting_len(&self) -> usize
+        ensures { result ≡ length (waiting self.now) };
+
+    /// The number of the least recently used admitted row.
+    fn first_admitted(&self) -> Option<usize>
+        ensures { result ≡ first_number (admitted self.now) };
+
+    /// The number of the row that has waited longest.
+    fn first_waiting(&self) -> Option<usize>
+        ensures { result ≡ first_number (waiting self.now) };
+
+    /// The number of the row behind this one, in the order in which this one stands.
+    fn next(&self, number: usize) -> Option<usize>
+        requires { IsSome (row_under number (admitted self.now ++ waiting self.now)) }
+        ensures { MatchOption (row_under number (admitted self.now))
+            (result ≡ number_after number (waiting self.now))
+            (λ _. result ≡ number_after number (admitted self.now)) };
+
+    /// Admits a row that waits, as the most recently used. It takes no memory.
+    fn admit(&mut self, number: usize)
+        requires { IsSome (row_under number (waiting self.old)) }
+        ensures waiting { waiting self.new ≡ without_row number (waiting self.old) }
+        ensures admitted { IfSome (row_under number (waiting self.old)) (λ row. admitted self.new ≡ admitted self.old ++ (number, row) ∷ []) }
         ensures room { room self.old ≤ room self.new };
 
     /// Takes a row out. It takes none of the room.

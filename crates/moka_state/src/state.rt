@@ -7,6 +7,9 @@ ghost use Rattle.moka_base.specs.StandsFor.{Holdings, StandsFor, Follows, AtEach
 ghost use Rattle.moka_state.specs.Table.{leaving_of};
 ghost use Rattle.moka_state.specs.State.{holdings, rules_of, IsSound};
 
+#[cfg(test)]
+pub(crate) mod tests;
+
 use crate::list_rows::ListRows;
 use crate::lives::Lives;
 use crate::rows::{EntryInfo, Row, RowStore};
@@ -34,7 +37,7 @@ pub struct Settings<K: Eq, V: Clone, C: CacheTypes<K, V>> {
 }
 
 /// A refused `insert`, with the key and the value that it was given.
-#[derive(Drop)]
+#[derive(Debug, Drop)]
 pub struct InsertRefused<K, V> {
     /// The key, as it was given.
     pub key: K,
@@ -72,7 +75,7 @@ impl<K: Hash + Drop, V: Clone, C: CacheTypes<K, V>, R: RowStore<K, V>> State<K, 
     /// A cache without values. It takes no memory.
     pub fn new(alloc: Global, settings: Settings<K, V, C>) -> Result<Self, Refused>
         ensures empty { IfOk result (λ state. StandsFor K.eq (rules_of settings.time_to_live settings.time_to_idle settings.first_number) state []) }
-        ensures only_memory { IfErr result (λ refused. refused ≡ Refused.OutOfMemory) }
+        ensures succeeds { IsOk result }
     {
         Ok(State {
             table: Table::new(alloc),

@@ -4,6 +4,9 @@ ghost use Rattle.std.specs.List.{AllByRecursion};
 ghost use Rattle.moka_base.specs.StandsFor.{StandsFor, AtEachHistory};
 ghost use Rattle.moka_state.specs.Step.{IsReplyTo, StepKeeps, ReplyKeeps, after, IsRun, after_all};
 
+#[cfg(test)]
+mod tests;
+
 use crate::rows::RowStore;
 use crate::state::{InsertRefused, State};
 use moka_base::notification::Notice;
@@ -13,7 +16,7 @@ use std::hash::Hash;
 use std::sync::Arc;
 
 /// One call of a cache, with its arguments as values.
-#[derive(Drop)]
+#[derive(Debug, Drop)]
 pub enum Step<K, V> {
     /// A look that uses the value that it finds.
     Get { key: Arc<K>, now: u64 },
@@ -28,7 +31,7 @@ pub enum Step<K, V> {
 }
 
 /// The answer of a call.
-#[derive(Drop)]
+#[derive(Debug, Drop)]
 pub enum Reply<K, V> {
     /// What `Get` found.
     Found(Option<V>),

@@ -46,6 +46,13 @@ fn number_of<R: RowStore<u64, String>>(rows: &R, key: u64, hash: u64) -> Option<
     rows.find(&key, hash, &mut reads)
 }
 
+/// The number of the row that has waited longest.
+fn first_waiting<R: RowStore<u64, String>>(rows: &R) -> Option<usize>
+    ensures { IfSome result (λ number. IsSome (row_under number (R.waiting rows.now))) }
+{
+    rows.first_waiting()
+}
+
 /// The value of a key of this hash.
 fn value_of<R: RowStore<u64, String>>(rows: &R, key: u64, hash: u64) -> Option<&str> {
     let number = number_of(rows, key, hash)?;
@@ -86,8 +93,39 @@ fn keeps_rows<R: RowStore<u64, String>>(rt: &impl Abort, alloc: Global) -> Resul
     Ok(())
 }
 
+fn admits_rows<R: RowStore<u64, String>>(rt: &impl Abort, alloc: Global) -> Result<(), AllocError> {
+    let mut rows: R = R::new(alloc);
+    let one = add(alloc, &mut rows, 1, 7, "one")?;
+    let two = add(alloc, &mut rows, 2, 7, "two")?;
+    let three = add(alloc, &mut rows, 3, 9, "three")?;
+    assert_eq!(rt; rows.waiting_len(), 3);
+    assert_eq!(rt; rows.first_admitted(), None);
+    let number = number_of(&rows, 2, 7).expect(rt, "the second row");
+    assert_eq!(rt; rows.next(number), Some(three));
+
+    let number = first_waiting(&rows).expect(rt, "the first row that waits");
+    rows.admit(number);
+    let number = first_waiting(&rows).expect(rt, "the second row that waits");
+    rows.admit(number);
+    assert_eq!(rt; rows.len(), 3);
+    assert_eq!(rt; rows.waiting_len(), 1);
+    assert_eq!(rt; rows.first_admitted(), Some(one));
+    assert_eq!(rt; rows.first_waiting(), Some(three));
+    let number = number_of(&rows, 1, 7).expect(rt, "the first row");
+    assert_eq!(rt; rows.next(number), Some(two));
+    let number = number_of(&rows, 2, 7).expect(rt, "the second row");
+    assert_eq!(rt; rows.next(number), None);
+    Ok(())
+}
+
 #[test]
 fn keeps_rows_in_lists(rt: HostRuntime) -> Result<(), Fail> {
     keeps_rows::<ListRows<u64, String>>(&rt, rt.alloc())?;
+    Ok(())
+}
+
+#[test]
+fn admits_rows_in_lists(rt: HostRuntime) -> Result<(), Fail> {
+    admits_rows::<ListRows<u64, String>>(&rt, rt.alloc())?;
     Ok(())
 }

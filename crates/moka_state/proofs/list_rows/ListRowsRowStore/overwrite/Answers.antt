@@ -4,21 +4,17 @@ use Rattle.moka_state.proofs.RowLemmas.{row_under-append_left, row_under-append_
 use Rattle.moka_state.proofs.NumberLemmas.{IsNumbered-moved, IsNumbered-changed}
 use Rattle.moka_state.proofs.list_rows.ListRowsRowStore.overwrite.Goals as goal
 
-pub invariant_of-self : goal.invariant_of-self
-invariant_of-self g c = record {
-  numbered =
-      rw (c.push_reserved.ensures.items, c.remove-row.ensures.items)
-      (IsNumbered-moved c.args.self.now.next c.args.number c.in-Admitted.place c.args.self.now.admitted.items c.args.self.now.waiting.items
-      c.remove-row.result _ c.in-Admitted.ensures c.remove-row.ensures.value c.args.self.now.numbered);
-}
+pub invariant_of-self-clause-numbered : goal.invariant_of-self-clause-numbered
+invariant_of-self-clause-numbered g c =
+    rw (c.push_reserved.ensures.items, c.remove-row.ensures.items)
+    (IsNumbered-moved c.args.self.now.next c.args.number c.in-Admitted.place c.args.self.now.admitted.items c.args.self.now.waiting.items
+    c.remove-row.result _ c.in-Admitted.ensures c.remove-row.ensures.value c.args.self.now.numbered)
 
-pub invariant_of-self-in-Waiting : goal.invariant_of-self-in-Waiting
-invariant_of-self-in-Waiting g c = record {
-  numbered =
-      rw c.overwrite.ensures.after
-      (IsNumbered-changed c.args.self.now.next c.args.number c.in-Waiting.place c.args.self.now.admitted.items c.args.self.now.waiting.items
-      c.index_mut.result.now (overwritten c.args.value c.args.info) c.in-Waiting.ensures.1 c.index_mut.ensures.value c.args.self.now.numbered);
-}
+pub invariant_of-self-in-Waiting-clause-numbered : goal.invariant_of-self-in-Waiting-clause-numbered
+invariant_of-self-in-Waiting-clause-numbered g c =
+    rw c.overwrite.ensures.after
+    (IsNumbered-changed c.args.self.now.next c.args.number c.in-Waiting.place c.args.self.now.admitted.items c.args.self.now.waiting.items
+    c.index_mut.result.now (overwritten c.args.value c.args.info) c.in-Waiting.ensures.1 c.index_mut.ensures.value c.args.self.now.numbered)
 
 pub returns-in-Admitted-clause-before : goal.returns-in-Admitted-clause-before
 returns-in-Admitted-clause-before g c =

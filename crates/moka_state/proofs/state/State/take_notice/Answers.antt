@@ -14,7 +14,7 @@ returns-clause-stands g c rules h stands =
     let s = c.self.inside in
     let same = rw (← c.self.view_is) at stands in
     stands-after-take_notice g.K.PartialEq.eq g.met.K.Eq.laws rules _ h same _
-    (ap (λ a. stored_writes (a ++ c.take_notice.new.self.waiting)) c.take_notice.ensures.admitted ∙ ap (λ w. stored_writes (s.table.admitted ++ w)) c.take_notice.ensures.waiting)
+    (ap stored_writes c.take_notice.ensures.admitted) (ap stored_writes c.take_notice.ensures.waiting)
     refl refl
     (drop-first leaving_of c.take_notice.result s.table.notices c.take_notice.new.self.notices c.take_notice.ensures.notices (λ e. rw e at c.take_notice.ensures.none))
     refl refl

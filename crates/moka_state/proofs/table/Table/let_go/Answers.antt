@@ -1,5 +1,5 @@
 use Rattle.std.proofs.Common.{arith}
-use Rattle.moka_state.proofs.Cuts.{length-taken}
+use Rattle.moka_state.proofs.Lengths.{length-taken}
 use Rattle.moka_state.proofs.table.Table.let_go.Goals as goal
 
 pub invariant_of-self : goal.invariant_of-self

@@ -1,6 +1,6 @@
 use Rattle.std.proofs.Common.{arith, min}
 use Rattle.moka_state.specs.Rows.{overwritten}
-use Rattle.moka_state.proofs.Cuts.{length-used}
+use Rattle.moka_state.proofs.Lengths.{length-used}
 use Rattle.moka_state.proofs.table.Table.overwrite.Goals as goal
 
 pub invariant_of-self : goal.invariant_of-self

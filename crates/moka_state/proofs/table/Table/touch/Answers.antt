@@ -1,6 +1,6 @@
 use Rattle.std.proofs.Common.{arith}
 use Rattle.moka_state.specs.Rows.{touched}
-use Rattle.moka_state.proofs.Cuts.{length-used}
+use Rattle.moka_state.proofs.Lengths.{length-used}
 use Rattle.moka_state.proofs.table.Table.touch.Goals as goal
 
 pub invariant_of-self : goal.invariant_of-self

@@ -1,0 +1,83 @@
+-- The words of the laws over the two orders.
+use Rattle.std.specs.Prelude.{◌≡◌, ℕ, max, Bool, not, ◌&&◌, if◌then◌else◌, Option, List, [], ◌∷◌, ◌++◌, map, is_some, option_to_list}
+use Rattle.std.specs.List.{list_any}
+use Rattle.moka_base.specs.Maintenance.{Queues}
+use Rattle.moka_base.specs.History.{Event, Get, ContainsKey, Insert, Invalidate, TakeNotice, Rules, Write, standing, queues}
+use Rattle.moka_base.specs.StandsFor.{writes_of}
+
+module _ {K V : Type 0} where
+  -- the keys of writes, in order
+  abbrev pub keys : List (Write K V) → List K
+  keys ws = map (λ w. w.key) ws
+
+  -- the writes of a key in both orders
+  abbrev pub held : (K → K → Bool) → K → Queues (Write K V) → List (Write K V)
+  held eq k q = writes_of eq k (q.admitted ++ q.waiting)
+
+  -- each key has one write at most, in both orders together
+  abbrev pub HasOneEach : (K → K → Bool) → Queues (Write K V) → Type 0
+  HasOneEach eq q = (k : K) → (o : Option (Write K V)) × (held eq k q ≡ option_to_list o)
+
+  -- the queues with other admitted writes
+  abbrev pub with_admitted : Queues (Write K V) → List (Write K V) → Queues (Write K V)
+  with_admitted q ws = record { admitted = ws; waiting = q.waiting }
+
+  -- the queues with other waiting writes
+  abbrev pub with_waiting : Queues (Write K V) → List (Write K V) → Queues (Write K V)
+  with_waiting q ws = record { admitted = q.admitted; waiting = ws }
+
+  -- a write after a hit at a moment
+  abbrev pub hit_at : ℕ → Write K V → Write K V
+  hit_at at w = record w { used = max w.used at }
+
+  -- a value in place of another, under the stored key
+  abbrev pub written_over : V → ℕ → Write K V → Write K V
+  written_over v at w = record { key = w.key; value = v; written = at; used = at }
+
+  -- a value under a key that did not stand
+  abbrev pub written_anew : K → V → ℕ → Write K V
+  written_anew k v at = record { key = k; value = v; written = at; used = at }
+
+module _ {K : Type 0} (eq : K → K → Bool) where
+  -- each key at the place where it stands last
+  abbrev pub lasts : List K → List K
+  lasts [] = []
+  lasts (k ∷ ks) = if list_any (eq k) ks then lasts ks else k ∷ lasts ks
+
+  module _ {V : Type 0} (rules : Rules) where
+    -- The keys of the opening writes, oldest first: a write is one where nothing stood for its key.
+    abbrev pub openings : List (Event K V) → List K
+    openings [] = []
+    openings (Get k at ∷ h) = openings h
+    openings (ContainsKey k at ∷ h) = openings h
+    openings (Insert k v at ∷ h) = if is_some (standing eq rules k h) then openings h else openings h ++ k ∷ []
+    openings (Invalidate k at ∷ h) = openings h
+    openings (TakeNotice ∷ h) = openings h
+
+    -- a key waits where it stands and is not admitted
+    abbrev pub waits : List (Event K V) → K → Bool
+    waits h k = is_some (standing eq rules k h) && not (list_any (λ w. eq w.key k) (queues eq rules h).admitted)
+
+-- The worked case: three keys come,
+abbrev pub three_come : List (Event ℕ ℕ)
+three_come = Insert 3 30 2 ∷ Insert 2 20 1 ∷ Insert 1 10 0 ∷ []
+
+-- the first is written again,
+abbrev pub first_again : List (Event ℕ ℕ)
+first_again = Insert 1 11 3 ∷ three_come
+
+-- the second is looked up,
+abbrev pub second_hit : List (Event ℕ ℕ)
+second_hit = Get 2 4 ∷ first_again
+
+-- the first is removed,
+abbrev pub first_removed : List (Event ℕ ℕ)
+first_removed = Invalidate 1 5 ∷ second_hit
+
+-- and it comes anew
+abbrev pub first_anew : List (Event ℕ ℕ)
+first_anew = Insert 1 12 6 ∷ first_removed
+
+-- the three admitted, the first the least recently used, and a fourth that waits
+abbrev pub three_admitted : Queues (Write ℕ ℕ)
+three_admitted = record { admitted = written_anew 1 10 0 ∷ written_anew 2 20 1 ∷ written_anew 3 30 2 ∷ []; waiting = written_anew 4 40 3 ∷ [] }
