@@ -1,5 +1,5 @@
 //! Keys on their way into the cache, which shares each stored key by an `Arc`.
-ghost use Rattle.std.specs.Prelude.{◌≡◌, IfOk, IfErr};
+ghost use Rattle.std.specs.Prelude.{◌≡◌, IsOk, IfOk, IfErr};
 ghost use Rattle.std.specs.Arc.{arc_value};
 
 use std::alloc::Global;
@@ -47,7 +47,12 @@ impl<K: Drop> IntoShared<K> for Arc<K> {
         &**self
     }
 
-    fn into_shared(self, _alloc: Global) -> Result<Arc<K>, Self> {
+    /// It takes no memory.
+    fn into_shared(self, _alloc: Global) -> Result<Arc<K>, Self>
+        ensures shared { IfOk result (λ shared. arc_value shared ≡ arc_value self) }
+        ensures handed_back { IfErr result (λ key. key ≡ self) }
+        ensures succeeds { IsOk result }
+    {
         Ok(self)
     }
 }
