@@ -1,5 +1,5 @@
 -- What events_taking all notices prints.
-use Rattle.std.proofs.Common.{zero, suc, ◌≡◌, ◌<◌, ◌≤◌, ◌+◌, ℕ, min, Bool, true, false, List, [], ◌∷◌, ◌++◌, length, get_or, take, drop, map, Option, Some, None, option_map, codes, nat_eq, refl, sym, ap, ◌∙◌, subst, arith, rules, add-one}
+use Rattle.std.proofs.Common.{zero, suc, ◌≡◌, ◌<◌, ◌+◌, ℕ, min, List, [], ◌∷◌, ◌++◌, length, get_or, take, drop, map, Option, Some, None, option_map, codes, nat_eq, refl, sym, ap, ◌∙◌, subst, arith, rules, add-one}
 use Rattle.std.proofs.Math.Seq.{drop-nil, take-length}
 use Rattle.std.specs.List.{slice_get}
 use Rattle.std.specs.String.{string_bytes}
@@ -15,7 +15,7 @@ use Rattle.mokabox.proofs.SessionLaws.{Text, accepted, answered}
 use Rattle.moka_base.specs.declared.notification.RemovalCause.{RemovalCause}
 use Rattle.mokabox.specs.Answer.{answer_text}
 use Rattle.mokabox.specs.declared.answer.Answer.TheVariants as answers
-use Rattle.mokabox.specs.Events.{event_by, leaving_by, answer_by}
+use Rattle.mokabox.specs.Events.{leaving_by, answer_by}
 use Rattle.mokabox.specs.declared.command.Command.TheVariants as commands
 use Rattle.mokabox.specs.Script.{ScriptEvent, Course, notice_text, events_taking}
 use Rattle.mokabox.specs.Session.{ScriptHoldings, IsAt, Prints}

@@ -1,11 +1,10 @@
 -- The steps of a run, as the calls of its reader, its session and its writer say them.
-use Rattle.std.proofs.Common.{◌≡◌, ◌<◌, ℕ, Bool, true, false, ◌||◌, List, [], ◌∷◌, ◌++◌, length, Option, Some, None, Result, Ok, Err, IfOk, IfSome, OnOk, codes, refl, sym, ap, ◌∙◌, subst, arith, lit<, inl, inr}
-use Rattle.std.specs.Fmt.{decimal}
+use Rattle.std.proofs.Common.{◌≡◌, ◌<◌, ℕ, Bool, true, false, ◌||◌, List, [], ◌∷◌, ◌++◌, length, Option, Some, None, Result, Ok, IfOk, IfSome, codes, refl, sym, ap, ◌∙◌, subst, lit<, inl, inr}
 use Rattle.std.specs.Io.BufRead.{drop_through, first_piece, DropsThrough}
-use Rattle.std.specs.Io.KnownBytes.{Appends, Keeps, IsAtEnd}
+use Rattle.std.specs.Io.KnownBytes.{Appends, Keeps}
 use Rattle.std.proofs.lemmas.Fmt.{decimal_digit}
 use Rattle.moka_base.specs.History.{Rules}
-use Rattle.mokabox.proofs.LineLaws.{IsRunning, run_step, run_ended, or_when_true, or_when_false, lines_first, one_written, appends-appends, if_some}
+use Rattle.mokabox.proofs.LineLaws.{IsRunning, run_step, or_when_true, or_when_false, lines_first, one_written, appends-appends, if_some}
 use Rattle.mokabox.specs.Answer.{answer_text, answer_line}
 use Rattle.mokabox.specs.Command.{PlainCommand, command_by_line}
 use Rattle.mokabox.specs.declared.answer.Answer.TheVariants as answers

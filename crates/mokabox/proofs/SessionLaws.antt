@@ -1,5 +1,5 @@
 -- What a session prints, from what its cache's calls ensure.
-use Rattle.std.proofs.Common.{◌≡◌, ◌<◌, ◌+◌, ℕ, max, Bool, true, false, List, [], ◌∷◌, ◌++◌, length, take, drop, map, Option, Some, None, IsSome, option_map, codes, nat_eq, refl, sym, ap, ◌∙◌, subst, arith, rules, inl, inr, ◌⊎◌, ◌↔◌, lit<}
+use Rattle.std.proofs.Common.{◌≡◌, ℕ, max, Bool, true, false, List, [], ◌∷◌, ◌++◌, map, Option, Some, None, IsSome, option_map, codes, nat_eq, refl, sym, ap, ◌∙◌, subst, rules, inl, inr, ◌⊎◌, ◌↔◌, lit<}
 use Rattle.std.specs.Prelude.{String, Vec, Result, Ok, Err, IfOk}
 use Rattle.std.specs.declared.alloc.Global.{Global}
 use Rattle.std.specs.Fmt.{decimal}
@@ -12,13 +12,13 @@ use Rattle.moka_base.specs.History.{Event, Rules, Write, Leaving, latest, live, 
 use Rattle.moka_base.specs.Replies as replies
 use Rattle.moka_base.specs.Replies.{Answer, answer, IsOutOfNumbers, IsAnswer, IsCopyOf}
 use Rattle.moka_base.specs.StandsFor.{Follows, AtEachHistory}
-use Rattle.mokabox.proofs.EventsBy.{latest-by, live-by, noticed-by, next_number-by, answer-by}
+use Rattle.mokabox.proofs.EventsBy.{latest-by, live-by, next_number-by, answer-by}
 use Rattle.mokabox.specs.Answer.{answer_text, refusal_number}
 use Rattle.mokabox.specs.declared.answer.Answer.TheVariants as answers
 use Rattle.mokabox.specs.Command.{PlainCommand}
 use Rattle.mokabox.specs.declared.command.Command.TheVariants as commands
-use Rattle.mokabox.specs.Events.{event_by, write_by, leaving_by, answer_by}
-use Rattle.mokabox.specs.Script.{ScriptEvent, Course, course_with, notice_text, reply_text, Accepts, Refuses, events_taking, CommandPrints}
+use Rattle.mokabox.specs.Events.{event_by, write_by, answer_by}
+use Rattle.mokabox.specs.Script.{ScriptEvent, Course, course_with, reply_text, Accepts, Refuses}
 use Rattle.mokabox.specs.Session.{ScriptHoldings, IsAt, Prints}
 
 abbrev pub Text : Type 0
