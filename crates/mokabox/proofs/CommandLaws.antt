@@ -40,7 +40,7 @@ sole_text_takes (field ∷ other ∷ more) text each h = cc
 abbrev IsWritten : List (List ℕ) → PlainCommand → Type 0
 IsWritten fields command = (fields ≡ command_fields command) × IsExpressible command
 
--- what the reader behind a word reads is a command that is command_fields so
+-- what the reader behind a word reads is a command that is written so
 abbrev Takes : List ℕ → Reader → Type 0
 Takes word reader = (rest : List (List ℕ)) (command : PlainCommand) → AllByRecursion IsField rest → reader rest ≡ Some command → IsWritten (word ∷ rest) command
 
@@ -97,12 +97,12 @@ read_by_takes (entry ∷ entries) word take rest command each h = either (bytes_
       subst (λ w. IsWritten (w ∷ rest) command) (sym same) (take.0 rest command each given)
   either false e given later = later given
 
--- the fields that are read as a command are the fields that it is command_fields as
+-- the fields that are read as a command are the fields that it is written as
 command_takes : (fields : List (List ℕ)) (command : PlainCommand) → AllByRecursion IsField fields → command_of fields ≡ Some command → (fields ≡ command_fields command) × IsExpressible command
 command_takes [] command each h = cc
 command_takes (word ∷ rest) command each h = read_by_takes words word words_take rest command each.1 h
 
--- the fields that a command is command_fields as are read as that command
+-- the fields that a command is written as are read as that command
 command_again : (command : PlainCommand) → IsExpressible command → command_of (command_fields command) ≡ Some command
 command_again (At moment) small = rw (number_again moment small) refl
 command_again (Insert key value) parts = rw (number_again key parts.0, text_again value parts.1) refl
@@ -114,7 +114,7 @@ command_again Notices sayable = refl
 number_written : (word : List ℕ) (n : ℕ) → is_plain word ≡ true → n < 2 ^ 64 → AllByRecursion IsField (word ∷ decimal n ∷ [])
 number_written word n plain small = (word_field word plain, (number_field n small, tt))
 
--- what a command is command_fields as are fields, and at least one
+-- what a command is written as are fields, and at least one
 command_fields_are : (command : PlainCommand) → IsExpressible command → (0 < length (command_fields command)) × AllByRecursion IsField (command_fields command)
 command_fields_are (At moment) small = (omega arith, number_written (codes "at") moment refl small)
 command_fields_are (Insert key value) parts = (omega arith, (word_field (codes "insert") refl, (number_field key parts.0, (text_field value parts.1, tt))))
@@ -123,14 +123,14 @@ command_fields_are (Has key) small = (omega arith, number_written (codes "has") 
 command_fields_are (Invalidate key) small = (omega arith, number_written (codes "invalidate") key refl small)
 command_fields_are Notices sayable = (omega arith, (word_field (codes "notices") refl, tt))
 
--- a line that is read as a command is the one that it is command_fields as
+-- a line that is read as a command is the one that it is written as
 pub line_takes : (line : List ℕ) (command : PlainCommand) → command_by_line line ≡ Some command → (line ≡ line_of command) × IsExpressible command
 line_takes line command h =
     let read = says_takes command_of line command h in
     let parts = command_takes (fields_of line) command read.0 read.1 in
     (sym (join_with_byte-slice_split 32 line) ∙ ap (join_with_byte 32) parts.0, parts.1)
 
--- the line that a command is command_fields as is read as that command
+-- the line that a command is written as is read as that command
 pub line_again : (command : PlainCommand) → IsExpressible command → command_by_line (line_of command) ≡ Some command
 line_again command sayable =
     let parts = command_fields_are command sayable in

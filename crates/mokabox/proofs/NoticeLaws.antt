@@ -1,4 +1,4 @@
--- What events_taking all notices prints.
+-- What taking all notices prints.
 use Rattle.std.proofs.Common.{zero, suc, ◌≡◌, ◌<◌, ◌+◌, ℕ, min, List, [], ◌∷◌, ◌++◌, length, get_or, take, drop, map, Option, Some, None, option_map, codes, nat_eq, refl, sym, ap, ◌∙◌, subst, arith, rules, add-one}
 use Rattle.std.proofs.Math.Seq.{drop-nil, take-length}
 use Rattle.std.specs.List.{slice_get}

@@ -19,7 +19,7 @@ plain_command (Has key) = Has key
 plain_command (Invalidate key) = Invalidate key
 plain_command Notices = Notices
 
--- the fields that a command is command_fields as
+-- the fields that a command is written as
 abbrev pub command_fields : PlainCommand → List (List ℕ)
 command_fields (At moment) = codes "at" ∷ decimal moment ∷ []
 command_fields (Insert key value) = codes "insert" ∷ decimal key ∷ value ∷ []
@@ -28,7 +28,7 @@ command_fields (Has key) = codes "has" ∷ decimal key ∷ []
 command_fields (Invalidate key) = codes "invalidate" ∷ decimal key ∷ []
 command_fields Notices = codes "notices" ∷ []
 
--- the line that a command is command_fields as, its fields separated by one space
+-- the line that a command is written as, its fields separated by one space
 abbrev pub line_of : PlainCommand → List ℕ
 line_of command = join_with_byte 32 (command_fields command)
 

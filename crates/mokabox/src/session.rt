@@ -61,7 +61,8 @@ impl Session {
         }
     }
 
-    /// Does a command, and answers it. An `Err` is want of memory for the answers or for the value that is handed in.
+    /// Does a command, and answers it. An `Err` is want of memory for the answers or for the value that is handed in:
+    /// the command may then be done.
     pub fn execute(&mut self, command: Command<&str>) -> Result<Vec<Answer>, AllocError>
         ensures { IfOk result (λ answers. Prints self.old.cache self.old.moment (plain_command command.entry)
             (map answer_text answers.items) self.new.cache self.new.moment) }
