@@ -7,7 +7,7 @@ use Rattle.std.proofs.lemmas.Slice.Eq.{bytes_eq-Decides}
 use Rattle.std.proofs.lemmas.List.Splits.{join_with_byte-slice_split}
 use Rattle.mokabox.specs.declared.command.Command.{Command}
 use Rattle.mokabox.specs.declared.command.Command.TheVariants.{At, Insert, Get, Has, Invalidate, Notices}
-use Rattle.mokabox.specs.Command.{Said, said, written, line_of, IsSayable, Reader, insert_of, alone, words, read_by, command_of, said_by}
+use Rattle.mokabox.specs.Command.{PlainCommand, plain_command, command_fields, line_of, IsExpressible, Reader, insert_of, alone, words, read_by, command_of, command_by_line}
 use Rattle.mokabox.specs.Fields.{fields_of, number_of, text_of, sole_number_of, sole_text_of, IsText}
 use Rattle.mokabox.proofs.NumberLaws.{number_takes, number_again}
 use Rattle.mokabox.proofs.Truth.{mapped}
@@ -37,19 +37,19 @@ sole_text_takes (field ∷ []) text each h = let parts = text_takes field text e
 sole_text_takes (field ∷ other ∷ more) text each h = cc
 
 -- the fields are those of the command
-abbrev IsWritten : List (List ℕ) → Said → Type 0
-IsWritten fields command = (fields ≡ written command) × IsSayable command
+abbrev IsWritten : List (List ℕ) → PlainCommand → Type 0
+IsWritten fields command = (fields ≡ command_fields command) × IsExpressible command
 
 -- what the reader behind a word reads is a command that is written so
 abbrev Takes : List ℕ → Reader → Type 0
-Takes word reader = (rest : List (List ℕ)) (command : Said) → AllByRecursion IsField rest → reader rest ≡ Some command → IsWritten (word ∷ rest) command
+Takes word reader = (rest : List (List ℕ)) (command : PlainCommand) → AllByRecursion IsField rest → reader rest ≡ Some command → IsWritten (word ∷ rest) command
 
 -- a word with a number behind it
-number_behind : (word : List ℕ) (make : ℕ → Said) → ((n : ℕ) → word ∷ decimal n ∷ [] ≡ written (make n)) → ((n : ℕ) → n < 2 ^ 64 → IsSayable (make n)) → Takes word (λ rest. option_map make (sole_number_of rest))
+number_behind : (word : List ℕ) (make : ℕ → PlainCommand) → ((n : ℕ) → word ∷ decimal n ∷ [] ≡ command_fields (make n)) → ((n : ℕ) → n < 2 ^ 64 → IsExpressible (make n)) → Takes word (λ rest. option_map make (sole_number_of rest))
 number_behind word make spelled sayable rest command each h =
     let read = mapped make (sole_number_of rest) command h in
     let parts = sole_number_takes rest read.0 read.1 in
-    let whole : word ∷ rest ≡ written (make read.0) = ap (λ fields. word ∷ fields) parts.0 ∙ spelled read.0 in
+    let whole : word ∷ rest ≡ command_fields (make read.0) = ap (λ fields. word ∷ fields) parts.0 ∙ spelled read.0 in
     subst (IsWritten (word ∷ rest)) read.2 (whole, sayable read.0 parts.1)
 
 insert_takes : Takes (codes "insert") insert_of
@@ -58,10 +58,10 @@ insert_takes (key ∷ rest) command each h = option_and_then_some (λ number. op
     let read = mapped (Insert number) (sole_text_of rest) command given in
     let parts = number_takes key number is_number in
     let value = sole_text_takes rest read.0 each.1 read.1 in
-    let whole : codes "insert" ∷ key ∷ rest ≡ written (Insert number read.0) = ap (λ field. codes "insert" ∷ field ∷ rest) parts.0 ∙ ap (λ fields. codes "insert" ∷ decimal number ∷ fields) value.0 in
+    let whole : codes "insert" ∷ key ∷ rest ≡ command_fields (Insert number read.0) = ap (λ field. codes "insert" ∷ field ∷ rest) parts.0 ∙ ap (λ fields. codes "insert" ∷ decimal number ∷ fields) value.0 in
     subst (IsWritten (codes "insert" ∷ key ∷ rest)) read.2 (whole, (parts.1, value.1)))
 
-alone_takes : (word : List ℕ) (command : Said) → word ∷ [] ≡ written command → IsSayable command → Takes word (alone command)
+alone_takes : (word : List ℕ) (command : PlainCommand) → word ∷ [] ≡ command_fields command → IsExpressible command → Takes word (alone command)
 alone_takes word command spelled sayable [] given each h =
     let same : command ≡ given = cc in
     subst (IsWritten (word ∷ [])) same (spelled, sayable)
@@ -98,12 +98,12 @@ read_by_takes (entry ∷ entries) word take rest command each h = either (bytes_
   either false e given later = later given
 
 -- the fields that are read as a command are the fields that it is written as
-command_takes : (fields : List (List ℕ)) (command : Said) → AllByRecursion IsField fields → command_of fields ≡ Some command → (fields ≡ written command) × IsSayable command
+command_takes : (fields : List (List ℕ)) (command : PlainCommand) → AllByRecursion IsField fields → command_of fields ≡ Some command → (fields ≡ command_fields command) × IsExpressible command
 command_takes [] command each h = cc
 command_takes (word ∷ rest) command each h = read_by_takes words word words_take rest command each.1 h
 
 -- the fields that a command is written as are read as that command
-command_again : (command : Said) → IsSayable command → command_of (written command) ≡ Some command
+command_again : (command : PlainCommand) → IsExpressible command → command_of (command_fields command) ≡ Some command
 command_again (At moment) small = rw (number_again moment small) refl
 command_again (Insert key value) parts = rw (number_again key parts.0, text_again value parts.1) refl
 command_again (Get key) small = rw (number_again key small) refl
@@ -115,27 +115,27 @@ number_written : (word : List ℕ) (n : ℕ) → is_plain word ≡ true → n < 
 number_written word n plain small = (word_field word plain, (number_field n small, tt))
 
 -- what a command is written as are fields, and at least one
-written_fields : (command : Said) → IsSayable command → (0 < length (written command)) × AllByRecursion IsField (written command)
-written_fields (At moment) small = (omega arith, number_written (codes "at") moment refl small)
-written_fields (Insert key value) parts = (omega arith, (word_field (codes "insert") refl, (number_field key parts.0, (text_field value parts.1, tt))))
-written_fields (Get key) small = (omega arith, number_written (codes "get") key refl small)
-written_fields (Has key) small = (omega arith, number_written (codes "has") key refl small)
-written_fields (Invalidate key) small = (omega arith, number_written (codes "invalidate") key refl small)
-written_fields Notices sayable = (omega arith, (word_field (codes "notices") refl, tt))
+command_fields_are : (command : PlainCommand) → IsExpressible command → (0 < length (command_fields command)) × AllByRecursion IsField (command_fields command)
+command_fields_are (At moment) small = (omega arith, number_written (codes "at") moment refl small)
+command_fields_are (Insert key value) parts = (omega arith, (word_field (codes "insert") refl, (number_field key parts.0, (text_field value parts.1, tt))))
+command_fields_are (Get key) small = (omega arith, number_written (codes "get") key refl small)
+command_fields_are (Has key) small = (omega arith, number_written (codes "has") key refl small)
+command_fields_are (Invalidate key) small = (omega arith, number_written (codes "invalidate") key refl small)
+command_fields_are Notices sayable = (omega arith, (word_field (codes "notices") refl, tt))
 
 -- a line that is read as a command is the one that it is written as
-pub line_takes : (line : List ℕ) (command : Said) → said_by line ≡ Some command → (line ≡ line_of command) × IsSayable command
+pub line_takes : (line : List ℕ) (command : PlainCommand) → command_by_line line ≡ Some command → (line ≡ line_of command) × IsExpressible command
 line_takes line command h =
     let read = says_takes command_of line command h in
     let parts = command_takes (fields_of line) command read.0 read.1 in
     (sym (join_with_byte-slice_split 32 line) ∙ ap (join_with_byte 32) parts.0, parts.1)
 
 -- the line that a command is written as is read as that command
-pub line_again : (command : Said) → IsSayable command → said_by (line_of command) ≡ Some command
+pub line_again : (command : PlainCommand) → IsExpressible command → command_by_line (line_of command) ≡ Some command
 line_again command sayable =
-    let parts = written_fields command sayable in
-    says_again command_of (written command) parts.0 parts.1 ∙ command_again command sayable
+    let parts = command_fields_are command sayable in
+    says_again command_of (command_fields command) parts.0 parts.1 ∙ command_again command sayable
 
-pub line_found : (line : List ℕ) (r : Option (Command (Bor (List ℕ)))) → option_map said r ≡ said_by line → IfSome r (λ c. (line ≡ line_of (said c)) × IsSayable (said c))
+pub line_found : (line : List ℕ) (r : Option (Command (Bor (List ℕ)))) → option_map plain_command r ≡ command_by_line line → IfSome r (λ c. (line ≡ line_of (plain_command c)) × IsExpressible (plain_command c))
 line_found line None h = tt
-line_found line (Some command) h = line_takes line (said command) (sym h)
+line_found line (Some command) h = line_takes line (plain_command command) (sym h)

@@ -1,10 +1,10 @@
 -- The definitions on a cache's events don't look into its values: they give the same of the values' images.
-use Rattle.std.proofs.Common.{zero, suc, ◌≡◌, ◌+◌, ℕ, max, min, Bool, true, false, cond, List, [], ◌∷◌, ◌++◌, length, drop, map, Option, Some, None, option_map, is_some, refl, sym, ap, ◌∙◌, arith, rules}
+use Rattle.std.proofs.Common.{◌≡◌, ◌+◌, ℕ, max, min, Bool, true, false, cond, List, [], ◌∷◌, map, Option, Some, None, option_map, is_some, refl, sym, ap}
 use Rattle.std.proofs.lemmas.List.{drop-map, map-append, length-map}
 use Rattle.std.proofs.lemmas.Option.{slice_get-map}
 use Rattle.moka_base.specs.declared.notification.RemovalCause.{RemovalCause}
 use Rattle.moka_base.specs.declared.notification.RemovalCause.TheVariants.{Explicit, Replaced}
-use Rattle.moka_base.specs.History.{Event, Get, ContainsKey, Insert, Invalidate, TakeNotice, Rules, Write, Leaving, recorded, latest, is_expired, is_live, live_one, after_look, after_write, standing, cause_of, left, leaving, leavings, taken, noticed, drawn, next_number, live}
+use Rattle.moka_base.specs.History.{Event, Get, ContainsKey, Insert, Invalidate, TakeNotice, Rules, Write, recorded, latest, is_live, live_one, after_look, after_write, standing, left, leaving, leavings, taken, noticed, drawn, next_number, live}
 use Rattle.moka_base.specs.Replies as replies
 use Rattle.moka_base.specs.Replies.{Answer, answer}
 use Rattle.mokabox.specs.Events.{event_by, write_by, leaving_by, answer_by}

@@ -13,7 +13,7 @@ use Rattle.std.proofs.lemmas.Str.{IsUtf8-from_is_utf8, is_utf8-from_IsUtf8, IsUt
 use Rattle.std.proofs.lemmas.Str.Parse.{digit_at}
 use Rattle.mokabox.proofs.NumberLaws.{own}
 use Rattle.mokabox.proofs.Truth.{untrue}
-use Rattle.mokabox.specs.Fields.{line_says, fields_of, IsText}
+use Rattle.mokabox.specs.Fields.{line_reading, fields_of, IsText}
 
 -- no byte is a space
 abbrev pub IsSpaceless : List ℕ → Type 0
@@ -93,25 +93,25 @@ some_fields [] some each = absurd (omega arith)
 some_fields (field ∷ fields) some each = line_fields field fields each
 
 -- a line that says something has fields that say it
-pub says_takes : {A : Type 0} (said : List (List ℕ) → Option A) (line : List ℕ) (what : A) → line_says said line ≡ Some what → AllByRecursion IsField (fields_of line) × (said (fields_of line) ≡ Some what)
-says_takes {A} said line what h = chosen (is_utf8 line) refl h where
-  chosen : (test : Bool) → is_utf8 line ≡ test → cond test (said (fields_of line)) None ≡ Some what → AllByRecursion IsField (fields_of line) × (said (fields_of line) ≡ Some what)
+pub says_takes : {A : Type 0} (read : List (List ℕ) → Option A) (line : List ℕ) (what : A) → line_reading read line ≡ Some what → AllByRecursion IsField (fields_of line) × (read (fields_of line) ≡ Some what)
+says_takes {A} read line what h = chosen (is_utf8 line) refl h where
+  chosen : (test : Bool) → is_utf8 line ≡ test → cond test (read (fields_of line)) None ≡ Some what → AllByRecursion IsField (fields_of line) × (read (fields_of line) ≡ Some what)
   chosen true e given = (fields_are line (IsUtf8-from_is_utf8 line e), given)
   chosen false e given = cc
 
 -- a line that is made of fields says what they say
-pub says_again : {A : Type 0} (said : List (List ℕ) → Option A) (fields : List (List ℕ)) → 0 < length fields → AllByRecursion IsField fields → line_says said (join_with_byte 32 fields) ≡ said fields
-says_again said fields some each =
+pub says_again : {A : Type 0} (read : List (List ℕ) → Option A) (fields : List (List ℕ)) → 0 < length fields → AllByRecursion IsField fields → line_reading read (join_with_byte 32 fields) ≡ read fields
+says_again read fields some each =
     let utf8 : is_utf8 (join_with_byte 32 fields) ≡ true = is_utf8-from_IsUtf8 (join_with_byte 32 fields) (line_utf8 fields each) in
     let same : fields_of (join_with_byte 32 fields) ≡ fields = some_fields fields some each in
     rw (utf8, same) refl
 
-pub utf8_says : {A : Type 0} (said : List (List ℕ) → Option A) (line : List ℕ) → IsUtf8 line → said (fields_of line) ≡ line_says said line
-utf8_says said line utf8 = rw (is_utf8-from_IsUtf8 line utf8) refl
+pub utf8_says : {A : Type 0} (read : List (List ℕ) → Option A) (line : List ℕ) → IsUtf8 line → read (fields_of line) ≡ line_reading read line
+utf8_says read line utf8 = rw (is_utf8-from_IsUtf8 line utf8) refl
 
-pub other_says : {A : Type 0} (said : List (List ℕ) → Option A) (line : List ℕ) → (IsUtf8 line → ⊥) → None ≡ line_says said line
-other_says {A} said line other = chosen (is_utf8 line) refl where
-  chosen : (test : Bool) → is_utf8 line ≡ test → None ≡ cond test (said (fields_of line)) None
+pub other_says : {A : Type 0} (read : List (List ℕ) → Option A) (line : List ℕ) → (IsUtf8 line → ⊥) → None ≡ line_reading read line
+other_says {A} read line other = chosen (is_utf8 line) refl where
+  chosen : (test : Bool) → is_utf8 line ≡ test → None ≡ cond test (read (fields_of line)) None
   chosen true e = absurd (other (IsUtf8-from_is_utf8 line e))
   chosen false e = refl
 

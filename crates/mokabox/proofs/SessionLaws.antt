@@ -1,5 +1,5 @@
 -- What a session prints, from what its cache's calls ensure.
-use Rattle.std.proofs.Common.{◌≡◌, ◌<◌, ◌+◌, ℕ, max, Bool, true, false, List, [], ◌∷◌, ◌++◌, length, take, drop, map, Option, Some, None, IsSome, option_map, codes, nat_eq, refl, sym, ap, ◌∙◌, subst, arith, rules, inl, inr, ◌⊎◌, ◌↔◌, lit<}
+use Rattle.std.proofs.Common.{◌≡◌, ℕ, max, Bool, true, false, List, [], ◌∷◌, ◌++◌, map, Option, Some, None, IsSome, option_map, codes, nat_eq, refl, sym, ap, ◌∙◌, subst, rules, inl, inr, ◌⊎◌, ◌↔◌, lit<}
 use Rattle.std.specs.Prelude.{String, Vec, Result, Ok, Err, IfOk}
 use Rattle.std.specs.declared.alloc.Global.{Global}
 use Rattle.std.specs.Fmt.{decimal}
@@ -12,14 +12,14 @@ use Rattle.moka_base.specs.History.{Event, Rules, Write, Leaving, latest, live, 
 use Rattle.moka_base.specs.Replies as replies
 use Rattle.moka_base.specs.Replies.{Answer, answer, IsOutOfNumbers, IsAnswer, IsCopyOf}
 use Rattle.moka_base.specs.StandsFor.{Follows, AtEachHistory}
-use Rattle.mokabox.proofs.EventsBy.{latest-by, live-by, noticed-by, next_number-by, answer-by}
+use Rattle.mokabox.proofs.EventsBy.{latest-by, live-by, next_number-by, answer-by}
 use Rattle.mokabox.specs.Answer.{answer_text, refusal_number}
 use Rattle.mokabox.specs.declared.answer.Answer.TheVariants as answers
-use Rattle.mokabox.specs.Command.{Said}
+use Rattle.mokabox.specs.Command.{PlainCommand}
 use Rattle.mokabox.specs.declared.command.Command.TheVariants as commands
-use Rattle.mokabox.specs.Events.{event_by, write_by, leaving_by, answer_by}
-use Rattle.mokabox.specs.Script.{Happened, Course, course_with, notice_text, reply_text, Accepts, Refuses, taking, CommandPrints}
-use Rattle.mokabox.specs.Session.{Held, IsAt, Prints}
+use Rattle.mokabox.specs.Events.{event_by, write_by, answer_by}
+use Rattle.mokabox.specs.Script.{ScriptEvent, Course, course_with, reply_text, Accepts, Refuses}
+use Rattle.mokabox.specs.Session.{ScriptHoldings, IsAt, Prints}
 
 abbrev pub Text : Type 0
 Text = String Global
@@ -29,7 +29,7 @@ abbrev pub is_copy : Text → Text → Type 0
 is_copy s t = string_bytes t ≡ string_bytes s
 
 -- the script goes on by an event that the cache follows
-pub accepted : (cache after : Held) (moment : ℕ) (rules : Rules) (before : Course) (event : Event ℕ Text) → IsAt cache moment rules before → Follows nat_eq cache event after → IsAt after moment rules (course_with before (event_by string_bytes event))
+pub accepted : (cache after : ScriptHoldings) (moment : ℕ) (rules : Rules) (before : Course) (event : Event ℕ Text) → IsAt cache moment rules before → Follows nat_eq cache event after → IsAt after moment rules (course_with before (event_by string_bytes event))
 accepted cache after moment rules before event is follows = record {
   events = event ∷ is.events;
   stands = follows rules is.events is.stands;
@@ -38,18 +38,18 @@ accepted cache after moment rules before event is follows = record {
 }
 
 -- the answer of the definitions, its values being bytes
-pub answered : (cache : Held) (moment : ℕ) (rules : Rules) (before : Course) (event : Event ℕ Text) (is : IsAt cache moment rules before) → answer nat_eq rules (event_by string_bytes event) before.events ≡ answer_by string_bytes (answer nat_eq rules event is.events)
+pub answered : (cache : ScriptHoldings) (moment : ℕ) (rules : Rules) (before : Course) (event : Event ℕ Text) (is : IsAt cache moment rules before) → answer nat_eq rules (event_by string_bytes event) before.events ≡ answer_by string_bytes (answer nat_eq rules event is.events)
 answered cache moment rules before event is = ap (answer nat_eq rules (event_by string_bytes event)) (sym is.same) ∙ answer-by string_bytes rules nat_eq event is.events
 
 -- an event is accepted with the text of its answer
-accepts : (cache : Held) (moment : ℕ) (rules : Rules) (before : Course) (event : Event ℕ Text) (text : List ℕ) (is : IsAt cache moment rules before) → text ≡ reply_text (answer_by string_bytes (answer nat_eq rules event is.events)) → Accepts rules before (event_by string_bytes event) (text ∷ []) (course_with before (event_by string_bytes event))
+accepts : (cache : ScriptHoldings) (moment : ℕ) (rules : Rules) (before : Course) (event : Event ℕ Text) (text : List ℕ) (is : IsAt cache moment rules before) → text ≡ reply_text (answer_by string_bytes (answer nat_eq rules event is.events)) → Accepts rules before (event_by string_bytes event) (text ∷ []) (course_with before (event_by string_bytes event))
 accepts cache moment rules before event text is same = record {
   printed = ap (λ line. line ∷ []) (same ∙ ap reply_text (sym (answered cache moment rules before event is)));
   after = refl;
 }
 
 -- the next number is that of the events
-numbers : (cache : Held) (moment : ℕ) (rules : Rules) (before : Course) (is : IsAt cache moment rules before) → next_number rules before.events ≡ cache.next_number
+numbers : (cache : ScriptHoldings) (moment : ℕ) (rules : Rules) (before : Course) (is : IsAt cache moment rules before) → next_number rules before.events ≡ cache.next_number
 numbers cache moment rules before is = ap (next_number rules) (sym is.same) ∙ next_number-by string_bytes rules is.events ∙ sym is.stands.next_number
 
 -- a step that is refused for want of memory changes nothing
@@ -60,7 +60,7 @@ refuses_numbers : (before : Course) → Refuses before (codes "2") ((codes "refu
 refuses_numbers before = record { printed = ap (λ digits. (codes "refused " ++ digits) ∷ []) (decimal_digit 2 (lit< tt)); after = refl }
 
 -- a moment sets the moment of what follows
-pub moved : (cache : Held) (moment to : ℕ) → Prints cache moment (commands.At to) [] cache to
+pub moved : (cache : ScriptHoldings) (moment to : ℕ) → Prints cache moment (commands.At to) [] cache to
 moved cache moment to rules before is = (record before { moment = to }, (refl, refl), record { events = is.events; stands = is.stands; same = is.same; now = refl })
 
 -- the line of a look's answer
@@ -75,7 +75,7 @@ copied_text (Some v) None h = absurd h
 copied_text (Some v) (Some w) h = ap (λ bytes. codes "some " ++ bytes) h
 
 -- a look that is accepted
-pub looked : (cache after : Held) (moment key : ℕ) (given found : Option Text) → given ≡ found → AtEachHistory nat_eq cache (λ rules h. IsAnswer is_copy (answer nat_eq rules (history.Get key moment) h) (replies.Found given)) → Follows nat_eq cache (history.Get key moment) after → Prints cache moment (commands.Get key) (found_text found ∷ []) after moment
+pub looked : (cache after : ScriptHoldings) (moment key : ℕ) (given found : Option Text) → given ≡ found → AtEachHistory nat_eq cache (λ rules h. IsAnswer is_copy (answer nat_eq rules (history.Get key moment) h) (replies.Found given)) → Follows nat_eq cache (history.Get key moment) after → Prints cache moment (commands.Get key) (found_text found ∷ []) after moment
 looked cache after moment key given found same reply follows rules before is =
     let event : Event ℕ Text = history.Get key moment in
     let course = course_with before (history.Get key moment) in
@@ -91,17 +91,17 @@ there None h = absurd (h refl)
 there (Some w) h = refl
 
 -- a look that is refused found a live value
-pub look_refused : (cache after : Held) (moment key : ℕ) (cause : moka_refused.Refused) → after ≡ cache → cause ≡ refusals.OutOfMemory → AtEachHistory nat_eq cache (λ rules h. answer nat_eq rules (history.Get key moment) h ≡ replies.Found None → ⊥) → Prints cache moment (commands.Get key) ((codes "refused " ++ decimal (refusal_number cause)) ∷ []) after moment
+pub look_refused : (cache after : ScriptHoldings) (moment key : ℕ) (cause : moka_refused.Refused) → after ≡ cache → cause ≡ refusals.OutOfMemory → AtEachHistory nat_eq cache (λ rules h. answer nat_eq rules (history.Get key moment) h ≡ replies.Found None → ⊥) → Prints cache moment (commands.Get key) ((codes "refused " ++ decimal (refusal_number cause)) ∷ []) after moment
 look_refused cache after moment key cause same memory hit rules before is =
     let found : answer nat_eq rules (history.Get key before.moment) is.events ≡ replies.Found None → ⊥ = subst (λ at. answer nat_eq rules (history.Get key at) is.events ≡ replies.Found None → ⊥) is.now (hit rules is.events is.stands) in
     let is_there = there (live nat_eq rules key (max (latest is.events) before.moment) is.events) found in
-    let P : List Happened → Type 0 = λ events. IsSome (live nat_eq rules key (max (latest events) before.moment) events) in
+    let P : List ScriptEvent → Type 0 = λ events. IsSome (live nat_eq rules key (max (latest events) before.moment) events) in
     let mapped : P (map (event_by string_bytes) is.events) = rw (latest-by string_bytes is.events, live-by string_bytes rules nat_eq key (max (latest is.events) before.moment) is.events) is_there in
     let refuse = subst (λ c. Refuses before (codes "1") ((codes "refused " ++ decimal (refusal_number c)) ∷ []) before) (sym memory) (refuses before) in
     (before, inr (subst P is.same mapped, refuse), subst (λ held. IsAt held moment rules before) (sym same) is)
 
 -- a write that is accepted
-pub written : (cache after : Held) (moment key : ℕ) (text : Text) (value : List ℕ) → string_bytes text ≡ value → Follows nat_eq cache (history.Insert key text moment) after → (cache.next_number ≡ greatest_number → ⊥) → Prints cache moment (commands.Insert key value) (codes "ok" ∷ []) after moment
+pub written : (cache after : ScriptHoldings) (moment key : ℕ) (text : Text) (value : List ℕ) → string_bytes text ≡ value → Follows nat_eq cache (history.Insert key text moment) after → (cache.next_number ≡ greatest_number → ⊥) → Prints cache moment (commands.Insert key value) (codes "ok" ∷ []) after moment
 written cache after moment key text value spelled follows room rules before is =
     let event : Event ℕ Text = history.Insert key text moment in
     let course = course_with before (history.Insert key (string_bytes text) moment) in
@@ -112,7 +112,7 @@ written cache after moment key text value spelled follows room rules before is =
     (course, inl (out, of_value), accepted cache after moment rules before event is follows)
 
 -- a write that is refused
-pub write_refused : (cache after : Held) (moment key : ℕ) (value : List ℕ) (cause : moka_refused.Refused) → after ≡ cache → (cause ≡ refusals.NumbersUsedUp) ↔ (cache.next_number ≡ greatest_number) → Prints cache moment (commands.Insert key value) ((codes "refused " ++ decimal (refusal_number cause)) ∷ []) after moment
+pub write_refused : (cache after : ScriptHoldings) (moment key : ℕ) (value : List ℕ) (cause : moka_refused.Refused) → after ≡ cache → (cause ≡ refusals.NumbersUsedUp) ↔ (cache.next_number ≡ greatest_number) → Prints cache moment (commands.Insert key value) ((codes "refused " ++ decimal (refusal_number cause)) ∷ []) after moment
 write_refused cache after moment key value refusals.OutOfMemory same used_up rules before is =
     let room : IsOutOfNumbers rules (history.Insert key value before.moment) before.events → ⊥ = λ e. (let both : refusals.OutOfMemory ≡ refusals.NumbersUsedUp = used_up.1 (sym (numbers cache moment rules before is) ∙ e.1) in cc) in
     (before, inr (inr (room, refuses before)), subst (λ held. IsAt held moment rules before) (sym same) is)
@@ -124,7 +124,7 @@ whether_text true = refl
 whether_text false = refl
 
 -- whether a key is there
-pub contained : (cache : Held) (moment key : ℕ) (b : Bool) → AtEachHistory nat_eq cache (λ rules h. answer nat_eq rules (history.ContainsKey key moment) h ≡ replies.Contains b) → Follows nat_eq cache (history.ContainsKey key moment) cache → Prints cache moment (commands.Has key) (answer_text (answers.Whether b) ∷ []) cache moment
+pub contained : (cache : ScriptHoldings) (moment key : ℕ) (b : Bool) → AtEachHistory nat_eq cache (λ rules h. answer nat_eq rules (history.ContainsKey key moment) h ≡ replies.Contains b) → Follows nat_eq cache (history.ContainsKey key moment) cache → Prints cache moment (commands.Has key) (answer_text (answers.Whether b) ∷ []) cache moment
 contained cache moment key b reply follows rules before is =
     let event : Event ℕ Text = history.ContainsKey key moment in
     let course = course_with before (history.ContainsKey key moment) in
@@ -133,7 +133,7 @@ contained cache moment key b reply follows rules before is =
     (course, subst (λ at. Accepts rules before (history.ContainsKey key at) (answer_text (answers.Whether b) ∷ []) course) is.now accept, accepted cache cache moment rules before event is follows)
 
 -- a key that is removed
-pub invalidated : (cache after : Held) (moment key : ℕ) → Follows nat_eq cache (history.Invalidate key moment) after → Prints cache moment (commands.Invalidate key) (codes "ok" ∷ []) after moment
+pub invalidated : (cache after : ScriptHoldings) (moment key : ℕ) → Follows nat_eq cache (history.Invalidate key moment) after → Prints cache moment (commands.Invalidate key) (codes "ok" ∷ []) after moment
 invalidated cache after moment key follows rules before is =
     let event : Event ℕ Text = history.Invalidate key moment in
     let course = course_with before (history.Invalidate key moment) in
@@ -141,6 +141,6 @@ invalidated cache after moment key follows rules before is =
     (course, subst (λ at. Accepts rules before (history.Invalidate key at) (codes "ok" ∷ []) course) is.now accept, accepted cache after moment rules before event is follows)
 
 -- the lines of one answer
-pub one_line : {E : Type 0} (r : Result (Vec answers.the_data Global) E) (old new : Held) (moment moment_after : ℕ) (command : Said) (answer : answers.the_data) → IfOk r (λ given. given.items ≡ answer ∷ []) → Prints old moment command (answer_text answer ∷ []) new moment_after → IfOk r (λ given. Prints old moment command (map answer_text given.items) new moment_after)
+pub one_line : {E : Type 0} (r : Result (Vec answers.the_data Global) E) (old new : ScriptHoldings) (moment moment_after : ℕ) (command : PlainCommand) (answer : answers.the_data) → IfOk r (λ given. given.items ≡ answer ∷ []) → Prints old moment command (answer_text answer ∷ []) new moment_after → IfOk r (λ given. Prints old moment command (map answer_text given.items) new moment_after)
 one_line (Ok given) old new moment moment_after command answer items prints = subst (λ lines. Prints old moment command lines new moment_after) (ap (map answer_text) (sym items)) prints
 one_line (Err e) old new moment moment_after command answer items prints = tt

@@ -10,7 +10,7 @@ use Rattle.std.proofs.lemmas.Str.Pattern.{IsSplitOnceResult, split_parts}
 use Rattle.mokabox.specs.declared.settings.Setting.{Setting}
 use Rattle.mokabox.specs.declared.settings.Setting.TheVariants.{TimeToLive, TimeToIdle, FirstNumber}
 use Rattle.mokabox.specs.declared.settings.Settings.{Settings}
-use Rattle.mokabox.specs.Settings.{setting_text, first_line_of, IsGivable, none_given, with_setting, with_all, settled, halves, names, value_by, setting_of, settings_from, settings_of, settings_by}
+use Rattle.mokabox.specs.Settings.{setting_text, first_line_of, IsGivable, none_given, with_setting, settings_with_all, settings_together, halves, names, value_by, setting_of, settings_from, settings_of, settings_by}
 use Rattle.mokabox.specs.Fields.{fields_of, number_of}
 use Rattle.mokabox.proofs.Truth.{mapped}
 use Rattle.mokabox.proofs.NumberLaws.{number_takes, number_again}
@@ -96,7 +96,7 @@ setting_again (FirstNumber number) small = rw (number_again number small) refl
 
 -- the fields that are read as settings are what they are written as
 abbrev AreGiven : List (List ℕ) → Settings → Settings → Type 0
-AreGiven fields before after = (given : List Setting) × AllByRecursion IsGivable given × (map setting_text given ≡ fields) × (with_all before given ≡ Some after)
+AreGiven fields before after = (given : List Setting) × AllByRecursion IsGivable given × (map setting_text given ≡ fields) × (settings_with_all before given ≡ Some after)
 
 settings_take : (fields : List (List ℕ)) (before after : Settings) → settings_from before fields ≡ Some after → AreGiven fields before after
 settings_take [] before after h = ([], tt, refl, h)
@@ -106,7 +106,7 @@ settings_take (field ∷ fields) before after h =
     let first = setting_takes field setting is_setting in
     let others = settings_take fields now after rest in
     let texts : map setting_text (setting ∷ others.0) ≡ field ∷ fields = ap (λ text. text ∷ map setting_text others.0) (sym first.0) ∙ ap (λ more. field ∷ more) others.2 in
-    let all : with_all before (setting ∷ others.0) ≡ Some after = rw is_now others.3 in
+    let all : settings_with_all before (setting ∷ others.0) ≡ Some after = rw is_now others.3 in
     (setting ∷ others.0, (first.1, others.1), texts, all)))
 
 same_then : {A B : Type 0} (f g : A → Option B) (o : Option A) → ((x : A) → f x ≡ g x) → option_and_then f o ≡ option_and_then g o
@@ -114,11 +114,11 @@ same_then f g None same = refl
 same_then f g (Some x) same = same x
 
 -- what settings are written as is read as what they say together
-settings_again : (given : List Setting) (before : Settings) → AllByRecursion IsGivable given → settings_from before (map setting_text given) ≡ with_all before given
+settings_again : (given : List Setting) (before : Settings) → AllByRecursion IsGivable given → settings_from before (map setting_text given) ≡ settings_with_all before given
 settings_again [] before givable = refl
 settings_again (setting ∷ more) before givable =
     let first : setting_of (setting_text setting) ≡ Some setting = setting_again setting givable.0 in
-    rw first (same_then (λ now. settings_from now (map setting_text more)) (λ now. with_all now more) (with_setting before setting) (λ now. settings_again more now givable.1))
+    rw first (same_then (λ now. settings_from now (map setting_text more)) (λ now. settings_with_all now more) (with_setting before setting) (λ now. settings_again more now givable.1))
 
 setting_field : (setting : Setting) → IsGivable setting → IsField (setting_text setting)
 setting_field (TimeToLive seconds) small = joined_field (codes "ttl=") (decimal seconds) (word_field (codes "ttl=") refl) (number_field seconds small)
@@ -130,15 +130,15 @@ setting_fields [] givable = tt
 setting_fields (setting ∷ more) givable = (setting_field setting givable.0, setting_fields more givable.1)
 
 -- the first line that settings are written as is read as what they say together
-pub first_again : (given : List Setting) → AllByRecursion IsGivable given → settings_by (first_line_of given) ≡ settled given
+pub first_again : (given : List Setting) → AllByRecursion IsGivable given → settings_by (first_line_of given) ≡ settings_together given
 first_again given givable =
     says_again settings_of (codes "new" ∷ map setting_text given) (omega arith) (word_field (codes "new") refl, setting_fields given givable)
     ∙ settings_again given none_given givable
 
-first_takes : (fields : List (List ℕ)) (settings : Settings) → settings_of fields ≡ Some settings → (given : List Setting) × AllByRecursion IsGivable given × (fields ≡ codes "new" ∷ map setting_text given) × (settled given ≡ Some settings)
+first_takes : (fields : List (List ℕ)) (settings : Settings) → settings_of fields ≡ Some settings → (given : List Setting) × AllByRecursion IsGivable given × (fields ≡ codes "new" ∷ map setting_text given) × (settings_together given ≡ Some settings)
 first_takes [] settings h = cc
 first_takes (word ∷ fields) settings h = either (bytes_eq word (codes "new")) refl h where
-  either : (test : Bool) → bytes_eq word (codes "new") ≡ test → cond test (settings_from none_given fields) None ≡ Some settings → (given : List Setting) × AllByRecursion IsGivable given × (word ∷ fields ≡ codes "new" ∷ map setting_text given) × (settled given ≡ Some settings)
+  either : (test : Bool) → bytes_eq word (codes "new") ≡ test → cond test (settings_from none_given fields) None ≡ Some settings → (given : List Setting) × AllByRecursion IsGivable given × (word ∷ fields ≡ codes "new" ∷ map setting_text given) × (settings_together given ≡ Some settings)
   either true e given =
       let same : word ≡ codes "new" = (bytes_eq-Decides word (codes "new")).0 e in
       let read = settings_take fields none_given settings given in
@@ -146,7 +146,7 @@ first_takes (word ∷ fields) settings h = either (bytes_eq word (codes "new")) 
   either false e given = cc
 
 -- a first line that is read gives settings that say what it was read as
-pub first_found : (line : List ℕ) (r : Option Settings) → r ≡ settings_by line → IfSome r (λ settings. (given : List Setting) × AllByRecursion IsGivable given × (line ≡ first_line_of given) × (settled given ≡ Some settings))
+pub first_found : (line : List ℕ) (r : Option Settings) → r ≡ settings_by line → IfSome r (λ settings. (given : List Setting) × AllByRecursion IsGivable given × (line ≡ first_line_of given) × (settings_together given ≡ Some settings))
 first_found line None h = tt
 first_found line (Some settings) h =
     let read = says_takes settings_of line settings (sym h) in

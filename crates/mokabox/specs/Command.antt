@@ -3,53 +3,53 @@ use Rattle.std.specs.Borrow.{Bor}
 use Rattle.std.specs.Fmt.{decimal}
 use Rattle.std.specs.List.{join_with_byte}
 use Rattle.std.specs.Str.{bytes_eq}
-use Rattle.mokabox.specs.Fields.{line_says, number_of, sole_number_of, sole_text_of, IsText}
+use Rattle.mokabox.specs.Fields.{line_reading, number_of, sole_number_of, sole_text_of, IsText}
 use Rattle.mokabox.specs.declared.command.Command.{Command}
 use Rattle.mokabox.specs.declared.command.Command.TheVariants.{At, Insert, Get, Has, Invalidate, Notices}
 
 -- a command with the bytes of its texts
-abbrev pub Said : Type 0
-Said = Command (List ℕ)
+abbrev pub PlainCommand : Type 0
+PlainCommand = Command (List ℕ)
 
-abbrev pub said : Command (Bor (List ℕ)) → Said
-said (At moment) = At moment
-said (Insert key value) = Insert key value.now
-said (Get key) = Get key
-said (Has key) = Has key
-said (Invalidate key) = Invalidate key
-said Notices = Notices
+abbrev pub plain_command : Command (Bor (List ℕ)) → PlainCommand
+plain_command (At moment) = At moment
+plain_command (Insert key value) = Insert key value.now
+plain_command (Get key) = Get key
+plain_command (Has key) = Has key
+plain_command (Invalidate key) = Invalidate key
+plain_command Notices = Notices
 
 -- the fields that a command is written as
-abbrev pub written : Said → List (List ℕ)
-written (At moment) = codes "at" ∷ decimal moment ∷ []
-written (Insert key value) = codes "insert" ∷ decimal key ∷ value ∷ []
-written (Get key) = codes "get" ∷ decimal key ∷ []
-written (Has key) = codes "has" ∷ decimal key ∷ []
-written (Invalidate key) = codes "invalidate" ∷ decimal key ∷ []
-written Notices = codes "notices" ∷ []
+abbrev pub command_fields : PlainCommand → List (List ℕ)
+command_fields (At moment) = codes "at" ∷ decimal moment ∷ []
+command_fields (Insert key value) = codes "insert" ∷ decimal key ∷ value ∷ []
+command_fields (Get key) = codes "get" ∷ decimal key ∷ []
+command_fields (Has key) = codes "has" ∷ decimal key ∷ []
+command_fields (Invalidate key) = codes "invalidate" ∷ decimal key ∷ []
+command_fields Notices = codes "notices" ∷ []
 
 -- the line that a command is written as, its fields separated by one space
-abbrev pub line_of : Said → List ℕ
-line_of command = join_with_byte 32 (written command)
+abbrev pub line_of : PlainCommand → List ℕ
+line_of command = join_with_byte 32 (command_fields command)
 
 -- the numbers are below 2 ^ 64, and the texts are texts
-abbrev pub IsSayable : Said → Type 0
-IsSayable (At moment) = moment < 2 ^ 64
-IsSayable (Insert key value) = (key < 2 ^ 64) × IsText value
-IsSayable (Get key) = key < 2 ^ 64
-IsSayable (Has key) = key < 2 ^ 64
-IsSayable (Invalidate key) = key < 2 ^ 64
-IsSayable Notices = Unit {0}
+abbrev pub IsExpressible : PlainCommand → Type 0
+IsExpressible (At moment) = moment < 2 ^ 64
+IsExpressible (Insert key value) = (key < 2 ^ 64) × IsText value
+IsExpressible (Get key) = key < 2 ^ 64
+IsExpressible (Has key) = key < 2 ^ 64
+IsExpressible (Invalidate key) = key < 2 ^ 64
+IsExpressible Notices = Unit {0}
 
 -- what reads the fields behind a command's word
 abbrev pub Reader : Type 0
-Reader = List (List ℕ) → Option Said
+Reader = List (List ℕ) → Option PlainCommand
 
 abbrev pub insert_of : Reader
 insert_of [] = None
 insert_of (key ∷ rest) = option_and_then (λ number. option_map (Insert number) (sole_text_of rest)) (number_of key)
 
-abbrev pub alone : Said → Reader
+abbrev pub alone : PlainCommand → Reader
 alone command [] = Some command
 alone command (field ∷ more) = None
 
@@ -68,10 +68,10 @@ read_by [] word rest = None
 read_by (entry ∷ entries) word rest = if bytes_eq word entry.0 then entry.1 rest else read_by entries word rest
 
 -- the command that the fields write
-abbrev pub command_of : List (List ℕ) → Option Said
+abbrev pub command_of : List (List ℕ) → Option PlainCommand
 command_of [] = None
 command_of (word ∷ rest) = read_by words word rest
 
 -- the command that a line writes, if it is UTF-8
-abbrev pub said_by : List ℕ → Option Said
-said_by = line_says command_of
+abbrev pub command_by_line : List ℕ → Option PlainCommand
+command_by_line = line_reading command_of

@@ -1,5 +1,5 @@
 -- Events, writes, notices and answers, with an image in place of each value.
-use Rattle.std.specs.Prelude.{List, Option, option_map}
+use Rattle.std.specs.Prelude.{option_map}
 use Rattle.moka_base.specs.History.{Event, Get, ContainsKey, Insert, Invalidate, TakeNotice, Write, Leaving}
 use Rattle.moka_base.specs.Replies.{Answer, Found, Contains, Done, Noticed}
 

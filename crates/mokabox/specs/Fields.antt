@@ -53,5 +53,5 @@ pub record IsText (bytes : List ℕ) : Type 0 where
   pub utf8 : IsUtf8 bytes
 
 -- what the fields of a line say, if it is UTF-8
-abbrev pub line_says : {A : Type 0} → (List (List ℕ) → Option A) → List ℕ → Option A
-line_says said line = if is_utf8 line then said (fields_of line) else None
+abbrev pub line_reading : {A : Type 0} → (List (List ℕ) → Option A) → List ℕ → Option A
+line_reading read line = if is_utf8 line then read (fields_of line) else None

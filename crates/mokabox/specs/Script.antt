@@ -1,5 +1,5 @@
 -- What a script prints, by the events of its cache.
-use Rattle.std.specs.Prelude.{◌≡◌, ◌≢◌, ℕ, ◌*◌, max, Bool, true, false, ◌||◌, IsSome, List, [], ◌∷◌, ◌++◌, map, flat_map, Option, Some, None, option_map, unwrap_or, nat_eq, codes, ◌⊎◌, if◌then◌else◌}
+use Rattle.std.specs.Prelude.{◌≡◌, ℕ, ◌*◌, max, Bool, true, false, ◌||◌, IsSome, List, [], ◌∷◌, ◌++◌, map, flat_map, Option, Some, None, option_map, unwrap_or, nat_eq, codes, ◌⊎◌, if◌then◌else◌}
 use Rattle.std.specs.Fmt.{decimal}
 use Rattle.std.specs.List.{onto_first}
 use Rattle.moka_base.specs.History as history
@@ -7,22 +7,22 @@ use Rattle.moka_base.specs.History.{Event, Rules, Leaving, latest, live, noticed
 use Rattle.moka_base.specs.Replies as replies
 use Rattle.moka_base.specs.Replies.{Answer, answer, IsOutOfNumbers}
 use Rattle.mokabox.specs.Answer.{cause_text}
-use Rattle.mokabox.specs.Command.{Said, said_by}
+use Rattle.mokabox.specs.Command.{PlainCommand, command_by_line}
 use Rattle.mokabox.specs.Settings.{settings_by}
 use Rattle.mokabox.specs.declared.command.Command.TheVariants as commands
 use Rattle.mokabox.specs.declared.settings.Settings.{Settings}
 
 -- an event of the script's cache: its keys are numbers, and its values are bytes
-abbrev pub Happened : Type 0
-Happened = Event ℕ (List ℕ)
+abbrev pub ScriptEvent : Type 0
+ScriptEvent = Event ℕ (List ℕ)
 
 -- how far a script has come: the events of its cache, the newest first, and the moment of its commands
 pub record Course : Type 0 where
-  pub events : List Happened
+  pub events : List ScriptEvent
   pub moment : ℕ
 
 -- the events and one more
-abbrev pub course_with : Course → Happened → Course
+abbrev pub course_with : Course → ScriptEvent → Course
 course_with course event = record course { events = event ∷ course.events }
 
 -- the line of a value that left
@@ -40,7 +40,7 @@ reply_text (replies.Noticed None) = codes "end"
 reply_text (replies.Noticed (Some left)) = notice_text left
 
 -- The event is accepted, and its answer is printed.
-pub record Accepts (rules : Rules) (before : Course) (event : Happened) (lines : List (List ℕ)) (course : Course) : Type 0 where
+pub record Accepts (rules : Rules) (before : Course) (event : ScriptEvent) (lines : List (List ℕ)) (course : Course) : Type 0 where
   pub printed : lines ≡ reply_text (answer nat_eq rules event before.events) ∷ []
   pub after : course ≡ course_with before event
 
@@ -50,15 +50,15 @@ pub record Refuses (before : Course) (number : List ℕ) (lines : List (List ℕ
   pub after : course ≡ before
 
 -- the events after as many notices were taken
-abbrev pub taking : {A : Type 0} → List A → List Happened → List Happened
-taking [] events = events
-taking (left ∷ more) events = taking more (history.TakeNotice ∷ events)
+abbrev pub events_taking : {A : Type 0} → List A → List ScriptEvent → List ScriptEvent
+events_taking [] events = events
+events_taking (left ∷ more) events = events_taking more (history.TakeNotice ∷ events)
 
 -- What a command prints, and how far the script has come then.
-abbrev pub CommandPrints : Rules → Course → Said → List (List ℕ) → Course → Type 0
+abbrev pub CommandPrints : Rules → Course → PlainCommand → List (List ℕ) → Course → Type 0
 CommandPrints rules before (commands.At moment) printed after = (printed ≡ []) × (after ≡ record before { moment = moment })
 -- a write is refused where no number is left to draw, or for want of memory
-CommandPrints rules before (commands.Insert key value) printed after = (let event : Happened = history.Insert key value before.moment in
+CommandPrints rules before (commands.Insert key value) printed after = (let event : ScriptEvent = history.Insert key value before.moment in
     ((IsOutOfNumbers rules event before.events → ⊥) × Accepts rules before event printed after)
     ⊎ (IsOutOfNumbers rules event before.events × Refuses before (codes "2") printed after)
     ⊎ ((IsOutOfNumbers rules event before.events → ⊥) × Refuses before (codes "1") printed after))
@@ -70,10 +70,10 @@ CommandPrints rules before (commands.Has key) printed after = Accepts rules befo
 CommandPrints rules before (commands.Invalidate key) printed after = Accepts rules before (history.Invalidate key before.moment) printed after
 CommandPrints rules before commands.Notices printed after =
     (printed ≡ map notice_text (noticed nat_eq rules before.events) ++ codes "end" ∷ [])
-    × (after ≡ record before { events = taking (noticed nat_eq rules before.events) before.events })
+    × (after ≡ record before { events = events_taking (noticed nat_eq rules before.events) before.events })
 
 -- What a line prints, how far the script has come then, and whether the line is bad.
-abbrev pub LinePrints : Rules → Course → Option Said → List (List ℕ) → Course → Bool → Type 0
+abbrev pub LinePrints : Rules → Course → Option PlainCommand → List (List ℕ) → Course → Bool → Type 0
 LinePrints rules before None printed after bad = (printed ≡ codes "bad line" ∷ []) × (after ≡ before) × (bad ≡ true)
 LinePrints rules before (Some command) printed after bad = CommandPrints rules before command printed after × (bad ≡ false)
 
@@ -82,7 +82,7 @@ abbrev pub LinesPrint : Rules → Course → List (List ℕ) → List (List ℕ)
 LinesPrint rules before [] printed bad = (printed ≡ []) × (bad ≡ false)
 LinesPrint rules before (line ∷ lines) printed bad =
     (first : List (List ℕ)) × (after : Course) × (bad_first : Bool) × (rest : List (List ℕ)) × (bad_rest : Bool)
-    × LinePrints rules before (said_by line) first after bad_first × LinesPrint rules after lines rest bad_rest
+    × LinePrints rules before (command_by_line line) first after bad_first × LinesPrint rules after lines rest bad_rest
     × (printed ≡ first ++ rest) × (bad ≡ (bad_first || bad_rest))
 
 -- the rules of a cache that these settings make, in nanoseconds

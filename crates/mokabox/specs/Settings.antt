@@ -2,7 +2,7 @@ use Rattle.std.specs.Prelude.{◌==◌, ◌^◌, ◌<◌, ℕ, List, [], ◌∷�
 use Rattle.std.specs.Fmt.{decimal}
 use Rattle.std.specs.List.{join_with_byte}
 use Rattle.std.specs.Str.{bytes_eq}
-use Rattle.mokabox.specs.Fields.{line_says, number_of}
+use Rattle.mokabox.specs.Fields.{line_reading, number_of}
 use Rattle.mokabox.specs.declared.settings.Setting.{Setting}
 use Rattle.mokabox.specs.declared.settings.Setting.TheVariants.{TimeToLive, TimeToIdle, FirstNumber}
 use Rattle.mokabox.specs.declared.settings.Settings.{Settings}
@@ -34,13 +34,13 @@ with_setting settings (TimeToIdle seconds) = if is_some settings.time_to_idle th
 with_setting settings (FirstNumber number) = if is_some settings.first_number then None else Some (record settings { first_number = Some number })
 
 -- the settings with all of these, of which none is given twice
-abbrev pub with_all : Settings → List Setting → Option Settings
-with_all settings [] = Some settings
-with_all settings (setting ∷ more) = option_and_then (λ now. with_all now more) (with_setting settings setting)
+abbrev pub settings_with_all : Settings → List Setting → Option Settings
+settings_with_all settings [] = Some settings
+settings_with_all settings (setting ∷ more) = option_and_then (λ now. settings_with_all now more) (with_setting settings setting)
 
 -- what these settings say together, where none is given twice
-abbrev pub settled : List Setting → Option Settings
-settled given = with_all none_given given
+abbrev pub settings_together : List Setting → Option Settings
+settings_together given = settings_with_all none_given given
 
 -- what stands before the first equals sign, and what stands behind it
 abbrev pub halves : List ℕ → Option (List ℕ × List ℕ)
@@ -74,4 +74,4 @@ settings_of (word ∷ fields) = if bytes_eq word (codes "new") then settings_fro
 
 -- the settings that a first line gives, if it is UTF-8
 abbrev pub settings_by : List ℕ → Option Settings
-settings_by = line_says settings_of
+settings_by = line_reading settings_of

@@ -1,4 +1,4 @@
-// What the program prints: a line for each answer.
+//! What the program prints: a line for each answer.
 ghost use Rattle.std.specs.Prelude.{◌≡◌, Some, OnOk};
 ghost use Rattle.std.specs.Io.KnownBytes.{Appends};
 ghost use Rattle.mokabox.specs.Answer.{answer_text, answer_line, cause_text, refusal_number, build_refusal_number};

@@ -1,6 +1,6 @@
-// The commands of a script, and the lines that they are written as.
+//! The commands of a script, and the lines that they are written as.
 ghost use Rattle.std.specs.Prelude.{◌≡◌, IfSome, option_map};
-ghost use Rattle.mokabox.specs.Command.{Said, said, line_of, IsSayable, command_of, said_by};
+ghost use Rattle.mokabox.specs.Command.{PlainCommand, plain_command, line_of, IsExpressible, command_of, command_by_line};
 ghost use Rattle.mokabox.specs.FieldsLeft.{fields_left};
 
 use crate::fields::{Fields, number};
@@ -25,11 +25,11 @@ pub enum Command<T> {
 /// The command that a line writes. `None` where it writes none.
 pub fn parse(line: &[u8]) -> Option<Command<&str>>
     // The line is that of the command.
-    ensures found { IfSome result (λ c. (line.now ≡ line_of (said c)) × IsSayable (said c)) }
+    ensures found { IfSome result (λ c. (line.now ≡ line_of (plain_command c)) × IsExpressible (plain_command c)) }
     // A line that is a command's is read as that command.
-    ensures only { (c : Said) → IsSayable c → line.now ≡ line_of c → option_map said result ≡ Some c }
+    ensures only { (c : PlainCommand) → IsExpressible c → line.now ≡ line_of c → option_map plain_command result ≡ Some c }
     // So this is the command.
-    ensures exact { option_map said result ≡ said_by line.now }
+    ensures exact { option_map plain_command result ≡ command_by_line line.now }
 {
     match str::from_utf8(line) {
         Ok(line) => read(Fields::of(line)),
@@ -39,7 +39,7 @@ pub fn parse(line: &[u8]) -> Option<Command<&str>>
 
 /// The command that the fields write.
 fn read(mut fields: Fields<'_>) -> Option<Command<&str>>
-    ensures { option_map said result ≡ command_of (fields_left fields.entry) }
+    ensures { option_map plain_command result ≡ command_of (fields_left fields.entry) }
 {
     let command = match fields.next()? {
         "at" => Command::At(fields.sole_number()?),

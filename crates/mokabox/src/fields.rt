@@ -1,4 +1,4 @@
-// The fields of a line: its parts between the spaces.
+//! The fields of a line: its parts between the spaces.
 ghost use Rattle.std.specs.Prelude.{◌≡◌, ◌∷◌, ◌↔◌, IsTrue, option_map};
 ghost use Rattle.std.specs.Iterator.{YieldsFirstRef, item_count};
 ghost use Rattle.mokabox.specs.Fields.{fields_of, fields_in, IsPadded, number_of, text_of, sole_of, sole_number_of, sole_text_of};

@@ -1,4 +1,4 @@
-// Runs a script of cache calls that it reads from standard input, and prints their answers.
+//! Runs a script of cache calls that it reads from standard input, and prints their answers.
 #![tactic(auto)]
 
 mod answer;

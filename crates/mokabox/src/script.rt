@@ -1,4 +1,4 @@
-// Runs a script: reads its lines, and writes their answers.
+//! Runs a script: reads its lines, and writes their answers.
 ghost use Rattle.std.specs.Prelude.{◌≡◌, ◌≢◌, ℕ, List, map, IfOk, IfSome, OnOk};
 ghost use Rattle.std.specs.Io.Iter.{split_byte, split_known_bytes};
 ghost use Rattle.std.specs.Io.KnownBytes.{Appends};

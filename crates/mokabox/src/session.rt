@@ -1,7 +1,7 @@
-// The cache that a script drives.
+//! The cache that a script drives.
 ghost use Rattle.std.specs.Prelude.{◌≡◌, [], ◌∷◌, map, IfOk, IfErr};
 ghost use Rattle.mokabox.specs.Answer.{answer_text};
-ghost use Rattle.mokabox.specs.Command.{said};
+ghost use Rattle.mokabox.specs.Command.{plain_command};
 ghost use Rattle.mokabox.specs.Script.{beginning, rules_by};
 ghost use Rattle.mokabox.specs.Session.{IsAt, Prints};
 ghost use Rattle.mokabox.specs.declared.command.Command.TheVariants as commands;
@@ -61,9 +61,10 @@ impl Session {
         }
     }
 
-    /// Does a command, and answers it. An `Err` is want of memory for the answers or for the value that is handed in.
+    /// Does a command, and answers it. An `Err` is want of memory for the answers or for the value that is handed in:
+    /// the command may then be done.
     pub fn execute(&mut self, command: Command<&str>) -> Result<Vec<Answer>, AllocError>
-        ensures { IfOk result (λ answers. Prints self.old.cache self.old.moment (said command.entry)
+        ensures { IfOk result (λ answers. Prints self.old.cache self.old.moment (plain_command command.entry)
             (map answer_text answers.items) self.new.cache self.new.moment) }
     {
         match command {

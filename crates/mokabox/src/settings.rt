@@ -1,8 +1,8 @@
-// The first line of a script, and the settings that it gives.
+//! The first line of a script, and the settings that it gives.
 ghost use Rattle.std.specs.Prelude.{◌≡◌, ◌↔◌, IsSome, IfSome, OnSome, List, option_map};
 ghost use Rattle.std.specs.List.{AllByRecursion};
 ghost use Rattle.mokabox.specs.FieldsLeft.{fields_left};
-ghost use Rattle.mokabox.specs.Settings.{halves, setting_of, with_setting, settings_of, settings_by, first_line_of, IsGivable, settled};
+ghost use Rattle.mokabox.specs.Settings.{halves, setting_of, with_setting, settings_of, settings_by, first_line_of, IsGivable, settings_together};
 ghost use Rattle.mokabox.specs.declared.settings.Setting.{Setting};
 
 use crate::fields::{Fields, number};
@@ -60,10 +60,10 @@ fn give<T: Drop>(place: &mut Option<T>, value: T) -> Option<()>
 pub fn parse(line: &[u8]) -> Option<Settings>
     // The line gives settings, none of them twice, and these are what they say together.
     ensures found { IfSome result (λ settings. (given : List Setting) × AllByRecursion IsGivable given
-        × (line.now ≡ first_line_of given) × (settled given ≡ Some settings)) }
+        × (line.now ≡ first_line_of given) × (settings_together given ≡ Some settings)) }
     // A line that gives settings is read as what they say together, if none is given twice.
     ensures only { (given : List Setting) → AllByRecursion IsGivable given →
-        line.now ≡ first_line_of given → result ≡ settled given }
+        line.now ≡ first_line_of given → result ≡ settings_together given }
     // So these are the settings.
     ensures exact { result ≡ settings_by line.now }
 {

@@ -1,4 +1,4 @@
-// Whole scripts over memory, and readers and writers that fail.
+//! Whole scripts over memory, and readers and writers that fail.
 use super::*;
 use std::io::{Error, ErrorKind, Read};
 use std::test::Fail;

@@ -1,5 +1,5 @@
 use Rattle.std.proofs.Common.{◌≡◌, sym, subst}
-use Rattle.std.specs.Io.Iter.{split_byte, split_known_bytes}
+use Rattle.std.specs.Io.Iter.{split_byte}
 use Rattle.mokabox.proofs.LineLaws.{run_begun, run_ended}
 use Rattle.mokabox.proofs.RunLaws.{next_after_bad, next_after_good}
 use Rattle.mokabox.proofs.script.go_on.Goals as goal

@@ -1,7 +1,4 @@
-use Rattle.std.proofs.Common.{◌≡◌, ap, sym, subst, map}
 use Rattle.mokabox.proofs.SessionLaws.{moved, contained, invalidated, one_line}
-use Rattle.mokabox.specs.Answer.{answer_text}
-use Rattle.mokabox.specs.Command.{said}
 use Rattle.mokabox.specs.declared.answer.Answer.TheVariants as answers
 use Rattle.mokabox.specs.declared.command.Command.TheVariants as commands
 use Rattle.mokabox.proofs.session.Session.execute.Goals as goal
