@@ -1,4 +1,4 @@
--- Nothing is admitted, and what waits stands in the order of its opening writes.
+-- What waits stands in the order of its opening writes.
 use Rattle.std.proofs.Common.{◌≡◌, subst, ⊎_elim, ℕ, Bool, true, false, not, cond, ◌&&◌, ◌||◌, is_some, List, [], ◌∷◌, ◌++◌, Option, Some, None, refl, sym, ap, ◌∙◌, map}
 use Rattle.std.specs.Option.{option_to_list}
 use Rattle.std.specs.List.{filter, list_any}
@@ -6,29 +6,17 @@ use Rattle.std.specs.Cmp.{IsEquivalence}
 use Rattle.std.proofs.lemmas.List.{map-append}
 use Rattle.std.proofs.lemmas.List.Elements.{filter-append, filter_agree}
 use Rattle.moka_base.specs.Maintenance.{Queues}
-use Rattle.moka_base.specs.History.{Event, Get, ContainsKey, Insert, Invalidate, TakeNotice, Rules, Write, latest, after_look, standing, moved_last, is_of, is_hit, opened_by, queues}
+use Rattle.moka_base.specs.History.{Event, Get, ContainsKey, Insert, Invalidate, Maintain, Skip, EntryCount, TakeNotice, Rules, Write, latest, is_live, standing, maintained, queues}
 use Rattle.moka_base.specs.StandsFor.{writes_of}
 use Rattle.moka_base.specs.OrderLaws.{keys, held, lasts, openings, waits}
+use Rattle.moka_base.proofs.Maintenance.{after-parts}
 use Rattle.moka_base.proofs.ListLemmas.{filter-both, one_side}
-use Rattle.moka_base.proofs.QueuesHold.{opening, overwrite, overwritten, held-queues, held-append}
+use Rattle.moka_base.proofs.QueuesHold.{opening, held-queues, held-append}
 use Rattle.moka_base.proofs.Moves.{none_held, written_in-anew, look-waiting_keys, overwrite-waiting_keys, removed_in-waiting_keys}
 
-module _ {K V : Type 0} (eq : K → K → Bool) (rules : Rules) where
-  -- a write admits nothing
-  opened_by-admitted : (w : Write K V) (ws : List (Write K V)) (q : Queues (Write K V)) → (opened_by eq rules w ws q).admitted ≡ q.admitted
-  opened_by-admitted w [] q = refl
-  opened_by-admitted w (u ∷ us) q = refl
-
-  -- nothing is admitted by these events
-  pub admitted-queues : (h : List (Event K V)) → (queues eq rules h).admitted ≡ []
-  admitted-queues [] = refl
-  admitted-queues (Get k at ∷ h) = ap (moved_last (is_hit eq rules k (latest (Get k at ∷ h))) (after_look rules (latest (Get k at ∷ h)))) (admitted-queues h)
-  admitted-queues (ContainsKey k at ∷ h) = admitted-queues h
-  admitted-queues (Insert k v at ∷ h) =
-      opened_by-admitted (opening eq rules k v (latest (Insert k v at ∷ h))) (held eq k (queues eq rules h)) (overwritten eq rules k v (latest (Insert k v at ∷ h)) (queues eq rules h))
-      ∙ ap (moved_last (is_of eq rules k) (overwrite eq rules k v (latest (Insert k v at ∷ h)))) (admitted-queues h)
-  admitted-queues (Invalidate k at ∷ h) = ap (filter (λ (w : Write K V). not (eq w.key k))) (admitted-queues h)
-  admitted-queues (TakeNotice ∷ h) = admitted-queues h
+-- nothing waits after a maintenance
+pub maintained-waiting_keys : {K V : Type 0} (rules : Rules) (at : ℕ) (q : Queues (Write K V)) → keys (maintained rules at q).waiting ≡ []
+maintained-waiting_keys {K} {V} rules at q = ap (λ (r : Queues (Write K V)). keys r.waiting) (after-parts (λ (w : Write K V). 1) rules.max_capacity (λ (w : Write K V). is_live rules w at) (λ (w : Write K V) (victims : List (Write K V)). true) q)
 
 -- one more element that a test may find
 list_any-push : {K : Type 0} (p : K → Bool) (ks : List K) (k : K) → list_any p (ks ++ k ∷ []) ≡ (list_any p ks || p k)
@@ -141,6 +129,14 @@ module _ {K : Type 0} (eq : K → K → Bool) where
             go true e = sym (is_among-congr p x ks e ∙ new)
             go false e = or_false (is_among ks x)
 
+    -- nothing waits
+    KeepsArrival-none : (all : List K) → KeepsArrival [] all
+    KeepsArrival-none all = sym (none (lasts eq all))
+      where
+        none : (xs : List K) → filter (is_among []) xs ≡ []
+        none [] = refl
+        none (x ∷ xs) = none xs
+
     -- a key is taken out
     KeepsArrival-filter : (ks all : List K) (p : K) → KeepsArrival ks all → KeepsArrival (filter (λ x. not (eq x p)) ks) all
     KeepsArrival-filter ks all p kept =
@@ -198,6 +194,9 @@ module _ {K V : Type 0} (eq : K → K → Bool) (rules : Rules) (laws : IsEquiva
       go None e kept = subst (λ ks. KeepsArrival eq ks (openings eq rules h ++ p ∷ [])) (sym (opening-waiting_keys p v at h e)) (KeepsArrival-push eq laws (keys (queues eq rules h).waiting) (openings eq rules h) p (is_among-none h p e) kept)
       go (Some w) e kept = subst (λ ks. KeepsArrival eq ks (openings eq rules h)) (sym (standing-waiting_keys p v at h w e)) kept
   keeps_arrival (Invalidate p at ∷ h) = subst (λ ks. KeepsArrival eq ks (openings eq rules h)) (sym (removed_in-waiting_keys eq rules p (queues eq rules h))) (KeepsArrival-filter eq laws (keys (queues eq rules h).waiting) (openings eq rules h) p (keeps_arrival h))
+  keeps_arrival (Maintain at ∷ h) = subst (λ ks. KeepsArrival eq ks (openings eq rules h)) (sym (maintained-waiting_keys rules (latest (Maintain at ∷ h)) (queues eq rules h))) (KeepsArrival-none eq laws (openings eq rules h))
+  keeps_arrival (Skip at ∷ h) = keeps_arrival h
+  keeps_arrival (EntryCount ∷ h) = keeps_arrival h
   keeps_arrival (TakeNotice ∷ h) = keeps_arrival h
 
   -- so they are the last openings of the keys that wait

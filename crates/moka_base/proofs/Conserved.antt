@@ -1,13 +1,15 @@
 -- Each value that was written to a key has left, or stands.
-use Rattle.std.proofs.Common.{◌≡◌, ℕ, max, Bool, true, false, if◌then◌else◌, Option, Some, None, List, [], ◌∷◌, ◌++◌, refl, ap, ◌∙◌, append-nil, length, filter, length-append, add_comm, ◌+◌, ⊎_elim}
+use Rattle.std.proofs.Common.{◌≡◌, ℕ, max, Bool, true, false, if◌then◌else◌, Option, Some, None, List, [], ◌∷◌, ◌++◌, refl, sym, ap, ◌∙◌, append-nil, map, cond, length, filter, length-append, add_comm, ◌+◌, ⊎_elim}
 use Rattle.std.specs.Cmp.{IsEquivalence}
-use Rattle.std.specs.Option.{option_map}
+use Rattle.std.specs.Option.{option_map, option_to_list}
 use Rattle.std.proofs.lemmas.Bool.{cond-true, cond-false, cond_both, cases_Bool}
 use Rattle.std.proofs.lemmas.List.Elements.{filter-append}
 use Rattle.moka_base.specs.declared.notification.RemovalCause.{RemovalCause}
-use Rattle.moka_base.specs.declared.notification.RemovalCause.TheVariants.{Explicit, Replaced}
-use Rattle.moka_base.specs.History.{Event, Get, ContainsKey, Insert, Invalidate, TakeNotice, Rules, Write, Leaving, latest, is_live, after_look, after_write, standing, left, leavings}
+use Rattle.moka_base.specs.declared.notification.RemovalCause.TheVariants.{Explicit, Replaced, Size}
+use Rattle.moka_base.specs.History.{Event, Get, ContainsKey, Insert, Invalidate, Maintain, Skip, EntryCount, TakeNotice, Rules, Write, Leaving, latest, is_live, after_look, after_write, let_go, queues, leaves_in, standing, leaving_of, left, leavings}
 use Rattle.moka_base.specs.Laws.{values_written, values_left, value_standing}
+use Rattle.moka_base.specs.StandsFor.{writes_of}
+use Rattle.moka_base.proofs.QueuesHold.{held-maintained, held-queues}
 use Rattle.moka_base.proofs.Standing.{IsStoredUnder, stored_key, standing_congr}
 
 -- a choice of fronts
@@ -58,6 +60,29 @@ module _ {K V : Type 0} (eq : K → K → Bool) (rules : Rules) where
   conserved_removed : (k : K) (at : ℕ) (written : List V) (gone : List (Leaving K V)) (o other : Option (Write K V)) → IsStoredUnder eq k o → other ≡ o → written ≡ values_left eq k gone ++ value_standing o → written ≡ values_left eq k (gone ++ left rules Explicit at other) ++ []
   conserved_removed k at written gone o other s same ih = rw (same, append-nil (values_left eq k (gone ++ left rules Explicit at o)), values_left-append eq k gone (left rules Explicit at o), values_left-left_same k Explicit at o s) ih
 
+  -- what leaves in a maintenance leaves with its value
+  values_left-let_go : (k : K) (at : ℕ) (ws : List (Write K V)) → values_left eq k (map (leaving_of rules Size at) ws) ≡ map (λ (w : Write K V). w.value) (writes_of eq k ws)
+  values_left-let_go k at [] = refl
+  values_left-let_go k at (w ∷ ws) = rw (values_left-let_go k at ws) (go (eq w.key k))
+    where
+      go : (t : Bool) → cond t (w.value ∷ map (λ (u : Write K V). u.value) (writes_of eq k ws)) (map (λ (u : Write K V). u.value) (writes_of eq k ws)) ≡ map (λ (u : Write K V). u.value) (cond t (w ∷ writes_of eq k ws) (writes_of eq k ws))
+      go true = refl
+      go false = refl
+
+  -- so the value that stood leaves in it, or stands still
+  conserved_maintained : (k : K) (at : ℕ) (written : List V) (gone : List (Leaving K V)) (ws : List (Write K V)) (o : Option (Write K V)) (t : Bool) → writes_of eq k ws ≡ option_to_list (cond t o None)
+      → written ≡ values_left eq k gone ++ value_standing o → written ≡ values_left eq k (gone ++ map (leaving_of rules Size at) ws) ++ value_standing (cond t None o)
+  conserved_maintained k at written gone ws o t left ih =
+      let values : values_left eq k (gone ++ map (leaving_of rules Size at) ws) ≡ values_left eq k gone ++ map (λ (w : Write K V). w.value) (option_to_list (cond t o None)) =
+      values_left-append eq k gone (map (leaving_of rules Size at) ws) ∙ ap (λ l. values_left eq k gone ++ l) (values_left-let_go k at ws ∙ ap (map (λ (w : Write K V). w.value)) left) in
+      ih ∙ go t o ∙ ap (λ l. l ++ value_standing (cond t None o)) (sym values)
+    where
+      go : (t : Bool) (o : Option (Write K V)) → values_left eq k gone ++ value_standing o ≡ (values_left eq k gone ++ map (λ (w : Write K V). w.value) (option_to_list (cond t o None))) ++ value_standing (cond t None o)
+      go true None = sym (append-nil (values_left eq k gone ++ []))
+      go true (Some w) = sym (append-nil (values_left eq k gone ++ w.value ∷ []))
+      go false None = ap (λ l. l ++ []) (sym (append-nil (values_left eq k gone)))
+      go false (Some w) = ap (λ l. l ++ w.value ∷ []) (sym (append-nil (values_left eq k gone)))
+
   -- the values written are those that left, and then the one that stands
   pub values_conserved : IsEquivalence eq → (k : K) (h : List (Event K V)) → values_written eq k h ≡ values_left eq k (leavings eq rules h) ++ value_standing (standing eq rules k h)
   values_conserved e k [] = refl
@@ -73,6 +98,11 @@ module _ {K V : Type 0} (eq : K → K → Bool) (rules : Rules) where
       (λ same. rw same (conserved_removed k (latest (Invalidate q at ∷ h)) (values_written eq k h) (leavings eq rules h) (standing eq rules k h) (standing eq rules q h) (stored_key eq rules k h) (standing_congr eq rules e q k h same) (values_conserved e k h)))
       (λ apart. rw apart (conserved_other e k q Explicit (latest (Invalidate q at ∷ h)) (values_written eq k h) (leavings eq rules h) (standing eq rules k h) (standing eq rules q h) apart (stored_key eq rules q h) (values_conserved e k h)))
       (cases_Bool (eq q k))
+  values_conserved e k (Maintain at ∷ h) =
+      let now : ℕ = latest (Maintain at ∷ h) in
+      conserved_maintained k now (values_written eq k h) (leavings eq rules h) (let_go rules now (queues eq rules h)) (standing eq rules k h) (leaves_in eq rules k at h) (held-maintained eq rules k now (queues eq rules h) (standing eq rules k h) (held-queues eq rules e k h)).0 (values_conserved e k h)
+  values_conserved e k (Skip at ∷ h) = rw (append-nil (leavings eq rules h)) (values_conserved e k h)
+  values_conserved e k (EntryCount ∷ h) = rw (append-nil (leavings eq rules h)) (values_conserved e k h)
   values_conserved e k (TakeNotice ∷ h) = rw (append-nil (leavings eq rules h)) (values_conserved e k h)
 
   -- so for each test as many written values pass it as stand or left

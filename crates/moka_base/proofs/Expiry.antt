@@ -2,7 +2,7 @@
 use Rattle.std.proofs.Common.{◌≡◌, ◌↔◌, ◌⊎◌, inl, inr, ⊎_elim, ℕ, max, min, ◌+◌, ◌≤◌, length, filter, Bool, true, false, not, if◌then◌else◌, Option, Some, None, List, [], ◌∷◌, ◌++◌, refl, ap, subst, arith}
 use Rattle.std.specs.Option.{option_map}
 use Rattle.std.proofs.lemmas.Bool.{leb-true, le-leb}
-use Rattle.moka_base.specs.History.{Event, Get, ContainsKey, Insert, Invalidate, TakeNotice, Rules, Write, latest, ends_at, earlier, has_come, deadline, is_expired, live, live_one, after_look, standing, next_number}
+use Rattle.moka_base.specs.History.{Event, Get, ContainsKey, Insert, Invalidate, Maintain, Skip, EntryCount, TakeNotice, Rules, Write, latest, ends_at, earlier, has_come, deadline, is_expired, live, live_one, after_look, leaves_in, standing, next_number}
 use Rattle.moka_base.specs.Replies.{Found, Contains, answer}
 use Rattle.moka_base.specs.Laws.{IsUnwritten, IsUntouched, HasEnded, is_write}
 
@@ -28,6 +28,9 @@ next_number-counted rules (Get q at ∷ h) = let ih = next_number-counted rules 
 next_number-counted rules (ContainsKey q at ∷ h) = let ih = next_number-counted rules h in omega arith
 next_number-counted rules (Insert q v at ∷ h) = let ih = next_number-counted rules h in omega arith
 next_number-counted rules (Invalidate q at ∷ h) = let ih = next_number-counted rules h in omega arith
+next_number-counted rules (Maintain at ∷ h) = let ih = next_number-counted rules h in omega arith
+next_number-counted rules (Skip at ∷ h) = let ih = next_number-counted rules h in omega arith
+next_number-counted rules (EntryCount ∷ h) = let ih = next_number-counted rules h in omega arith
 next_number-counted rules (TakeNotice ∷ h) = let ih = next_number-counted rules h in omega arith
 
 -- of the lives of two moments the earlier end is the deadline
@@ -61,7 +64,7 @@ has_come-ended a b written used at = (to a b, from a b)
 
 module _ {K V : Type 0} (eq : K → K → Bool) (rules : Rules) (k : K) where
   -- an expired write stays as it is until its key is written or removed
-  pub expired_stays : (later h : List (Event K V)) (w : Write K V) → standing eq rules k h ≡ Some w → is_expired rules w (latest h) ≡ true → IsUntouched eq k later → standing eq rules k (later ++ h) ≡ Some w
+  pub expired_stays : (later h : List (Event K V)) (w : Write K V) → standing eq rules k h ≡ Some w → is_expired rules w (latest h) ≡ true → IsUntouched eq rules k later h → standing eq rules k (later ++ h) ≡ Some w
   expired_stays [] h w stands gone u = stands
   expired_stays (Get q at ∷ later) h w stands gone u = rw (expired_stays later h w stands gone u.1) (look (eq q k))
     where
@@ -80,6 +83,9 @@ module _ {K V : Type 0} (eq : K → K → Bool) (rules : Rules) (k : K) where
   expired_stays (ContainsKey q at ∷ later) h w stands gone u = expired_stays later h w stands gone u.1
   expired_stays (Insert q v at ∷ later) h w stands gone u = rw (u.0) (expired_stays later h w stands gone u.1)
   expired_stays (Invalidate q at ∷ later) h w stands gone u = rw (u.0) (expired_stays later h w stands gone u.1)
+  expired_stays (Maintain at ∷ later) h w stands gone u = rw (u.0) (expired_stays later h w stands gone u.1)
+  expired_stays (Skip at ∷ later) h w stands gone u = expired_stays later h w stands gone u.1
+  expired_stays (EntryCount ∷ later) h w stands gone u = expired_stays later h w stands gone u.1
   expired_stays (TakeNotice ∷ later) h w stands gone u = expired_stays later h w stands gone u.1
 
   -- no live write stands at a moment
@@ -112,6 +118,9 @@ module _ {K V : Type 0} (eq : K → K → Bool) (rules : Rules) (k : K) where
   unseen_from (ContainsKey q at ∷ later) h u unseen = IsUnseen-later (standing eq rules k (later ++ h)) (latest (later ++ h)) (latest (ContainsKey q at ∷ later ++ h)) (omega arith) (unseen_from later h u.1 unseen)
   unseen_from (Insert q v at ∷ later) h u unseen = rw (u.0) (IsUnseen-later (standing eq rules k (later ++ h)) (latest (later ++ h)) (latest (Insert q v at ∷ later ++ h)) (omega arith) (unseen_from later h u.1 unseen))
   unseen_from (Invalidate q at ∷ later) h u unseen = IsUnseen-removal (eq q k) (standing eq rules k (later ++ h)) (latest (Invalidate q at ∷ later ++ h)) (IsUnseen-later (standing eq rules k (later ++ h)) (latest (later ++ h)) (latest (Invalidate q at ∷ later ++ h)) (omega arith) (unseen_from later h u.1 unseen))
+  unseen_from (Maintain at ∷ later) h u unseen = IsUnseen-removal (leaves_in eq rules k at (later ++ h)) (standing eq rules k (later ++ h)) (latest (Maintain at ∷ later ++ h)) (IsUnseen-later (standing eq rules k (later ++ h)) (latest (later ++ h)) (latest (Maintain at ∷ later ++ h)) (omega arith) (unseen_from later h u.1 unseen))
+  unseen_from (Skip at ∷ later) h u unseen = IsUnseen-later (standing eq rules k (later ++ h)) (latest (later ++ h)) (latest (Skip at ∷ later ++ h)) (omega arith) (unseen_from later h u.1 unseen)
+  unseen_from (EntryCount ∷ later) h u unseen = IsUnseen-later (standing eq rules k (later ++ h)) (latest (later ++ h)) (latest (EntryCount ∷ later ++ h)) (omega arith) (unseen_from later h u.1 unseen)
   unseen_from (TakeNotice ∷ later) h u unseen = IsUnseen-later (standing eq rules k (later ++ h)) (latest (later ++ h)) (latest (TakeNotice ∷ later ++ h)) (omega arith) (unseen_from later h u.1 unseen)
 
   -- what a look finds nothing of is not seen

@@ -8,6 +8,7 @@ pub mod Looks
 pub mod Maintenance
 pub mod MaintenanceCounted
 pub mod MaintenanceJudged
+pub mod MaintenanceKept
 pub mod MaintenanceLimits
 pub mod MaintenanceOnes
 pub mod MaintenanceOrder

@@ -1,7 +1,8 @@
 -- Lists that are filtered, and in which what passes a test changes or moves.
 use Rattle.std.proofs.Common.{◌≡◌, ◌⊎◌, inl, inr, ⊎_elim, Bool, true, false, not, cond, ◌&&◌, List, [], ◌∷◌, ◌++◌, map, Option, Some, None, option_map, refl, sym, ap, ◌∙◌}
 use Rattle.std.specs.Option.{option_to_list}
-use Rattle.std.specs.List.{filter}
+use Rattle.std.specs.List.{filter, list_any}
+use Rattle.std.proofs.lemmas.Bool.{cases_Bool}
 use Rattle.std.proofs.lemmas.List.{append-nil, map-append}
 use Rattle.std.proofs.lemmas.List.Elements.{filter-append, filter_agree}
 use Rattle.moka_base.specs.History.{changed_where, moved_last}
@@ -170,3 +171,12 @@ map-filter read p (x ∷ xs) = rw (← map-filter read p xs) (go (p (read x)))
     go : (t : Bool) → map read (cond t (x ∷ filter (λ y. p (read y)) xs) (filter (λ y. p (read y)) xs)) ≡ cond t (read x ∷ map read (filter (λ y. p (read y)) xs)) (map read (filter (λ y. p (read y)) xs))
     go true = refl
     go false = refl
+
+-- a test finds nothing where a filter keeps nothing
+pub list_any-filtered : {A : Type 0} (p : A → Bool) (xs : List A) → filter p xs ≡ [] → list_any p xs ≡ false
+list_any-filtered p [] none = refl
+list_any-filtered p (x ∷ xs) none =
+    ⊎_elim
+    (λ is. let some = rw is at none in cc)
+    (λ is. rw is (list_any-filtered p xs (rw is at none)))
+    (cases_Bool (p x))

@@ -1,6 +1,9 @@
 -- A look by `contains_key` is as if it had not been: nothing that follows depends on it.
-use Rattle.std.proofs.Common.{◌≡◌, ℕ, max, ◌+◌, Bool, List, [], ◌∷◌, ◌++◌, refl, ap, arith, add-zero, append-nil}
-use Rattle.moka_base.specs.History.{Event, Get, ContainsKey, Insert, Invalidate, TakeNotice, Rules, recorded, latest, standing, leaving, leavings, taken, noticed, drawn, next_number}
+use Rattle.std.proofs.Common.{◌≡◌, ℕ, max, ◌+◌, Bool, List, [], ◌∷◌, ◌++◌, map, refl, ap, ◌∙◌, arith, add-zero, append-nil}
+use Rattle.moka_base.specs.History.{Event, Get, ContainsKey, Insert, Invalidate, Maintain, Skip, EntryCount, TakeNotice, Rules, recorded, latest, let_go, leaving_of, queues, leaves_in, entry_count, standing, leaving, leavings, taken, noticed, drawn, next_number}
+use Rattle.moka_base.specs.declared.notification.RemovalCause.TheVariants.{Size}
+use Rattle.std.specs.List.{list_any}
+use Rattle.moka_base.specs.Maintenance.{Queues}
 use Rattle.moka_base.specs.Replies.{answer}
 
 module _ {K V : Type 0} (q : K) (at : ℕ) (h : List (Event K V)) where
@@ -15,6 +18,25 @@ module _ {K V : Type 0} (q : K) (at : ℕ) (h : List (Event K V)) where
   next_number_without_look rules (e ∷ later) = ap (λ n. n + drawn e) (next_number_without_look rules later)
 
 module _ {K V : Type 0} (eq : K → K → Bool) (rules : Rules) (q : K) (at : ℕ) (h : List (Event K V)) where
+  -- the two orders are the same
+  pub queues_without_look : (later : List (Event K V)) → queues eq rules (later ++ ContainsKey q at ∷ h) ≡ queues eq rules (later ++ h)
+  queues_without_look [] = refl
+  queues_without_look (Get p t ∷ later) = rw (latest_without_look q at h later, queues_without_look later) refl
+  queues_without_look (ContainsKey p t ∷ later) = queues_without_look later
+  queues_without_look (Insert p v t ∷ later) = rw (latest_without_look q at h later, queues_without_look later) refl
+  queues_without_look (Invalidate p t ∷ later) = rw (queues_without_look later) refl
+  queues_without_look (Maintain t ∷ later) = rw (latest_without_look q at h later, queues_without_look later) refl
+  queues_without_look (Skip t ∷ later) = queues_without_look later
+  queues_without_look (EntryCount ∷ later) = queues_without_look later
+  queues_without_look (TakeNotice ∷ later) = queues_without_look later
+
+  -- the same leaves in a maintenance
+  let_go_without_look : (t : ℕ) (later : List (Event K V)) → let_go rules (latest (Maintain t ∷ later ++ ContainsKey q at ∷ h)) (queues eq rules (later ++ ContainsKey q at ∷ h)) ≡ let_go rules (latest (Maintain t ∷ later ++ h)) (queues eq rules (later ++ h))
+  let_go_without_look t later = ap (λ m. let_go rules (max m t) (queues eq rules (later ++ ContainsKey q at ∷ h))) (latest_without_look q at h later) ∙ ap (let_go rules (latest (Maintain t ∷ later ++ h))) (queues_without_look later)
+
+  leaves_in_without_look : (k : K) (t : ℕ) (later : List (Event K V)) → leaves_in eq rules k t (later ++ ContainsKey q at ∷ h) ≡ leaves_in eq rules k t (later ++ h)
+  leaves_in_without_look k t later = ap (list_any (λ w. eq w.key k)) (let_go_without_look t later)
+
   -- the same write stands for each key
   pub standing_without_look : (k : K) (later : List (Event K V)) → standing eq rules k (later ++ ContainsKey q at ∷ h) ≡ standing eq rules k (later ++ h)
   standing_without_look k [] = refl
@@ -22,6 +44,9 @@ module _ {K V : Type 0} (eq : K → K → Bool) (rules : Rules) (q : K) (at : �
   standing_without_look k (ContainsKey p t ∷ later) = standing_without_look k later
   standing_without_look k (Insert p v t ∷ later) = rw (latest_without_look q at h later, standing_without_look k later)
   standing_without_look k (Invalidate p t ∷ later) = rw (standing_without_look k later)
+  standing_without_look k (Maintain t ∷ later) = rw (leaves_in_without_look k t later, standing_without_look k later)
+  standing_without_look k (Skip t ∷ later) = standing_without_look k later
+  standing_without_look k (EntryCount ∷ later) = standing_without_look k later
   standing_without_look k (TakeNotice ∷ later) = standing_without_look k later
 
   -- the same leaves at an event
@@ -30,6 +55,9 @@ module _ {K V : Type 0} (eq : K → K → Bool) (rules : Rules) (q : K) (at : �
   leaving_without_look (ContainsKey p t) later = refl
   leaving_without_look (Insert p v t) later = rw (latest_without_look q at h later, standing_without_look p later)
   leaving_without_look (Invalidate p t) later = rw (latest_without_look q at h later, standing_without_look p later)
+  leaving_without_look (Maintain t) later = ap (λ m. map (leaving_of rules Size (max m t)) (let_go rules (latest (Maintain t ∷ later ++ ContainsKey q at ∷ h)) (queues eq rules (later ++ ContainsKey q at ∷ h)))) (latest_without_look q at h later) ∙ ap (map (leaving_of rules Size (latest (Maintain t ∷ later ++ h)))) (let_go_without_look t later)
+  leaving_without_look (Skip t) later = refl
+  leaving_without_look EntryCount later = refl
   leaving_without_look TakeNotice later = refl
 
   -- the same has left
@@ -44,6 +72,9 @@ module _ {K V : Type 0} (eq : K → K → Bool) (rules : Rules) (q : K) (at : �
   taken_without_look (ContainsKey p t ∷ later) = taken_without_look later
   taken_without_look (Insert p v t ∷ later) = taken_without_look later
   taken_without_look (Invalidate p t ∷ later) = taken_without_look later
+  taken_without_look (Maintain t ∷ later) = taken_without_look later
+  taken_without_look (Skip t ∷ later) = taken_without_look later
+  taken_without_look (EntryCount ∷ later) = taken_without_look later
   taken_without_look (TakeNotice ∷ later) = rw (taken_without_look later, leavings_without_look later)
 
   -- the same is left to give out
@@ -56,4 +87,7 @@ module _ {K V : Type 0} (eq : K → K → Bool) (rules : Rules) (q : K) (at : �
   answer_without_look (ContainsKey p t) later = rw (latest_without_look q at h later, standing_without_look p later)
   answer_without_look (Insert p v t) later = refl
   answer_without_look (Invalidate p t) later = refl
+  answer_without_look (Maintain t) later = refl
+  answer_without_look (Skip t) later = refl
+  answer_without_look EntryCount later = rw (queues_without_look later) refl
   answer_without_look TakeNotice later = rw (taken_without_look later, leavings_without_look later)

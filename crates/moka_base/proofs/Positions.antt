@@ -4,12 +4,12 @@ use Rattle.std.specs.List.{filter, list_any}
 use Rattle.std.proofs.lemmas.Bool.{and_parts}
 use Rattle.std.specs.Cmp.{IsEquivalence}
 use Rattle.std.proofs.lemmas.List.{map-append}
-use Rattle.moka_base.specs.History.{Event, Get, ContainsKey, Insert, Invalidate, TakeNotice, Rules, Write, latest, standing, queues}
+use Rattle.moka_base.specs.History.{Event, Get, ContainsKey, Insert, Invalidate, Maintain, Skip, EntryCount, TakeNotice, Rules, Write, latest, standing, queues}
 use Rattle.moka_base.specs.Laws.{IsUnremoved, NothingStands, FirstWrite}
 use Rattle.moka_base.specs.OrderLaws.{keys, lasts, openings, waits}
 use Rattle.moka_base.proofs.Places.{standing-nothing, stored_under_first_write}
 use Rattle.moka_base.proofs.Moves.{look-waiting_keys, removed_in-waiting_keys}
-use Rattle.moka_base.proofs.Arrivals.{opening-waiting_keys, standing-waiting_keys, waiting_in_order}
+use Rattle.moka_base.proofs.Arrivals.{maintained-waiting_keys, opening-waiting_keys, standing-waiting_keys, waiting_in_order}
 
 module _ {A : Type 0} where
   -- a fact holds of each
@@ -81,6 +81,9 @@ module _ {K V : Type 0} (eq : K → K → Bool) (rules : Rules) where
   place (ContainsKey p at ∷ h) k = place h k
   place (Insert p v at ∷ h) k = cond (eq p k && not (is_some (standing eq rules k h))) (suc (length h)) (place h k)
   place (Invalidate p at ∷ h) k = place h k
+  place (Maintain at ∷ h) k = place h k
+  place (Skip at ∷ h) k = place h k
+  place (EntryCount ∷ h) k = place h k
   place (TakeNotice ∷ h) k = place h k
 
   -- the place of a key that stands stays
@@ -94,6 +97,9 @@ module _ {K V : Type 0} (eq : K → K → Bool) (rules : Rules) where
       go true false e = cc
       go false t e = refl
   place-stands k (Invalidate p at) h there = refl
+  place-stands k (Maintain at) h there = refl
+  place-stands k (Skip at) h there = refl
+  place-stands k EntryCount h there = refl
   place-stands k TakeNotice h there = refl
 
   -- a place is one of those that there are
@@ -107,6 +113,9 @@ module _ {K V : Type 0} (eq : K → K → Bool) (rules : Rules) where
       go true l = omega arith
       go false l = omega arith
   place-le k (Invalidate p at ∷ h) = let l = place-le k h in omega arith
+  place-le k (Maintain at ∷ h) = let l = place-le k h in omega arith
+  place-le k (Skip at ∷ h) = let l = place-le k h in omega arith
+  place-le k (EntryCount ∷ h) = let l = place-le k h in omega arith
   place-le k (TakeNotice ∷ h) = let l = place-le k h in omega arith
 
   -- the place of a key that is opened
@@ -114,15 +123,15 @@ module _ {K V : Type 0} (eq : K → K → Bool) (rules : Rules) where
   place-opening k p v at h same none = ap (λ t. cond (t && not (is_some (standing eq rules k h))) (suc (length h)) (place h k)) same ∙ ap (λ o. cond (not (is_some o)) (suc (length h)) (place h k)) none
 
   -- it is that of its first write
-  place_from : (k q : K) (v : V) (at : ℕ) (before later : List (Event K V)) → eq q k ≡ true → NothingStands eq k before → IsUnremoved eq k later
+  place_from : (k q : K) (v : V) (at : ℕ) (before later : List (Event K V)) → eq q k ≡ true → NothingStands eq rules k before → IsUnremoved eq rules k later (Insert q v at ∷ before)
       → place (later ++ Insert q v at ∷ before) k ≡ suc (length before)
   place_from k q v at before [] same none u = place-opening k q v at before same (standing-nothing eq rules k before none)
   place_from k q v at before (e ∷ later) same none u =
-      let first : FirstWrite eq k (later ++ Insert q v at ∷ before) = record { later = later; key = q; value = v; at = at; before = before; place = refl; same_key = same; absent = none; kept = u.1 } in
+      let first : FirstWrite eq rules k (later ++ Insert q v at ∷ before) = record { later = later; key = q; value = v; at = at; before = before; place = refl; same_key = same; absent = none; kept = u.1 } in
       let stands = stored_under_first_write eq rules k (later ++ Insert q v at ∷ before) first in
       place-stands k e (later ++ Insert q v at ∷ before) (ap is_some stands.1) ∙ place_from k q v at before later same none u.1
 
-  place-first : (k : K) (h : List (Event K V)) (x : FirstWrite eq k h) → place h k ≡ suc (length x.before)
+  place-first : (k : K) (h : List (Event K V)) (x : FirstWrite eq rules k h) → place h k ≡ suc (length x.before)
   place-first k h x = ap (λ es. place es k) x.place ∙ place_from k x.key x.value x.at x.before x.later x.same_key x.absent x.kept
 
   module _ (laws : IsEquivalence eq) where
@@ -160,11 +169,14 @@ module _ {K V : Type 0} (eq : K → K → Bool) (rules : Rules) where
             (InOrder-push (place (Insert p v at ∷ h)) (keys (queues eq rules h).waiting) p (Each-from (λ k. place (Insert p v at ∷ h) k ≡ place h k) (λ k. place (Insert p v at ∷ h) k ≡ place h k) (λ k. place (Insert p v at ∷ h) k < place (Insert p v at ∷ h) p) below (keys (queues eq rules h).waiting) (places_stay (Insert p v at) h) (places_stay (Insert p v at) h)) o)
         go (Some w) e o = subst (InOrder (place (Insert p v at ∷ h))) (sym (standing-waiting_keys eq rules laws p v at h w e)) o
     waiting_in_places (Invalidate p at ∷ h) = subst (InOrder (place h)) (sym (removed_in-waiting_keys eq rules p (queues eq rules h))) (InOrder-filter (place h) (λ x. not (eq x p)) (keys (queues eq rules h).waiting) (waiting_in_places h))
+    waiting_in_places (Maintain at ∷ h) = subst (InOrder (place h)) (sym (maintained-waiting_keys rules (latest (Maintain at ∷ h)) (queues eq rules h))) tt
+    waiting_in_places (Skip at ∷ h) = waiting_in_places h
+    waiting_in_places (EntryCount ∷ h) = waiting_in_places h
     waiting_in_places (TakeNotice ∷ h) = waiting_in_places h
 
     -- so of two that wait the first has the older first write
     pub older_first : (h : List (Event K V)) (before middle after : List (Write K V)) (a b : Write K V) → (queues eq rules h).waiting ≡ before ++ a ∷ (middle ++ b ∷ after)
-        → (x : FirstWrite eq a.key h) (y : FirstWrite eq b.key h) → length x.before < length y.before
+        → (x : FirstWrite eq rules a.key h) (y : FirstWrite eq rules b.key h) → length x.before < length y.before
     older_first h before middle after a b is x y =
         let read = λ (w : Write K V). w.key in
         let names : keys (queues eq rules h).waiting ≡ keys before ++ a.key ∷ (keys middle ++ b.key ∷ keys after) =

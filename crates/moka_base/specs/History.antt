@@ -1,9 +1,10 @@
 -- What a cache means, over the list of its events. A list of events is read from its newest: `e ∷ h` is "the
 -- events of h, and then e". Keys are compared by `eq`, the `Eq` of their type, and never by identity.
-use Rattle.std.specs.Prelude.{ℕ, ◌+◌, ◌-◌, ◌^◌, max, min, Bool, false, not, if◌then◌else◌, nat_le, Option, Some, None, List, [], ◌∷◌, ◌++◌, length, drop, option_map, map, filter, ◌&&◌}
-use Rattle.moka_base.specs.Maintenance.{Queues}
+use Rattle.std.specs.Prelude.{⊤, ◌≡◌, ◌==◌, true, ℕ, ◌+◌, ◌-◌, ◌^◌, max, min, Bool, false, not, if◌then◌else◌, nat_le, Option, Some, None, List, [], ◌∷◌, ◌++◌, length, drop, option_map, map, filter, ◌&&◌}
+use Rattle.std.specs.List.{list_any}
+use Rattle.moka_base.specs.Maintenance.{Queues, Part, parts, done, leaving_in, after_parts}
 use Rattle.moka_base.specs.declared.notification.RemovalCause.{RemovalCause}
-use Rattle.moka_base.specs.declared.notification.RemovalCause.TheVariants.{Expired, Explicit, Replaced}
+use Rattle.moka_base.specs.declared.notification.RemovalCause.TheVariants.{Expired, Explicit, Replaced, Size}
 
 -- An accepted step of one segment, with the moment that it hands in, if it has one. Moments are nanoseconds.
 pub data Event (K V : Type 0) : Type 0 where
@@ -11,12 +12,18 @@ pub data Event (K V : Type 0) : Type 0 where
   ContainsKey : K → ℕ → Event K V
   Insert : K → V → ℕ → Event K V
   Invalidate : K → ℕ → Event K V
+  -- the pending tasks are run, each of them
+  Maintain : ℕ → Event K V
+  -- a write where the capacity is 0: it is accepted, and nothing is written
+  Skip : ℕ → Event K V
+  EntryCount : Event K V
   TakeNotice : Event K V
 
 -- What a cache was built with, as far as its replies depend on it. Lives are nanoseconds.
 pub record Rules : Type 0 where
   pub time_to_live : Option ℕ
   pub time_to_idle : Option ℕ
+  pub max_capacity : Option ℕ
   pub first_number : ℕ
 
 -- A write that stands: the key of the write that found it not stored, the value of the last write, the moment
@@ -39,6 +46,9 @@ recorded (Get k at) = at
 recorded (ContainsKey k at) = 0
 recorded (Insert k v at) = at
 recorded (Invalidate k at) = at
+recorded (Maintain at) = at
+recorded (Skip at) = at
+recorded EntryCount = 0
 recorded TakeNotice = 0
 
 -- The greatest moment recorded so far, 0 before the first.
@@ -89,15 +99,6 @@ module _ {K V : Type 0} (rules : Rules) where
   after_write k v at None = record { key = k; value = v; written = at; used = at }
   after_write k v at (Some w) = record { key = w.key; value = v; written = at; used = at }
 
--- The write that stands for a key.
-abbrev pub standing : {K V : Type 0} → (K → K → Bool) → Rules → K → List (Event K V) → Option (Write K V)
-standing eq rules k [] = None
-standing eq rules k (Get q at ∷ h) = if eq q k then option_map (after_look rules (latest (Get q at ∷ h))) (standing eq rules k h) else standing eq rules k h
-standing eq rules k (ContainsKey q at ∷ h) = standing eq rules k h
-standing eq rules k (Insert q v at ∷ h) = if eq q k then Some (after_write rules q v (latest (Insert q v at ∷ h)) (standing eq rules k h)) else standing eq rules k h
-standing eq rules k (Invalidate q at ∷ h) = if eq q k then None else standing eq rules k h
-standing eq rules k (TakeNotice ∷ h) = standing eq rules k h
-
 module _ {A : Type 0} where
   -- those that pass a test change, and stay in their places
   abbrev pub changed_where : (A → Bool) → (A → A) → List A → List A
@@ -133,6 +134,20 @@ module _ {K V : Type 0} (eq : K → K → Bool) (rules : Rules) where
   abbrev pub removed_in : K → Queues (Write K V) → Queues (Write K V)
   removed_in k q = record { admitted = filter (λ w. not (is_of k w)) q.admitted; waiting = filter (λ w. not (is_of k w)) q.waiting }
 
+module _ {K V : Type 0} (rules : Rules) where
+  -- A maintenance of these queues at a moment, all its parts: each key weighs one, and under least recently used
+  -- each that waits wins.
+  abbrev pub maintenance : ℕ → Queues (Write K V) → List (Part (Write K V))
+  maintenance at q = done None (parts (λ w. 1) rules.max_capacity (λ w. is_live rules w at) (λ w victims. true) q)
+
+  -- what leaves in it, in order
+  abbrev pub let_go : ℕ → Queues (Write K V) → List (Write K V)
+  let_go at q = leaving_in (maintenance at q)
+
+  -- the queues after it
+  abbrev pub maintained : ℕ → Queues (Write K V) → Queues (Write K V)
+  maintained at q = after_parts q (maintenance at q)
+
 -- What stands after a list of events, in its two orders.
 abbrev pub queues : {K V : Type 0} → (K → K → Bool) → Rules → List (Event K V) → Queues (Write K V)
 queues eq rules [] = record { admitted = []; waiting = [] }
@@ -140,25 +155,51 @@ queues eq rules (Get k at ∷ h) = used_where eq rules (is_hit eq rules k (lates
 queues eq rules (ContainsKey k at ∷ h) = queues eq rules h
 queues eq rules (Insert k v at ∷ h) = written_in eq rules k v (latest (Insert k v at ∷ h)) (queues eq rules h)
 queues eq rules (Invalidate k at ∷ h) = removed_in eq rules k (queues eq rules h)
+queues eq rules (Maintain at ∷ h) = maintained rules (latest (Maintain at ∷ h)) (queues eq rules h)
+queues eq rules (Skip at ∷ h) = queues eq rules h
+queues eq rules (EntryCount ∷ h) = queues eq rules h
 queues eq rules (TakeNotice ∷ h) = queues eq rules h
+
+-- Whether the write that stands for a key leaves in a maintenance, the events before it being h.
+abbrev pub leaves_in : {K V : Type 0} → (K → K → Bool) → Rules → K → ℕ → List (Event K V) → Bool
+leaves_in eq rules k at h = list_any (λ w. eq w.key k) (let_go rules (latest (Maintain at ∷ h)) (queues eq rules h))
+
+-- The write that stands for a key.
+abbrev pub standing : {K V : Type 0} → (K → K → Bool) → Rules → K → List (Event K V) → Option (Write K V)
+standing eq rules k [] = None
+standing eq rules k (Get q at ∷ h) = if eq q k then option_map (after_look rules (latest (Get q at ∷ h))) (standing eq rules k h) else standing eq rules k h
+standing eq rules k (ContainsKey q at ∷ h) = standing eq rules k h
+standing eq rules k (Insert q v at ∷ h) = if eq q k then Some (after_write rules q v (latest (Insert q v at ∷ h)) (standing eq rules k h)) else standing eq rules k h
+standing eq rules k (Invalidate q at ∷ h) = if eq q k then None else standing eq rules k h
+standing eq rules k (Maintain at ∷ h) = if leaves_in eq rules k at h then None else standing eq rules k h
+standing eq rules k (Skip at ∷ h) = standing eq rules k h
+standing eq rules k (EntryCount ∷ h) = standing eq rules k h
+standing eq rules k (TakeNotice ∷ h) = standing eq rules k h
 
 module _ {K V : Type 0} (rules : Rules) where
   -- The cause under which a write leaves: expired, where its deadline has come, and else the event's own.
   abbrev pub cause_of : RemovalCause → Write K V → ℕ → RemovalCause
   cause_of own w at = if is_expired rules w at then Expired else own
 
+  -- a write that leaves at a moment
+  abbrev pub leaving_of : RemovalCause → ℕ → Write K V → Leaving K V
+  leaving_of own at w = record { key = w.key; value = w.value; cause = cause_of own w at }
+
   -- what leaves where a write stands, at a moment
   abbrev pub left : RemovalCause → ℕ → Option (Write K V) → List (Leaving K V)
   left own at None = []
-  left own at (Some w) = record { key = w.key; value = w.value; cause = cause_of own w at } ∷ []
+  left own at (Some w) = leaving_of own at w ∷ []
 
 -- What leaves at an event, the events before it being h: the write that stands for the key that it writes or
--- removes.
+-- removes, and what a maintenance lets go.
 abbrev pub leaving : {K V : Type 0} → (K → K → Bool) → Rules → Event K V → List (Event K V) → List (Leaving K V)
 leaving eq rules (Insert q v at) h = left rules Replaced (latest (Insert q v at ∷ h)) (standing eq rules q h)
 leaving eq rules (Invalidate q at) h = left rules Explicit (latest (Invalidate q at ∷ h)) (standing eq rules q h)
 leaving eq rules (Get q at) h = []
+leaving eq rules (Maintain at) h = map (leaving_of rules Size (latest (Maintain at ∷ h))) (let_go rules (latest (Maintain at ∷ h)) (queues eq rules h))
 leaving eq rules (ContainsKey q at) h = []
+leaving eq rules (Skip at) h = []
+leaving eq rules EntryCount h = []
 leaving eq rules TakeNotice h = []
 
 -- All that left, in the order of leaving.
@@ -174,6 +215,9 @@ taken eq rules (Get q at ∷ h) = taken eq rules h
 taken eq rules (ContainsKey q at ∷ h) = taken eq rules h
 taken eq rules (Insert q v at ∷ h) = taken eq rules h
 taken eq rules (Invalidate q at ∷ h) = taken eq rules h
+taken eq rules (Maintain at ∷ h) = taken eq rules h
+taken eq rules (Skip at ∷ h) = taken eq rules h
+taken eq rules (EntryCount ∷ h) = taken eq rules h
 
 -- The leavings not given out yet, in order.
 abbrev pub noticed : {K V : Type 0} → (K → K → Bool) → Rules → List (Event K V) → List (Leaving K V)
@@ -185,6 +229,9 @@ drawn (Insert k v at) = 1
 drawn (Get k at) = 0
 drawn (ContainsKey k at) = 0
 drawn (Invalidate k at) = 0
+drawn (Maintain at) = 0
+drawn (Skip at) = 0
+drawn EntryCount = 0
 drawn TakeNotice = 0
 
 -- The number that the next write draws: the first one, plus all that were drawn.
@@ -199,3 +246,36 @@ greatest_number = 2 ^ 64 - 1
 -- The live write for a key, in a look at a moment.
 abbrev pub live : {K V : Type 0} → (K → K → Bool) → Rules → K → ℕ → List (Event K V) → Option (Write K V)
 live eq rules k at h = live_one rules at (standing eq rules k h)
+
+-- how many stand
+abbrev pub entry_count : {K V : Type 0} → (K → K → Bool) → Rules → List (Event K V) → ℕ
+entry_count eq rules h = length ((queues eq rules h).admitted ++ (queues eq rules h).waiting)
+
+-- with a capacity of 0 nothing is a write
+abbrev pub stores_nothing : Option ℕ → Bool
+stores_nothing None = false
+stores_nothing (Some capacity) = capacity == 0
+
+-- The flush point: a write that finds as many keys waiting runs a maintenance first.
+abbrev pub flush_point : ℕ
+flush_point = 64
+
+abbrev pub is_flush_due : {K V : Type 0} → (K → K → Bool) → Rules → List (Event K V) → Bool
+is_flush_due eq rules h = nat_le flush_point (length (queues eq rules h).waiting)
+
+-- The events after an accepted write: where the capacity is 0 nothing was written, and where a flush was due a
+-- maintenance came first, at the moment of the write.
+abbrev pub after_insert : {K V : Type 0} → (K → K → Bool) → Rules → K → V → ℕ → List (Event K V) → List (Event K V)
+after_insert eq rules k v at h = if stores_nothing rules.max_capacity then Skip at ∷ h else (if is_flush_due eq rules h then Insert k v at ∷ Maintain at ∷ h else Insert k v at ∷ h)
+
+-- A list of events is one that steps give: each write in it comes where the capacity is not 0 and no flush is due.
+abbrev pub IsHistory : {K V : Type 0} → (K → K → Bool) → Rules → List (Event K V) → Type 0
+IsHistory eq rules [] = ⊤
+IsHistory eq rules (Insert k v at ∷ h) = (stores_nothing rules.max_capacity ≡ false) × (is_flush_due eq rules h ≡ false) × IsHistory eq rules h
+IsHistory eq rules (Get k at ∷ h) = IsHistory eq rules h
+IsHistory eq rules (ContainsKey k at ∷ h) = IsHistory eq rules h
+IsHistory eq rules (Invalidate k at ∷ h) = IsHistory eq rules h
+IsHistory eq rules (Maintain at ∷ h) = IsHistory eq rules h
+IsHistory eq rules (Skip at ∷ h) = IsHistory eq rules h
+IsHistory eq rules (EntryCount ∷ h) = IsHistory eq rules h
+IsHistory eq rules (TakeNotice ∷ h) = IsHistory eq rules h

@@ -2,7 +2,7 @@
 use Rattle.std.specs.Prelude.{◌≡◌, ℕ, max, Bool, not, ◌&&◌, if◌then◌else◌, Option, List, [], ◌∷◌, ◌++◌, map, is_some, option_to_list}
 use Rattle.std.specs.List.{list_any}
 use Rattle.moka_base.specs.Maintenance.{Queues}
-use Rattle.moka_base.specs.History.{Event, Get, ContainsKey, Insert, Invalidate, TakeNotice, Rules, Write, standing, queues}
+use Rattle.moka_base.specs.History.{Event, Get, ContainsKey, Insert, Invalidate, Maintain, Skip, EntryCount, TakeNotice, Rules, Write, standing, queues}
 use Rattle.moka_base.specs.StandsFor.{writes_of}
 
 module _ {K V : Type 0} where
@@ -52,6 +52,9 @@ module _ {K : Type 0} (eq : K → K → Bool) where
     openings (ContainsKey k at ∷ h) = openings h
     openings (Insert k v at ∷ h) = if is_some (standing eq rules k h) then openings h else openings h ++ k ∷ []
     openings (Invalidate k at ∷ h) = openings h
+    openings (Maintain at ∷ h) = openings h
+    openings (Skip at ∷ h) = openings h
+    openings (EntryCount ∷ h) = openings h
     openings (TakeNotice ∷ h) = openings h
 
     -- a key waits where it stands and is not admitted

@@ -1,12 +1,13 @@
 -- What it means that a state stands for a list of events.
 use Rattle.std.specs.Prelude.{◌≡◌, ℕ, Bool, Option, List, ◌∷◌, ◌++◌, filter}
 use Rattle.std.specs.Option.{option_to_list}
-use Rattle.moka_base.specs.History.{Event, Rules, Write, Leaving, latest, standing, queues, noticed, next_number}
+use Rattle.moka_base.specs.History.{Event, Rules, Write, Leaving, latest, standing, queues, noticed, next_number, IsHistory}
 
 -- What a state holds: its stored writes in their two orders, and the rest that the definitions speak of.
 pub record Holdings (K V : Type 0) : Type 0 where
   pub time_to_live : Option ℕ
   pub time_to_idle : Option ℕ
+  pub max_capacity : Option ℕ
   pub admitted : List (Write K V)
   pub waiting : List (Write K V)
   pub notices : List (Leaving K V)
@@ -22,10 +23,13 @@ abbrev pub writes_of : {K V : Type 0} → (K → K → Bool) → K → List (Wri
 writes_of eq k ws = filter (λ w. eq w.key k) ws
 
 -- A state stands for a list of events where it holds what the definitions give for that list: for each key the
--- write that stands and no other, both orders, the notices not taken yet, the latest moment and the next number.
+-- write that stands and no other, both orders, the notices not taken yet, the latest moment and the next number. The
+-- list is one that steps give.
 pub record StandsFor {K V : Type 0} (eq : K → K → Bool) (rules : Rules) (state : Holdings K V) (h : List (Event K V)) : Type 0 where
+  pub history : IsHistory eq rules h
   pub time_to_live : state.time_to_live ≡ rules.time_to_live
   pub time_to_idle : state.time_to_idle ≡ rules.time_to_idle
+  pub max_capacity : state.max_capacity ≡ rules.max_capacity
   pub writes : (k : K) → writes_of eq k (writes state) ≡ option_to_list (standing eq rules k h)
   pub admitted : state.admitted ≡ (queues eq rules h).admitted
   pub waiting : state.waiting ≡ (queues eq rules h).waiting

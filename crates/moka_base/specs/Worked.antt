@@ -9,23 +9,23 @@ seconds n = n * 1_000_000_000
 
 -- no life ends
 abbrev pub without_lives : Rules
-without_lives = record { time_to_live = None; time_to_idle = None; first_number = 0 }
+without_lives = record { time_to_live = None; time_to_idle = None; max_capacity = None; first_number = 0 }
 
 -- ten seconds to live
 abbrev pub ten_to_live : Rules
-ten_to_live = record { time_to_live = Some (seconds 10); time_to_idle = None; first_number = 0 }
+ten_to_live = record { time_to_live = Some (seconds 10); time_to_idle = None; max_capacity = None; first_number = 0 }
 
 -- five seconds to idle
 abbrev pub five_to_idle : Rules
-five_to_idle = record { time_to_live = None; time_to_idle = Some (seconds 5); first_number = 0 }
+five_to_idle = record { time_to_live = None; time_to_idle = Some (seconds 5); max_capacity = None; first_number = 0 }
 
 -- ten seconds to live, and five to idle
 abbrev pub both_lives : Rules
-both_lives = record { time_to_live = Some (seconds 10); time_to_idle = Some (seconds 5); first_number = 0 }
+both_lives = record { time_to_live = Some (seconds 10); time_to_idle = Some (seconds 5); max_capacity = None; first_number = 0 }
 
 -- one number is left to draw
 abbrev pub at_the_last_number : Rules
-at_the_last_number = record { time_to_live = None; time_to_idle = None; first_number = 18446744073709551614 }
+at_the_last_number = record { time_to_live = None; time_to_idle = None; max_capacity = None; first_number = 18446744073709551614 }
 
 -- the value 7 is written to the key 1 at 0
 abbrev pub written : List (Event ℕ ℕ)

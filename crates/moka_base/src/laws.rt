@@ -1,9 +1,9 @@
 //! The laws of the definitions over the list of events, in the words of the subject. Each stands as
 //! the contract of a function that does nothing, so that the check proves it for every list of events.
 ghost use Rattle.std.specs.Prelude.{◌≡◌, ◌≢◌, ◌⊎◌, ◌↔◌, ℕ, ◌+◌, ◌<◌, ◌≤◌, max, Bool, not, if◌then◌else◌, true, false, List, [], ◌∷◌, ◌++◌, length, filter, slice_get, ◌^◌, fold};
-ghost use Rattle.moka_base.specs.declared.notification.RemovalCause.TheVariants.{Explicit, Replaced};
-ghost use Rattle.moka_base.specs.History.{Event, Get, ContainsKey, Insert, Invalidate, TakeNotice, Rules, Write, Leaving, latest, is_expired, standing, leaving, leavings, taken, noticed, next_number};
-ghost use Rattle.moka_base.specs.Laws.{ends, IsUnwritten, IsUntouched, LastWrite, FirstWrite, FirstEnd, NothingStands, up_to_write, IsAsWritten, IsLeavingOf, HasEnded, is_write, values_written, values_left, value_standing, given_out};
+ghost use Rattle.moka_base.specs.declared.notification.RemovalCause.TheVariants.{Explicit, Replaced, Size};
+ghost use Rattle.moka_base.specs.History.{Event, Get, ContainsKey, Insert, Invalidate, Maintain, TakeNotice, Rules, Write, Leaving, latest, is_expired, leaves_in, standing, leaving, leavings, taken, noticed, next_number};
+ghost use Rattle.moka_base.specs.Laws.{ends, IsUnwritten, IsUntouched, LastWrite, FirstWrite, FirstEnd, NothingStands, up_to_write, IsAsWritten, IsLeavingOf, HasEnded, is_write, values_written, values_left, leavings_of, value_standing, given_out};
 ghost use Rattle.moka_base.specs.NumberHash.{number_hash};
 ghost use Rattle.std.specs.Hash.{u64 as number_writes};
 ghost use Rattle.moka_base.specs.Replies.{Found, Contains, Noticed, answer};
@@ -57,28 +57,28 @@ pub fn each_leaving_is_noticed_once<K: Eq, V>()
 /// value and moment, used at the greatest moment among that one and the hits since, and stored under
 /// the key of the write that found it not stored.
 pub fn standing_is_the_last_write<K: Eq, V>()
-    ensures stands { (rules : Rules) (h : List (Event K V)) (k : K) (last : LastWrite K.eq k h)
-        → (w : Write K V) × (standing K.eq rules k h ≡ Some w) × IsAsWritten rules last w }
+    ensures stands { (rules : Rules) (h : List (Event K V)) (k : K) (last : LastWrite K.eq rules k h)
+        → (w : Write K V) × (standing K.eq rules k h ≡ Some w) × IsAsWritten last w }
     ensures alone { (rules : Rules) (h : List (Event K V)) (k : K) (w : Write K V)
-        → standing K.eq rules k h ≡ Some w → (last : LastWrite K.eq k h) × IsAsWritten rules last w }
+        → standing K.eq rules k h ≡ Some w → (last : LastWrite K.eq rules k h) × IsAsWritten last w }
     ensures nothing { (rules : Rules) (h : List (Event K V)) (k : K)
-        → (standing K.eq rules k h ≡ None) ↔ NothingStands K.eq k h }
-    ensures stored { (rules : Rules) (h : List (Event K V)) (k : K) (first : FirstWrite K.eq k h)
+        → (standing K.eq rules k h ≡ None) ↔ NothingStands K.eq rules k h }
+    ensures stored { (rules : Rules) (h : List (Event K V)) (k : K) (first : FirstWrite K.eq rules k h)
         → (w : Write K V) × (standing K.eq rules k h ≡ Some w) × (w.key ≡ first.key) }
     ensures stored_alone { (rules : Rules) (h : List (Event K V)) (k : K) (w : Write K V)
-        → standing K.eq rules k h ≡ Some w → (first : FirstWrite K.eq k h) × (w.key ≡ first.key) }
-    ensures one_place { (h : List (Event K V)) (k : K) (a b : LastWrite K.eq k h)
+        → standing K.eq rules k h ≡ Some w → (first : FirstWrite K.eq rules k h) × (w.key ≡ first.key) }
+    ensures one_place { (rules : Rules) (h : List (Event K V)) (k : K) (a b : LastWrite K.eq rules k h)
         → (a.later ≡ b.later) × (up_to_write a ≡ up_to_write b) }
 {}
 
 /// A look answers the value of the last write until its deadline has come, and where nothing stands
 /// it answers none. It uses the greater of its moment and the latest one.
 pub fn looks_answer_the_last_write<K: Eq, V>()
-    ensures found { (rules : Rules) (h : List (Event K V)) (k : K) (at : ℕ) (last : LastWrite K.eq k h)
-        → (w : Write K V) × IsAsWritten rules last w
+    ensures found { (rules : Rules) (h : List (Event K V)) (k : K) (at : ℕ) (last : LastWrite K.eq rules k h)
+        → (w : Write K V) × IsAsWritten last w
         × (answer K.eq rules (Get k at) h ≡ Found (if is_expired rules w (max (latest h) at) then None else Some last.value))
         × (answer K.eq rules (ContainsKey k at) h ≡ Contains (not (is_expired rules w (max (latest h) at)))) }
-    ensures nothing { (rules : Rules) (h : List (Event K V)) (k : K) (at : ℕ) → NothingStands K.eq k h
+    ensures nothing { (rules : Rules) (h : List (Event K V)) (k : K) (at : ℕ) → NothingStands K.eq rules k h
         → (answer K.eq rules (Get k at) h ≡ Found None) × (answer K.eq rules (ContainsKey k at) h ≡ Contains false) }
 {}
 
@@ -102,19 +102,23 @@ pub fn equal_keys_are_one_key<K: Eq, V>()
 /// one or none, and nothing else ever leaves. It leaves with its value, for that event's cause, or as
 /// expired where its deadline had come.
 pub fn what_leaves_leaves_once<K: Eq, V>()
-    ensures replaced { (rules : Rules) (h : List (Event K V)) (k q : K) (v : V) (at : ℕ) (last : LastWrite K.eq k h) → K.eq q k ≡ true
-        → (l : Leaving K V) × (leaving K.eq rules (Insert q v at) h ≡ l ∷ []) × IsLeavingOf rules last Replaced (latest (Insert q v at ∷ h)) l }
-    ensures removed { (rules : Rules) (h : List (Event K V)) (k q : K) (at : ℕ) (last : LastWrite K.eq k h) → K.eq q k ≡ true
-        → (l : Leaving K V) × (leaving K.eq rules (Invalidate q at) h ≡ l ∷ []) × IsLeavingOf rules last Explicit (latest (Invalidate q at ∷ h)) l }
+    ensures replaced { (rules : Rules) (h : List (Event K V)) (k q : K) (v : V) (at : ℕ) (last : LastWrite K.eq rules k h) → K.eq q k ≡ true
+        → (l : Leaving K V) × (leaving K.eq rules (Insert q v at) h ≡ l ∷ []) × IsLeavingOf last Replaced (latest (Insert q v at ∷ h)) l }
+    ensures removed { (rules : Rules) (h : List (Event K V)) (k q : K) (at : ℕ) (last : LastWrite K.eq rules k h) → K.eq q k ≡ true
+        → (l : Leaving K V) × (leaving K.eq rules (Invalidate q at) h ≡ l ∷ []) × IsLeavingOf last Explicit (latest (Invalidate q at ∷ h)) l }
+    ensures let_go { (rules : Rules) (h : List (Event K V)) (k : K) (at : ℕ) (last : LastWrite K.eq rules k h) → leaves_in K.eq rules k at h ≡ true
+        → (l : Leaving K V) × (leavings_of K.eq k (leaving K.eq rules (Maintain at) h) ≡ l ∷ []) × IsLeavingOf last Size (latest (Maintain at ∷ h)) l }
+    ensures not_let_go { (rules : Rules) (h : List (Event K V)) (k : K) (at : ℕ) → leaves_in K.eq rules k at h ≡ false
+        → leavings_of K.eq k (leaving K.eq rules (Maintain at) h) ≡ [] }
     ensures alone { (rules : Rules) (h : List (Event K V)) (e : Event K V)
-        → leaving K.eq rules e h ≢ [] → (k : K) × (ends K.eq k e ≡ true) × LastWrite K.eq k h }
+        → leaving K.eq rules e h ≢ [] → (k : K) × (ends K.eq rules k e h ≡ true) × LastWrite K.eq rules k h }
     ensures nothing { (rules : Rules) (h : List (Event K V)) (e : Event K V) (k : K)
-        → ends K.eq k e ≡ true → NothingStands K.eq k h → leaving K.eq rules e h ≡ [] }
-    ensures first { (later : List (Event K V)) (k : K) → IsUntouched K.eq k later ⊎ FirstEnd K.eq k later }
-    ensures one_place { (later : List (Event K V)) (k : K) (a b : FirstEnd K.eq k later)
+        → ends K.eq rules k e h ≡ true → NothingStands K.eq rules k h → leaving K.eq rules e h ≡ [] }
+    ensures first { (rules : Rules) (later h : List (Event K V)) (k : K) → IsUntouched K.eq rules k later h ⊎ FirstEnd K.eq rules k later h }
+    ensures one_place { (rules : Rules) (later h : List (Event K V)) (k : K) (a b : FirstEnd K.eq rules k later h)
         → (a.later ≡ b.later) × ((a.event ∷ a.before) ≡ (b.event ∷ b.before)) }
     ensures looks { (rules : Rules) (h : List (Event K V)) (e : Event K V)
-        → ((k : K) → ends K.eq k e ≡ false) → leaving K.eq rules e h ≡ [] }
+        → ((k : K) → ends K.eq rules k e h ≡ false) → leaving K.eq rules e h ≡ [] }
 {}
 
 /// The latest moment never falls, and no life's end is undone: a deadline that has come has come at
@@ -125,7 +129,7 @@ pub fn expiry_is_final<K: Eq, V>()
     ensures deadline { (rules : Rules) (w : Write K V) (at later : ℕ)
         → at ≤ later → is_expired rules w at ≡ true → is_expired rules w later ≡ true }
     ensures stays { (rules : Rules) (later h : List (Event K V)) (k : K) (w : Write K V)
-        → standing K.eq rules k h ≡ Some w → is_expired rules w (latest h) ≡ true → IsUntouched K.eq k later
+        → standing K.eq rules k h ≡ Some w → is_expired rules w (latest h) ≡ true → IsUntouched K.eq rules k later h
         → standing K.eq rules k (later ++ h) ≡ Some w }
     ensures missed { (rules : Rules) (later h : List (Event K V)) (k : K) (at now : ℕ)
         → answer K.eq rules (Get k at) h ≡ Found None → IsUnwritten K.eq k later

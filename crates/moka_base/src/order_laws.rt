@@ -63,11 +63,6 @@ pub fn a_use_moves_an_admitted_key_behind_all_others<K: Eq, V>()
     ensures no_removal { (rules : Rules) (q : Queues (Write K V)) (k : K) → held K.eq k q ≡ [] → removed_in K.eq rules k q ≡ q }
 {}
 
-/// Nothing is admitted by today's events: all that stands waits.
-pub fn nothing_is_admitted_yet<K: Eq, V>()
-    ensures { (rules : Rules) (h : List (Event K V)) → (queues K.eq rules h).admitted ≡ [] }
-{}
-
 /// What waits stands in the order of arrival: the waiting keys are those of the writes that found
 /// their key not standing, each at its last such write, kept where the key still waits. So of two
 /// that wait, the one whose first write is the older stands before the other.
@@ -76,7 +71,7 @@ pub fn waiting_is_the_order_of_arrival<K: Eq, V>()
         → keys (queues K.eq rules h).waiting ≡ filter (waits K.eq rules h) (lasts K.eq (openings K.eq rules h)) }
     ensures older_first { (rules : Rules) (h : List (Event K V)) (before middle after : List (Write K V)) (a b : Write K V)
         → (queues K.eq rules h).waiting ≡ before ++ a ∷ (middle ++ b ∷ after)
-        → (x : FirstWrite K.eq a.key h) (y : FirstWrite K.eq b.key h) → length x.before < length y.before }
+        → (x : FirstWrite K.eq rules a.key h) (y : FirstWrite K.eq rules b.key h) → length x.before < length y.before }
 {}
 
 /// Three keys come and wait in that order. An overwrite and a hit keep it; a removal takes out its

@@ -17,4 +17,4 @@ pub returns-clause-stored_alone : goal.returns-clause-stored_alone
 returns-clause-stored_alone g c rules h k w is = first_write_of g.K.PartialEq.eq rules k h w is
 
 pub returns-clause-one_place : goal.returns-clause-one_place
-returns-clause-one_place g c h k a b = LastWrite-one_place g.K.PartialEq.eq k h a b
+returns-clause-one_place g c rules h k a b = LastWrite-one_place g.K.PartialEq.eq rules k h a b

@@ -1,7 +1,7 @@
 use Rattle.moka_base.specs.declared.notification.RemovalCause.TheVariants.{Explicit, Replaced}
 use Rattle.moka_base.specs.History.{Insert, Invalidate, latest}
 use Rattle.moka_base.proofs.Places.{untouched_or_ended, FirstEnd-one_place}
-use Rattle.moka_base.proofs.Leavings.{last_write_leaves, leaving-nothing, leaving_alone, leaving-looks}
+use Rattle.moka_base.proofs.Leavings.{last_write_leaves, leaving-nothing, leaving_alone, leaving-looks, maintained-leaves, maintained-stays}
 use Rattle.std.proofs.Common.{◌∷◌}
 use Rattle.moka_base.proofs.laws.what_leaves_leaves_once.Goals as goal
 
@@ -10,6 +10,12 @@ returns-clause-replaced g c rules h k q v at last same = last_write_leaves g.K.P
 
 pub returns-clause-removed : goal.returns-clause-removed
 returns-clause-removed g c rules h k q at last same = last_write_leaves g.K.PartialEq.eq rules g.met.K.Eq.laws k q h Explicit (latest (Invalidate q at ∷ h)) last same
+
+pub returns-clause-let_go : goal.returns-clause-let_go
+returns-clause-let_go g c rules h k at last leaves = maintained-leaves g.K.PartialEq.eq rules g.met.K.Eq.laws k h at last leaves
+
+pub returns-clause-not_let_go : goal.returns-clause-not_let_go
+returns-clause-not_let_go g c rules h k at stays = maintained-stays g.K.PartialEq.eq rules g.met.K.Eq.laws k h at stays
 
 pub returns-clause-alone : goal.returns-clause-alone
 returns-clause-alone g c rules h e some = leaving_alone g.K.PartialEq.eq rules g.met.K.Eq.laws h e some
@@ -21,7 +27,7 @@ pub returns-clause-looks : goal.returns-clause-looks
 returns-clause-looks g c rules h e none = leaving-looks g.K.PartialEq.eq rules g.met.K.Eq.laws h e none
 
 pub returns-clause-first : goal.returns-clause-first
-returns-clause-first g c later k = untouched_or_ended g.K.PartialEq.eq k later
+returns-clause-first g c rules later h k = untouched_or_ended g.K.PartialEq.eq rules k h later
 
 pub returns-clause-one_place : goal.returns-clause-one_place
-returns-clause-one_place g c later k a b = FirstEnd-one_place g.K.PartialEq.eq k later a b
+returns-clause-one_place g c rules later h k a b = FirstEnd-one_place g.K.PartialEq.eq rules k h later a b
