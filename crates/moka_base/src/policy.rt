@@ -31,6 +31,24 @@ pub enum Refused {
     NumbersUsedUp,
 }
 
+/// Which keys leave where a cache has passed its capacity, and which new ones are admitted.
+#[derive(Clone, Debug, Drop)]
+pub struct EvictionPolicy {
+    kind: Kind,
+}
+
+#[derive(Clone, Debug, Drop)]
+enum Kind {
+    Lru,
+}
+
+impl EvictionPolicy {
+    /// The least recently used keys leave, and each new key is admitted.
+    pub fn lru() -> Self {
+        EvictionPolicy { kind: Kind::Lru }
+    }
+}
+
 /// A hasher by which a `u64` key hashes to that number: each byte `b` that is written sets the hash to
 /// `hash / 256 + b * 2^56`, so that the eight bytes of a number, the least first, leave the number.
 #[derive(Clone, Copy, Debug, Default, PartialEq, Eq)]

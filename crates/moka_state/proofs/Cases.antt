@@ -9,7 +9,7 @@ use Rattle.std.specs.List.{filter}
 use Rattle.moka_base.specs.declared.notification.Notice.{Notice}
 use Rattle.moka_base.specs.declared.notification.RemovalCause.{RemovalCause}
 use Rattle.moka_base.specs.declared.notification.RemovalCause.TheVariants.{Expired, Explicit, Replaced}
-use Rattle.moka_base.specs.History.{Event, Get, Insert, Invalidate, Rules, Write, Leaving, standing, after_look, after_write, left, used_where, is_hit, is_of, is_live, has_come}
+use Rattle.moka_base.specs.History.{Event, Get, Insert, Invalidate, Rules, Write, Leaving, standing, after_look, after_write, left, used_where, is_hit, is_of, is_live, has_come, stores_nothing, is_flush_due}
 use Rattle.moka_base.specs.Maintenance.{Queues}
 use Rattle.moka_base.specs.StandsFor.{StandsFor, writes, writes_of}
 use Rattle.moka_state.specs.declared.rows.Row.{Row}
@@ -39,11 +39,13 @@ and-first true b h = refl
 and-first false b h = h
 
 -- the same rows stand for the same list
-pub stands-same : {K V : Type 0} (eq : K → K → Bool) (rules : Rules) (lives : Lives) (old new : Contents K V) (moment number : ℕ) (h : List (Event K V)) → SameRows old new
-    → StandsFor eq rules (holdings lives old moment number) h → StandsFor eq rules (holdings lives new moment number) h
-stands-same eq rules lives old new moment number h same stands = record {
+pub stands-same : {K V : Type 0} (eq : K → K → Bool) (rules : Rules) (lives : Lives) (capacity : Option ℕ) (old new : Contents K V) (moment number : ℕ) (h : List (Event K V)) → SameRows old new
+    → StandsFor eq rules (holdings lives capacity old moment number) h → StandsFor eq rules (holdings lives capacity new moment number) h
+stands-same eq rules lives capacity old new moment number h same stands = record {
+  history = stands.history;
   time_to_live = stands.time_to_live;
   time_to_idle = stands.time_to_idle;
+  max_capacity = stands.max_capacity;
   writes = λ k. ap (λ a. writes_of eq k (stored_writes a ++ stored_writes new.waiting)) same.0 ∙ ap (λ w. writes_of eq k (stored_writes old.admitted ++ stored_writes w)) same.1 ∙ stands.writes k;
   admitted = ap stored_writes same.0 ∙ stands.admitted;
   waiting = ap stored_writes same.1 ∙ stands.waiting;
@@ -52,7 +54,7 @@ stands-same eq rules lives old new moment number h same stands = record {
   next_number = stands.next_number;
 }
 
-module _ {K V : Type 0} (eq : K → K → Bool) (laws : IsEquivalence eq) (rules : Rules) (lives : Lives) (contents : Contents K V) (moment number : ℕ) (h : List (Event K V)) (stands : StandsFor eq rules (holdings lives contents moment number) h) where
+module _ {K V : Type 0} (eq : K → K → Bool) (laws : IsEquivalence eq) (rules : Rules) (lives : Lives) (capacity : Option ℕ) (contents : Contents K V) (moment number : ℕ) (h : List (Event K V)) (stands : StandsFor eq rules (holdings lives capacity contents moment number) h) where
   -- a change of the rows is a change of the writes in both orders
   by-orders : (new : Contents K V) (k : K) (o : Option (Write K V)) → ChangesAt eq laws k (stored_writes (entries contents)) (stored_writes (entries new)) o
       → ChangesAt eq laws k (stored_writes contents.admitted ++ stored_writes contents.waiting) (stored_writes new.admitted ++ stored_writes new.waiting) o
@@ -69,25 +71,25 @@ module _ {K V : Type 0} (eq : K → K → Bool) (laws : IsEquivalence eq) (rules
       ∙ ap (filter (λ w. is_live rules w at)) (stands.writes k ∙ ap option_to_list is) ∙ none)
 
   -- a look that finds no row
-  pub stands-after-miss : (k : K) (at : ℕ) → standing eq rules k h ≡ None → StandsFor eq rules (holdings lives contents (max moment at) number) (Get k at ∷ h)
+  pub stands-after-miss : (k : K) (at : ℕ) → standing eq rules k h ≡ None → StandsFor eq rules (holdings lives capacity contents (max moment at) number) (Get k at ∷ h)
   stands-after-miss k at none =
       let same = none ∙ sym (ap (option_map (after_look rules (max moment at))) none) in
-      stands-after-get eq laws rules (holdings lives contents moment number) h stands (holdings lives contents (max moment at) number) k at
-      (by-orders contents k (option_map (after_look rules (max moment at)) (standing eq rules k h)) (unchanged eq laws rules lives contents moment number h stands k (option_map (after_look rules (max moment at)) (standing eq rules k h)) same))
+      stands-after-get eq laws rules (holdings lives capacity contents moment number) h stands (holdings lives capacity contents (max moment at) number) k at
+      (by-orders contents k (option_map (after_look rules (max moment at)) (standing eq rules k h)) (unchanged eq laws rules lives capacity contents moment number h stands k (option_map (after_look rules (max moment at)) (standing eq rules k h)) same))
       (sym (no-hit k (max moment at) None none refl))
-      refl refl refl refl refl
+      refl refl refl refl refl refl
 
   -- a look that finds an expired value
   pub stands-after-expired : (k : K) (at n : ℕ) (row : Row K V) → row_under n (entries contents) ≡ Some row → eq (arc_value row.key) k ≡ true → has_come (deadline_of lives row.info) (max moment at) ≡ true
-      → StandsFor eq rules (holdings lives contents (max moment at) number) (Get k at ∷ h)
+      → StandsFor eq rules (holdings lives capacity contents (max moment at) number) (Get k at ∷ h)
   stands-after-expired k at n row there same expired =
-      let found = standing-found eq laws rules lives contents moment number h stands k n row there same in
-      let late = expired-now eq laws rules lives contents moment number h stands row at ∙ expired in
+      let found = standing-found eq laws rules lives capacity contents moment number h stands k n row there same in
+      let late = expired-now eq laws rules lives capacity contents moment number h stands row at ∙ expired in
       let kept = found ∙ sym (ap (option_map (after_look rules (max moment at))) found ∙ ap (λ t. Some (cond (not t) (record { key = arc_value row.key; value = row.value; written = row.info.last_modified; used = max row.info.last_accessed (max moment at) }) (stored_write row))) late) in
-      stands-after-get eq laws rules (holdings lives contents moment number) h stands (holdings lives contents (max moment at) number) k at
-      (by-orders contents k (option_map (after_look rules (max moment at)) (standing eq rules k h)) (unchanged eq laws rules lives contents moment number h stands k (option_map (after_look rules (max moment at)) (standing eq rules k h)) kept))
+      stands-after-get eq laws rules (holdings lives capacity contents moment number) h stands (holdings lives capacity contents (max moment at) number) k at
+      (by-orders contents k (option_map (after_look rules (max moment at)) (standing eq rules k h)) (unchanged eq laws rules lives capacity contents moment number h stands k (option_map (after_look rules (max moment at)) (standing eq rules k h)) kept))
       (sym (no-hit k (max moment at) (Some (stored_write row)) found (ap (λ t. cond (not t) (stored_write row ∷ []) []) late)))
-      refl refl refl refl refl
+      refl refl refl refl refl refl
 
   -- the orders that a record of both equations gives
   orders : (new : Contents K V) (q : Queues (Write K V)) → stored_writes new.admitted ≡ q.admitted → stored_writes new.waiting ≡ q.waiting → both-of new ≡ q
@@ -97,11 +99,11 @@ module _ {K V : Type 0} (eq : K → K → Bool) (laws : IsEquivalence eq) (rules
   pub stands-after-hit : (new : Contents K V) (k : K) (at n : ℕ) (row : Row K V) (info : EntryInfo) → row_under n (entries contents) ≡ Some row → eq (arc_value row.key) k ≡ true → has_come (deadline_of lives row.info) (max moment at) ≡ false
       → info.last_modified ≡ row.info.last_modified → info.last_accessed ≡ max row.info.last_accessed (max moment at)
       → UsesRow n (touched info) contents new → new.notices ≡ contents.notices
-      → StandsFor eq rules (holdings lives new (max moment at) number) (Get k at ∷ h)
+      → StandsFor eq rules (holdings lives capacity new (max moment at) number) (Get k at ∷ h)
   stands-after-hit new k at n row info there same alive modified accessed used notices =
-      let one = one-each-row eq laws rules lives contents moment number h stands in
-      let found = standing-found eq laws rules lives contents moment number h stands k n row there same in
-      let live = expired-now eq laws rules lives contents moment number h stands row at ∙ alive in
+      let one = one-each-row eq laws rules lives capacity contents moment number h stands in
+      let found = standing-found eq laws rules lives capacity contents moment number h stands k n row there same in
+      let live = expired-now eq laws rules lives capacity contents moment number h stands row at ∙ alive in
       let touch = changes-used eq laws k n (touched info) row contents new one there same same used in
       let after : after_look rules (max moment at) (stored_write row) ≡ stored_write (touched info row) =
       ap (λ t. cond (not t) (record { key = arc_value row.key; value = row.value; written = row.info.last_modified; used = max row.info.last_accessed (max moment at) }) (stored_write row)) live
@@ -110,10 +112,10 @@ module _ {K V : Type 0} (eq : K → K → Bool) (laws : IsEquivalence eq) (rules
       let looked : option_map (after_look rules (max moment at)) (standing eq rules k h) ≡ Some (stored_write (touched info row)) = ap (option_map (after_look rules (max moment at))) found ∙ ap Some after in
       let hit : is_hit eq rules k (max moment at) (stored_write row) ≡ true = ap (λ t. t && is_live rules (stored_write row) (max moment at)) same ∙ ap not live in
       let queues = queues-used eq laws k n row contents new one there same (is_hit eq rules k (max moment at)) (touched info) (after_look rules (max moment at)) (λ w passes. and-first (eq w.key k) (is_live rules w (max moment at)) passes) hit after used in
-      stands-after-get eq laws rules (holdings lives contents moment number) h stands (holdings lives new (max moment at) number) k at
+      stands-after-get eq laws rules (holdings lives capacity contents moment number) h stands (holdings lives capacity new (max moment at) number) k at
       (by-orders new k (option_map (after_look rules (max moment at)) (standing eq rules k h)) (rw looked touch))
       (orders new _ queues.admitted queues.waiting)
-      refl refl (ap (map leaving_of) notices) refl refl
+      refl refl refl (ap (map leaving_of) notices) refl refl
 
   -- a write over a row
   pub stands-after-overwrite : (new : Contents K V) (k : K) (v : V) (at n : ℕ) (row : Row K V) (info : EntryInfo) (notice : Notice K V)
@@ -121,11 +123,12 @@ module _ {K V : Type 0} (eq : K → K → Bool) (laws : IsEquivalence eq) (rules
       → info.last_modified ≡ max moment at → info.last_accessed ≡ max moment at
       → arc_value notice.key ≡ arc_value row.key → notice.value ≡ row.value → notice.cause ≡ cond (has_come (deadline_of lives row.info) (max moment at)) Expired Replaced
       → UsesRow n (overwritten v info) contents new → new.notices ≡ contents.notices ++ notice ∷ []
-      → StandsFor eq rules (holdings lives new (max moment at) (number + 1)) (Insert k v at ∷ h)
-  stands-after-overwrite new k v at n row info notice there same modified accessed key value cause used notices =
-      let one = one-each-row eq laws rules lives contents moment number h stands in
-      let found = standing-found eq laws rules lives contents moment number h stands k n row there same in
-      let late = expired-now eq laws rules lives contents moment number h stands row at in
+      → stores_nothing rules.max_capacity ≡ false → is_flush_due eq rules h ≡ false
+      → StandsFor eq rules (holdings lives capacity new (max moment at) (number + 1)) (Insert k v at ∷ h)
+  stands-after-overwrite new k v at n row info notice there same modified accessed key value cause used notices stores room_left =
+      let one = one-each-row eq laws rules lives capacity contents moment number h stands in
+      let found = standing-found eq laws rules lives capacity contents moment number h stands k n row there same in
+      let late = expired-now eq laws rules lives capacity contents moment number h stands row at in
       let write = changes-used eq laws k n (overwritten v info) row contents new one there same same used in
       let after : after_write rules k v (max moment at) (Some (stored_write row)) ≡ stored_write (overwritten v info row) =
       ap (λ w. record { key = arc_value row.key; value = v; written = w; used = max moment at }) (sym modified)
@@ -137,21 +140,22 @@ module _ {K V : Type 0} (eq : K → K → Bool) (laws : IsEquivalence eq) (rules
       ∙ ap (λ (c : RemovalCause). let l : Leaving K V = record { key = arc_value row.key; value = row.value; cause = c } in l ∷ []) (cause ∙ ap (λ t. cond t Expired Replaced) (sym late))
       ∙ sym (ap (left rules Replaced (max moment at)) found) in
       let queues = queues-used eq laws k n row contents new one there same (is_of eq rules k) (overwritten v info) (λ w. after_write rules k v (max moment at) (Some w)) (λ w passes. passes) same after used in
-      stands-after-insert eq laws rules (holdings lives contents moment number) h stands (holdings lives new (max moment at) (number + 1)) k v at
-      (subst (ChangesAt eq laws k (writes (holdings lives contents moment number)) (writes (holdings lives new (max moment at) (number + 1)))) (sym written) (by-orders new k (Some (stored_write (overwritten v info row))) write))
+      stands-after-insert eq laws rules (holdings lives capacity contents moment number) h stands (holdings lives capacity new (max moment at) (number + 1)) k v at stores room_left
+      (subst (ChangesAt eq laws k (writes (holdings lives capacity contents moment number)) (writes (holdings lives capacity new (max moment at) (number + 1)))) (sym written) (by-orders new k (Some (stored_write (overwritten v info row))) write))
       (orders new _ queues.admitted queues.waiting ∙ sym (written_in-over eq rules k v (max moment at) both (stored_write row) (stands.writes k ∙ ap option_to_list found)))
-      refl refl (noticed-one contents.notices new.notices notice notices ∙ ap (λ l. map leaving_of contents.notices ++ l) leaves) refl refl
+      refl refl refl (noticed-one contents.notices new.notices notice notices ∙ ap (λ l. map leaving_of contents.notices ++ l) leaves) refl refl
 
   -- a write of a key that is not stored
   pub stands-after-open : (new : Contents K V) (k : K) (v : V) (at n : ℕ) (row : Row K V) → standing eq rules k h ≡ None → eq k k ≡ true
       → arc_value row.key ≡ k → row.value ≡ v → row.info.last_modified ≡ max moment at → row.info.last_accessed ≡ max moment at
       → new.admitted ≡ contents.admitted → new.waiting ≡ contents.waiting ++ (n, row) ∷ [] → new.notices ≡ contents.notices
-      → StandsFor eq rules (holdings lives new (max moment at) (number + 1)) (Insert k v at ∷ h)
-  stands-after-open new k v at n row none reflexive key value modified accessed admitted waiting notices =
+      → stores_nothing rules.max_capacity ≡ false → is_flush_due eq rules h ≡ false
+      → StandsFor eq rules (holdings lives capacity new (max moment at) (number + 1)) (Insert k v at ∷ h)
+  stands-after-open new k v at n row none reflexive key value modified accessed admitted waiting notices stores room_left =
       let grown : stored_writes (entries new) ≡ stored_writes (entries contents) ++ stored_write row ∷ [] =
       ap (λ a. stored_writes (a ++ new.waiting)) admitted ∙ ap (λ w. stored_writes (contents.admitted ++ w)) waiting
       ∙ ap stored_writes (sym (append_assoc contents.admitted contents.waiting ((n, row) ∷ []))) ∙ stored-append eq laws (entries contents) ((n, row) ∷ []) in
-      let empty = stored-standing eq laws rules lives contents moment number h stands k ∙ ap option_to_list none in
+      let empty = stored-standing eq laws rules lives capacity contents moment number h stands k ∙ ap option_to_list none in
       let write = changes-along eq laws k (Some (stored_write row)) refl grown (added eq laws k (stored_writes (entries contents)) (stored_write row) (ap (λ q. eq q k) key ∙ reflexive) empty) in
       let anew : after_write rules k v (max moment at) None ≡ stored_write row =
       ap (λ a. record { key = a; value = v; written = max moment at; used = max moment at }) (sym key)
@@ -160,33 +164,33 @@ module _ {K V : Type 0} (eq : K → K → Bool) (laws : IsEquivalence eq) (rules
       ∙ ap (λ u. record { key = arc_value row.key; value = row.value; written = row.info.last_modified; used = u }) (sym accessed) in
       let written : Some (after_write rules k v (max moment at) (standing eq rules k h)) ≡ Some (stored_write row) = ap (λ o. Some (after_write rules k v (max moment at) o)) none ∙ ap Some anew in
       let waits = ap stored_writes waiting ∙ stored-append eq laws contents.waiting ((n, row) ∷ []) ∙ ap (λ w. stored_writes contents.waiting ++ w ∷ []) (sym anew) in
-      stands-after-insert eq laws rules (holdings lives contents moment number) h stands (holdings lives new (max moment at) (number + 1)) k v at
-      (subst (ChangesAt eq laws k (writes (holdings lives contents moment number)) (writes (holdings lives new (max moment at) (number + 1)))) (sym written) (by-orders new k (Some (stored_write row)) write))
+      stands-after-insert eq laws rules (holdings lives capacity contents moment number) h stands (holdings lives capacity new (max moment at) (number + 1)) k v at stores room_left
+      (subst (ChangesAt eq laws k (writes (holdings lives capacity contents moment number)) (writes (holdings lives capacity new (max moment at) (number + 1)))) (sym written) (by-orders new k (Some (stored_write row)) write))
       (orders new _ (ap stored_writes admitted) waits ∙ sym (written_in-anew eq rules k v (max moment at) both (stands.writes k ∙ ap option_to_list none)))
-      refl refl (ap (map leaving_of) notices ∙ sym (ap (λ o. map leaving_of contents.notices ++ left rules Replaced (max moment at) o) none ∙ append-nil (map leaving_of contents.notices))) refl refl
+      refl refl refl (ap (map leaving_of) notices ∙ sym (ap (λ o. map leaving_of contents.notices ++ left rules Replaced (max moment at) o) none ∙ append-nil (map leaving_of contents.notices))) refl refl
 
   -- a removal of a key that is not stored
-  pub stands-after-nothing : (k : K) (at : ℕ) → standing eq rules k h ≡ None → StandsFor eq rules (holdings lives contents (max moment at) number) (Invalidate k at ∷ h)
-  stands-after-nothing k at none = stands-after-invalidate eq laws rules (holdings lives contents moment number) h stands (holdings lives contents (max moment at) number) k at
-      (by-orders contents k None (unchanged eq laws rules lives contents moment number h stands k None none))
+  pub stands-after-nothing : (k : K) (at : ℕ) → standing eq rules k h ≡ None → StandsFor eq rules (holdings lives capacity contents (max moment at) number) (Invalidate k at ∷ h)
+  stands-after-nothing k at none = stands-after-invalidate eq laws rules (holdings lives capacity contents moment number) h stands (holdings lives capacity contents (max moment at) number) k at
+      (by-orders contents k None (unchanged eq laws rules lives capacity contents moment number h stands k None none))
       (sym (removed_in-none eq rules k both (stands.writes k ∙ ap option_to_list none)))
-      refl refl (sym (ap (λ o. map leaving_of contents.notices ++ left rules Explicit (max moment at) o) none ∙ append-nil (map leaving_of contents.notices))) refl refl
+      refl refl refl (sym (ap (λ o. map leaving_of contents.notices ++ left rules Explicit (max moment at) o) none ∙ append-nil (map leaving_of contents.notices))) refl refl
 
   -- a removal of a row
   pub stands-after-let_go : (new : Contents K V) (k : K) (at n : ℕ) (row : Row K V) (cause : RemovalCause) → row_under n (entries contents) ≡ Some row → eq (arc_value row.key) k ≡ true
       → cause ≡ cond (has_come (deadline_of lives row.info) (max moment at)) Expired Explicit
       → TakesRow n contents new → new.notices ≡ contents.notices ++ record { key = row.key; value = row.value; cause = cause } ∷ []
-      → StandsFor eq rules (holdings lives new (max moment at) number) (Invalidate k at ∷ h)
+      → StandsFor eq rules (holdings lives capacity new (max moment at) number) (Invalidate k at ∷ h)
   stands-after-let_go new k at n row cause there same why taken notices =
-      let one = one-each-row eq laws rules lives contents moment number h stands in
-      let found = standing-found eq laws rules lives contents moment number h stands k n row there same in
-      let late = expired-now eq laws rules lives contents moment number h stands row at in
+      let one = one-each-row eq laws rules lives capacity contents moment number h stands in
+      let found = standing-found eq laws rules lives capacity contents moment number h stands k n row there same in
+      let late = expired-now eq laws rules lives capacity contents moment number h stands row at in
       let notice : Notice K V = record { key = row.key; value = row.value; cause = cause } in
       let leaves : leaving_of notice ∷ [] ≡ left rules Explicit (max moment at) (standing eq rules k h) =
       ap (λ (c : RemovalCause). let l : Leaving K V = record { key = arc_value row.key; value = row.value; cause = c } in l ∷ []) (why ∙ ap (λ t. cond t Expired Explicit) (sym late))
       ∙ sym (ap (left rules Explicit (max moment at)) found) in
       let queues = queues-taken eq laws k n row contents new one there same taken in
-      stands-after-invalidate eq laws rules (holdings lives contents moment number) h stands (holdings lives new (max moment at) number) k at
+      stands-after-invalidate eq laws rules (holdings lives capacity contents moment number) h stands (holdings lives capacity new (max moment at) number) k at
       (by-orders new k None (changes-taken eq laws k n row contents new one there same taken))
       (orders new _ queues.admitted queues.waiting)
-      refl refl (noticed-one contents.notices new.notices notice notices ∙ ap (λ l. map leaving_of contents.notices ++ l) leaves) refl refl
+      refl refl refl (noticed-one contents.notices new.notices notice notices ∙ ap (λ l. map leaving_of contents.notices ++ l) leaves) refl refl

@@ -5,7 +5,7 @@ use Rattle.std.specs.Cmp.{IsEquivalence}
 use Rattle.std.proofs.lemmas.List.{append-nil, drop-append-le, drop-drop, drop_all}
 use Rattle.std.proofs.lemmas.Bool.{leb-true, leb-false}
 use Rattle.moka_base.specs.declared.notification.RemovalCause.TheVariants.{Explicit, Replaced}
-use Rattle.moka_base.specs.History.{Event, Get, ContainsKey, Insert, Invalidate, TakeNotice, Rules, Write, Leaving, latest, standing, queues, used_where, is_hit, written_in, removed_in, after_look, after_write, left, leaving, leavings, taken, noticed, drawn, next_number}
+use Rattle.moka_base.specs.History.{Event, Get, ContainsKey, Insert, Invalidate, Maintain, Skip, EntryCount, TakeNotice, Rules, Write, Leaving, latest, standing, queues, used_where, is_hit, written_in, removed_in, after_look, after_write, left, leaving, leavings, taken, noticed, drawn, next_number, stores_nothing, is_flush_due, IsHistory}
 use Rattle.moka_base.specs.Maintenance.{Queues}
 use Rattle.moka_base.specs.StandsFor.{Holdings, StandsFor, writes, writes_of}
 use Rattle.moka_state.proofs.Changes.{ChangesAt, OneEach, writes_of-equal, option_to_list-same}
@@ -36,6 +36,9 @@ module _ {K V : Type 0} (eq : K → K → Bool) (rules : Rules) where
   taken-≤ (ContainsKey k at ∷ h) = omega (arith, taken-≤ h, length-append (leavings eq rules h) [])
   taken-≤ (Insert k v at ∷ h) = omega (arith, taken-≤ h, length-append (leavings eq rules h) (leaving eq rules (Insert k v at) h))
   taken-≤ (Invalidate k at ∷ h) = omega (arith, taken-≤ h, length-append (leavings eq rules h) (leaving eq rules (Invalidate k at) h))
+  taken-≤ (Maintain at ∷ h) = omega (arith, taken-≤ h, length-append (leavings eq rules h) (leaving eq rules (Maintain at) h))
+  taken-≤ (Skip at ∷ h) = omega (arith, taken-≤ h, length-append (leavings eq rules h) [])
+  taken-≤ (EntryCount ∷ h) = omega (arith, taken-≤ h, length-append (leavings eq rules h) [])
   taken-≤ (TakeNotice ∷ h) = omega (arith, taken-≤ h, length-append (leavings eq rules h) [])
 
   -- what leaves is noticed behind what was noticed before
@@ -59,16 +62,20 @@ module _ {K V : Type 0} (eq : K → K → Bool) (laws : IsEquivalence eq) (rules
   pub stands-after : (new : Holdings K V) (e : Event K V) (k : K) (o : Option (Write K V))
       → ChangesAt eq laws k (writes state) (writes new) o
       → ((q : K) → standing eq rules q (e ∷ h) ≡ cond (eq k q) o (standing eq rules q h))
+      → IsHistory eq rules (e ∷ h)
       → held new ≡ queues eq rules (e ∷ h)
       → new.time_to_live ≡ state.time_to_live
       → new.time_to_idle ≡ state.time_to_idle
+      → new.max_capacity ≡ state.max_capacity
       → new.notices ≡ noticed eq rules (e ∷ h)
       → new.latest ≡ latest (e ∷ h)
       → new.next_number ≡ next_number rules h + drawn e
       → StandsFor eq rules new (e ∷ h)
-  stands-after new e k o changes defined orders live idle notices moment number = record {
+  stands-after new e k o changes defined history orders live idle room notices moment number = record {
+    history = history;
     time_to_live = live ∙ stands.time_to_live;
     time_to_idle = idle ∙ stands.time_to_idle;
+    max_capacity = room ∙ stands.max_capacity;
     writes = λ q. changes q ∙ go q (eq k q) ∙ ap option_to_list (sym (defined q));
     admitted = ap (λ (q : Queues (Write K V)). q.admitted) orders;
     waiting = ap (λ (q : Queues (Write K V)). q.waiting) orders;
@@ -85,15 +92,16 @@ module _ {K V : Type 0} (eq : K → K → Bool) (laws : IsEquivalence eq) (rules
   pub stands-after-get : (new : Holdings K V) (k : K) (at : ℕ)
       → ChangesAt eq laws k (writes state) (writes new) (option_map (after_look rules (max state.latest at)) (standing eq rules k h))
       → held new ≡ used_where eq rules (is_hit eq rules k (max state.latest at)) (after_look rules (max state.latest at)) (held state)
-      → new.time_to_live ≡ state.time_to_live → new.time_to_idle ≡ state.time_to_idle → new.notices ≡ state.notices
+      → new.time_to_live ≡ state.time_to_live → new.time_to_idle ≡ state.time_to_idle → new.max_capacity ≡ state.max_capacity → new.notices ≡ state.notices
       → new.latest ≡ max state.latest at → new.next_number ≡ state.next_number
       → StandsFor eq rules new (Get k at ∷ h)
-  stands-after-get new k at changes orders live idle notices moment number =
+  stands-after-get new k at changes orders live idle room notices moment number =
       stands-after new (Get k at) k (option_map (after_look rules (max (latest h) at)) (standing eq rules k h))
       (rw stands.latest at changes)
       (λ q. go q (eq k q) refl)
+      stands.history
       (orders ∙ ap (λ m. used_where eq rules (is_hit eq rules k (max m at)) (after_look rules (max m at)) (held state)) stands.latest ∙ ap (used_where eq rules (is_hit eq rules k (max (latest h) at)) (after_look rules (max (latest h) at))) held-is)
-      live idle
+      live idle room
       (notices ∙ stands.notices ∙ sym (ap (drop (taken eq rules h)) (append-nil (leavings eq rules h))))
       (moment ∙ ap (λ m. max m at) stands.latest)
       (number ∙ stands.next_number ∙ sym (add-zero (next_number rules h)))
@@ -104,18 +112,20 @@ module _ {K V : Type 0} (eq : K → K → Bool) (laws : IsEquivalence eq) (rules
 
   -- a write
   pub stands-after-insert : (new : Holdings K V) (k : K) (v : V) (at : ℕ)
+      → stores_nothing rules.max_capacity ≡ false → is_flush_due eq rules h ≡ false
       → ChangesAt eq laws k (writes state) (writes new) (Some (after_write rules k v (max state.latest at) (standing eq rules k h)))
       → held new ≡ written_in eq rules k v (max state.latest at) (held state)
-      → new.time_to_live ≡ state.time_to_live → new.time_to_idle ≡ state.time_to_idle
+      → new.time_to_live ≡ state.time_to_live → new.time_to_idle ≡ state.time_to_idle → new.max_capacity ≡ state.max_capacity
       → new.notices ≡ state.notices ++ left rules Replaced (max state.latest at) (standing eq rules k h)
       → new.latest ≡ max state.latest at → new.next_number ≡ state.next_number + 1
       → StandsFor eq rules new (Insert k v at ∷ h)
-  stands-after-insert new k v at changes orders live idle notices moment number =
+  stands-after-insert new k v at stores room_left changes orders live idle room notices moment number =
       stands-after new (Insert k v at) k (Some (after_write rules k v (max (latest h) at) (standing eq rules k h)))
       (rw stands.latest at changes)
       (λ q. go q (eq k q) refl)
+      (stores, room_left, stands.history)
       (orders ∙ ap (λ m. written_in eq rules k v (max m at) (held state)) stands.latest ∙ ap (written_in eq rules k v (max (latest h) at)) held-is)
-      live idle
+      live idle room
       (notices ∙ ap (λ m. state.notices ++ left rules Replaced (max m at) (standing eq rules k h)) stands.latest ∙ ap (λ l. l ++ left rules Replaced (max (latest h) at) (standing eq rules k h)) stands.notices ∙ sym (noticed-more eq rules h (left rules Replaced (max (latest h) at) (standing eq rules k h))))
       (moment ∙ ap (λ m. max m at) stands.latest)
       (number ∙ ap (λ n. n + 1) stands.next_number)
@@ -128,12 +138,12 @@ module _ {K V : Type 0} (eq : K → K → Bool) (laws : IsEquivalence eq) (rules
   pub stands-after-invalidate : (new : Holdings K V) (k : K) (at : ℕ)
       → ChangesAt eq laws k (writes state) (writes new) None
       → held new ≡ removed_in eq rules k (held state)
-      → new.time_to_live ≡ state.time_to_live → new.time_to_idle ≡ state.time_to_idle
+      → new.time_to_live ≡ state.time_to_live → new.time_to_idle ≡ state.time_to_idle → new.max_capacity ≡ state.max_capacity
       → new.notices ≡ state.notices ++ left rules Explicit (max state.latest at) (standing eq rules k h)
       → new.latest ≡ max state.latest at → new.next_number ≡ state.next_number
       → StandsFor eq rules new (Invalidate k at ∷ h)
-  stands-after-invalidate new k at changes orders live idle notices moment number =
-      stands-after new (Invalidate k at) k None changes (λ q. refl) (orders ∙ ap (removed_in eq rules k) held-is) live idle
+  stands-after-invalidate new k at changes orders live idle room notices moment number =
+      stands-after new (Invalidate k at) k None changes (λ q. refl) stands.history (orders ∙ ap (removed_in eq rules k) held-is) live idle room
       (notices ∙ ap (λ m. state.notices ++ left rules Explicit (max m at) (standing eq rules k h)) stands.latest ∙ ap (λ l. l ++ left rules Explicit (max (latest h) at) (standing eq rules k h)) stands.notices ∙ sym (noticed-more eq rules h (left rules Explicit (max (latest h) at) (standing eq rules k h))))
       (moment ∙ ap (λ m. max m at) stands.latest)
       (number ∙ stands.next_number ∙ sym (add-zero (next_number rules h)))
@@ -141,8 +151,10 @@ module _ {K V : Type 0} (eq : K → K → Bool) (laws : IsEquivalence eq) (rules
   -- a look by `contains_key`, which changes nothing
   pub stands-after-contains_key : (k : K) (at : ℕ) → StandsFor eq rules state (ContainsKey k at ∷ h)
   stands-after-contains_key k at = record {
+    history = stands.history;
     time_to_live = stands.time_to_live;
     time_to_idle = stands.time_to_idle;
+    max_capacity = stands.max_capacity;
     writes = stands.writes;
     admitted = stands.admitted;
     waiting = stands.waiting;
@@ -153,12 +165,14 @@ module _ {K V : Type 0} (eq : K → K → Bool) (laws : IsEquivalence eq) (rules
 
   -- the first notice is taken
   pub stands-after-take_notice : (new : Holdings K V)
-      → new.admitted ≡ state.admitted → new.waiting ≡ state.waiting → new.time_to_live ≡ state.time_to_live → new.time_to_idle ≡ state.time_to_idle
+      → new.admitted ≡ state.admitted → new.waiting ≡ state.waiting → new.time_to_live ≡ state.time_to_live → new.time_to_idle ≡ state.time_to_idle → new.max_capacity ≡ state.max_capacity
       → new.notices ≡ drop 1 state.notices → new.latest ≡ state.latest → new.next_number ≡ state.next_number
       → StandsFor eq rules new (TakeNotice ∷ h)
-  stands-after-take_notice new front back live idle notices moment number = record {
+  stands-after-take_notice new front back live idle room notices moment number = record {
+    history = stands.history;
     time_to_live = live ∙ stands.time_to_live;
     time_to_idle = idle ∙ stands.time_to_idle;
+    max_capacity = room ∙ stands.max_capacity;
     writes = λ q. ap (λ a. writes_of eq q (a ++ new.waiting)) front ∙ ap (λ w. writes_of eq q (state.admitted ++ w)) back ∙ stands.writes q;
     admitted = front ∙ stands.admitted;
     waiting = back ∙ stands.waiting;

@@ -10,15 +10,16 @@ use Rattle.moka_state.specs.declared.lives.Lives.{Lives}
 use Rattle.moka_state.specs.Table.{Contents, entries, stored_writes, leaving_of}
 
 -- the rules of a cache that is built with these settings
-abbrev pub rules_of : Option Duration → Option Duration → ℕ → Rules
-rules_of time_to_live time_to_idle first_number = record { time_to_live = option_map as_nanos time_to_live; time_to_idle = option_map as_nanos time_to_idle; first_number = first_number }
+abbrev pub rules_of : Option ℕ → Option Duration → Option Duration → ℕ → Rules
+rules_of max_capacity time_to_live time_to_idle first_number = record { time_to_live = option_map as_nanos time_to_live; time_to_idle = option_map as_nanos time_to_idle; max_capacity = max_capacity; first_number = first_number }
 
 module _ {K V : Type 0} where
   -- what a state holds, by its fields
-  abbrev pub holdings : Lives → Contents K V → ℕ → ℕ → Holdings K V
-  holdings lives contents latest next_number = record {
+  abbrev pub holdings : Lives → Option ℕ → Contents K V → ℕ → ℕ → Holdings K V
+  holdings lives max_capacity contents latest next_number = record {
     time_to_live = option_map as_nanos lives.time_to_live;
     time_to_idle = option_map as_nanos lives.time_to_idle;
+    max_capacity = max_capacity;
     admitted = stored_writes contents.admitted;
     waiting = stored_writes contents.waiting;
     notices = map leaving_of contents.notices;

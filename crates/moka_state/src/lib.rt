@@ -5,6 +5,7 @@ pub mod list_rows;
 mod lives;
 pub mod rows;
 mod shared_key;
+mod slot;
 pub mod state;
 pub mod step;
 mod table;

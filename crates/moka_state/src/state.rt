@@ -1,8 +1,8 @@
 //! The cache as a plain value, lent with `&mut`, with every moment handed in.
 ghost use Rattle.std.specs.Prelude.{◌≡◌, ℕ, ◌↔◌, ◌∷◌, [], length, map, option_map, fold, IsOk, IfOk, IfErr, IfSome, OnOk, OnErr, None, Some, IsErrAnd};
 ghost use Rattle.std.specs.Arc.{arc_value};
-ghost use Rattle.moka_base.specs.History.{Event, Get, ContainsKey, Insert, Invalidate, TakeNotice, live, noticed, greatest_number};
-ghost use Rattle.moka_base.specs.Replies.{answer, Found, Contains, Done, Noticed, IsAnswer};
+ghost use Rattle.moka_base.specs.History.{Event, Get, ContainsKey, Invalidate, Maintain, EntryCount, TakeNotice, live, noticed, greatest_number, flush_point, stores_nothing, after_insert};
+ghost use Rattle.moka_base.specs.Replies.{answer, Found, Contains, Done, Counted, Noticed, IsAnswer};
 ghost use Rattle.moka_base.specs.StandsFor.{Holdings, StandsFor, Follows, AtEachHistory};
 ghost use Rattle.moka_state.specs.Table.{leaving_of};
 ghost use Rattle.moka_state.specs.State.{holdings, rules_of, IsSound};
@@ -11,12 +11,13 @@ ghost use Rattle.moka_state.specs.State.{holdings, rules_of, IsSound};
 pub(crate) mod tests;
 
 use crate::list_rows::ListRows;
-use crate::lives::Lives;
+use crate::lives::{Lives, earlier};
+use crate::maintain::maintain;
 use crate::rows::{EntryInfo, Row, RowStore};
 use crate::shared_key::{IntoShared, Owned};
-use crate::table::{Place, Table};
+use crate::table::Table;
 use moka_base::notification::{Notice, RemovalCause};
-use moka_base::policy::{CacheTypes, Refused};
+use moka_base::policy::{CacheTypes, EvictionPolicy, Refused};
 use std::alloc::Global;
 use std::hash::{BuildHasher, Hash, Hasher};
 use std::marker::Model;
@@ -30,6 +31,11 @@ pub struct Settings<K: Eq, V: Clone, C: CacheTypes<K, V>> {
     pub time_to_live: Option<Duration>,
     /// How long a value lives after its last use: its write, or a recorded look that found it live.
     pub time_to_idle: Option<Duration>,
+    /// How many keys may stay stored; none is no bound. A cache may pass it by the 64 keys that may wait for a
+    /// maintenance. With 0 nothing is stored.
+    pub max_capacity: Option<u64>,
+    /// Which keys leave where the cache has passed its capacity.
+    pub eviction_policy: EvictionPolicy,
     /// The number that the first write draws.
     pub first_number: u64,
     /// Makes the hashers of keys.
@@ -47,11 +53,17 @@ pub struct InsertRefused<K, V> {
     pub cause: Refused,
 }
 
+/// A write that finds as many keys waiting runs a maintenance first.
+const FLUSH_POINT: usize = 64;
+
 /// A cache over a store of rows.
 #[derive(Drop)]
 pub struct State<K: Hash + Drop, V: Clone, C: CacheTypes<K, V>, R: RowStore<K, V>> {
     table: Table<K, V, R>,
     lives: Lives,
+    max_capacity: Option<u64>,
+    // No admitted value's deadline comes before it; without it none comes.
+    earliest: Option<u128>,
     latest: u64,
     next_number: u64,
     hasher: Arc<C::Hasher>,
@@ -64,17 +76,17 @@ pub type CacheState<K, V, C> = State<K, V, C, ListRows<K, V>>;
 impl<K: Hash + Drop, V: Clone, C: CacheTypes<K, V>, R: RowStore<K, V>> Model for State<K, V, C, R> {
     ghost Value = { Holdings K V };
 
-    ghost view = { λ state. holdings state.lives state.table state.latest state.next_number };
+    ghost view = { λ state. holdings state.lives state.max_capacity state.table state.latest state.next_number };
 
     ghost invariant = { λ state. IsSound C.keeps
         (λ key. C.Hasher.Hasher.finish (fold C.Hasher.Hasher.write (C.Hasher.build_hasher (arc_value state.hasher)) (K.hash_input key)))
-        state.table };
+        state.lives state.earliest state.table };
 }
 
 impl<K: Hash + Drop, V: Clone, C: CacheTypes<K, V>, R: RowStore<K, V>> State<K, V, C, R> {
     /// A cache without values. It takes no memory.
     pub fn new(alloc: Global, settings: Settings<K, V, C>) -> Result<Self, Refused>
-        ensures empty { IfOk result (λ state. StandsFor K.eq (rules_of settings.time_to_live settings.time_to_idle settings.first_number) state []) }
+        ensures empty { IfOk result (λ state. StandsFor K.eq (rules_of settings.max_capacity settings.time_to_live settings.time_to_idle settings.first_number) state []) }
         ensures succeeds { IsOk result }
     {
         Ok(State {
@@ -83,6 +95,8 @@ impl<K: Hash + Drop, V: Clone, C: CacheTypes<K, V>, R: RowStore<K, V>> State<K, 
                 time_to_live: settings.time_to_live,
                 time_to_idle: settings.time_to_idle,
             },
+            max_capacity: settings.max_capacity,
+            earliest: None,
             latest: 0,
             next_number: settings.first_number,
             hasher: settings.hasher,
@@ -132,19 +146,23 @@ impl<K: Hash + Drop, V: Clone, C: CacheTypes<K, V>, R: RowStore<K, V>> State<K, 
         Ok(Some(value))
     }
 
-    /// Writes a value for a key. The value that stands for the key, live or expired, leaves and is noticed.
+    /// Writes a value for a key. The value that stands for the key, live or expired, leaves and is noticed. Where 64 or
+    /// more keys wait, a maintenance comes first, at the same moment. Where the capacity is 0 nothing is written.
     ///
-    /// Refused with `NumbersUsedUp` exactly where no number can be drawn any more, and else with `OutOfMemory` alone.
-    /// A refused write hands back the key and the value, and changes nothing. Reads the rows that have the key's hash.
+    /// Refused with `NumbersUsedUp` exactly where a number is to be drawn and none is left, and else with `OutOfMemory`
+    /// alone. A refused write hands back the key and the value, and changes nothing. Where the capacity is 0 it succeeds
+    /// without memory. Reads the rows that have the key's hash, beside a maintenance.
     pub fn insert(&mut self, key: K, value: V, now: u64) -> Result<(), InsertRefused<K, V>>
         requires { C.keeps key value }
-        ensures stands { OnOk result (Follows K.eq self.old (Insert key value now) self.new) }
+        ensures stands { OnOk result (AtEachHistory K.eq self.old (λ rules h. StandsFor K.eq rules self.new (after_insert K.eq rules key value now h))) }
 
         // Whatever refuses it, nothing has changed, and what was given comes back.
         ensures refused { OnErr result (self.new ≡ self.old) }
         ensures key_back { IfErr result (λ refused. refused.key ≡ key) }
         ensures value_back { IfErr result (λ refused. refused.value ≡ value) }
-        ensures numbers { IsErrAnd result (λ refused. refused.cause ≡ Refused.NumbersUsedUp) ↔ (self.old.next_number ≡ greatest_number) }
+        ensures numbers { IsErrAnd result (λ refused. refused.cause ≡ Refused.NumbersUsedUp)
+            ↔ ((stores_nothing self.old.max_capacity ≡ false) × (self.old.next_number ≡ greatest_number)) }
+        ensures nothing { stores_nothing self.old.max_capacity ≡ true → IsOk result }
     {
         match self.write(Owned(key), value, now) {
             Ok(()) => Ok(()),
@@ -164,12 +182,19 @@ impl<K: Hash + Drop, V: Clone, C: CacheTypes<K, V>, R: RowStore<K, V>> State<K, 
         now: u64,
     ) -> Result<(), InsertRefused<S, V>>
         requires { C.keeps (S.key_of key) value }
-        ensures stands { OnOk result (Follows K.eq self.old (Insert (S.key_of key) value now) self.new) }
+        ensures stands { OnOk result (AtEachHistory K.eq self.old (λ rules h. StandsFor K.eq rules self.new (after_insert K.eq rules (S.key_of key) value now h))) }
         ensures refused { OnErr result (self.new ≡ self.old) }
         ensures key_back { IfErr result (λ refused. refused.key ≡ key) }
         ensures value_back { IfErr result (λ refused. refused.value ≡ value) }
-        ensures numbers { IsErrAnd result (λ refused. refused.cause ≡ Refused.NumbersUsedUp) ↔ (self.old.next_number ≡ greatest_number) }
+        ensures numbers { IsErrAnd result (λ refused. refused.cause ≡ Refused.NumbersUsedUp)
+            ↔ ((stores_nothing self.old.max_capacity ≡ false) × (self.old.next_number ≡ greatest_number)) }
+        ensures nothing { stores_nothing self.old.max_capacity ≡ true → IsOk result }
     {
+        let now = self.latest.max(now);
+        if self.max_capacity == Some(0) {
+            self.latest = now;
+            return Ok(());
+        }
         if self.next_number == u64::MAX {
             let cause = Refused::NumbersUsedUp;
             return Err(InsertRefused { key, value, cause });
@@ -179,27 +204,26 @@ impl<K: Hash + Drop, V: Clone, C: CacheTypes<K, V>, R: RowStore<K, V>> State<K, 
         let Ok(place) = self.table.place(key.key(), hash) else {
             return Err(InsertRefused { key, value, cause });
         };
-        let now = self.latest.max(now);
+        let slot = if self.table.waiting_len() < FLUSH_POINT {
+            match place.slot(key, self.alloc) {
+                Ok(slot) => slot,
+                Err(key) => return Err(InsertRefused { key, value, cause }),
+            }
+        } else {
+            match key.into_shared(self.alloc) {
+                Ok(key) => {
+                    self.earliest = maintain(&mut self.table, &self.lives, self.max_capacity, self.earliest, now);
+                    self.table.slot_now(place, key, hash)
+                }
+                Err(key) => return Err(InsertRefused { key, value, cause }),
+            }
+        };
         let info = EntryInfo {
             last_modified: now,
             last_accessed: now,
         };
-        match place {
-            Place::Stored { number, key } => {
-                let was = self.table.row(number).info;
-                let cause = self.lives.cause(was, now, RemovalCause::Replaced);
-                self.table.overwrite(number, key, value, info, cause);
-            }
-            Place::Absent => match key.into_shared(self.alloc) {
-                Ok(key) => self.table.add(Row {
-                    key,
-                    hash,
-                    value,
-                    info,
-                }),
-                Err(key) => return Err(InsertRefused { key, value, cause }),
-            },
-        }
+        self.table.put(slot, hash, value, info, &self.lives);
+        self.earliest = earlier(self.earliest, self.lives.deadline(info));
         self.latest = now;
         self.next_number += 1;
         Ok(())
@@ -241,6 +265,29 @@ impl<K: Hash + Drop, V: Clone, C: CacheTypes<K, V>, R: RowStore<K, V>> State<K, 
         ensures kept { IfSome result (λ notice. C.keeps (arc_value notice.key) notice.value) }
     {
         self.table.take_notice()
+    }
+
+    /// Runs a maintenance: the expired values leave, those that wait are admitted in their order, and where the keys
+    /// then pass the capacity the least recently used leave. Each is noticed. It takes no memory.
+    ///
+    /// Visits the waiting rows and those that leave, and the admitted ones only where one may have expired.
+    pub fn run_pending_tasks(&mut self, now: u64)
+        ensures { Follows K.eq self.old (Maintain now) self.new }
+    {
+        let now = self.latest.max(now);
+        self.earliest = maintain(&mut self.table, &self.lives, self.max_capacity, self.earliest, now);
+        self.latest = now;
+    }
+
+    /// How many keys are stored, with those that wait and those whose values are expired. With a capacity it is at most
+    /// the capacity and 64 more.
+    pub fn entry_count(&self) -> u64
+        ensures counted { result ≡ length (writes self.now) }
+        ensures reply { AtEachHistory K.eq self.now (λ rules h. answer K.eq rules EntryCount h ≡ Counted result) }
+        ensures stands { Follows K.eq self.now EntryCount self.now }
+        ensures bounded { AtEachHistory K.eq self.now (λ rules h. IfSome self.now.max_capacity (λ capacity. result ≤ capacity + flush_point)) }
+    {
+        self.table.len() as u64
     }
 
     // The allocator that it keeps.

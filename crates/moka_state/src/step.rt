@@ -26,6 +26,10 @@ pub enum Step<K, V> {
     Insert { key: Arc<K>, value: V, now: u64 },
     /// A removal.
     Invalidate { key: Arc<K>, now: u64 },
+    /// A maintenance.
+    RunPendingTasks { now: u64 },
+    /// A count of the stored keys.
+    EntryCount,
     /// The first notice is taken.
     TakeNotice,
 }
@@ -39,6 +43,8 @@ pub enum Reply<K, V> {
     Contains(bool),
     /// The call was done, and answers nothing.
     Done,
+    /// How many keys `EntryCount` found stored.
+    Counted(u64),
     /// The notice that was taken, if there was one.
     Noticed(Option<Notice<K, V>>),
     /// The call was refused, and changed nothing.
@@ -51,7 +57,7 @@ impl<K: Hash + Drop, V: Clone, C: CacheTypes<K, V>, R: RowStore<K, V>> State<K, 
     pub fn step(&mut self, step: Step<K, V>) -> Reply<K, V>
         requires { StepKeeps C.keeps step }
         ensures reply { AtEachHistory K.eq self.old (λ rules h. IsReplyTo K.eq V.is_clone rules h step result) }
-        ensures stands { AtEachHistory K.eq self.old (λ rules h. StandsFor K.eq rules self.new (after step result h)) }
+        ensures stands { AtEachHistory K.eq self.old (λ rules h. StandsFor K.eq rules self.new (after K.eq rules step result h)) }
         ensures kept { ReplyKeeps C.keeps step result }
     {
         match step {
@@ -68,6 +74,11 @@ impl<K: Hash + Drop, V: Clone, C: CacheTypes<K, V>, R: RowStore<K, V>> State<K, 
                 self.invalidate(&*key, now);
                 Reply::Done
             }
+            Step::RunPendingTasks { now } => {
+                self.run_pending_tasks(now);
+                Reply::Done
+            }
+            Step::EntryCount => Reply::Counted(self.entry_count()),
             Step::TakeNotice => Reply::Noticed(self.take_notice()),
         }
     }
@@ -76,7 +87,7 @@ impl<K: Hash + Drop, V: Clone, C: CacheTypes<K, V>, R: RowStore<K, V>> State<K, 
     pub fn run(&mut self, steps: Vec<Step<K, V>>) -> Result<Vec<Reply<K, V>>, Refused>
         requires { AllByRecursion (StepKeeps C.keeps) steps.items }
         ensures replies { IfOk result (λ replies. AtEachHistory K.eq self.old (λ rules h. IsRun K.eq V.is_clone rules h steps.items replies.items)) }
-        ensures stands { IfOk result (λ replies. AtEachHistory K.eq self.old (λ rules h. StandsFor K.eq rules self.new (after_all steps.items replies.items h))) }
+        ensures stands { IfOk result (λ replies. AtEachHistory K.eq self.old (λ rules h. StandsFor K.eq rules self.new (after_all K.eq rules steps.items replies.items h))) }
         ensures refused { OnErr result (self.new ≡ self.old) }
         ensures cause { IfErr result (λ cause. cause ≡ Refused.OutOfMemory) }
     {

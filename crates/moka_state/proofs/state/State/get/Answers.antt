@@ -13,7 +13,7 @@ pub returns-in_default-clause-reply : goal.returns-in_default-clause-reply
 returns-in_default-clause-reply g c rules h stands =
     let s = c.self.inside in
     let same = rw (← c.self.view_is) at stands in
-    let none = live-absent g.K.PartialEq.eq g.met.K.Eq.laws rules s.lives s.table s.latest s.next_number h same c.self.invariant (λ a b e. cc (g.met.K.Hash.respects_eq a b e))
+    let none = live-absent g.K.PartialEq.eq g.met.K.Eq.laws rules s.lives s.max_capacity s.table s.latest s.next_number h same c.self.invariant (λ a b e. cc (g.met.K.Hash.respects_eq a b e))
     c.args.key.now c.args.now c.hash_of-hash.result c.hash_of-hash.ensures c.in_default.ensures.absent in
     rw none tt
 
@@ -21,9 +21,9 @@ pub returns-in_default-clause-stands : goal.returns-in_default-clause-stands
 returns-in_default-clause-stands g c rules h stands =
     let s = c.self.inside in
     let same = rw (← c.self.view_is) at stands in
-    let none = standing-absent g.K.PartialEq.eq g.met.K.Eq.laws rules s.lives s.table s.latest s.next_number h same c.self.invariant (λ a b e. cc (g.met.K.Hash.respects_eq a b e))
+    let none = standing-absent g.K.PartialEq.eq g.met.K.Eq.laws rules s.lives s.max_capacity s.table s.latest s.next_number h same c.self.invariant (λ a b e. cc (g.met.K.Hash.respects_eq a b e))
     c.args.key.now c.hash_of-hash.result c.hash_of-hash.ensures c.in_default.ensures.absent in
-    rw c.max-now.ensures (stands-after-miss g.K.PartialEq.eq g.met.K.Eq.laws rules s.lives s.table s.latest s.next_number h same c.args.key.now c.args.now none)
+    rw c.max-now.ensures (stands-after-miss g.K.PartialEq.eq g.met.K.Eq.laws rules s.lives s.max_capacity s.table s.latest s.next_number h same c.args.key.now c.args.now none)
 
 pub returns-then-is_expired-clause-reply : goal.returns-then-is_expired-clause-reply
 returns-then-is_expired-clause-reply g c rules h stands =
@@ -31,7 +31,7 @@ returns-then-is_expired-clause-reply g c rules h stands =
     let same = rw (← c.self.view_is) at stands in
     let row = c.row-row.result.now in
     let key = same-key g.K.PartialEq.eq c.args.key.now c.hash_of-hash.result row (rw c.row-row.ensures at c.in-Some.ensures.found) in
-    let it = live-found g.K.PartialEq.eq g.met.K.Eq.laws rules s.lives s.table s.latest s.next_number h same c.args.key.now c.args.now c.in-Some.number row c.row-row.ensures key in
+    let it = live-found g.K.PartialEq.eq g.met.K.Eq.laws rules s.lives s.max_capacity s.table s.latest s.next_number h same c.args.key.now c.args.now c.in-Some.number row c.row-row.ensures key in
     let late = sym (ap (has_come (deadline_of s.lives row.info)) c.max-now.ensures) ∙ sym c.is_expired.ensures ∙ c.if-is_expired.true in
     rw (it, late) tt
 
@@ -42,7 +42,7 @@ returns-then-is_expired-clause-stands g c rules h stands =
     let row = c.row-row.result.now in
     let key = same-key g.K.PartialEq.eq c.args.key.now c.hash_of-hash.result row (rw c.row-row.ensures at c.in-Some.ensures.found) in
     let late = sym (ap (has_come (deadline_of s.lives row.info)) c.max-now.ensures) ∙ sym c.is_expired.ensures ∙ c.if-is_expired.true in
-    rw c.max-now.ensures (stands-after-expired g.K.PartialEq.eq g.met.K.Eq.laws rules s.lives s.table s.latest s.next_number h same c.args.key.now c.args.now c.in-Some.number row c.row-row.ensures key late)
+    rw c.max-now.ensures (stands-after-expired g.K.PartialEq.eq g.met.K.Eq.laws rules s.lives s.max_capacity s.table s.latest s.next_number h same c.args.key.now c.args.now c.in-Some.number row c.row-row.ensures key late)
 
 pub returns-in_default-clone-clause-miss : goal.returns-in_default-clone-clause-miss
 returns-in_default-clone-clause-miss g c rules h stands nothing =
@@ -50,7 +50,7 @@ returns-in_default-clone-clause-miss g c rules h stands nothing =
     let same = rw (← c.self.view_is) at stands in
     let row = c.row-row.result.now in
     let key = same-key g.K.PartialEq.eq c.args.key.now c.hash_of-hash.result row (rw c.row-row.ensures at c.in-Some.ensures.found) in
-    let it = live-found g.K.PartialEq.eq g.met.K.Eq.laws rules s.lives s.table s.latest s.next_number h same c.args.key.now c.args.now c.in-Some.number row c.row-row.ensures key in
+    let it = live-found g.K.PartialEq.eq g.met.K.Eq.laws rules s.lives s.max_capacity s.table s.latest s.next_number h same c.args.key.now c.args.now c.in-Some.number row c.row-row.ensures key in
     let late = sym (ap (has_come (deadline_of s.lives row.info)) c.max-now.ensures) ∙ sym c.is_expired.ensures ∙ c.if-is_expired.false in
     let found = rw (it, late) at nothing in
     cc
@@ -71,7 +71,7 @@ returns-clause-reply g c rules h stands =
     let same = rw (← c.self.view_is) at stands in
     let row = c.row-row.result.now in
     let key = same-key g.K.PartialEq.eq c.args.key.now c.hash_of-hash.result row (rw c.row-row.ensures at c.in-Some.ensures.found) in
-    let it = live-found g.K.PartialEq.eq g.met.K.Eq.laws rules s.lives s.table s.latest s.next_number h same c.args.key.now c.args.now c.in-Some.number row c.row-row.ensures key in
+    let it = live-found g.K.PartialEq.eq g.met.K.Eq.laws rules s.lives s.max_capacity s.table s.latest s.next_number h same c.args.key.now c.args.now c.in-Some.number row c.row-row.ensures key in
     let late = sym (ap (has_come (deadline_of s.lives row.info)) c.max-now.ensures) ∙ sym c.is_expired.ensures ∙ c.if-is_expired.false in
     rw (it, late) c.in-Ok.ensures.cases
 
@@ -82,7 +82,7 @@ returns-clause-stands g c rules h stands =
     let row = c.row-row.result.now in
     let key = same-key g.K.PartialEq.eq c.args.key.now c.hash_of-hash.result row (rw c.row-row.ensures at c.in-Some.ensures.found) in
     let late = sym (ap (has_come (deadline_of s.lives row.info)) c.max-now.ensures) ∙ sym c.is_expired.ensures ∙ c.if-is_expired.false in
-    rw c.max-now.ensures (stands-after-hit g.K.PartialEq.eq g.met.K.Eq.laws rules s.lives s.table s.latest s.next_number h same c.touch.new.self c.args.key.now c.args.now c.in-Some.number row _ c.row-row.ensures key late refl (c.max.ensures ∙ ap (max row.info.last_accessed) c.max-now.ensures) c.touch.ensures.rows c.touch.ensures.notices)
+    rw c.max-now.ensures (stands-after-hit g.K.PartialEq.eq g.met.K.Eq.laws rules s.lives s.max_capacity s.table s.latest s.next_number h same c.touch.new.self c.args.key.now c.args.now c.in-Some.number row _ c.row-row.ensures key late refl (c.max.ensures ∙ ap (max row.info.last_accessed) c.max-now.ensures) c.touch.ensures.rows c.touch.ensures.notices)
 
 pub returns-clause-kept : goal.returns-clause-kept
 returns-clause-kept g c =

@@ -35,7 +35,7 @@ returns-clause-stands g c rules h stands =
     let eq = g.K.PartialEq.eq in
     let key = g.S.IntoShared.key_of c.args.key in
     let before = IsSound-same _ _ s.table c.place.new.self c.in-Ok.ensures.same c.self.invariant in
-    let same = stands-same eq rules s.lives s.table c.place.new.self s.latest s.next_number h c.in-Ok.ensures.same (rw (← c.self.view_is) at stands) in
+    let same = stands-same eq rules s.lives s.max_capacity s.table c.place.new.self s.latest s.next_number h c.in-Ok.ensures.same (rw (← c.self.view_is) at stands) in
     elim c.match-place-2.branch [
       | in-Stored w ↦
           let row = w.row.result.now in
@@ -43,12 +43,12 @@ returns-clause-stands g c rules h stands =
           let equal = place-equal eq key c.key-2.result.now c.hash_of-hash.result (entries c.place.new.self) c.key-2.ensures w.in-Stored.number w.in-Stored.key row place w.row.ensures in
           let stored = place-key eq key c.key-2.result.now c.hash_of-hash.result (entries c.place.new.self) c.key-2.ensures w.in-Stored.number w.in-Stored.key row place w.row.ensures in
           let why = w.cause-cause.ensures ∙ ap (λ m. cond (has_come (deadline_of s.lives row.info) m) Expired Replaced) c.max-now.ensures in
-          rw (w.self-inside-is, c.max-now.ensures) (stands-after-overwrite eq g.met.K.Eq.laws rules s.lives c.place.new.self s.latest s.next_number h same w.overwrite.new.self key c.args.value c.args.now w.in-Stored.number row
+          rw (w.self-inside-is, c.max-now.ensures) (stands-after-overwrite eq g.met.K.Eq.laws rules s.lives s.max_capacity c.place.new.self s.latest s.next_number h same w.overwrite.new.self key c.args.value c.args.now w.in-Stored.number row
           _ _ w.row.ensures equal c.max-now.ensures c.max-now.ensures stored refl why w.overwrite.ensures.rows (rw w.row.ensures at w.overwrite.ensures.notices))
       | in-Absent+in-Ok-into_shared w ↦
           let place = rw (w.in-Absent.is, c.key-2.ensures) at c.in-Ok.ensures.place in
-          let none = standing-absent eq g.met.K.Eq.laws rules s.lives c.place.new.self s.latest s.next_number h same before (λ a b e. cc (g.met.K.Hash.respects_eq a b e))
+          let none = standing-absent eq g.met.K.Eq.laws rules s.lives s.max_capacity c.place.new.self s.latest s.next_number h same before (λ a b e. cc (g.met.K.Hash.respects_eq a b e))
           key c.hash_of-hash.result (rw c.key.ensures at c.hash_of-hash.ensures) place in
-          rw (w.self-inside-is, c.max-now.ensures) (stands-after-open eq g.met.K.Eq.laws rules s.lives c.place.new.self s.latest s.next_number h same w.add.new.self key c.args.value c.args.now w.add.ensures.waiting.0
+          rw (w.self-inside-is, c.max-now.ensures) (stands-after-open eq g.met.K.Eq.laws rules s.lives s.max_capacity c.place.new.self s.latest s.next_number h same w.add.new.self key c.args.value c.args.now w.add.ensures.waiting.0
           _ none (g.met.K.Eq.laws.refl key) w.in-Ok-into_shared.ensures.shared refl c.max-now.ensures c.max-now.ensures w.add.ensures.admitted w.add.ensures.waiting.1 w.add.ensures.notices)
     ]

@@ -1,0 +1,46 @@
+-- Where a write goes, and what it does there.
+use Rattle.std.specs.Prelude.{⊤, ◌≡◌, ℕ, Bool, if◌then◌else◌, IsSome, IfSome, Some, List, [], ◌∷◌, ◌++◌}
+use Rattle.std.specs.Arc.{arc_value}
+use Rattle.std.specs.declared.sync.Arc.{Arc}
+use Rattle.std.specs.declared.alloc.Global.{Global}
+use Rattle.moka_base.specs.declared.notification.RemovalCause.TheVariants.{Expired, Replaced}
+use Rattle.moka_base.specs.History.{has_come}
+use Rattle.moka_state.specs.declared.lives.Lives.{Lives}
+use Rattle.moka_state.specs.declared.rows.EntryInfo.{EntryInfo}
+use Rattle.moka_state.specs.declared.rows.Row.{Row}
+use Rattle.moka_state.specs.declared.table.Place.{Place}
+use Rattle.moka_state.specs.declared.table.Place.TheVariants.{Stored, Absent}
+use Rattle.moka_state.specs.declared.slot.Slot.{Slot}
+use Rattle.moka_state.specs.declared.slot.Slot.TheVariants.{Over, New}
+use Rattle.moka_state.specs.Rows.{row_under, overwritten, IsRowOf, NoneIsRowOf}
+use Rattle.moka_state.specs.Lives.{deadline_of}
+use Rattle.moka_state.specs.Table.{Contents, entries, UsesRow}
+
+-- the slot at a place, for a write of a key
+abbrev pub IsSlotFor : {K : Type 0} → K → Place K → Slot K → Type 0
+IsSlotFor key (Stored number stored) (Over m k) = (m ≡ number) × (k ≡ stored)
+IsSlotFor key (Stored number stored) (New k) = ⊥
+IsSlotFor key Absent (Over m k) = ⊥
+IsSlotFor key Absent (New k) = arc_value k ≡ key
+
+module _ {K V : Type 0} where
+  -- the slot at that place once some of the rows have left, among the rows that are there now
+  abbrev pub IsSlotNow : (K → K → Bool) → ℕ → Place K → Arc K Global → List (ℕ × Row K V) → Slot K → Type 0
+  IsSlotNow eq hash (Stored number stored) key rows (Over m k) = (k ≡ stored) × (row : Row K V) × (row_under m rows ≡ Some row) × IsRowOf eq (arc_value key) hash row
+  IsSlotNow eq hash (Stored number stored) key rows (New k) = (k ≡ key) × NoneIsRowOf eq (arc_value key) hash rows
+  IsSlotNow eq hash Absent key rows (Over m k) = ⊥
+  IsSlotNow eq hash Absent key rows (New k) = k ≡ key
+
+  -- the slot's row is there
+  abbrev pub HasSlot : Slot K → Contents K V → Type 0
+  HasSlot (Over number key) c = IsSome (row_under number (entries c))
+  HasSlot (New key) c = ⊤
+
+  -- A value is put into a slot. Over the value of a row it is a use of the row, and the value before is noticed under
+  -- the stored key; a new row waits behind all others.
+  abbrev pub Puts : Lives → Slot K → ℕ → V → EntryInfo → Contents K V → Contents K V → Type 0
+  Puts lives (Over number key) hash value info old new = IfSome (row_under number (entries old)) (λ row.
+      UsesRow number (overwritten value info) old new
+      × (new.notices ≡ old.notices ++ record { key = key; value = row.value; cause = if has_come (deadline_of lives row.info) info.last_modified then Expired else Replaced } ∷ []))
+  Puts lives (New key) hash value info old new =
+      (number : ℕ) × (new.admitted ≡ old.admitted) × (new.waiting ≡ old.waiting ++ (number, record { key = key; hash = hash; value = value; info = info }) ∷ []) × (new.notices ≡ old.notices)
