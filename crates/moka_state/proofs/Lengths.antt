@@ -1,5 +1,6 @@
 -- How many rows stand in both orders after a change of one.
 use Rattle.std.proofs.Common.{◌≡◌, ℕ, ◌+◌, List, [], ◌∷◌, ◌++◌, length, Option, Some, None, MatchOption, refl, sym, ◌∙◌, arith, length-append}
+use Rattle.std.specs.Option.{IsSome, IfSome}
 use Rattle.moka_state.specs.Rows.{row_under, with_row, without_row}
 use Rattle.moka_state.proofs.RowLemmas.{row_under-append_right, length-with_row, length-without_row}
 
@@ -34,3 +35,14 @@ module _ {R : Type 0} where
           → length (admitted' ++ waiting') + 1 ≡ length (admitted ++ waiting)
       go None e h = rw (h.0, h.1) (omega (arith, length-append admitted (without_row n waiting), length-append admitted waiting, length-without_row n waiting row (sym (row_under-append_right n admitted waiting e) ∙ there)))
       go (Some r) e h = rw (h.0, h.1) (omega (arith, length-append (without_row n admitted) waiting, length-append admitted waiting, length-without_row n admitted r e))
+
+  -- an admission keeps how many rows there are in both orders together
+  pub length-admitted : (n : ℕ) (admitted waiting admitted' waiting' : List (ℕ × R))
+      → IsSome (row_under n waiting) → IfSome (row_under n waiting) (λ row. admitted' ≡ admitted ++ (n, row) ∷ []) → waiting' ≡ without_row n waiting
+      → length (admitted' ++ waiting') ≡ length (admitted ++ waiting)
+  length-admitted n admitted waiting admitted' waiting' there behind rest = go (row_under n waiting) refl there behind
+    where
+      go : (o : Option R) → row_under n waiting ≡ o → IsSome o → IfSome o (λ row. admitted' ≡ admitted ++ (n, row) ∷ []) → length (admitted' ++ waiting') ≡ length (admitted ++ waiting)
+      go None e h same = cc
+      go (Some row) e h same =
+          rw (same, rest) (omega (arith, length-append (admitted ++ (n, row) ∷ []) (without_row n waiting), length-append admitted ((n, row) ∷ []), length-append admitted waiting, length-without_row n waiting row e))

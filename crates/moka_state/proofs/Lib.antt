@@ -2,6 +2,7 @@ pub mod Cases
 pub mod Changes
 pub mod Found
 pub mod Lengths
+pub mod Maintaining
 pub mod NumberLemmas
 pub mod Places
 pub mod Queues

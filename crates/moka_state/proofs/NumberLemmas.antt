@@ -4,8 +4,8 @@ use Rattle.std.specs.List.{find, filter, remove}
 use Rattle.std.specs.Option.{option_map, option_or, IfSome, IfNone, IsSome}
 use Rattle.std.proofs.lemmas.List.{take_more, length-append, get_or_default}
 use Rattle.std.proofs.lemmas.Bool.{eq-eqb, ne_eqb, eqb-true}
-use Rattle.moka_state.specs.Rows.{row_under, with_row, without_row, number_after}
-use Rattle.moka_state.specs.Numbers.{count_under, number_where, IsNumbered, IsPlaceOf}
+use Rattle.moka_state.specs.Rows.{count_under, row_under, with_row, without_row, number_after}
+use Rattle.moka_state.specs.Numbers.{number_where, IsNumbered, IsPlaceOf}
 use Rattle.moka_state.proofs.RowLemmas.{row_under-append_right, row_under-here, row_under-there, with_row-here, with_row-there, without_row-here, without_row-there, length-with_row, length-without_row}
 
 module _ {R : Type 0} where

@@ -1,13 +1,8 @@
 -- Rows whose numbers differ, and the place of one of them.
 use Rattle.std.specs.Prelude.{◌≡◌, ℕ, ◌+◌, ◌<◌, ◌≤◌, ◌==◌, if◌then◌else◌, Bool, Option, Some, None, List, [], ◌∷◌, length, slice_index_or, slice_set, remove, find, option_map, drop}
-use Rattle.moka_state.specs.Rows.{row_under, with_row, without_row, first_number, number_after}
+use Rattle.moka_state.specs.Rows.{count_under, row_under, with_row, without_row, first_number, number_after}
 use Rattle.moka_state.specs.declared.list_rows.Place.{Place}
 use Rattle.moka_state.specs.declared.list_rows.Place.TheVariants.{Admitted, Waiting}
-
--- how many rows stand under a number
-abbrev pub count_under : {R : Type 0} → ℕ → List (ℕ × R) → ℕ
-count_under n [] = 0
-count_under n (p ∷ ps) = (if p.0 == n then 1 else 0) + count_under n ps
 
 -- each row has a number of its own, below the next one to be given out
 pub record IsNumbered {R : Type 0} (next : ℕ) (rows : List (ℕ × R)) : Type 0 where

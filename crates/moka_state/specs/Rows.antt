@@ -1,5 +1,5 @@
 -- Rows by their numbers, in an order.
-use Rattle.std.specs.Prelude.{◌≡◌, ℕ, ◌==◌, Bool, true, ◌&&◌, if◌then◌else◌, Option, Some, None, List, [], ◌∷◌, filter}
+use Rattle.std.specs.Prelude.{◌≡◌, ℕ, ◌+◌, ◌≤◌, ◌==◌, Bool, true, ◌&&◌, if◌then◌else◌, Option, Some, None, List, [], ◌∷◌, filter}
 use Rattle.std.specs.Arc.{arc_value}
 use Rattle.moka_state.specs.declared.rows.Row.{Row}
 use Rattle.moka_state.specs.declared.rows.EntryInfo.{EntryInfo}
@@ -49,3 +49,12 @@ first_number (p ∷ ps) = Some p.0
 abbrev pub number_after : {R : Type 0} → ℕ → List (ℕ × R) → Option ℕ
 number_after n [] = None
 number_after n (p ∷ ps) = if p.0 == n then first_number ps else number_after n ps
+
+-- how many rows stand under a number
+abbrev pub count_under : {R : Type 0} → ℕ → List (ℕ × R) → ℕ
+count_under n [] = 0
+count_under n (p ∷ ps) = (if p.0 == n then 1 else 0) + count_under n ps
+
+-- no two rows have one number
+abbrev pub NumbersDiffer : {R : Type 0} → List (ℕ × R) → Type 0
+NumbersDiffer rows = (n : ℕ) → count_under n rows ≤ 1

@@ -3,6 +3,7 @@
 
 pub mod list_rows;
 mod lives;
+mod maintain;
 pub mod rows;
 mod shared_key;
 mod slot;

@@ -32,10 +32,7 @@ impl Lives {
     pub fn is_expired(&self, info: EntryInfo, now: u64) -> bool
         ensures { result ≡ has_come (deadline_of self.now info) now }
     {
-        match self.deadline(info) {
-            None => false,
-            Some(deadline) => deadline <= u128::from(now),
-        }
+        has_come(self.deadline(info), now)
     }
 
     /// The cause under which a value with these moments leaves: expired, where its deadline has come, and else the
@@ -61,8 +58,18 @@ fn ends_at(life: Option<Duration>, from: u64) -> Option<u128>
     }
 }
 
-// The earlier of two deadlines, where there are two.
-fn earlier(a: Option<u128>, b: Option<u128>) -> Option<u128>
+/// Whether a deadline has come at a moment.
+pub fn has_come(deadline: Option<u128>, now: u64) -> bool
+    ensures { result ≡ has_come deadline now }
+{
+    match deadline {
+        None => false,
+        Some(deadline) => deadline <= u128::from(now),
+    }
+}
+
+/// The earlier of two deadlines, where there are two.
+pub fn earlier(a: Option<u128>, b: Option<u128>) -> Option<u128>
     ensures { result ≡ earlier a b }
 {
     match (a, b) {

@@ -3,7 +3,7 @@
 //! A row has a number, which stays its own as long as it is stored. The store keeps two orders of rows: those that
 //! wait for admission, in the order in which their keys came, and those that are admitted, in the order of use.
 ghost use Rattle.std.specs.Prelude.{◌≡◌, ℕ, ◌+◌, ◌<◌, ◌≤◌, List, [], ◌∷◌, ◌++◌, length, IsSome, IfSome, IfNone, OnOk, OnErr, OnSome, Some, None, MatchOption};
-ghost use Rattle.moka_state.specs.Rows.{row_under, with_row, without_row, touched, overwritten, first_number, number_after, IsRowOf, NoneIsRowOf};
+ghost use Rattle.moka_state.specs.Rows.{row_under, with_row, without_row, touched, overwritten, first_number, number_after, IsRowOf, NoneIsRowOf, NumbersDiffer};
 
 use std::alloc::{AllocError, Global};
 use std::mem;
@@ -118,16 +118,18 @@ pub trait RowStore<K: Eq, V>: Drop {
     fn first_admitted(&self) -> Option<usize>
         ensures { result ≡ first_number (admitted self.now) };
 
-    /// The number of the row that has waited longest.
+    /// The number of the row that has waited longest. No two rows have one number.
     fn first_waiting(&self) -> Option<usize>
-        ensures { result ≡ first_number (waiting self.now) };
+        ensures first { result ≡ first_number (waiting self.now) }
+        ensures apart { NumbersDiffer (admitted self.now ++ waiting self.now) };
 
-    /// The number of the row behind this one, in the order in which this one stands.
+    /// The number of the row behind this one, in the order in which this one stands. No two rows have one number.
     fn next(&self, number: usize) -> Option<usize>
         requires { IsSome (row_under number (admitted self.now ++ waiting self.now)) }
-        ensures { MatchOption (row_under number (admitted self.now))
+        ensures behind { MatchOption (row_under number (admitted self.now))
             (result ≡ number_after number (waiting self.now))
-            (λ _. result ≡ number_after number (admitted self.now)) };
+            (λ _. result ≡ number_after number (admitted self.now)) }
+        ensures apart { NumbersDiffer (admitted self.now ++ waiting self.now) };
 
     /// Admits a row that waits, as the most recently used. It takes no memory.
     fn admit(&mut self, number: usize)

@@ -2,7 +2,7 @@
 ghost use Rattle.std.specs.Prelude.{◌≡◌, ℕ, ◌+◌, ◌-◌, ◌<◌, ◌≤◌, List, [], ◌∷◌, ◌++◌, length, min, IsSome, IfSome, IfNone, IfOk, OnOk, OnErr, Some, None, MatchOption};
 ghost use Rattle.std.specs.Option.{option_to_list};
 ghost use Rattle.std.specs.VecDeque.{deque_len, deque_capacity};
-ghost use Rattle.moka_state.specs.Rows.{row_under, with_row, without_row, touched, overwritten, IsRowOf, NoneIsRowOf};
+ghost use Rattle.moka_state.specs.Rows.{row_under, with_row, without_row, touched, overwritten, first_number, number_after, IsRowOf, NoneIsRowOf, NumbersDiffer};
 ghost use Rattle.moka_state.specs.Place.{IsPlaceOf};
 ghost use Rattle.moka_state.specs.Table.{Contents, entries, SameRows, UsesRow, TakesRow};
 
@@ -79,6 +79,39 @@ impl<K: Eq + Drop, V: Drop, R: RowStore<K, V>> Table<K, V, R> {
         self.rows.row(number)
     }
 
+    /// How many rows are admitted.
+    pub fn admitted_len(&self) -> usize
+        ensures { result ≡ length self.now.admitted }
+    {
+        self.rows.len() - self.rows.waiting_len()
+    }
+
+    /// The number of the least recently used admitted row.
+    pub fn first_admitted(&self) -> Option<usize>
+        ensures { result ≡ first_number self.now.admitted }
+    {
+        self.rows.first_admitted()
+    }
+
+    /// The number of the row that has waited longest. No two rows have one number.
+    pub fn first_waiting(&self) -> Option<usize>
+        ensures first { result ≡ first_number self.now.waiting }
+        ensures apart { NumbersDiffer (entries self.now) }
+    {
+        self.rows.first_waiting()
+    }
+
+    /// The number of the row behind this one, in the order in which this one stands. No two rows have one number.
+    pub fn next(&self, number: usize) -> Option<usize>
+        requires { IsSome (row_under number (entries self.now)) }
+        ensures behind { MatchOption (row_under number self.now.admitted)
+            (result ≡ number_after number self.now.waiting)
+            (λ _. result ≡ number_after number self.now.admitted) }
+        ensures apart { NumbersDiffer (entries self.now) }
+    {
+        self.rows.next(number)
+    }
+
     /// Makes room for one more row and for one more notice. Where memory is refused, nothing has changed.
     pub fn reserve(&mut self) -> Result<(), AllocError>
         ensures room { OnOk result (0 < self.new.room) }
@@ -146,12 +179,24 @@ impl<K: Eq + Drop, V: Drop, R: RowStore<K, V>> Table<K, V, R> {
         }
     }
 
-    /// Lets a row leave, and notices it with this cause. It takes no memory.
+    /// Admits a row that waits, as the most recently used. It takes no memory, and none of the room.
+    pub fn admit(&mut self, number: usize)
+        requires { IsSome (row_under number self.old.waiting) }
+        ensures waiting { self.new.waiting ≡ without_row number self.old.waiting }
+        ensures admitted { IfSome (row_under number self.old.waiting) (λ row. self.new.admitted ≡ self.old.admitted ++ (number, row) ∷ []) }
+        ensures notices { self.new.notices ≡ self.old.notices }
+        ensures room { self.old.room ≤ self.new.room }
+    {
+        self.rows.admit(number);
+    }
+
+    /// Lets a row leave, and notices it with this cause. It takes no memory, and none of the room.
     pub fn let_go(&mut self, number: usize, cause: RemovalCause)
         requires { IsSome (row_under number (entries self.old)) }
         ensures rows { TakesRow number self.old self.new }
         ensures notices { IfSome (row_under number (entries self.old)) (λ row.
             self.new.notices ≡ self.old.notices ++ record { key = row.key; value = row.value; cause = cause } ∷ []) }
+        ensures room { self.old.room ≤ self.new.room }
     {
         let Row { key, value, .. } = self.rows.remove(number);
         match self.notices.push_back(Notice { key, value, cause }) {
