@@ -1,12 +1,20 @@
 -- A change of one row keeps what holds of each row.
-use Rattle.std.proofs.Common.{◌≡◌, ℕ, List, [], ◌∷◌, ◌++◌, Option, Some, None, MatchOption, refl, sym, ap, ◌∙◌, append_assoc}
+use Rattle.std.proofs.Common.{◌≡◌, ◌≤◌, ◌+◌, ℕ, zero, suc, min, Bool, true, false, not, List, [], ◌∷◌, ◌++◌, length, filter, take, drop, Option, Some, None, option_map, MatchOption, refl, sym, ap, ◌∙◌, append_assoc, arith}
 use Rattle.std.specs.Arc.{arc_value}
 use Rattle.moka_base.specs.declared.notification.Notice.{Notice}
 use Rattle.moka_state.specs.declared.rows.EntryInfo.{EntryInfo}
 use Rattle.moka_state.specs.State.{IsSound}
 use Rattle.std.specs.List.{AllByRecursion}
 use Rattle.moka_state.specs.declared.rows.Row.{Row}
-use Rattle.moka_state.specs.Rows.{row_under, with_row, without_row, overwritten}
+use Rattle.std.specs.Duration.{as_nanos}
+use Rattle.std.proofs.lemmas.Bool.{cond_both, true≢false, leb-true, le-leb}
+use Rattle.moka_base.specs.declared.notification.RemovalCause.{RemovalCause}
+use Rattle.moka_base.specs.declared.notification.RemovalCause.TheVariants.{Expired, Size}
+use Rattle.moka_base.specs.History.{ends_at, earlier, has_come}
+use Rattle.moka_state.specs.declared.lives.Lives.{Lives}
+use Rattle.moka_state.specs.Lives.{deadline_of}
+use Rattle.moka_state.specs.Maintain.{is_alive, living, dead, notices_for, excess, IsDueFrom, IsMaintained}
+use Rattle.moka_state.specs.Rows.{row_under, with_row, without_row, touched, overwritten}
 use Rattle.moka_state.specs.Table.{Contents, entries, SameRows, UsesRow, TakesRow}
 use Rattle.moka_state.proofs.RowLemmas.{row_under-append_left, row_under-append_right, split_at_row}
 
@@ -22,6 +30,20 @@ module _ {A : Type 0} (P : A → Type 0) where
   pub all-back : (xs ys : List A) → AllByRecursion P (xs ++ ys) → AllByRecursion P ys
   all-back [] ys a = a
   all-back (x ∷ xs) ys a = all-back xs ys a.1
+
+  pub all-filter : (t : A → Bool) (xs : List A) → AllByRecursion P xs → AllByRecursion P (filter t xs)
+  all-filter t [] a = tt
+  all-filter t (x ∷ xs) a = cond_both (t x) (x ∷ filter t xs) (filter t xs) (AllByRecursion P) (λ _. (a.0, all-filter t xs a.1)) (λ _. all-filter t xs a.1)
+
+  pub all-take : (n : ℕ) (xs : List A) → AllByRecursion P xs → AllByRecursion P (take n xs)
+  all-take zero xs a = tt
+  all-take (suc n) [] a = tt
+  all-take (suc n) (x ∷ xs) a = (a.0, all-take n xs a.1)
+
+  pub all-drop : (n : ℕ) (xs : List A) → AllByRecursion P xs → AllByRecursion P (drop n xs)
+  all-drop zero xs a = a
+  all-drop (suc n) [] a = tt
+  all-drop (suc n) (x ∷ xs) a = all-drop n xs a.1
 
 module _ {K V : Type 0} (P : Row K V → Type 0) where
   -- of each row, whatever its number
@@ -87,28 +109,91 @@ module _ {K V : Type 0} (P : Row K V → Type 0) where
           let found : Some r ≡ Some row = sym (row_under-append_left n old.admitted old.waiting r e) ∙ there in
           rw (h.0, h.1) (all-append Q (without_row n old.admitted) old.waiting (of-rest n old.admitted row (all-front Q old.admitted old.waiting all) (e ∙ found)) (all-back Q old.admitted old.waiting all))
 
+-- the moments of a use come no earlier, so the deadline of the row comes no earlier
+pub due-touched : (lives : Lives) (was is : EntryInfo) (at : ℕ) → is.last_modified ≡ was.last_modified → was.last_accessed ≤ is.last_accessed → has_come (deadline_of lives is) at ≡ true → has_come (deadline_of lives was) at ≡ true
+due-touched lives was is at modified accessed come =
+    ends (option_map as_nanos lives.time_to_live) (option_map as_nanos lives.time_to_idle) (rw modified at come)
+  where
+    ends : (live idle : Option ℕ) → has_come (earlier (ends_at live was.last_modified) (ends_at idle is.last_accessed)) at ≡ true → has_come (earlier (ends_at live was.last_modified) (ends_at idle was.last_accessed)) at ≡ true
+    ends None None c = c
+    ends (Some m) None c = c
+    ends None (Some n) c = le-leb (was.last_accessed + n) at (let late = leb-true (is.last_accessed + n) at c in omega arith)
+    ends (Some m) (Some n) c = le-leb (min (was.last_modified + m) (was.last_accessed + n)) at (let late = leb-true (min (was.last_modified + m) (is.last_accessed + n)) at c in omega arith)
+
+-- an earlier deadline has come where either has
+pub come-left : (a b : Option ℕ) (at : ℕ) → has_come a at ≡ true → has_come (earlier a b) at ≡ true
+come-left None b at c = absurd (true≢false (sym c))
+come-left (Some m) None at c = c
+come-left (Some m) (Some n) at c = le-leb (min m n) at (let late = leb-true m at c in omega arith)
+
+pub come-right : (a b : Option ℕ) (at : ℕ) → has_come b at ≡ true → has_come (earlier a b) at ≡ true
+come-right None b at c = c
+come-right (Some m) None at c = absurd (true≢false (sym c))
+come-right (Some m) (Some n) at c = le-leb (min m n) at (let late = leb-true n at c in omega arith)
+
+module _ {K V : Type 0} where
+  -- the admitted, after a use of a row
+  pub of-used-admitted : (P : Row K V → Type 0) (n : ℕ) (change : Row K V → Row K V) (row : Row K V) (old new : Contents K V) → OfEach P old.admitted → row_under n (entries old) ≡ Some row → (P row → P (change row)) → UsesRow n change old new → OfEach P new.admitted
+  of-used-admitted P n change row old new all there it used = go (row_under n old.admitted) refl used
+    where
+      go : (o : Option (Row K V)) → row_under n old.admitted ≡ o
+          → MatchOption o
+          ((new.admitted ≡ old.admitted) × (new.waiting ≡ with_row n change old.waiting))
+          (λ r. (new.admitted ≡ without_row n old.admitted ++ (n, change r) ∷ []) × (new.waiting ≡ old.waiting))
+          → OfEach P new.admitted
+      go None e h = rw (h.0) all
+      go (Some r) e h =
+          let found : Some r ≡ Some row = sym (row_under-append_left n old.admitted old.waiting r e) ∙ there in
+          let same : row ≡ r = cc in
+          let front = it (of-row P n old.admitted row all (e ∙ found)) in
+          rw (h.0) (all-append (λ (p : ℕ × Row K V). P p.1) (without_row n old.admitted) ((n, change r) ∷ []) (of-rest P n old.admitted row all (e ∙ found)) (rw same at front, tt))
+
+  -- the admitted, after a removal
+  pub of-taken-admitted : (P : Row K V → Type 0) (n : ℕ) (row : Row K V) (old new : Contents K V) → OfEach P old.admitted → row_under n (entries old) ≡ Some row → TakesRow n old new → OfEach P new.admitted
+  of-taken-admitted P n row old new all there taken = go (row_under n old.admitted) refl taken
+    where
+      go : (o : Option (Row K V)) → row_under n old.admitted ≡ o
+          → MatchOption o
+          ((new.admitted ≡ old.admitted) × (new.waiting ≡ without_row n old.waiting))
+          (λ _. (new.admitted ≡ without_row n old.admitted) × (new.waiting ≡ old.waiting))
+          → OfEach P new.admitted
+      go None e h = rw (h.0) all
+      go (Some r) e h = rw (h.0) (of-rest P n old.admitted r all e)
+
+  -- an earlier bound bounds all the more
+  pub IsDueFrom-left : (a b : Option ℕ) (lives : Lives) (rows : List (ℕ × Row K V)) → IsDueFrom a lives rows → IsDueFrom (earlier a b) lives rows
+  IsDueFrom-left a b lives [] due = tt
+  IsDueFrom-left a b lives (p ∷ ps) due = (λ at c. come-left a b at (due.0 at c), IsDueFrom-left a b lives ps due.1)
+
 -- the same rows keep all
-pub IsSound-same : {K V : Type 0} (keeps : K → V → Type 0) (hash_of : K → ℕ) (old new : Contents K V) → SameRows old new → IsSound keeps hash_of old → IsSound keeps hash_of new
-IsSound-same keeps hash_of old new same sound = record {
+pub IsSound-same : {K V : Type 0} (keeps : K → V → Type 0) (hash_of : K → ℕ) (lives : Lives) (earliest : Option ℕ) (old new : Contents K V) → SameRows old new → IsSound keeps hash_of lives earliest old → IsSound keeps hash_of lives earliest new
+IsSound-same keeps hash_of lives earliest old new same sound = record {
+  due = rw same.0 sound.due;
   hashed = rw (same.0, same.1) sound.hashed;
   kept = rw (same.0, same.1) sound.kept;
   notices_kept = rw same.2 sound.notices_kept;
 }
 
-module _ {K V : Type 0} (keeps : K → V → Type 0) (hash_of : K → ℕ) (old new : Contents K V) (sound : IsSound keeps hash_of old) where
-  -- a value that is kept for a row's key takes the place of the one before, which is noticed under the same key
+module _ {K V : Type 0} (keeps : K → V → Type 0) (hash_of : K → ℕ) (lives : Lives) (earliest : Option ℕ) (old new : Contents K V) (sound : IsSound keeps hash_of lives earliest old) where
+  -- A value that is kept for a row's key takes the place of the one before, which is noticed under an equal key. The
+  -- deadline of the new one counts too.
   pub IsSound-overwritten : (n : ℕ) (row : Row K V) (v : V) (info : EntryInfo) (notice : Notice K V) → row_under n (entries old) ≡ Some row → keeps (arc_value row.key) v
-      → arc_value notice.key ≡ arc_value row.key → notice.value ≡ row.value → UsesRow n (overwritten v info) old new → new.notices ≡ old.notices ++ notice ∷ [] → IsSound keeps hash_of new
-  IsSound-overwritten n row v info notice there kept key value used notices = record {
+      → (keeps (arc_value row.key) row.value → keeps (arc_value notice.key) notice.value) → UsesRow n (overwritten v info) old new → new.notices ≡ old.notices ++ notice ∷ []
+      → IsSound keeps hash_of lives (earlier earliest (deadline_of lives info)) new
+  IsSound-overwritten n row v info notice there kept left used notices =
+      let Due : Row K V → Type 0 = λ r. (at : ℕ) → has_come (deadline_of lives r.info) at ≡ true → has_come (earlier earliest (deadline_of lives info)) at ≡ true in
+      record {
+    due = of-used-admitted Due n (overwritten v info) row old new (IsDueFrom-left earliest (deadline_of lives info) lives old.admitted sound.due) there (λ _ at c. come-right earliest (deadline_of lives info) at c) used;
     hashed = of-used (λ (r : Row K V). r.hash ≡ hash_of (arc_value r.key)) n (overwritten v info) row old new sound.hashed there (of-row (λ (r : Row K V). r.hash ≡ hash_of (arc_value r.key)) n (entries old) row sound.hashed there) used;
     kept = of-used (λ (r : Row K V). keeps (arc_value r.key) r.value) n (overwritten v info) row old new sound.kept there kept used;
-    notices_kept = rw notices (all-append (λ (m : Notice K V). keeps (arc_value m.key) m.value) old.notices (notice ∷ []) sound.notices_kept (rw (key, value) (of-row (λ (r : Row K V). keeps (arc_value r.key) r.value) n (entries old) row sound.kept there), tt));
+    notices_kept = rw notices (all-append (λ (m : Notice K V). keeps (arc_value m.key) m.value) old.notices (notice ∷ []) sound.notices_kept (left (of-row (λ (r : Row K V). keeps (arc_value r.key) r.value) n (entries old) row sound.kept there), tt));
   }
 
-  -- a row with its hash and with a value that is kept for its key is added
+  -- a row with its hash and with a value that is kept for its key is added to those that wait
   pub IsSound-added : (n : ℕ) (row : Row K V) → row.hash ≡ hash_of (arc_value row.key) → keeps (arc_value row.key) row.value
-      → new.admitted ≡ old.admitted → new.waiting ≡ old.waiting ++ (n, row) ∷ [] → new.notices ≡ old.notices → IsSound keeps hash_of new
+      → new.admitted ≡ old.admitted → new.waiting ≡ old.waiting ++ (n, row) ∷ [] → new.notices ≡ old.notices → IsSound keeps hash_of lives (earlier earliest (deadline_of lives row.info)) new
   IsSound-added n row hash kept admitted waiting notices = record {
+    due = rw admitted (IsDueFrom-left earliest (deadline_of lives row.info) lives old.admitted sound.due);
     hashed = rw grown (all-append (λ (p : ℕ × Row K V). p.1.hash ≡ hash_of (arc_value p.1.key)) (entries old) ((n, row) ∷ []) sound.hashed (hash, tt));
     kept = rw grown (all-append (λ (p : ℕ × Row K V). keeps (arc_value p.1.key) p.1.value) (entries old) ((n, row) ∷ []) sound.kept (kept, tt));
     notices_kept = rw notices sound.notices_kept;
@@ -116,3 +201,44 @@ module _ {K V : Type 0} (keeps : K → V → Type 0) (hash_of : K → ℕ) (old 
     where
       grown : entries new ≡ entries old ++ (n, row) ∷ []
       grown = ap (λ a. a ++ new.waiting) admitted ∙ ap (λ w. old.admitted ++ w) waiting ∙ sym (append_assoc old.admitted old.waiting ((n, row) ∷ []))
+
+  -- a use at moments that come no earlier
+  pub IsSound-touched : (n : ℕ) (row : Row K V) (info : EntryInfo) → row_under n (entries old) ≡ Some row → info.last_modified ≡ row.info.last_modified → row.info.last_accessed ≤ info.last_accessed
+      → UsesRow n (touched info) old new → new.notices ≡ old.notices → IsSound keeps hash_of lives earliest new
+  IsSound-touched n row info there modified accessed used notices = record {
+    due = of-used-admitted (λ (r : Row K V). (at : ℕ) → has_come (deadline_of lives r.info) at ≡ true → has_come earliest at ≡ true) n (touched info) row old new sound.due there (λ was at c. was at (due-touched lives row.info info at modified accessed c)) used;
+    hashed = of-used (λ (r : Row K V). r.hash ≡ hash_of (arc_value r.key)) n (touched info) row old new sound.hashed there (of-row (λ (r : Row K V). r.hash ≡ hash_of (arc_value r.key)) n (entries old) row sound.hashed there) used;
+    kept = of-used (λ (r : Row K V). keeps (arc_value r.key) r.value) n (touched info) row old new sound.kept there (of-row (λ (r : Row K V). keeps (arc_value r.key) r.value) n (entries old) row sound.kept there) used;
+    notices_kept = rw notices sound.notices_kept;
+  }
+
+  -- a row leaves, and is noticed
+  pub IsSound-taken : (n : ℕ) (row : Row K V) (cause : RemovalCause) → row_under n (entries old) ≡ Some row → TakesRow n old new
+      → new.notices ≡ old.notices ++ record { key = row.key; value = row.value; cause = cause } ∷ [] → IsSound keeps hash_of lives earliest new
+  IsSound-taken n row cause there taken notices = record {
+    due = of-taken-admitted (λ (r : Row K V). (at : ℕ) → has_come (deadline_of lives r.info) at ≡ true → has_come earliest at ≡ true) n row old new sound.due there taken;
+    hashed = of-taken (λ (r : Row K V). r.hash ≡ hash_of (arc_value r.key)) n row old new sound.hashed there taken;
+    kept = of-taken (λ (r : Row K V). keeps (arc_value r.key) r.value) n row old new sound.kept there taken;
+    notices_kept = rw notices (all-append (λ (m : Notice K V). keeps (arc_value m.key) m.value) old.notices _ sound.notices_kept (of-row (λ (r : Row K V). keeps (arc_value r.key) r.value) n (entries old) row sound.kept there, tt));
+  }
+
+  -- after a maintenance
+  pub IsSound-maintained : (capacity due : Option ℕ) (at : ℕ) → IsMaintained lives capacity at old new → IsDueFrom due lives (entries new) → IsSound keeps hash_of lives due new
+  IsSound-maintained capacity due at is bound =
+      let alive : ℕ × Row K V → Bool = is_alive lives at in
+      let n : ℕ = excess capacity (length (living lives at (entries old))) in
+      let Hashed : ℕ × Row K V → Type 0 = λ p. p.1.hash ≡ hash_of (arc_value p.1.key) in
+      let Keeps : ℕ × Row K V → Type 0 = λ p. keeps (arc_value p.1.key) p.1.value in
+      let Noticed : Notice K V → Type 0 = λ m. keeps (arc_value m.key) m.value in
+      let gone = all-filter Keeps (λ p. not (alive p)) (entries old) sound.kept in
+      let over = all-take Keeps n (living lives at (entries old)) (all-filter Keeps alive (entries old) sound.kept) in
+      record {
+        due = all-front (λ (p : ℕ × Row K V). (t : ℕ) → has_come (deadline_of lives p.1.info) t ≡ true → has_come due t ≡ true) new.admitted new.waiting bound;
+        hashed = rw (is.waiting, is.admitted) (all-append Hashed (drop n (living lives at (entries old))) [] (all-drop Hashed n (living lives at (entries old)) (all-filter Hashed alive (entries old) sound.hashed)) tt);
+        kept = rw (is.waiting, is.admitted) (all-append Keeps (drop n (living lives at (entries old))) [] (all-drop Keeps n (living lives at (entries old)) (all-filter Keeps alive (entries old) sound.kept)) tt);
+        notices_kept = rw is.notices (all-append Noticed old.notices _ sound.notices_kept (all-append Noticed (notices_for Expired (dead lives at (entries old))) (notices_for Size (take n (living lives at (entries old)))) (kept-noticed Expired (dead lives at (entries old)) gone) (kept-noticed Size (take n (living lives at (entries old))) over)));
+      }
+    where
+      kept-noticed : (cause : RemovalCause) (rows : List (ℕ × Row K V)) → AllByRecursion (λ (p : ℕ × Row K V). keeps (arc_value p.1.key) p.1.value) rows → AllByRecursion (λ (m : Notice K V). keeps (arc_value m.key) m.value) (notices_for cause rows)
+      kept-noticed cause [] all = tt
+      kept-noticed cause (p ∷ ps) all = (all.0, kept-noticed cause ps all.1)

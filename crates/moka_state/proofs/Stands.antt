@@ -29,7 +29,7 @@ module _ {K V : Type 0} (eq : K → K → Bool) (laws : IsEquivalence eq) (rules
   standing-found k n row there same = option_to_list-same (standing eq rules k h) (Some (stored_write row)) (sym (stored-standing k) ∙ writes_of-row eq laws k n (entries contents) row one-each-row there same)
 
   -- where no row is found, nothing stands
-  pub standing-absent : {keeps : K → V → Type 0} {hash_of : K → ℕ} → IsSound keeps hash_of contents → ((a b : K) → eq a b ≡ true → hash_of a ≡ hash_of b)
+  pub standing-absent : {keeps : K → V → Type 0} {hash_of : K → ℕ} {earliest : Option ℕ} → IsSound keeps hash_of lives earliest contents → ((a b : K) → eq a b ≡ true → hash_of a ≡ hash_of b)
       → (k : K) (hash : ℕ) → hash ≡ hash_of k → NoneIsRowOf eq k hash (entries contents) → standing eq rules k h ≡ None
   standing-absent {hash_of = hash_of} sound respects k hash is none = option_to_list-same (standing eq rules k h) None (sym (stored-standing k) ∙ writes_of-absent eq laws hash_of k (entries contents) respects sound.hashed (rw is at none))
 
@@ -52,7 +52,7 @@ module _ {K V : Type 0} (eq : K → K → Bool) (laws : IsEquivalence eq) (rules
       ∙ ap (λ t. cond (not t) (Some (stored_write row)) None) (expired-same row at)
 
   -- where no row is found, nothing is live
-  pub live-absent : {keeps : K → V → Type 0} {hash_of : K → ℕ} → IsSound keeps hash_of contents → ((a b : K) → eq a b ≡ true → hash_of a ≡ hash_of b)
+  pub live-absent : {keeps : K → V → Type 0} {hash_of : K → ℕ} {earliest : Option ℕ} → IsSound keeps hash_of lives earliest contents → ((a b : K) → eq a b ≡ true → hash_of a ≡ hash_of b)
       → (k : K) (at hash : ℕ) → hash ≡ hash_of k → NoneIsRowOf eq k hash (entries contents) → live eq rules k (max (latest h) at) h ≡ None
   live-absent sound respects k at hash is none = ap (live_one rules (max (latest h) at)) (standing-absent sound respects k hash is none)
 

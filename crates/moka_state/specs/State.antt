@@ -7,6 +7,7 @@ use Rattle.std.specs.declared.time.Duration.{Duration}
 use Rattle.moka_base.specs.History.{Rules}
 use Rattle.moka_base.specs.StandsFor.{Holdings}
 use Rattle.moka_state.specs.declared.lives.Lives.{Lives}
+use Rattle.moka_state.specs.Maintain.{IsDueFrom}
 use Rattle.moka_state.specs.Table.{Contents, entries, stored_writes, leaving_of}
 
 -- the rules of a cache that is built with these settings
@@ -27,9 +28,10 @@ module _ {K V : Type 0} where
     next_number = next_number;
   }
 
-  -- Each row has the hash of its key, and each key and value, stored or noticed, are in the relation that the cache
-  -- keeps.
-  pub record IsSound (keeps : K → V → Type 0) (hash_of : K → ℕ) (contents : Contents K V) : Type 0 where
+  -- Each row has the hash of its key; each key and value, stored or noticed, are in the relation that the cache keeps;
+  -- and no admitted value's deadline comes before the earliest.
+  pub record IsSound (keeps : K → V → Type 0) (hash_of : K → ℕ) (lives : Lives) (earliest : Option ℕ) (contents : Contents K V) : Type 0 where
+    pub due : IsDueFrom earliest lives contents.admitted
     pub hashed : AllByRecursion (λ p. p.1.hash ≡ hash_of (arc_value p.1.key)) (entries contents)
     pub kept : AllByRecursion (λ p. keeps (arc_value p.1.key) p.1.value) (entries contents)
     pub notices_kept : AllByRecursion (λ n. keeps (arc_value n.key) n.value) contents.notices

@@ -1,9 +1,9 @@
 //! The cache as a plain value, lent with `&mut`, with every moment handed in.
-ghost use Rattle.std.specs.Prelude.{◌≡◌, ℕ, ◌↔◌, ◌∷◌, [], length, map, option_map, fold, IsOk, IfOk, IfErr, IfSome, OnOk, OnErr, None, Some, IsErrAnd};
+ghost use Rattle.std.specs.Prelude.{◌≡◌, ◌+◌, ◌≤◌, ℕ, true, false, ◌↔◌, ◌∷◌, [], length, map, option_map, fold, IsOk, IfOk, IfErr, IfSome, OnOk, OnErr, None, Some, IsErrAnd};
 ghost use Rattle.std.specs.Arc.{arc_value};
 ghost use Rattle.moka_base.specs.History.{Event, Get, ContainsKey, Invalidate, Maintain, EntryCount, TakeNotice, live, noticed, greatest_number, flush_point, stores_nothing, after_insert};
 ghost use Rattle.moka_base.specs.Replies.{answer, Found, Contains, Done, Counted, Noticed, IsAnswer};
-ghost use Rattle.moka_base.specs.StandsFor.{Holdings, StandsFor, Follows, AtEachHistory};
+ghost use Rattle.moka_base.specs.StandsFor.{Holdings, writes, StandsFor, Follows, AtEachHistory};
 ghost use Rattle.moka_state.specs.Table.{leaving_of};
 ghost use Rattle.moka_state.specs.State.{holdings, rules_of, IsSound};
 

@@ -79,6 +79,20 @@ impl<K: Eq + Drop, V: Drop, R: RowStore<K, V>> Table<K, V, R> {
         self.rows.row(number)
     }
 
+    /// How many rows there are.
+    pub fn len(&self) -> usize
+        ensures { result ≡ length (entries self.now) }
+    {
+        self.rows.len()
+    }
+
+    /// How many rows wait.
+    pub fn waiting_len(&self) -> usize
+        ensures { result ≡ length self.now.waiting }
+    {
+        self.rows.waiting_len()
+    }
+
     /// How many rows are admitted.
     pub fn admitted_len(&self) -> usize
         ensures { result ≡ length self.now.admitted }

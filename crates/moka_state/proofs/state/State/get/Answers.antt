@@ -1,10 +1,9 @@
-use Rattle.std.proofs.Common.{max, ◌∙◌, ap, sym, refl}
+use Rattle.std.proofs.Common.{max, ◌∙◌, ap, sym, refl, arith}
 use Rattle.std.specs.Arc.{arc_value}
 use Rattle.moka_base.specs.History.{has_come}
 use Rattle.moka_state.specs.Lives.{deadline_of}
-use Rattle.moka_state.specs.Rows.{touched}
 use Rattle.moka_state.proofs.Found.{same-key}
-use Rattle.moka_state.proofs.Sound.{of-row, of-used}
+use Rattle.moka_state.proofs.Sound.{of-row, IsSound-touched}
 use Rattle.moka_state.proofs.Stands.{standing-absent, live-found, live-absent}
 use Rattle.moka_state.proofs.Cases.{stands-after-miss, stands-after-expired, stands-after-hit}
 use Rattle.moka_state.proofs.state.State.get.Goals as goal
@@ -59,11 +58,7 @@ pub invariant_of-self-2 : goal.invariant_of-self-2
 invariant_of-self-2 g c =
     let s = c.self.inside in
     let row = c.row-row.result.now in
-    record {
-      hashed = of-used _ c.in-Some.number (touched _) row s.table c.touch.new.self c.self.invariant.hashed c.row-row.ensures (of-row _ c.in-Some.number _ row c.self.invariant.hashed c.row-row.ensures) c.touch.ensures.rows;
-      kept = of-used _ c.in-Some.number (touched _) row s.table c.touch.new.self c.self.invariant.kept c.row-row.ensures (of-row _ c.in-Some.number _ row c.self.invariant.kept c.row-row.ensures) c.touch.ensures.rows;
-      notices_kept = rw c.touch.ensures.notices c.self.invariant.notices_kept;
-    }
+    IsSound-touched _ _ s.lives s.earliest s.table c.touch.new.self c.self.invariant c.in-Some.number row _ c.row-row.ensures refl (omega (arith, c.max.ensures)) c.touch.ensures.rows c.touch.ensures.notices
 
 pub returns-clause-reply : goal.returns-clause-reply
 returns-clause-reply g c rules h stands =

@@ -4,7 +4,7 @@ use Rattle.moka_base.specs.declared.notification.RemovalCause.TheVariants.{Expir
 use Rattle.moka_base.specs.History.{has_come}
 use Rattle.moka_state.specs.Lives.{deadline_of}
 use Rattle.moka_state.proofs.Found.{same-key}
-use Rattle.moka_state.proofs.Sound.{all-append, of-row, of-taken}
+use Rattle.moka_state.proofs.Sound.{IsSound-taken}
 use Rattle.moka_state.proofs.Stands.{standing-absent}
 use Rattle.moka_state.proofs.Cases.{stands-after-nothing, stands-after-let_go}
 use Rattle.moka_state.proofs.state.State.invalidate.Goals as goal
@@ -13,12 +13,7 @@ pub invariant_of-self : goal.invariant_of-self
 invariant_of-self g c =
     let s = c.self.inside in
     let row = c.row.result.now in
-    let leaves = rw c.row.ensures at c.let_go.ensures.notices in
-    record {
-      hashed = of-taken _ c.in-Some.number row s.table c.let_go.new.self c.self.invariant.hashed c.row.ensures c.let_go.ensures.rows;
-      kept = of-taken _ c.in-Some.number row s.table c.let_go.new.self c.self.invariant.kept c.row.ensures c.let_go.ensures.rows;
-      notices_kept = rw leaves (all-append _ s.table.notices _ c.self.invariant.notices_kept (of-row (λ r. g.C.CacheTypes.keeps (arc_value r.key) r.value) c.in-Some.number _ row c.self.invariant.kept c.row.ensures, tt));
-    }
+    IsSound-taken _ _ s.lives s.earliest s.table c.let_go.new.self c.self.invariant c.in-Some.number row _ c.row.ensures c.let_go.ensures.rows (rw c.row.ensures at c.let_go.ensures.notices)
 
 pub returns-in-Some : goal.returns-in-Some
 returns-in-Some g c rules h stands =
