@@ -1,5 +1,5 @@
 -- What a maintenance under the order of use does with the rows, each of weight 1.
-use Rattle.std.specs.Prelude.{◌≡◌, ℕ, ◌-◌, Bool, true, not, Option, Some, None, List, [], ◌∷◌, ◌++◌, length, take, drop, filter, map}
+use Rattle.std.specs.Prelude.{◌≡◌, ℕ, ◌-◌, Bool, true, not, Option, Some, None, List, [], ◌++◌, length, take, drop, filter, map}
 use Rattle.std.specs.List.{AllByRecursion}
 use Rattle.moka_base.specs.declared.notification.Notice.{Notice}
 use Rattle.moka_base.specs.declared.notification.RemovalCause.{RemovalCause}
