@@ -2,12 +2,14 @@ pub mod Cases
 pub mod Changes
 pub mod Found
 pub mod Lengths
+pub mod Maintained
 pub mod Maintaining
 pub mod NumberLemmas
 pub mod Places
 pub mod Queues
 pub mod RowLemmas
 pub mod Runs
+pub mod Slots
 pub mod Sound
 pub mod Stands
 pub mod Steps

@@ -1,0 +1,15 @@
+use Rattle.std.proofs.Common.{max}
+use Rattle.moka_state.proofs.Maintained.{stands-after-maintain}
+use Rattle.moka_state.proofs.Sound.{IsSound-maintained}
+use Rattle.moka_state.proofs.state.State.run_pending_tasks.Goals as goal
+
+pub invariant_of-self : goal.invariant_of-self
+invariant_of-self g c =
+    let s = c.self.inside in
+    IsSound-maintained _ _ s.lives s.earliest s.table c.maintain-self-inside.new.table c.self.invariant s.max_capacity c.maintain-self-inside.result c.max-now.result c.maintain-self-inside.ensures.maintained c.maintain-self-inside.ensures.due
+
+pub returns : goal.returns
+returns g c rules h stands =
+    let s = c.self.inside in
+    let same = rw (← c.self.view_is) at stands in
+    rw c.max-now.ensures (stands-after-maintain g.K.PartialEq.eq g.met.K.Eq.laws rules s.lives s.max_capacity s.table s.latest s.next_number h same c.args.now c.maintain-self-inside.new.table (rw c.max-now.ensures at c.maintain-self-inside.ensures.maintained))
