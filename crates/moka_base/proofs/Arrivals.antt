@@ -8,7 +8,7 @@ use Rattle.std.proofs.lemmas.List.Elements.{filter-append, filter_agree}
 use Rattle.moka_base.specs.Maintenance.{Queues}
 use Rattle.moka_base.specs.History.{Event, Get, ContainsKey, Insert, Invalidate, Maintain, Skip, EntryCount, TakeNotice, Rules, Write, latest, is_live, standing, maintained, queues}
 use Rattle.moka_base.specs.StandsFor.{writes_of}
-use Rattle.moka_base.specs.OrderLaws.{keys, held, lasts, openings, waits}
+use Rattle.moka_base.specs.OrderLaws.{keys, lasts, openings, waits}
 use Rattle.moka_base.proofs.Maintenance.{after-parts}
 use Rattle.moka_base.proofs.ListLemmas.{filter-both, one_side}
 use Rattle.moka_base.proofs.QueuesHold.{opening, held-queues, held-append}

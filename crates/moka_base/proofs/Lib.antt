@@ -20,4 +20,5 @@ pub mod NumberHashes
 pub mod Places
 pub mod Positions
 pub mod QueuesHold
+pub mod Sizes
 pub mod Standing
