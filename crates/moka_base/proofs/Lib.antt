@@ -2,6 +2,7 @@ pub mod Arrivals
 pub mod Conserved
 pub mod Expiry
 pub mod HeldOnes
+pub mod InOrder
 pub mod Leavings
 pub mod ListLemmas
 pub mod Looks
@@ -22,3 +23,4 @@ pub mod Positions
 pub mod QueuesHold
 pub mod Sizes
 pub mod Standing
+pub mod Uses

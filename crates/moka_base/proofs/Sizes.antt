@@ -13,7 +13,6 @@ use Rattle.moka_base.specs.Maintenance.{Queues, parts, leaving_in, after_parts}
 use Rattle.moka_base.specs.History.{Event, Get, ContainsKey, Insert, Invalidate, Maintain, Skip, EntryCount, TakeNotice, Rules, Write, Leaving, latest, is_expired, is_live, live_one, after_look, changed_where, moved_last, is_of, is_hit, used_where, opened_by, written_in, maintained, queues, leaves_in, standing, leaving_of, left, leaving, leavings, next_number, entry_count, stores_nothing, flush_point, is_flush_due, after_insert, IsHistory}
 use Rattle.moka_base.specs.StandsFor.{writes_of}
 use Rattle.moka_base.specs.Replies.{Found, answer}
-use Rattle.moka_base.specs.OrderLaws.{held}
 use Rattle.moka_base.specs.SizeLaws.{dead, living, gone, excess, leaving_as}
 use Rattle.moka_base.proofs.Maintenance.{after-parts, All-live-after, total-after-le}
 use Rattle.moka_base.proofs.MaintenanceOrder.{leaving-room, admitted-room, take-leaving}
@@ -71,17 +70,24 @@ module _ {K V : Type 0} (eq : K → K → Bool) (rules : Rules) where
       let all = length-append (maintained rules now (queues eq rules h)).admitted (maintained rules now (queues eq rules h)).waiting in
       omega arith
 
-  -- what stands after it is live
-  pub maintained-live : IsEquivalence eq → (h : List (Event K V)) (at : ℕ) (k : K) (w : Write K V) → standing eq rules k (Maintain at ∷ h) ≡ Some w → is_live rules w (latest (Maintain at ∷ h)) ≡ true
-  maintained-live laws h at k w stands =
-      let now : ℕ = latest (Maintain at ∷ h) in
-      let after : Queues (Write K V) = queues eq rules (Maintain at ∷ h) in
-      let here : held eq k after ≡ w ∷ [] = held-queues eq rules laws k (Maintain at ∷ h) ∙ ap option_to_list stands in
-      let among : writes_of eq k after.admitted ≡ w ∷ [] =
-      sym (append-nil (writes_of eq k after.admitted)) ∙ ap (λ ws. writes_of eq k after.admitted ++ writes_of eq k ws) (sym (maintained-none_waits now (queues eq rules h))) ∙ sym (held-append eq rules k after) ∙ here in
-      let live : Write K V → Type 0 = λ u. is_live rules u now ≡ true in
-      let all : All live (writes_of eq k after.admitted) = All-filter (λ (u : Write K V). eq u.key k) live after.admitted (All-live-after weighs_one rules.max_capacity (λ (u : Write K V). is_live rules u now) each_wins (queues eq rules h)) in
-      All-head live w [] (subst (All live) among all)
+  module _ (laws : IsEquivalence eq) where
+    -- the write that stands for a key after it is admitted
+    pub maintained-held : (h : List (Event K V)) (at : ℕ) (k : K) → writes_of eq k (queues eq rules (Maintain at ∷ h)).admitted ≡ option_to_list (standing eq rules k (Maintain at ∷ h))
+    maintained-held h at k =
+        let after : Queues (Write K V) = queues eq rules (Maintain at ∷ h) in
+        sym (append-nil (writes_of eq k after.admitted))
+        ∙ ap (λ ws. writes_of eq k after.admitted ++ writes_of eq k ws) (sym (maintained-none_waits (latest (Maintain at ∷ h)) (queues eq rules h)))
+        ∙ sym (held-append eq rules k after)
+        ∙ held-queues eq rules laws k (Maintain at ∷ h)
+
+    -- so it is live
+    pub maintained-live : (h : List (Event K V)) (at : ℕ) (k : K) (w : Write K V) → standing eq rules k (Maintain at ∷ h) ≡ Some w → is_live rules w (latest (Maintain at ∷ h)) ≡ true
+    maintained-live h at k w stands =
+        let now : ℕ = latest (Maintain at ∷ h) in
+        let live : Write K V → Type 0 = λ u. is_live rules u now ≡ true in
+        let admitted : List (Write K V) = (queues eq rules (Maintain at ∷ h)).admitted in
+        let all : All live (writes_of eq k admitted) = All-filter (λ (u : Write K V). eq u.key k) live admitted (All-live-after weighs_one rules.max_capacity (λ (u : Write K V). is_live rules u now) each_wins (queues eq rules h)) in
+        All-head live w [] (subst (All live) (maintained-held h at k ∙ ap option_to_list stands) all)
 
   -- no more are admitted than the capacity allows
   pub admitted-le : (h : List (Event K V)) (capacity : ℕ) → rules.max_capacity ≡ Some capacity → length (queues eq rules h).admitted ≤ capacity
