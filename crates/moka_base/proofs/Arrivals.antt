@@ -8,7 +8,7 @@ use Rattle.std.proofs.lemmas.List.Elements.{filter-append, filter_agree}
 use Rattle.moka_base.specs.Maintenance.{Queues}
 use Rattle.moka_base.specs.History.{Event, Get, ContainsKey, Insert, Invalidate, Maintain, Skip, EntryCount, TakeNotice, Rules, Write, latest, is_live, standing, maintained, queues}
 use Rattle.moka_base.specs.StandsFor.{writes_of}
-use Rattle.moka_base.specs.OrderLaws.{keys, held, lasts, openings, waits}
+use Rattle.moka_base.specs.OrderLaws.{keys, lasts, openings, waits}
 use Rattle.moka_base.proofs.Maintenance.{after-parts}
 use Rattle.moka_base.proofs.ListLemmas.{filter-both, one_side}
 use Rattle.moka_base.proofs.QueuesHold.{opening, held-queues, held-append}
@@ -33,7 +33,7 @@ list_any-push p (x ∷ ks) k = rw (list_any-push p ks k) (go (p x))
 
 module _ {K : Type 0} (eq : K → K → Bool) where
   -- one more key stands behind all others, and nowhere else
-  lasts-push : (ks : List K) (k : K) → lasts eq (ks ++ k ∷ []) ≡ filter (λ x. not (eq x k)) (lasts eq ks) ++ k ∷ []
+  pub lasts-push : (ks : List K) (k : K) → lasts eq (ks ++ k ∷ []) ≡ filter (λ x. not (eq x k)) (lasts eq ks) ++ k ∷ []
   lasts-push [] k = refl
   lasts-push (x ∷ ks) k = rw (list_any-push (eq x) ks k, lasts-push ks k) (go (list_any (eq x) ks) (eq x k) refl)
     where
@@ -55,7 +55,7 @@ and_not : (t : Bool) → (t && not t) ≡ false
 and_not true = refl
 and_not false = refl
 
-or_false : (t : Bool) → (t || false) ≡ t
+pub or_false : (t : Bool) → (t || false) ≡ t
 or_false true = refl
 or_false false = refl
 
@@ -64,11 +64,11 @@ or_true true = refl
 or_true false = refl
 
 -- a test finds an element where a filter keeps one
-abbrev is_some_of : {A : Type 0} → List A → Bool
+abbrev pub is_some_of : {A : Type 0} → List A → Bool
 is_some_of [] = false
 is_some_of (x ∷ xs) = true
 
-list_any-filter : {A : Type 0} (p : A → Bool) (xs : List A) → list_any p xs ≡ is_some_of (filter p xs)
+pub list_any-filter : {A : Type 0} (p : A → Bool) (xs : List A) → list_any p xs ≡ is_some_of (filter p xs)
 list_any-filter p [] = refl
 list_any-filter p (x ∷ xs) = rw (list_any-filter p xs) (go (p x))
   where
@@ -77,7 +77,7 @@ list_any-filter p (x ∷ xs) = rw (list_any-filter p xs) (go (p x))
     go false = refl
 
 -- a test of what is read of each element
-list_any-map : {A B : Type 0} (read : A → B) (p : B → Bool) (xs : List A) → list_any p (map read xs) ≡ list_any (λ x. p (read x)) xs
+pub list_any-map : {A B : Type 0} (read : A → B) (p : B → Bool) (xs : List A) → list_any p (map read xs) ≡ list_any (λ x. p (read x)) xs
 list_any-map read p [] = refl
 list_any-map read p (x ∷ xs) = ap (λ t. p (read x) || t) (list_any-map read p xs)
 
@@ -92,7 +92,7 @@ module _ {K : Type 0} (eq : K → K → Bool) where
 
   module _ (laws : IsEquivalence eq) where
     -- equal keys are among the same
-    is_among-congr : (p x : K) (ks : List K) → eq p x ≡ true → is_among ks x ≡ is_among ks p
+    pub is_among-congr : (p x : K) (ks : List K) → eq p x ≡ true → is_among ks x ≡ is_among ks p
     is_among-congr p x [] same = refl
     is_among-congr p x (y ∷ ks) same = rw (is_among-congr p x ks same, laws.symm y x, sym (laws.congr p x y same), laws.symm p y)
 
@@ -111,7 +111,7 @@ module _ {K : Type 0} (eq : K → K → Bool) where
         go false e false d u f ih = rw (d, e) ih
 
     -- a new key comes last
-    KeepsArrival-push : (ks all : List K) (p : K) → is_among ks p ≡ false → KeepsArrival ks all → KeepsArrival (ks ++ p ∷ []) (all ++ p ∷ [])
+    pub KeepsArrival-push : (ks all : List K) (p : K) → is_among ks p ≡ false → KeepsArrival ks all → KeepsArrival (ks ++ p ∷ []) (all ++ p ∷ [])
     KeepsArrival-push ks all p new kept =
         ap (λ l. l ++ p ∷ []) kept
         ∙ ap (λ l. l ++ p ∷ []) (sym (filter_agree (λ x. not (eq x p) && is_among (ks ++ p ∷ []) x) (is_among ks) others (lasts eq all)) ∙ filter-both (λ x. not (eq x p)) (is_among (ks ++ p ∷ [])) (lasts eq all))
@@ -138,7 +138,7 @@ module _ {K : Type 0} (eq : K → K → Bool) where
         none (x ∷ xs) = none xs
 
     -- a key is taken out
-    KeepsArrival-filter : (ks all : List K) (p : K) → KeepsArrival ks all → KeepsArrival (filter (λ x. not (eq x p)) ks) all
+    pub KeepsArrival-filter : (ks all : List K) (p : K) → KeepsArrival ks all → KeepsArrival (filter (λ x. not (eq x p)) ks) all
     KeepsArrival-filter ks all p kept =
         ap (filter (λ x. not (eq x p))) kept
         ∙ sym (filter-both (is_among ks) (λ x. not (eq x p)) (lasts eq all))

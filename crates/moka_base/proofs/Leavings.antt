@@ -46,9 +46,11 @@ module _ {K V : Type 0} (eq : K → K → Bool) (rules : Rules) where
   maintained-leaves e k h at last leaves =
       let (w, stands, as_written) = last_write_stands eq rules k h last in
       let under : eq w.key k ≡ true = subst (IsStoredUnder eq k) stands (stored_key eq rules k h) in
-      let now : ℕ = latest (Maintain at ∷ h) in
-      (_, leavings_of-maintained e k h at ∙ ap (λ t. map (leaving_of rules Size now) (option_to_list (cond t (standing eq rules k h) None))) leaves ∙ ap (λ o. map (leaving_of rules Size now) (option_to_list o)) stands,
-      record { stood = w; stands = stands; as_written = as_written; key = refl; same_key = under; value = as_written.value; cause = refl })
+      let now : ℕ = latest (Maintain at ∷ h) in (
+        _,
+        leavings_of-maintained e k h at ∙ ap (λ t. map (leaving_of rules Size now) (option_to_list (cond t (standing eq rules k h) None))) leaves ∙ ap (λ o. map (leaving_of rules Size now) (option_to_list o)) stands,
+        record { stood = w; stands = stands; as_written = as_written; key = refl; same_key = under; value = as_written.value; cause = refl },
+      )
 
   -- a key leaves only where a write stands for it
   leaves_in-nothing : IsEquivalence eq → (k : K) (h : List (Event K V)) (at : ℕ) → standing eq rules k h ≡ None → leaves_in eq rules k at h ≡ false

@@ -2,6 +2,7 @@ pub mod Arrivals
 pub mod Conserved
 pub mod Expiry
 pub mod HeldOnes
+pub mod InOrder
 pub mod Leavings
 pub mod ListLemmas
 pub mod Looks
@@ -20,4 +21,6 @@ pub mod NumberHashes
 pub mod Places
 pub mod Positions
 pub mod QueuesHold
+pub mod Sizes
 pub mod Standing
+pub mod Uses

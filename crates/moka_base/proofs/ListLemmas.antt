@@ -17,7 +17,7 @@ filter-both p q (x ∷ xs) = go (p x) refl (filter-both p q xs)
     go false h more = rw h more
 
 -- both tests hold in either order
-and_comm : (s t : Bool) → (s && t) ≡ (t && s)
+pub and_comm : (s t : Bool) → (s && t) ≡ (t && s)
 and_comm true true = refl
 and_comm true false = refl
 and_comm false true = refl

@@ -1,9 +1,8 @@
 -- A look by `contains_key` is as if it had not been: nothing that follows depends on it.
 use Rattle.std.proofs.Common.{◌≡◌, ℕ, max, ◌+◌, Bool, List, [], ◌∷◌, ◌++◌, map, refl, ap, ◌∙◌, arith, add-zero, append-nil}
-use Rattle.moka_base.specs.History.{Event, Get, ContainsKey, Insert, Invalidate, Maintain, Skip, EntryCount, TakeNotice, Rules, recorded, latest, let_go, leaving_of, queues, leaves_in, entry_count, standing, leaving, leavings, taken, noticed, drawn, next_number}
+use Rattle.moka_base.specs.History.{Event, Get, ContainsKey, Insert, Invalidate, Maintain, Skip, EntryCount, TakeNotice, Rules, recorded, latest, let_go, leaving_of, queues, leaves_in, standing, leaving, leavings, taken, noticed, drawn, next_number}
 use Rattle.moka_base.specs.declared.notification.RemovalCause.TheVariants.{Size}
 use Rattle.std.specs.List.{list_any}
-use Rattle.moka_base.specs.Maintenance.{Queues}
 use Rattle.moka_base.specs.Replies.{answer}
 
 module _ {K V : Type 0} (q : K) (at : ℕ) (h : List (Event K V)) where

@@ -9,7 +9,7 @@ use Rattle.moka_base.proofs.Maintenance.{admitting, dropping, admitted_after, wi
 use Rattle.moka_base.proofs.MaintenanceOrder.{behind, behind_the_dead-leaving, judge-wins, behind-append-admitted}
 
 module _ {X : Type 0} (weight : X → ℕ) (one : (x : X) → weight x ≡ 1) where
-  total-ones : (xs : List X) → total weight xs ≡ length xs
+  pub total-ones : (xs : List X) → total weight xs ≡ length xs
   total-ones [] = refl
   total-ones (x ∷ xs) = let here = one x in let rest = total-ones xs in omega arith
 

@@ -5,7 +5,7 @@ use Rattle.std.specs.List.{filter, list_any}
 use Rattle.std.specs.Cmp.{IsEquivalence}
 use Rattle.std.proofs.lemmas.List.Elements.{filter-append}
 use Rattle.moka_base.specs.Maintenance.{Queues}
-use Rattle.moka_base.specs.History.{Event, Get, ContainsKey, Insert, Invalidate, Maintain, Skip, EntryCount, TakeNotice, Rules, Write, latest, is_live, after_look, after_write, standing, changed_where, moved_last, is_of, is_hit, used_where, opened_by, written_in, removed_in, let_go, maintained, queues, leaves_in}
+use Rattle.moka_base.specs.History.{Event, Get, ContainsKey, Insert, Invalidate, Maintain, Skip, EntryCount, TakeNotice, Rules, Write, latest, is_live, after_look, after_write, standing, changed_where, moved_last, is_of, is_hit, used_where, opened_by, written_in, removed_in, let_go, maintained, queues}
 use Rattle.moka_base.specs.StandsFor.{writes_of}
 use Rattle.moka_base.specs.OrderLaws.{held}
 use Rattle.moka_base.proofs.Standing.{IsStoredUnder, stored_key, standing_congr}

@@ -5,6 +5,7 @@ pub mod MaintenanceLaws
 pub mod NumberHash
 pub mod OrderLaws
 pub mod Replies
+pub mod SizeLaws
 pub mod StandsFor
 pub mod Worked
 pub mod WorkedMaintenance

@@ -1,8 +1,8 @@
 -- The words of the laws over the two orders.
-use Rattle.std.specs.Prelude.{◌≡◌, ℕ, max, Bool, not, ◌&&◌, if◌then◌else◌, Option, List, [], ◌∷◌, ◌++◌, map, is_some, option_to_list}
-use Rattle.std.specs.List.{list_any}
+use Rattle.std.specs.Prelude.{◌≡◌, ℕ, max, Bool, true, false, not, ◌&&◌, if◌then◌else◌, Option, List, [], ◌∷◌, ◌++◌, map, is_some, option_to_list}
+use Rattle.std.specs.List.{filter, list_any}
 use Rattle.moka_base.specs.Maintenance.{Queues}
-use Rattle.moka_base.specs.History.{Event, Get, ContainsKey, Insert, Invalidate, Maintain, Skip, EntryCount, TakeNotice, Rules, Write, standing, queues}
+use Rattle.moka_base.specs.History.{Event, Get, ContainsKey, Insert, Invalidate, Maintain, Skip, EntryCount, TakeNotice, Rules, Write, latest, after_write, standing, live, queues}
 use Rattle.moka_base.specs.StandsFor.{writes_of}
 
 module _ {K V : Type 0} where
@@ -60,6 +60,37 @@ module _ {K : Type 0} (eq : K → K → Bool) where
     -- a key waits where it stands and is not admitted
     abbrev pub waits : List (Event K V) → K → Bool
     waits h k = is_some (standing eq rules k h) && not (list_any (λ w. eq w.key k) (queues eq rules h).admitted)
+
+    -- The keys that a maintenance admits, in order, the events before it being h: of those that wait, the ones that
+    -- stand after it.
+    abbrev pub admitted_in : ℕ → List (Event K V) → List K
+    admitted_in at h = keys (filter (λ w. is_some (standing eq rules w.key (Maintain at ∷ h))) (queues eq rules h).waiting)
+
+    -- The keys that were used, oldest first, each as it was stored: a look that hits a live write uses its key, a write
+    -- uses its key, and a maintenance uses the keys that it admits.
+    abbrev pub uses : List (Event K V) → List K
+    uses [] = []
+    uses (Get k at ∷ h) = uses h ++ keys (option_to_list (live eq rules k (latest (Get k at ∷ h)) h))
+    uses (ContainsKey k at ∷ h) = uses h
+    uses (Insert k v at ∷ h) = uses h ++ (after_write rules k v at (standing eq rules k h)).key ∷ []
+    uses (Invalidate k at ∷ h) = uses h
+    uses (Maintain at ∷ h) = uses h ++ admitted_in at h
+    uses (Skip at ∷ h) = uses h
+    uses (EntryCount ∷ h) = uses h
+    uses (TakeNotice ∷ h) = uses h
+
+    -- a key is admitted where its write is
+    abbrev pub is_admitted : List (Event K V) → K → Bool
+    is_admitted h k = list_any (λ w. eq w.key k) (queues eq rules h).admitted
+
+-- The last use of a key among those that were used, at its place: none later is of the key.
+pub record LastUse {K : Type 0} (eq : K → K → Bool) (k : K) (used : List K) : Type 0 where
+  pub before : List K
+  pub key : K
+  pub later : List K
+  pub place : used ≡ before ++ key ∷ later
+  pub same_key : eq key k ≡ true
+  pub unused : list_any (λ x. eq x k) later ≡ false
 
 -- The worked case: three keys come,
 abbrev pub three_come : List (Event ℕ ℕ)

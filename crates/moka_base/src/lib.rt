@@ -7,5 +7,6 @@ pub mod maintenance_laws;
 pub mod notification;
 pub mod order_laws;
 pub mod policy;
+pub mod size_laws;
 pub mod worked;
 pub mod worked_maintenance;

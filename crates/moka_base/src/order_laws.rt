@@ -6,7 +6,7 @@ ghost use Rattle.moka_base.specs.History.{Event, Rules, Write, is_live, after_lo
 ghost use Rattle.moka_base.specs.Laws.{FirstWrite};
 ghost use Rattle.moka_base.specs.StandsFor.{writes_of};
 ghost use Rattle.moka_base.specs.Worked.{without_lives, five_to_idle, seconds};
-ghost use Rattle.moka_base.specs.OrderLaws.{keys, held, HasOneEach, with_admitted, with_waiting, hit_at, written_over, written_anew, lasts, openings, waits, three_come, first_again, second_hit, first_removed, first_anew, three_admitted};
+ghost use Rattle.moka_base.specs.OrderLaws.{keys, held, HasOneEach, with_admitted, with_waiting, hit_at, written_over, written_anew, lasts, openings, waits, uses, is_admitted, LastUse, three_come, first_again, second_hit, first_removed, first_anew, three_admitted};
 
 /// The two orders hold just what stands: the write that stands for a key is in one of them, once, and
 /// nothing else is in either.
@@ -72,6 +72,19 @@ pub fn waiting_is_the_order_of_arrival<K: Eq, V>()
     ensures older_first { (rules : Rules) (h : List (Event K V)) (before middle after : List (Write K V)) (a b : Write K V)
         → (queues K.eq rules h).waiting ≡ before ++ a ∷ (middle ++ b ∷ after)
         → (x : FirstWrite K.eq rules a.key h) (y : FirstWrite K.eq rules b.key h) → length x.before < length y.before }
+{}
+
+/// What is admitted stands in the order of use: the admitted keys are the used ones, each at the
+/// place of its last use, of those that are admitted. So each has a last use, and of two the one whose
+/// last use is older stands before the other.
+pub fn admitted_is_the_order_of_use<K: Eq, V>()
+    ensures in_order { (rules : Rules) (h : List (Event K V))
+        → keys (queues K.eq rules h).admitted ≡ filter (is_admitted K.eq rules h) (lasts K.eq (uses K.eq rules h)) }
+    ensures used { (rules : Rules) (h : List (Event K V)) (before after : List (Write K V)) (w : Write K V)
+        → (queues K.eq rules h).admitted ≡ before ++ w ∷ after → LastUse K.eq w.key (uses K.eq rules h) }
+    ensures later_used_behind { (rules : Rules) (h : List (Event K V)) (before middle after : List (Write K V)) (a b : Write K V)
+        → (queues K.eq rules h).admitted ≡ before ++ a ∷ (middle ++ b ∷ after)
+        → (x : LastUse K.eq a.key (uses K.eq rules h)) (y : LastUse K.eq b.key (uses K.eq rules h)) → length x.before < length y.before }
 {}
 
 /// Three keys come and wait in that order. An overwrite and a hit keep it; a removal takes out its

@@ -1,0 +1,31 @@
+-- The words of the laws of a bounded size.
+use Rattle.std.specs.Prelude.{ℕ, ◌-◌, Bool, List, ◌∷◌, length}
+use Rattle.moka_base.specs.declared.notification.RemovalCause.{RemovalCause}
+use Rattle.moka_base.specs.MaintenanceLaws.{the_dead, the_living}
+use Rattle.moka_base.specs.History.{Event, Maintain, Rules, Write, Leaving, latest, is_live, queues, let_go}
+
+-- The words of one maintenance at a moment, the events before it being h.
+module _ {K V : Type 0} (eq : K → K → Bool) (rules : Rules) (at : ℕ) (h : List (Event K V)) where
+  -- a write is live at its moment
+  abbrev pub lives : Write K V → Bool
+  lives w = is_live rules w (latest (Maintain at ∷ h))
+
+  -- the dead that it finds, the admitted before those that wait
+  abbrev pub dead : List (Write K V)
+  dead = the_dead lives (queues eq rules h)
+
+  -- the living that it finds: the admitted, the least recently used first, and then those that wait
+  abbrev pub living : List (Write K V)
+  living = the_living lives (queues eq rules h)
+
+  -- all that leaves in it, in order
+  abbrev pub gone : List (Write K V)
+  gone = let_go rules (latest (Maintain at ∷ h)) (queues eq rules h)
+
+  -- by how many the living pass a capacity
+  abbrev pub excess : ℕ → ℕ
+  excess capacity = length living - capacity
+
+-- a write that leaves for a cause
+abbrev pub leaving_as : {K V : Type 0} → RemovalCause → Write K V → Leaving K V
+leaving_as cause w = record { key = w.key; value = w.value; cause = cause }
