@@ -30,7 +30,7 @@ noticed-one : {K V : Type 0} (old new : List (Notice K V)) (notice : Notice K V)
 noticed-one {K} {V} old new notice grown = ap (map leaving_of) grown ∙ map-append (leaving_of {K = K} {V = V}) old (notice ∷ [])
 
 -- the two orders of the stored writes
-abbrev both-of : {K V : Type 0} → Contents K V → Queues (Write K V)
+abbrev pub both-of : {K V : Type 0} → Contents K V → Queues (Write K V)
 both-of contents = record { admitted = stored_writes contents.admitted; waiting = stored_writes contents.waiting }
 
 -- the first of two tests that hold together

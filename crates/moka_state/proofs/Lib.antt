@@ -1,5 +1,6 @@
 pub mod Cases
 pub mod Changes
+pub mod Counts
 pub mod Found
 pub mod Lengths
 pub mod Maintained

@@ -1,54 +1,59 @@
-use Rattle.std.proofs.Common.{cond, ◌∙◌, ap, refl}
+use Rattle.std.proofs.Common.{◌≡◌, ◌∙◌, ◌∷◌, max, ap, sym, refl, arith}
+use Rattle.moka_base.specs.History.{Maintain}
 use Rattle.std.specs.Arc.{arc_value}
-use Rattle.moka_base.specs.declared.notification.RemovalCause.TheVariants.{Expired, Replaced}
-use Rattle.moka_base.specs.History.{has_come}
-use Rattle.moka_state.specs.Lives.{deadline_of}
 use Rattle.moka_state.specs.Table.{entries}
-use Rattle.moka_state.proofs.Places.{place-equal, place-key}
-use Rattle.moka_state.proofs.Sound.{IsSound-same, IsSound-overwritten, IsSound-added}
-use Rattle.moka_state.proofs.Stands.{standing-absent}
-use Rattle.moka_state.proofs.Cases.{stands-same, stands-after-overwrite, stands-after-open}
+use Rattle.moka_state.proofs.Cases.{stands-same}
+use Rattle.moka_state.proofs.Maintained.{stands-after-maintain}
+use Rattle.moka_state.proofs.Slots.{stores-something, goes_with-place, goes_with-now, IsSound-put, where-place, where-now, stands-after-put, flush-not_due, flush-due, flush-done, after-unflushed, after-flushed}
+use Rattle.moka_state.proofs.Sound.{IsSound-same, IsSound-maintained}
 use Rattle.moka_state.proofs.state.State.write.Goals as goal
-use Rattle.moka_state.proofs.state.State.write.Goals.{in-Stored, in-Absent+in-Ok-into_shared}
+use Rattle.moka_state.proofs.state.State.write.Goals.{then-waiting_len-lt-FLUSH_POINT+in-Ok-slot, else-waiting_len-lt-FLUSH_POINT+in-Ok-into_shared}
 
 pub invariant_of-self-2 : goal.invariant_of-self-2
 invariant_of-self-2 g c =
     let s = c.self.inside in
     let eq = g.K.PartialEq.eq in
+    let laws = g.met.K.Eq.laws in
     let key = g.S.IntoShared.key_of c.args.key in
-    let before = IsSound-same _ _ s.table c.place.new.self c.in-Ok.ensures.same c.self.invariant in
-    elim c.match-place-2.branch [
-      | in-Stored w ↦
-          let row = w.row.result.now in
-          let place = rw w.in-Stored.is at c.in-Ok.ensures.place in
-          let same = place-equal eq key c.key-2.result.now c.hash_of-hash.result (entries c.place.new.self) c.key-2.ensures w.in-Stored.number w.in-Stored.key row place w.row.ensures in
-          let stored = place-key eq key c.key-2.result.now c.hash_of-hash.result (entries c.place.new.self) c.key-2.ensures w.in-Stored.number w.in-Stored.key row place w.row.ensures in
-          let kept = g.met.C.CacheTypes.equal_keys_keep key (arc_value row.key) c.args.value (g.met.K.Eq.laws.symm key (arc_value row.key) ∙ same) c.requires in
-          rw w.self-inside-is (IsSound-overwritten _ _ c.place.new.self w.overwrite.new.self before w.in-Stored.number row c.args.value _ _ w.row.ensures kept stored refl w.overwrite.ensures.rows (rw w.row.ensures at w.overwrite.ensures.notices))
-      | in-Absent+in-Ok-into_shared w ↦
-          rw w.self-inside-is (IsSound-added _ _ c.place.new.self w.add.new.self before w.add.ensures.waiting.0 _ (rw w.in-Ok-into_shared.ensures.shared (rw c.key.ensures at c.hash_of-hash.ensures)) (rw w.in-Ok-into_shared.ensures.shared c.requires) w.add.ensures.admitted w.add.ensures.waiting.1 w.add.ensures.notices)
+    let sound = IsSound-same _ _ s.lives s.earliest s.table c.place.new.self c.in-Ok.ensures.same c.self.invariant in
+    let place = rw c.key-2.ensures at c.in-Ok.ensures.place in
+    let hash = rw c.key.ensures at c.hash_of-hash.ensures in
+    elim c.if-waiting_len-lt-FLUSH_POINT.branch [
+      | then-waiting_len-lt-FLUSH_POINT+in-Ok-slot w ↦
+          let goes = goes_with-place eq laws key c.place.new.self c.hash_of-hash.result c.in-Ok.place c.if-waiting_len-lt-FLUSH_POINT.slot place (rw w.slot-is w.in-Ok-slot.ensures.slot) in
+          rw (c.earlier-self-inside.ensures, c.deadline.ensures, w.self-inside-is)
+          (IsSound-put eq laws key c.place.new.self _ _ s.lives s.earliest c.put.new.self c.hash_of-hash.result c.args.value _ c.if-waiting_len-lt-FLUSH_POINT.slot g.met.C.CacheTypes.equal_keys_keep hash c.requires sound goes (rw w.self-inside-is at c.put.ensures))
+      | else-waiting_len-lt-FLUSH_POINT+in-Ok-into_shared w ↦
+          let after = IsSound-maintained _ _ s.lives s.earliest c.place.new.self w.maintain-self-inside.new.table sound s.max_capacity w.maintain-self-inside.result c.max-now.result w.maintain-self-inside.ensures.maintained w.maintain-self-inside.ensures.due in
+          let goes = goes_with-now eq laws key w.maintain-self-inside.new.table (entries c.place.new.self) c.hash_of-hash.result c.in-Ok.place w.in-Ok-into_shared.key c.if-waiting_len-lt-FLUSH_POINT.slot w.in-Ok-into_shared.ensures.shared place (rw w.slot-is w.slot_now.ensures) in
+          rw (c.earlier-self-inside.ensures, c.deadline.ensures, w.self-inside-is)
+          (IsSound-put eq laws key w.maintain-self-inside.new.table _ _ s.lives w.maintain-self-inside.result c.put.new.self c.hash_of-hash.result c.args.value _ c.if-waiting_len-lt-FLUSH_POINT.slot g.met.C.CacheTypes.equal_keys_keep hash c.requires after goes (rw w.self-inside-is at c.put.ensures))
     ]
 
 pub returns-clause-stands : goal.returns-clause-stands
 returns-clause-stands g c rules h stands =
     let s = c.self.inside in
     let eq = g.K.PartialEq.eq in
+    let laws = g.met.K.Eq.laws in
     let key = g.S.IntoShared.key_of c.args.key in
-    let before = IsSound-same _ _ s.table c.place.new.self c.in-Ok.ensures.same c.self.invariant in
+    let sound = IsSound-same _ _ s.lives s.earliest s.table c.place.new.self c.in-Ok.ensures.same c.self.invariant in
+    let place = rw c.key-2.ensures at c.in-Ok.ensures.place in
+    let hash = rw c.key.ensures at c.hash_of-hash.ensures in
     let same = stands-same eq rules s.lives s.max_capacity s.table c.place.new.self s.latest s.next_number h c.in-Ok.ensures.same (rw (← c.self.view_is) at stands) in
-    elim c.match-place-2.branch [
-      | in-Stored w ↦
-          let row = w.row.result.now in
-          let place = rw w.in-Stored.is at c.in-Ok.ensures.place in
-          let equal = place-equal eq key c.key-2.result.now c.hash_of-hash.result (entries c.place.new.self) c.key-2.ensures w.in-Stored.number w.in-Stored.key row place w.row.ensures in
-          let stored = place-key eq key c.key-2.result.now c.hash_of-hash.result (entries c.place.new.self) c.key-2.ensures w.in-Stored.number w.in-Stored.key row place w.row.ensures in
-          let why = w.cause-cause.ensures ∙ ap (λ m. cond (has_come (deadline_of s.lives row.info) m) Expired Replaced) c.max-now.ensures in
-          rw (w.self-inside-is, c.max-now.ensures) (stands-after-overwrite eq g.met.K.Eq.laws rules s.lives s.max_capacity c.place.new.self s.latest s.next_number h same w.overwrite.new.self key c.args.value c.args.now w.in-Stored.number row
-          _ _ w.row.ensures equal c.max-now.ensures c.max-now.ensures stored refl why w.overwrite.ensures.rows (rw w.row.ensures at w.overwrite.ensures.notices))
-      | in-Absent+in-Ok-into_shared w ↦
-          let place = rw (w.in-Absent.is, c.key-2.ensures) at c.in-Ok.ensures.place in
-          let none = standing-absent eq g.met.K.Eq.laws rules s.lives s.max_capacity c.place.new.self s.latest s.next_number h same before (λ a b e. cc (g.met.K.Hash.respects_eq a b e))
-          key c.hash_of-hash.result (rw c.key.ensures at c.hash_of-hash.ensures) place in
-          rw (w.self-inside-is, c.max-now.ensures) (stands-after-open eq g.met.K.Eq.laws rules s.lives s.max_capacity c.place.new.self s.latest s.next_number h same w.add.new.self key c.args.value c.args.now w.add.ensures.waiting.0
-          _ none (g.met.K.Eq.laws.refl key) w.in-Ok-into_shared.ensures.shared refl c.max-now.ensures c.max-now.ensures w.add.ensures.admitted w.add.ensures.waiting.1 w.add.ensures.notices)
+    let stores = stores-something s.max_capacity rules.max_capacity same.max_capacity c.eq.result c.eq.ensures c.if-eq.false in
+    elim c.if-waiting_len-lt-FLUSH_POINT.branch [
+      | then-waiting_len-lt-FLUSH_POINT+in-Ok-slot w ↦
+          let due = flush-not_due eq rules s.lives s.max_capacity c.place.new.self s.latest s.next_number h same (omega (arith, c.waiting_len.ensures, w.if-waiting_len-lt-FLUSH_POINT.true)) in
+          let there = where-place eq laws rules s.lives s.max_capacity c.place.new.self s.latest s.next_number h same key sound (λ a b e. cc (g.met.K.Hash.respects_eq a b e)) c.hash_of-hash.result c.in-Ok.place c.if-waiting_len-lt-FLUSH_POINT.slot hash place (rw w.slot-is w.in-Ok-slot.ensures.slot) in
+          let written = stands-after-put eq laws rules s.lives s.max_capacity c.place.new.self s.latest s.next_number h same key c.put.new.self c.args.value c.args.now c.hash_of-hash.result _ c.if-waiting_len-lt-FLUSH_POINT.slot there c.max-now.ensures c.max-now.ensures (rw w.self-inside-is at c.put.ensures) stores due in
+          rw (w.self-inside-is, c.max-now.ensures, after-unflushed eq rules s.lives s.max_capacity c.place.new.self s.latest s.next_number h same key c.args.value c.args.now stores due) written
+      | else-waiting_len-lt-FLUSH_POINT+in-Ok-into_shared w ↦
+          let kept = w.maintain-self-inside.new.table in
+          let due = flush-due eq rules s.lives s.max_capacity c.place.new.self s.latest s.next_number h same (omega (arith, c.waiting_len.ensures, w.if-waiting_len-lt-FLUSH_POINT.false)) in
+          let then = stands-after-maintain eq laws rules s.lives s.max_capacity c.place.new.self s.latest s.next_number h same c.args.now kept (rw c.max-now.ensures at w.maintain-self-inside.ensures.maintained) in
+          let after = IsSound-maintained _ _ s.lives s.earliest c.place.new.self kept sound s.max_capacity w.maintain-self-inside.result c.max-now.result w.maintain-self-inside.ensures.maintained w.maintain-self-inside.ensures.due in
+          let there = where-now eq laws rules s.lives s.max_capacity c.place.new.self s.latest s.next_number h same c.args.now kept (max s.latest c.args.now) then key sound after (λ a b e. cc (g.met.K.Hash.respects_eq a b e)) c.hash_of-hash.result c.in-Ok.place w.in-Ok-into_shared.key c.if-waiting_len-lt-FLUSH_POINT.slot hash w.in-Ok-into_shared.ensures.shared place (rw w.slot-is w.slot_now.ensures) in
+          let idle : max (max s.latest c.args.now) c.args.now ≡ max s.latest c.args.now = omega arith in
+          let written = stands-after-put eq laws rules s.lives s.max_capacity kept (max s.latest c.args.now) s.next_number (Maintain c.args.now ∷ h) then key c.put.new.self c.args.value c.args.now c.hash_of-hash.result _ c.if-waiting_len-lt-FLUSH_POINT.slot there (c.max-now.ensures ∙ sym idle) (c.max-now.ensures ∙ sym idle) (rw w.self-inside-is at c.put.ensures) stores (flush-done eq rules s.lives s.max_capacity c.place.new.self s.latest s.next_number h same c.args.now) in
+          rw (w.self-inside-is, c.max-now.ensures, after-flushed eq rules s.lives s.max_capacity c.place.new.self s.latest s.next_number h same key c.args.value c.args.now stores due) (rw idle at written)
     ]
