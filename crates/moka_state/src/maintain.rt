@@ -4,6 +4,9 @@ ghost use Rattle.moka_base.specs.declared.notification.RemovalCause.TheVariants.
 ghost use Rattle.moka_state.specs.Table.{entries};
 ghost use Rattle.moka_state.specs.Maintain.{living, dead, notices_for, IsDueFrom, IsMaintained};
 
+#[cfg(test)]
+mod tests;
+
 use crate::lives::{Lives, earlier, has_come};
 use crate::rows::RowStore;
 use crate::table::Table;

@@ -7,7 +7,7 @@ ghost use Rattle.std.specs.Hash as fed;
 
 use crate::state::{CacheState, InsertRefused, Settings, State};
 use moka_base::notification::RemovalCause;
-use moka_base::policy::{CacheTypes, NumberHash, Refused};
+use moka_base::policy::{CacheTypes, EvictionPolicy, NumberHash, Refused};
 use std::alloc::{AllocError, Global};
 use std::hash::{BuildHasher, BuildHasherDefault, Hash, Hasher};
 use std::process::Abort;
@@ -46,15 +46,17 @@ impl Hasher for Collides {
     fn write(&mut self, _bytes: &[u8]) {}
 }
 
-/// How a cache is built: its lives in seconds, and its first number.
+/// How a cache is built: its capacity, its lives in seconds, and its first number.
 #[derive(Clone, Copy)]
 pub(crate) struct Rules {
+    pub max_capacity: Option<u64>,
     pub time_to_live: Option<u64>,
     pub time_to_idle: Option<u64>,
     pub first_number: u64,
 }
 
 pub(crate) const WITHOUT_LIVES: Rules = Rules {
+    max_capacity: None,
     time_to_live: None,
     time_to_idle: None,
     first_number: 0,
@@ -71,6 +73,8 @@ pub(crate) fn built<K: Hash + Drop, V: Clone, S: BuildHasher + Drop>(
     State::new(
         alloc,
         Settings {
+            max_capacity: rules.max_capacity,
+            eviction_policy: EvictionPolicy::lru(),
             time_to_live: rules.time_to_live.map(Duration::from_secs),
             time_to_idle: rules.time_to_idle.map(Duration::from_secs),
             first_number: rules.first_number,
@@ -81,11 +85,13 @@ pub(crate) fn built<K: Hash + Drop, V: Clone, S: BuildHasher + Drop>(
 
 /// A call of a cache of texts.
 #[derive(Clone, Copy)]
-enum Call {
+pub(crate) enum Call {
     Get(u64),
     ContainsKey(u64),
     Insert(u64, &'static str),
     Invalidate(u64),
+    RunPendingTasks,
+    EntryCount,
     TakeNotice,
     NoticeCount,
 }
@@ -117,6 +123,11 @@ fn answer<S: BuildHasher + Drop>(
             cache.invalidate(&key, now);
             String::from_str(alloc, "done")
         }
+        Call::RunPendingTasks => {
+            cache.run_pending_tasks(now);
+            String::from_str(alloc, "done")
+        }
+        Call::EntryCount => format!(in alloc; "{}", cache.entry_count()),
         Call::TakeNotice => match cache.take_notice() {
             Some(notice) => {
                 format!(in alloc; "{} {} {:?}", *notice.key, notice.value, notice.cause)
@@ -128,7 +139,7 @@ fn answer<S: BuildHasher + Drop>(
 }
 
 /// Each call at its moment answers this text, whatever the hasher.
-fn answers(
+pub(crate) fn answers(
     rt: &impl Abort,
     alloc: Global,
     rules: Rules,

@@ -21,6 +21,7 @@ fn said(alloc: Global, reply: Reply<u64, String>) -> Result<String, AllocError> 
         Reply::Found(None) => String::from_str(alloc, "found none"),
         Reply::Contains(found) => format!(in alloc; "contains {found}"),
         Reply::Done => String::from_str(alloc, "done"),
+        Reply::Counted(count) => format!(in alloc; "counted {count}"),
         Reply::Noticed(Some(notice)) => {
             format!(in alloc;
                 "noticed {} {} {:?}",
@@ -33,12 +34,14 @@ fn said(alloc: Global, reply: Reply<u64, String>) -> Result<String, AllocError> 
 }
 
 /// A step of each kind, and what one after another they answer where one number is left.
-const EXPECTED: [&str; 8] = [
+const EXPECTED: [&str; 10] = [
     "found none",
     "done",
     "refused NumbersUsedUp",
     "found one",
     "contains true",
+    "done",
+    "counted 1",
     "done",
     "noticed 1 one Explicit",
     "noticed none",
@@ -78,6 +81,8 @@ fn steps(alloc: Global) -> Result<Vec<Step<u64, String>>, AllocError>
             key: key.clone()?,
             now: 0
         },
+        Step::RunPendingTasks { now: 0 },
+        Step::EntryCount,
         Step::Invalidate { key, now: 0 },
         Step::TakeNotice,
         Step::TakeNotice,
@@ -125,6 +130,8 @@ fn answers_each_step(rt: HostRuntime) -> Result<(), Fail> {
         key: key.clone()?,
         now: 0,
     }))?;
+    found.push(cache.step(Step::RunPendingTasks { now: 0 }))?;
+    found.push(cache.step(Step::EntryCount))?;
     found.push(cache.step(Step::Invalidate { key, now: 0 }))?;
     found.push(cache.step(Step::TakeNotice))?;
     found.push(cache.step(Step::TakeNotice))?;
