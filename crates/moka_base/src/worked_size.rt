@@ -1,7 +1,8 @@
-//! Worked cases of a bounded size, at numbers: each computes.
-ghost use Rattle.std.specs.Prelude.{◌≡◌, true, false, nat_eq, Some, None, [], ◌∷◌, length};
+//! Worked cases of a bounded size, at numbers: each computes, but for the maintenance of 64 keys, where
+//! the laws of the size take the step.
+ghost use Rattle.std.specs.Prelude.{◌≡◌, true, false, nat_eq, Some, None, [], ◌∷◌};
 ghost use Rattle.moka_base.specs.declared.notification.RemovalCause.TheVariants.{Expired, Size};
-ghost use Rattle.moka_base.specs.History.{Get, Insert, Maintain, Skip, EntryCount, queues, leaving, leavings, entry_count, next_number, is_flush_due, after_insert};
+ghost use Rattle.moka_base.specs.History.{Get, Insert, Maintain, Skip, EntryCount, queues, leaving, leavings, entry_count, next_number, is_flush_due};
 ghost use Rattle.moka_base.specs.OrderLaws.{keys, lasts, uses};
 ghost use Rattle.moka_base.specs.Replies.{Found, Counted, answer};
 ghost use Rattle.moka_base.specs.Worked.{seconds, written, left_as};
