@@ -1,6 +1,7 @@
 pub mod Arrivals
 pub mod Conserved
 pub mod Expiry
+pub mod Flushes
 pub mod HeldOnes
 pub mod InOrder
 pub mod Leavings

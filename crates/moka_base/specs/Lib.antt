@@ -9,3 +9,4 @@ pub mod SizeLaws
 pub mod StandsFor
 pub mod Worked
 pub mod WorkedMaintenance
+pub mod WorkedSize

@@ -10,3 +10,4 @@ pub mod policy;
 pub mod size_laws;
 pub mod worked;
 pub mod worked_maintenance;
+pub mod worked_size;

@@ -2,7 +2,7 @@
 ghost use Rattle.std.specs.Prelude.{◌≡◌, ◌≢◌, ℕ, ◌+◌, ◌≤◌, true, false, Some, None, List, [], ◌∷◌, ◌++◌, length, take, drop, map};
 ghost use Rattle.std.specs.List.{AllByRecursion};
 ghost use Rattle.moka_base.specs.declared.notification.RemovalCause.TheVariants.{Expired, Size};
-ghost use Rattle.moka_base.specs.History.{Event, Get, ContainsKey, Maintain, Rules, Write, Leaving, latest, is_live, queues, standing, leaving, leavings, next_number, entry_count, stores_nothing, flush_point, IsHistory};
+ghost use Rattle.moka_base.specs.History.{Event, Get, ContainsKey, Maintain, Rules, Write, latest, is_live, queues, standing, leaving, leavings, next_number, entry_count, stores_nothing, flush_point, IsHistory};
 ghost use Rattle.moka_base.specs.Replies.{Found, Contains, answer};
 ghost use Rattle.moka_base.specs.SizeLaws.{dead, living, gone, excess, leaving_as};
 
