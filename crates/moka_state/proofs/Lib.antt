@@ -1,5 +1,7 @@
 pub mod Cases
 pub mod Changes
+pub mod Cursors
+pub mod Deadlines
 pub mod Found
 pub mod Lengths
 pub mod Maintaining

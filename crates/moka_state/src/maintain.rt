@@ -101,11 +101,11 @@ fn admit_waiting<K: Eq + Drop, V: Drop, R: RowStore<K, V>>(
     let mut earliest = earliest;
     while let Some(number) = table.first_waiting() {
         let deadline = lives.deadline(table.row(number).info);
-        if has_come(deadline, now) {
-            table.let_go(number, RemovalCause::Expired);
-        } else {
+        if !has_come(deadline, now) {
             table.admit(number);
             earliest = earlier(earliest, deadline);
+        } else {
+            table.let_go(number, RemovalCause::Expired);
         }
     }
     earliest
