@@ -26,11 +26,6 @@ module _ {R : Type 0} where
   begins-with [] n first = cc
   begins-with (p ∷ ps) n first = let same : p.0 ≡ n = cc in (p.1, ps, λ i. (same i, p.1) ∷ ps)
 
-  -- a list without one is empty
-  pub empty-without : (rows : List (ℕ × R)) → first_number rows ≡ None → rows ≡ []
-  empty-without [] first = refl
-  empty-without (p ∷ ps) first = cc
-
   rows_from-here : (n : ℕ) (r : R) (back : List (ℕ × R)) → rows_from_number n ((n, r) ∷ back) ≡ (n, r) ∷ back
   rows_from-here n r back = let is : (n == n) ≡ true = eq-eqb n n refl in rw is refl
 
