@@ -1,6 +1,8 @@
 pub mod Cases
 pub mod Changes
 pub mod Counts
+pub mod Cursors
+pub mod Deadlines
 pub mod Found
 pub mod Lengths
 pub mod Maintained

@@ -102,13 +102,13 @@ fn admit_waiting<K: Eq + Drop, V: Drop, R: RowStore<K, V>>(
     ensures room { table.old.room ≤ table.new.room }
 {
     let mut earliest = earliest;
-    while let Some(number) = table.first_waiting() {
-        let deadline = lives.deadline(table.row(number).info);
-        if has_come(deadline, now) {
-            table.let_go(number, RemovalCause::Expired);
-        } else {
-            table.admit(number);
+    while let Some(first) = table.first_waiting() {
+        let deadline = lives.deadline(table.row(first).info);
+        if !has_come(deadline, now) {
+            table.admit(first);
             earliest = earlier(earliest, deadline);
+        } else {
+            table.let_go(first, RemovalCause::Expired);
         }
     }
     earliest

@@ -86,18 +86,18 @@ impl<K: Eq + Drop, V: Drop, R: RowStore<K, V>> Table<K, V, R> {
         self.rows.len()
     }
 
+    /// How many rows are admitted.
+    pub fn admitted_len(&self) -> usize
+        ensures { result ≡ length self.now.admitted }
+    {
+        self.rows.len() - self.waiting_len()
+    }
+
     /// How many rows wait.
     pub fn waiting_len(&self) -> usize
         ensures { result ≡ length self.now.waiting }
     {
         self.rows.waiting_len()
-    }
-
-    /// How many rows are admitted.
-    pub fn admitted_len(&self) -> usize
-        ensures { result ≡ length self.now.admitted }
-    {
-        self.rows.len() - self.rows.waiting_len()
     }
 
     /// The number of the least recently used admitted row.

@@ -1,6 +1,7 @@
 use Rattle.std.proofs.Common.{ℕ, ◌≤◌, List, length}
 use Rattle.moka_state.specs.declared.rows.Row.{Row}
-use Rattle.moka_state.proofs.Maintaining.{Sweeps, rows_from}
+use Rattle.moka_state.proofs.Cursors.{rows_from}
+use Rattle.moka_state.proofs.Maintaining.{Sweeps}
 use Rattle.moka_state.proofs.maintain.sweep.Given as goal
 
 -- The rows before the cursor are swept, and those from the cursor on are not.

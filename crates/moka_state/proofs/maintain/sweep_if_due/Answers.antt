@@ -2,7 +2,7 @@ use Rattle.std.proofs.Common.{sym, ap, ◌∙◌, ◌++◌}
 use Rattle.std.proofs.lemmas.List.{append-nil}
 use Rattle.moka_base.specs.declared.notification.RemovalCause.TheVariants.{Expired}
 use Rattle.moka_state.specs.Maintain.{notices_for}
-use Rattle.moka_state.proofs.Maintaining.{living-before_due, dead-before_due}
+use Rattle.moka_state.proofs.Deadlines.{living-before_due, dead-before_due}
 use Rattle.moka_state.proofs.maintain.sweep_if_due.Goals as goal
 
 pub returns-else-has_come-clause-admitted : goal.returns-else-has_come-clause-admitted
