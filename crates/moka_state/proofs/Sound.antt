@@ -183,11 +183,11 @@ module _ {K V : Type 0} (keeps : K → V → Type 0) (hash_of : K → ℕ) (live
   IsSound-overwritten n row v info notice there kept left used notices =
       let Due : Row K V → Type 0 = λ r. (at : ℕ) → has_come (deadline_of lives r.info) at ≡ true → has_come (earlier earliest (deadline_of lives info)) at ≡ true in
       record {
-    due = of-used-admitted Due n (overwritten v info) row old new (IsDueFrom-left earliest (deadline_of lives info) lives old.admitted sound.due) there (λ _ at c. come-right earliest (deadline_of lives info) at c) used;
-    hashed = of-used (λ (r : Row K V). r.hash ≡ hash_of (arc_value r.key)) n (overwritten v info) row old new sound.hashed there (of-row (λ (r : Row K V). r.hash ≡ hash_of (arc_value r.key)) n (entries old) row sound.hashed there) used;
-    kept = of-used (λ (r : Row K V). keeps (arc_value r.key) r.value) n (overwritten v info) row old new sound.kept there kept used;
-    notices_kept = rw notices (all-append (λ (m : Notice K V). keeps (arc_value m.key) m.value) old.notices (notice ∷ []) sound.notices_kept (left (of-row (λ (r : Row K V). keeps (arc_value r.key) r.value) n (entries old) row sound.kept there), tt));
-  }
+        due = of-used-admitted Due n (overwritten v info) row old new (IsDueFrom-left earliest (deadline_of lives info) lives old.admitted sound.due) there (λ _ at c. come-right earliest (deadline_of lives info) at c) used;
+        hashed = of-used (λ (r : Row K V). r.hash ≡ hash_of (arc_value r.key)) n (overwritten v info) row old new sound.hashed there (of-row (λ (r : Row K V). r.hash ≡ hash_of (arc_value r.key)) n (entries old) row sound.hashed there) used;
+        kept = of-used (λ (r : Row K V). keeps (arc_value r.key) r.value) n (overwritten v info) row old new sound.kept there kept used;
+        notices_kept = rw notices (all-append (λ (m : Notice K V). keeps (arc_value m.key) m.value) old.notices (notice ∷ []) sound.notices_kept (left (of-row (λ (r : Row K V). keeps (arc_value r.key) r.value) n (entries old) row sound.kept there), tt));
+      }
 
   -- a row with its hash and with a value that is kept for its key is added to those that wait
   pub IsSound-added : (n : ℕ) (row : Row K V) → row.hash ≡ hash_of (arc_value row.key) → keeps (arc_value row.key) row.value

@@ -46,7 +46,10 @@ impl<K: Eq + Drop, V: Drop, R: RowStore<K, V>> Table<K, V, R> {
         match place {
             Place::Absent => Slot::New { key },
             Place::Stored { key: stored, .. } => match self.find(&*key, hash) {
-                Some(number) => Slot::Over { number, key: stored },
+                Some(number) => Slot::Over {
+                    number,
+                    key: stored,
+                },
                 None => Slot::New { key },
             },
         }

@@ -212,7 +212,13 @@ impl<K: Hash + Drop, V: Clone, C: CacheTypes<K, V>, R: RowStore<K, V>> State<K, 
         } else {
             match key.into_shared(self.alloc) {
                 Ok(key) => {
-                    self.earliest = maintain(&mut self.table, &self.lives, self.max_capacity, self.earliest, now);
+                    self.earliest = maintain(
+                        &mut self.table,
+                        &self.lives,
+                        self.max_capacity,
+                        self.earliest,
+                        now,
+                    );
                     self.table.slot_now(place, key, hash)
                 }
                 Err(key) => return Err(InsertRefused { key, value, cause }),
@@ -275,7 +281,13 @@ impl<K: Hash + Drop, V: Clone, C: CacheTypes<K, V>, R: RowStore<K, V>> State<K, 
         ensures { Follows K.eq self.old (Maintain now) self.new }
     {
         let now = self.latest.max(now);
-        self.earliest = maintain(&mut self.table, &self.lives, self.max_capacity, self.earliest, now);
+        self.earliest = maintain(
+            &mut self.table,
+            &self.lives,
+            self.max_capacity,
+            self.earliest,
+            now,
+        );
         self.latest = now;
     }
 
