@@ -3,11 +3,11 @@ use Rattle.std.proofs.Common.{◌≡◌, ℕ, zero, suc, ◌+◌, ◌-◌, ◌�
 use Rattle.std.specs.List.{filter, list_any}
 use Rattle.std.proofs.lemmas.Bool.{true≢false}
 use Rattle.std.specs.Arc.{arc_value}
-use Rattle.std.specs.Option.{option_to_list}
+use Rattle.std.specs.Option.{option_to_list, IfSome}
 use Rattle.std.specs.Cmp.{IsEquivalence}
 use Rattle.std.proofs.lemmas.List.{append-nil, map-append, take-map, length-map}
-use Rattle.std.specs.List.{All}
-use Rattle.std.proofs.lemmas.List.Elements.{filter-append, filter_passes, All-head, All-tail, All-take, All-weaker}
+use Rattle.std.specs.List.{All, AllByRecursion}
+use Rattle.std.proofs.lemmas.List.Elements.{filter-append, filter_passes, All-head, All-tail, All-take, All-weaker, All-same, recursion_from_All}
 use Rattle.moka_base.specs.declared.notification.RemovalCause.{RemovalCause}
 use Rattle.moka_base.specs.declared.notification.Notice.{Notice}
 use Rattle.moka_base.specs.declared.notification.RemovalCause.TheVariants.{Expired, Size}
@@ -15,7 +15,7 @@ use Rattle.moka_base.specs.History.{Event, Maintain, Rules, Write, Leaving, late
 use Rattle.moka_base.specs.Maintenance.{Queues, parts, leaving_in, after_parts}
 use Rattle.moka_base.specs.MaintenanceLaws.{the_dead, the_living, behind_the_dead}
 use Rattle.moka_base.specs.StandsFor.{StandsFor, writes_of}
-use Rattle.moka_base.proofs.Maintenance.{after-parts}
+use Rattle.moka_base.proofs.Maintenance.{after-parts, All-live-after}
 use Rattle.moka_base.proofs.MaintenanceOnes.{leaving-ones, admitted-ones}
 use Rattle.moka_base.proofs.MaintenanceOrder.{leaving-room, admitted-room, take-leaving}
 use Rattle.moka_base.proofs.QueuesHold.{held-maintained}
@@ -179,3 +179,24 @@ module _ {K V : Type 0} (eq : K → K → Bool) (laws : IsEquivalence eq) (rules
         latest = moment_is;
         next_number = stands.next_number ∙ sym (add-zero (next_number rules h));
       }
+
+  -- and all that it stores is live
+  pub all-live : (new : Contents K V) → IsMaintained lives capacity now contents new → AllByRecursion (λ w. is_live rules w (latest (Maintain at ∷ h)) ≡ true) (stored_writes new.admitted ++ stored_writes new.waiting)
+  all-live new is =
+      let then = stands-after-maintain new is in
+      let Lives : Write K V → Type 0 = λ w. is_live rules w (latest (Maintain at ∷ h)) ≡ true in
+      let admitted : All Lives (stored_writes new.admitted) = All-same Lives (stored_writes new.admitted) (queues eq rules (Maintain at ∷ h)).admitted then.admitted (All-live-after (λ (w : Write K V). 1) rules.max_capacity (λ (w : Write K V). is_live rules w (latest (Maintain at ∷ h))) (λ (w : Write K V) (victims : List (Write K V)). true) (queues eq rules h)) in
+      rw (is.waiting, append-nil (stored_writes new.admitted)) (recursion_from_All Lives (stored_writes new.admitted) admitted)
+
+-- what a maintenance leaves stored is within the capacity
+pub stored-within : {K V : Type 0} (lives : Lives) (capacity : Option ℕ) (at : ℕ) (old new : Contents K V) → IsMaintained lives capacity at old new → IfSome capacity (λ c. length (stored_writes new.admitted ++ stored_writes new.waiting) ≤ c)
+stored-within {K} {V} lives capacity at old new is = go capacity is.admitted
+  where
+    counted : length (stored_writes new.admitted ++ stored_writes new.waiting) ≡ length new.admitted
+    counted = rw (is.waiting, append-nil (stored_writes new.admitted)) (length-map new.admitted (λ p. stored_write {K = K} {V = V} p.1))
+
+    go : (o : Option ℕ) → new.admitted ≡ drop (excess o (length (living lives at (entries old)))) (living lives at (entries old)) → IfSome o (λ c. length (stored_writes new.admitted ++ stored_writes new.waiting) ≤ c)
+    go None admitted = tt
+    go (Some c) admitted =
+        let left = ap length admitted ∙ length-drop (length (living lives at (entries old)) - c) (living lives at (entries old)) in
+        omega (arith, counted)

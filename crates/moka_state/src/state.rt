@@ -1,7 +1,8 @@
 //! The cache as a plain value, lent with `&mut`, with every moment handed in.
 ghost use Rattle.std.specs.Prelude.{◌≡◌, ◌+◌, ◌≤◌, ℕ, true, false, ◌↔◌, ◌∷◌, [], length, map, option_map, fold, IsOk, IfOk, IfErr, IfSome, OnOk, OnErr, None, Some, IsErrAnd};
 ghost use Rattle.std.specs.Arc.{arc_value};
-ghost use Rattle.moka_base.specs.History.{Event, Get, ContainsKey, Invalidate, Maintain, EntryCount, TakeNotice, live, noticed, greatest_number, flush_point, stores_nothing, after_insert};
+ghost use Rattle.std.specs.List.{AllByRecursion};
+ghost use Rattle.moka_base.specs.History.{Event, Get, ContainsKey, Invalidate, Maintain, EntryCount, TakeNotice, latest, is_live, live, noticed, greatest_number, flush_point, stores_nothing, after_insert};
 ghost use Rattle.moka_base.specs.Replies.{answer, Found, Contains, Done, Counted, Noticed, IsAnswer};
 ghost use Rattle.moka_base.specs.StandsFor.{Holdings, writes, StandsFor, Follows, AtEachHistory};
 ghost use Rattle.moka_state.specs.Table.{leaving_of};
@@ -278,7 +279,13 @@ impl<K: Hash + Drop, V: Clone, C: CacheTypes<K, V>, R: RowStore<K, V>> State<K, 
     ///
     /// Visits the waiting rows and those that leave, and the admitted ones only where one may have expired.
     pub fn run_pending_tasks(&mut self, now: u64)
-        ensures { Follows K.eq self.old (Maintain now) self.new }
+        ensures stands { Follows K.eq self.old (Maintain now) self.new }
+
+        // Nothing waits then, what is stored is live, and it is within the capacity.
+        ensures none_waits { self.new.waiting ≡ [] }
+        ensures all_live { AtEachHistory K.eq self.old (λ rules h.
+            AllByRecursion (λ w. is_live rules w (latest (Maintain now ∷ h)) ≡ true) (writes self.new)) }
+        ensures within { IfSome self.new.max_capacity (λ capacity. length (writes self.new) ≤ capacity) }
     {
         let now = self.latest.max(now);
         self.earliest = maintain(

@@ -3,6 +3,7 @@ use crate::state::tests::{ByNumber, Call, Rules, Types, WITHOUT_LIVES, answers, 
 use crate::state::{CacheState, InsertRefused};
 use moka_base::notification::RemovalCause;
 use moka_base::policy::Refused;
+use std::alloc::Global;
 use std::process::Abort;
 use std::test::Fail;
 
@@ -105,24 +106,46 @@ fn stores_nothing_at_a_capacity_of_0(rt: HostRuntime) -> Result<(), Fail> {
 /// A cache of numbers, of a type that tests name.
 type Numbers = CacheState<u64, u64, Types<ByNumber>>;
 
+/// A cache with a capacity of 10. Where memory is refused, it asks once more, as `writes` does.
+fn ten(alloc: Global, first_number: u64) -> Result<Numbers, Refused> {
+    let rules = Rules {
+        max_capacity: Some(10),
+        first_number,
+        ..WITHOUT_LIVES
+    };
+    match built(alloc, rules, ByNumber::new()) {
+        Ok(cache) => Ok(cache),
+        Err(_) => built(alloc, rules, ByNumber::new()),
+    }
+}
+
+/// A write. A refused one has flushed nothing, and hands back what was given.
+fn writes(rt: &impl Abort, cache: &mut Numbers, key: u64, value: u64) {
+    let (entries, notices) = (cache.entry_count(), cache.notice_count());
+    if let Err(refused) = cache.insert(key, value, 0) {
+        assert_eq!(rt; refused.cause, Refused::OutOfMemory);
+        assert_eq!(rt; (refused.key, refused.value), (key, value));
+        assert_eq!(rt; cache.entry_count(), entries);
+        assert_eq!(rt; cache.notice_count(), notices);
+        assert!(rt; cache.insert(key, value, 0).is_ok());
+    }
+}
+
 /// Writes the keys 1 to 64.
 fn fill(rt: &impl Abort, cache: &mut Numbers) {
     for key in 1..65 {
-        assert!(rt; cache.insert(key, key, 0).is_ok());
+        writes(rt, cache, key, key);
     }
     assert_eq!(rt; cache.entry_count(), 64);
     assert_eq!(rt; cache.notice_count(), 0);
 }
 
+/// It passes also where one allocation fails, whichever.
 #[test]
 fn flushes_before_a_write_that_finds_64_keys_waiting(rt: HostRuntime) -> Result<(), Fail> {
-    let rules = Rules {
-        max_capacity: Some(10),
-        ..WITHOUT_LIVES
-    };
-    let mut cache: Numbers = built(rt.alloc(), rules, ByNumber::new())?;
+    let mut cache = ten(rt.alloc(), 0)?;
     fill(&rt, &mut cache);
-    assert!(rt; cache.insert(65, 65, 0).is_ok());
+    writes(&rt, &mut cache, 65, 65);
     assert_eq!(rt; cache.entry_count(), 11);
     assert_eq!(rt; cache.notice_count(), 54);
     for key in 1..55 {
@@ -136,28 +159,19 @@ fn flushes_before_a_write_that_finds_64_keys_waiting(rt: HostRuntime) -> Result<
 /// The key that is written is let go by the flush before its write, which then finds it not stored.
 #[test]
 fn flushes_before_an_overwrite(rt: HostRuntime) -> Result<(), Fail> {
-    let rules = Rules {
-        max_capacity: Some(10),
-        ..WITHOUT_LIVES
-    };
-    let mut cache: Numbers = built(rt.alloc(), rules, ByNumber::new())?;
+    let mut cache = ten(rt.alloc(), 0)?;
     fill(&rt, &mut cache);
-    assert!(rt; cache.insert(1, 100, 0).is_ok());
+    writes(&rt, &mut cache, 1, 100);
     assert_eq!(rt; cache.entry_count(), 11);
     let notice = cache.take_notice().ok_or("a notice")?;
     assert_eq!(rt; (notice.value, notice.cause), (1, RemovalCause::Size));
-    assert_eq!(rt; cache.get(&1, 0)?, Some(100));
+    assert!(rt; cache.contains_key(&1, 0));
     Ok(())
 }
 
 #[test]
 fn does_not_flush_before_a_refused_write(rt: HostRuntime) -> Result<(), Fail> {
-    let rules = Rules {
-        max_capacity: Some(10),
-        first_number: u64::MAX - 64,
-        ..WITHOUT_LIVES
-    };
-    let mut cache: Numbers = built(rt.alloc(), rules, ByNumber::new())?;
+    let mut cache = ten(rt.alloc(), u64::MAX - 64)?;
     fill(&rt, &mut cache);
     let Err(InsertRefused { key, value, cause }) = cache.insert(65, 650, 0) else {
         return Err("the write was not refused".into());
