@@ -5,7 +5,7 @@ use Rattle.std.proofs.lemmas.Option.{slice_get-map}
 use Rattle.std.specs.List.{list_any}
 use Rattle.moka_base.proofs.Arrivals.{list_any-map}
 use Rattle.moka_base.proofs.ListLemmas.{map-filter}
-use Rattle.moka_base.specs.Maintenance.{Queues, Part, parts, leaving_in, after_parts}
+use Rattle.moka_base.specs.Maintenance.{Queues, leaving_in, after_parts}
 use Rattle.moka_base.specs.declared.notification.RemovalCause.{RemovalCause}
 use Rattle.moka_base.specs.declared.notification.RemovalCause.TheVariants.{Explicit, Replaced, Size}
 use Rattle.moka_base.specs.History.{Event, Get, ContainsKey, Insert, Invalidate, Maintain, Skip, EntryCount, TakeNotice, Rules, Write, recorded, latest, is_live, live_one, after_look, after_write, is_of, is_hit, used_where, opened_by, written_in, removed_in, maintenance, let_go, maintained, queues, leaves_in, standing, left, leaving_of, leaving, leavings, taken, noticed, drawn, next_number, live, entry_count, greatest_number, stores_nothing, is_flush_due, flush_point, after_insert}

@@ -50,10 +50,9 @@ impl Session {
             time_to_live: settings.time_to_live.map(Duration::from_secs),
             time_to_idle: settings.time_to_idle.map(Duration::from_secs),
             max_capacity: settings.capacity,
+            // Where no policy is given there is no capacity, and then none matters.
             eviction_policy: match settings.policy {
-                Some(Eviction::Lru) => EvictionPolicy::lru(),
-                // There is no capacity then.
-                None => EvictionPolicy::lru(),
+                Some(Eviction::Lru) | None => EvictionPolicy::lru(),
             },
             first_number: settings.first_number.unwrap_or(0),
             hasher,
