@@ -1,6 +1,6 @@
 // The example of the README, whole: the gate proves it and runs it.
 use crate::notification::RemovalCause;
-use crate::policy::{CacheTypes, NumberHash, Refused};
+use crate::policy::{CacheTypes, EvictionPolicy, NumberHash, Refused};
 use crate::state::{CacheState, InsertRefused, Reply, Settings, Step};
 use std::alloc::{AllocError, Global};
 use std::hash::BuildHasherDefault;
@@ -29,6 +29,8 @@ fn ten_seconds(alloc: Global) -> Result<CacheState<u64, String, Names>, Refused>
         Settings {
             time_to_live: Some(Duration::from_secs(10)),
             time_to_idle: None,
+            max_capacity: None,
+            eviction_policy: EvictionPolicy::lru(),
             first_number: 0,
             hasher,
         },

@@ -1,5 +1,5 @@
 -- What a session prints, from what its cache's calls ensure.
-use Rattle.std.proofs.Common.{◌≡◌, ℕ, max, Bool, true, false, List, [], ◌∷◌, ◌++◌, map, Option, Some, None, IsSome, option_map, codes, nat_eq, refl, sym, ap, ◌∙◌, subst, rules, inl, inr, ◌⊎◌, ◌↔◌, lit<}
+use Rattle.std.proofs.Common.{◌≡◌, ℕ, max, Bool, true, false, cond, List, [], ◌∷◌, ◌++◌, map, Option, Some, None, IsSome, option_map, codes, nat_eq, refl, sym, ap, ◌∙◌, subst, rules, inl, inr, ◌⊎◌, ◌↔◌, arith, lit<}
 use Rattle.std.specs.Prelude.{String, Vec, Result, Ok, Err, IfOk}
 use Rattle.std.specs.declared.alloc.Global.{Global}
 use Rattle.std.specs.Fmt.{decimal}
@@ -8,18 +8,19 @@ use Rattle.std.proofs.lemmas.Fmt.{decimal_digit}
 use Rattle.moka_base.specs.declared.policy.Refused as moka_refused
 use Rattle.moka_base.specs.declared.policy.Refused.TheVariants as refusals
 use Rattle.moka_base.specs.History as history
-use Rattle.moka_base.specs.History.{Event, Rules, Write, Leaving, latest, live, noticed, next_number, greatest_number}
+use Rattle.moka_base.specs.History.{Event, Rules, Write, Leaving, latest, live, next_number, greatest_number, stores_nothing, after_insert}
 use Rattle.moka_base.specs.Replies as replies
-use Rattle.moka_base.specs.Replies.{Answer, answer, IsOutOfNumbers, IsAnswer, IsCopyOf}
-use Rattle.moka_base.specs.StandsFor.{Follows, AtEachHistory}
-use Rattle.mokabox.proofs.EventsBy.{latest-by, live-by, next_number-by, answer-by}
+use Rattle.moka_base.specs.Replies.{Answer, answer, IsOutOfNumbers, IsAnswer, IsCopyOf, MayTakeMemory}
+use Rattle.moka_base.specs.StandsFor.{StandsFor, Follows, AtEachHistory}
+use Rattle.mokabox.proofs.EventsBy.{latest-by, live-by, next_number-by, answer-by, after_insert-by}
 use Rattle.mokabox.specs.Answer.{answer_text, refusal_number}
 use Rattle.mokabox.specs.declared.answer.Answer.TheVariants as answers
 use Rattle.mokabox.specs.Command.{PlainCommand}
 use Rattle.mokabox.specs.declared.command.Command.TheVariants as commands
 use Rattle.mokabox.specs.Events.{event_by, write_by, answer_by}
-use Rattle.mokabox.specs.Script.{ScriptEvent, Course, course_with, reply_text, Accepts, Refuses}
+use Rattle.mokabox.specs.Script.{ScriptEvent, Course, course_with, reply_text, write_event, Accepts, AcceptsWrite, Refuses}
 use Rattle.mokabox.specs.Session.{ScriptHoldings, IsAt, Prints}
+use Rattle.mokabox.proofs.Truth.{untrue, ne_true-false}
 
 abbrev pub Text : Type 0
 Text = String Global
@@ -100,24 +101,55 @@ look_refused cache after moment key cause same memory hit rules before is =
     let refuse = subst (λ c. Refuses before (codes "1") ((codes "refused " ++ decimal (refusal_number c)) ∷ []) before) (sym memory) (refuses before) in
     (before, inr (subst P is.same mapped, refuse), subst (λ held. IsAt held moment rules before) (sym same) is)
 
+-- a number is used up where the next one is the greatest and a capacity of 0 doesn't stop the write
+abbrev AreUsedUp : ScriptHoldings → Type 0
+AreUsedUp cache = (stores_nothing cache.max_capacity ≡ false) × (cache.next_number ≡ greatest_number)
+
+-- a write wants a number exactly where the cache has used all up
+out_of_numbers : (cache : ScriptHoldings) (moment key : ℕ) (value : List ℕ) (rules : Rules) (before : Course) (is : IsAt cache moment rules before) → IsOutOfNumbers rules (write_event rules key value before.moment) before.events ↔ AreUsedUp cache
+out_of_numbers cache moment key value rules before is = either (stores_nothing rules.max_capacity) refl where
+  nothing : stores_nothing cache.max_capacity ≡ stores_nothing rules.max_capacity
+  nothing = ap stores_nothing is.stands.max_capacity
+
+  number : next_number rules before.events ≡ cache.next_number
+  number = numbers cache moment rules before is
+
+  either : (test : Bool) → stores_nothing rules.max_capacity ≡ test → IsOutOfNumbers rules (cond test (history.Skip before.moment) (history.Insert key value before.moment)) before.events ↔ AreUsedUp cache
+  either true e = (λ out. absurd (omega (arith, out.0)), λ used. absurd (untrue (sym used.0 ∙ nothing ∙ e)))
+  either false e = (λ out. (nothing ∙ e, sym number ∙ out.1), λ used. (lit< tt, number ∙ used.1))
+
+-- the answer to a write is that it is done
+write_answer : (key : ℕ) (value : List ℕ) (rules : Rules) (before : Course) → codes "ok" ≡ reply_text (answer nat_eq rules (write_event rules key value before.moment) before.events)
+write_answer key value rules before = either (stores_nothing rules.max_capacity) where
+  either : (test : Bool) → codes "ok" ≡ reply_text (answer nat_eq rules (cond test (history.Skip before.moment) (history.Insert key value before.moment)) before.events)
+  either true = refl
+  either false = refl
+
+-- a write is refused for want of memory only where the capacity isn't 0
+write_takes_memory : (key : ℕ) (value : List ℕ) (rules : Rules) (before : Course) → stores_nothing rules.max_capacity ≡ false → MayTakeMemory nat_eq rules (write_event rules key value before.moment) before.events
+write_takes_memory key value rules before some = rw some tt
+
 -- a write that is accepted
-pub written : (cache after : ScriptHoldings) (moment key : ℕ) (text : Text) (value : List ℕ) → string_bytes text ≡ value → Follows nat_eq cache (history.Insert key text moment) after → (cache.next_number ≡ greatest_number → ⊥) → Prints cache moment (commands.Insert key value) (codes "ok" ∷ []) after moment
+pub written : (cache after : ScriptHoldings) (moment key : ℕ) (text : Text) (value : List ℕ) → string_bytes text ≡ value → AtEachHistory nat_eq cache (λ rules h. StandsFor nat_eq rules after (after_insert nat_eq rules key text moment h)) → (AreUsedUp cache → ⊥) → Prints cache moment (commands.Insert key value) (codes "ok" ∷ []) after moment
 written cache after moment key text value spelled follows room rules before is =
-    let event : Event ℕ Text = history.Insert key text moment in
-    let course = course_with before (history.Insert key (string_bytes text) moment) in
-    let out : IsOutOfNumbers rules (history.Insert key value before.moment) before.events → ⊥ = λ e. room (sym (numbers cache moment rules before is) ∙ e.1) in
-    let accept : Accepts rules before (history.Insert key (string_bytes text) moment) (codes "ok" ∷ []) course = accepts cache moment rules before event (codes "ok") is refl in
-    let at_moment : Accepts rules before (history.Insert key (string_bytes text) before.moment) (codes "ok" ∷ []) course = subst (λ at. Accepts rules before (history.Insert key (string_bytes text) at) (codes "ok" ∷ []) course) is.now accept in
-    let of_value : Accepts rules before (history.Insert key value before.moment) (codes "ok" ∷ []) course = subst (λ bytes. Accepts rules before (history.Insert key bytes before.moment) (codes "ok" ∷ []) course) spelled at_moment in
-    (course, inl (out, of_value), accepted cache after moment rules before event is follows)
+    let course : Course = record before { events = after_insert nat_eq rules key value before.moment before.events } in
+    let out : IsOutOfNumbers rules (write_event rules key value before.moment) before.events → ⊥ = λ e. room ((out_of_numbers cache moment key value rules before is).0 e) in
+    let accept : AcceptsWrite rules before key value (codes "ok" ∷ []) course = record { printed = ap (λ line. line ∷ []) (write_answer key value rules before); after = refl } in
+    let same : map (event_by string_bytes) (after_insert nat_eq rules key text moment is.events) ≡ course.events =
+    after_insert-by string_bytes rules nat_eq key text moment is.events
+    ∙ ap (λ bytes. after_insert nat_eq rules key bytes moment (map (event_by string_bytes) is.events)) spelled
+    ∙ ap (λ at. after_insert nat_eq rules key value at (map (event_by string_bytes) is.events)) is.now
+    ∙ ap (after_insert nat_eq rules key value before.moment) is.same in
+    (course, inl (out, accept), record { events = after_insert nat_eq rules key text moment is.events; stands = follows rules is.events is.stands; same = same; now = is.now })
 
 -- a write that is refused
-pub write_refused : (cache after : ScriptHoldings) (moment key : ℕ) (value : List ℕ) (cause : moka_refused.Refused) → after ≡ cache → (cause ≡ refusals.NumbersUsedUp) ↔ (cache.next_number ≡ greatest_number) → Prints cache moment (commands.Insert key value) ((codes "refused " ++ decimal (refusal_number cause)) ∷ []) after moment
-write_refused cache after moment key value refusals.OutOfMemory same used_up rules before is =
-    let room : IsOutOfNumbers rules (history.Insert key value before.moment) before.events → ⊥ = λ e. (let both : refusals.OutOfMemory ≡ refusals.NumbersUsedUp = used_up.1 (sym (numbers cache moment rules before is) ∙ e.1) in cc) in
-    (before, inr (inr (room, refuses before)), subst (λ held. IsAt held moment rules before) (sym same) is)
-write_refused cache after moment key value refusals.NumbersUsedUp same used_up rules before is =
-    (before, inr (inl ((lit< tt, numbers cache moment rules before is ∙ used_up.0 refl), refuses_numbers before)), subst (λ held. IsAt held moment rules before) (sym same) is)
+pub write_refused : (cache after : ScriptHoldings) (moment key : ℕ) (value : List ℕ) (cause : moka_refused.Refused) → after ≡ cache → (cause ≡ refusals.NumbersUsedUp) ↔ AreUsedUp cache → (stores_nothing cache.max_capacity ≡ true → ⊥) → Prints cache moment (commands.Insert key value) ((codes "refused " ++ decimal (refusal_number cause)) ∷ []) after moment
+write_refused cache after moment key value refusals.OutOfMemory same used_up some rules before is =
+    let room : IsOutOfNumbers rules (write_event rules key value before.moment) before.events → ⊥ = λ e. (let both : refusals.OutOfMemory ≡ refusals.NumbersUsedUp = used_up.1 ((out_of_numbers cache moment key value rules before is).0 e) in cc) in
+    let memory = write_takes_memory key value rules before (ne_true-false (stores_nothing rules.max_capacity) (λ e. some (ap stores_nothing is.stands.max_capacity ∙ e))) in
+    (before, inr (inr (memory, room, refuses before)), subst (λ held. IsAt held moment rules before) (sym same) is)
+write_refused cache after moment key value refusals.NumbersUsedUp same used_up some rules before is =
+    (before, inr (inl ((out_of_numbers cache moment key value rules before is).1 (used_up.0 refl), refuses_numbers before)), subst (λ held. IsAt held moment rules before) (sym same) is)
 
 whether_text : (b : Bool) → answer_text (answers.Whether b) ≡ reply_text (replies.Contains b)
 whether_text true = refl
@@ -139,6 +171,20 @@ invalidated cache after moment key follows rules before is =
     let course = course_with before (history.Invalidate key moment) in
     let accept : Accepts rules before (history.Invalidate key moment) (codes "ok" ∷ []) course = accepts cache moment rules before event (codes "ok") is refl in
     (course, subst (λ at. Accepts rules before (history.Invalidate key at) (codes "ok" ∷ []) course) is.now accept, accepted cache after moment rules before event is follows)
+
+-- the pending tasks are run
+pub maintained : (cache after : ScriptHoldings) (moment : ℕ) → Follows nat_eq cache (history.Maintain moment) after → Prints cache moment commands.Tasks (codes "ok" ∷ []) after moment
+maintained cache after moment follows rules before is =
+    let event : Event ℕ Text = history.Maintain moment in
+    let course = course_with before (history.Maintain moment) in
+    let accept : Accepts rules before (history.Maintain moment) (codes "ok" ∷ []) course = accepts cache moment rules before event (codes "ok") is refl in
+    (course, subst (λ at. Accepts rules before (history.Maintain at) (codes "ok" ∷ []) course) is.now accept, accepted cache after moment rules before event is follows)
+
+-- how many are stored
+pub counted : (cache : ScriptHoldings) (moment count : ℕ) → AtEachHistory nat_eq cache (λ rules h. answer nat_eq rules history.EntryCount h ≡ replies.Counted count) → Follows nat_eq cache history.EntryCount cache → Prints cache moment commands.Count (decimal count ∷ []) cache moment
+counted cache moment count reply follows rules before is =
+    let text = ap (λ a. reply_text (answer_by string_bytes a)) (sym (reply rules is.events is.stands)) in
+    (course_with before history.EntryCount, accepts cache moment rules before history.EntryCount (decimal count) is text, accepted cache cache moment rules before history.EntryCount is follows)
 
 -- the lines of one answer
 pub one_line : {E : Type 0} (r : Result (Vec answers.the_data Global) E) (old new : ScriptHoldings) (moment moment_after : ℕ) (command : PlainCommand) (answer : answers.the_data) → IfOk r (λ given. given.items ≡ answer ∷ []) → Prints old moment command (answer_text answer ∷ []) new moment_after → IfOk r (λ given. Prints old moment command (map answer_text given.items) new moment_after)

@@ -6,7 +6,7 @@ use Rattle.moka_base.specs.declared.notification.RemovalCause.TheVariants as cau
 use Rattle.moka_base.specs.declared.policy.Refused as moka_refused
 use Rattle.moka_base.specs.declared.policy.Refused.TheVariants as refusals
 use Rattle.mokabox.specs.declared.answer.Answer.{Answer}
-use Rattle.mokabox.specs.declared.answer.Answer.TheVariants.{Done, Found, NotFound, Whether, Refused, NotBuilt, Left, End, BadLine}
+use Rattle.mokabox.specs.declared.answer.Answer.TheVariants.{Done, Found, NotFound, Whether, Counted, Refused, NotBuilt, Left, End, BadLine}
 use Rattle.mokabox.specs.declared.answer.BuildRefusal.{BuildRefusal}
 use Rattle.mokabox.specs.declared.answer.BuildRefusal.TheVariants as builds
 
@@ -33,6 +33,7 @@ answer_text (Found value) = codes "some " ++ string_bytes value
 answer_text NotFound = codes "none"
 answer_text (Whether true) = codes "true"
 answer_text (Whether false) = codes "false"
+answer_text (Counted count) = decimal count
 answer_text (Refused refused) = codes "refused " ++ decimal (refusal_number refused)
 answer_text (NotBuilt refusal) = codes "refused build " ++ decimal (build_refusal_number refusal)
 answer_text (Left key value cause) = codes "notice " ++ (decimal key ++ (32 ∷ (string_bytes value ++ (32 ∷ cause_text cause))))

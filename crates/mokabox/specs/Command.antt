@@ -5,7 +5,7 @@ use Rattle.std.specs.List.{join_with_byte}
 use Rattle.std.specs.Str.{bytes_eq}
 use Rattle.mokabox.specs.Fields.{line_reading, number_of, sole_number_of, sole_text_of, IsText}
 use Rattle.mokabox.specs.declared.command.Command.{Command}
-use Rattle.mokabox.specs.declared.command.Command.TheVariants.{At, Insert, Get, Has, Invalidate, Notices}
+use Rattle.mokabox.specs.declared.command.Command.TheVariants.{At, Insert, Get, Has, Invalidate, Tasks, Count, Notices}
 
 -- a command with the bytes of its texts
 abbrev pub PlainCommand : Type 0
@@ -17,6 +17,8 @@ plain_command (Insert key value) = Insert key value.now
 plain_command (Get key) = Get key
 plain_command (Has key) = Has key
 plain_command (Invalidate key) = Invalidate key
+plain_command Tasks = Tasks
+plain_command Count = Count
 plain_command Notices = Notices
 
 -- the fields that a command is written as
@@ -26,6 +28,8 @@ command_fields (Insert key value) = codes "insert" ∷ decimal key ∷ value ∷
 command_fields (Get key) = codes "get" ∷ decimal key ∷ []
 command_fields (Has key) = codes "has" ∷ decimal key ∷ []
 command_fields (Invalidate key) = codes "invalidate" ∷ decimal key ∷ []
+command_fields Tasks = codes "tasks" ∷ []
+command_fields Count = codes "count" ∷ []
 command_fields Notices = codes "notices" ∷ []
 
 -- the line that a command is written as, its fields separated by one space
@@ -39,6 +43,8 @@ IsExpressible (Insert key value) = (key < 2 ^ 64) × IsText value
 IsExpressible (Get key) = key < 2 ^ 64
 IsExpressible (Has key) = key < 2 ^ 64
 IsExpressible (Invalidate key) = key < 2 ^ 64
+IsExpressible Tasks = Unit {0}
+IsExpressible Count = Unit {0}
 IsExpressible Notices = Unit {0}
 
 -- what reads the fields behind a command's word
@@ -60,6 +66,8 @@ words = (codes "at", λ rest. option_map At (sole_number_of rest))
     ∷ (codes "get", λ rest. option_map Get (sole_number_of rest))
     ∷ (codes "has", λ rest. option_map Has (sole_number_of rest))
     ∷ (codes "invalidate", λ rest. option_map Invalidate (sole_number_of rest))
+    ∷ (codes "tasks", alone Tasks)
+    ∷ (codes "count", alone Count)
     ∷ (codes "notices", alone Notices)
     ∷ []
 

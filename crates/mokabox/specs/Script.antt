@@ -3,9 +3,9 @@ use Rattle.std.specs.Prelude.{◌≡◌, ℕ, ◌*◌, max, Bool, true, false, �
 use Rattle.std.specs.Fmt.{decimal}
 use Rattle.std.specs.List.{onto_first}
 use Rattle.moka_base.specs.History as history
-use Rattle.moka_base.specs.History.{Event, Rules, Leaving, latest, live, noticed}
+use Rattle.moka_base.specs.History.{Event, Rules, Leaving, latest, live, noticed, stores_nothing, after_insert}
 use Rattle.moka_base.specs.Replies as replies
-use Rattle.moka_base.specs.Replies.{Answer, answer, IsOutOfNumbers}
+use Rattle.moka_base.specs.Replies.{Answer, answer, IsOutOfNumbers, MayTakeMemory}
 use Rattle.mokabox.specs.Answer.{cause_text}
 use Rattle.mokabox.specs.Command.{PlainCommand, command_by_line}
 use Rattle.mokabox.specs.Settings.{settings_by}
@@ -36,6 +36,7 @@ reply_text (replies.Found (Some value)) = codes "some " ++ value
 reply_text (replies.Contains true) = codes "true"
 reply_text (replies.Contains false) = codes "false"
 reply_text replies.Done = codes "ok"
+reply_text (replies.Counted count) = decimal count
 reply_text (replies.Noticed None) = codes "end"
 reply_text (replies.Noticed (Some left)) = notice_text left
 
@@ -43,6 +44,15 @@ reply_text (replies.Noticed (Some left)) = notice_text left
 pub record Accepts (rules : Rules) (before : Course) (event : ScriptEvent) (lines : List (List ℕ)) (course : Course) : Type 0 where
   pub printed : lines ≡ reply_text (answer nat_eq rules event before.events) ∷ []
   pub after : course ≡ course_with before event
+
+-- the event that a write is: with a capacity of 0 it writes nothing
+abbrev pub write_event : Rules → ℕ → List ℕ → ℕ → ScriptEvent
+write_event rules key value at = if stores_nothing rules.max_capacity then history.Skip at else history.Insert key value at
+
+-- The write is accepted, and its answer is printed. Where a flush is due, a maintenance comes before it.
+pub record AcceptsWrite (rules : Rules) (before : Course) (key : ℕ) (value : List ℕ) (lines : List (List ℕ)) (course : Course) : Type 0 where
+  pub printed : lines ≡ reply_text (answer nat_eq rules (write_event rules key value before.moment) before.events) ∷ []
+  pub after : course ≡ record before { events = after_insert nat_eq rules key value before.moment before.events }
 
 -- The step is refused, which changes nothing.
 pub record Refuses (before : Course) (number : List ℕ) (lines : List (List ℕ)) (course : Course) : Type 0 where
@@ -57,17 +67,19 @@ events_taking (left ∷ more) events = events_taking more (history.TakeNotice �
 -- What a command prints, and how far the script has come then.
 abbrev pub CommandPrints : Rules → Course → PlainCommand → List (List ℕ) → Course → Type 0
 CommandPrints rules before (commands.At moment) printed after = (printed ≡ []) × (after ≡ record before { moment = moment })
--- a write is refused where no number is left to draw, or for want of memory
-CommandPrints rules before (commands.Insert key value) printed after = (let event : ScriptEvent = history.Insert key value before.moment in
-    ((IsOutOfNumbers rules event before.events → ⊥) × Accepts rules before event printed after)
+-- a write is refused where no number is left to draw, or for want of memory, and with a capacity of 0 never
+CommandPrints rules before (commands.Insert key value) printed after = (let event = write_event rules key value before.moment in
+    ((IsOutOfNumbers rules event before.events → ⊥) × AcceptsWrite rules before key value printed after)
     ⊎ (IsOutOfNumbers rules event before.events × Refuses before (codes "2") printed after)
-    ⊎ ((IsOutOfNumbers rules event before.events → ⊥) × Refuses before (codes "1") printed after))
+    ⊎ (MayTakeMemory nat_eq rules event before.events × (IsOutOfNumbers rules event before.events → ⊥) × Refuses before (codes "1") printed after))
 -- a look that finds a value is refused for want of memory for its copy
 CommandPrints rules before (commands.Get key) printed after =
     Accepts rules before (history.Get key before.moment) printed after
     ⊎ (IsSome (live nat_eq rules key (max (latest before.events) before.moment) before.events) × Refuses before (codes "1") printed after)
 CommandPrints rules before (commands.Has key) printed after = Accepts rules before (history.ContainsKey key before.moment) printed after
 CommandPrints rules before (commands.Invalidate key) printed after = Accepts rules before (history.Invalidate key before.moment) printed after
+CommandPrints rules before commands.Tasks printed after = Accepts rules before (history.Maintain before.moment) printed after
+CommandPrints rules before commands.Count printed after = Accepts rules before history.EntryCount printed after
 CommandPrints rules before commands.Notices printed after =
     (printed ≡ map notice_text (noticed nat_eq rules before.events) ++ codes "end" ∷ [])
     × (after ≡ record before { events = events_taking (noticed nat_eq rules before.events) before.events })
@@ -90,6 +102,7 @@ abbrev pub rules_by : Settings → Rules
 rules_by settings = record {
   time_to_live = option_map (λ seconds. seconds * 1_000_000_000) settings.time_to_live;
   time_to_idle = option_map (λ seconds. seconds * 1_000_000_000) settings.time_to_idle;
+  max_capacity = settings.capacity;
   first_number = unwrap_or settings.first_number 0;
 }
 

@@ -26,6 +26,8 @@ pub enum Answer {
     NotFound,
     /// Whether it is so.
     Whether(bool),
+    /// How many there are.
+    Counted(u64),
     /// The step was refused.
     Refused(Refused),
     /// The cache was not built.
@@ -47,6 +49,7 @@ impl fmt::Display for Answer {
             Answer::Found(value) => write!(f, "some {value}"),
             Answer::NotFound => write!(f, "none"),
             Answer::Whether(is_so) => write!(f, "{is_so}"),
+            Answer::Counted(count) => write!(f, "{count}"),
             Answer::Refused(refused) => {
                 let number = refusal_number(*refused);
                 write!(f, "refused {number}")

@@ -1,6 +1,6 @@
 //! The commands of a script, and the lines that they are written as.
 ghost use Rattle.std.specs.Prelude.{◌≡◌, IfSome, option_map};
-ghost use Rattle.mokabox.specs.Command.{PlainCommand, plain_command, line_of, IsExpressible, command_of, command_by_line};
+ghost use Rattle.mokabox.specs.Command.{PlainCommand, plain_command, line_of, IsExpressible, alone, command_of, command_by_line};
 ghost use Rattle.mokabox.specs.FieldsLeft.{fields_left};
 
 use crate::fields::{Fields, number};
@@ -18,6 +18,10 @@ pub enum Command<T> {
     Has(u64),
     /// Removes a key.
     Invalidate(u64),
+    /// Runs the pending tasks.
+    Tasks,
+    /// Asks how many keys are stored.
+    Count,
     /// Takes all notices.
     Notices,
 }
@@ -47,13 +51,20 @@ fn read(mut fields: Fields<'_>) -> Option<Command<&str>>
         "get" => Command::Get(fields.sole_number()?),
         "has" => Command::Has(fields.sole_number()?),
         "invalidate" => Command::Invalidate(fields.sole_number()?),
-        "notices" => {
-            if fields.next().is_some() {
-                return None;
-            }
-            Command::Notices
-        }
+        "tasks" => alone(fields, Command::Tasks)?,
+        "count" => alone(fields, Command::Count)?,
+        "notices" => alone(fields, Command::Notices)?,
         _ => return None,
     };
     Some(command)
+}
+
+/// The command, where no field is left.
+fn alone<'a>(mut fields: Fields<'_>, command: Command<&'a str>) -> Option<Command<&'a str>>
+    ensures { option_map plain_command result ≡ alone (plain_command command.entry) (fields_left fields.entry) }
+{
+    match fields.next() {
+        None => Some(command),
+        Some(_) => None,
+    }
 }

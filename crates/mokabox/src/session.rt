@@ -9,7 +9,8 @@ ghost use Rattle.mokabox.specs.declared.command.Command.TheVariants as commands;
 use crate::answer::{Answer, BuildRefusal};
 use crate::command::Command;
 use crate::settings;
-use moka::policy::{CacheTypes, NumberHash};
+use crate::settings::Eviction;
+use moka::policy::{CacheTypes, EvictionPolicy, NumberHash};
 use moka::state::{CacheState, Settings};
 use std::alloc::{AllocError, Global};
 use std::hash::BuildHasherDefault;
@@ -48,6 +49,11 @@ impl Session {
         let settings = Settings {
             time_to_live: settings.time_to_live.map(Duration::from_secs),
             time_to_idle: settings.time_to_idle.map(Duration::from_secs),
+            max_capacity: settings.capacity,
+            // Where no policy is given there is no capacity, and then none matters.
+            eviction_policy: match settings.policy {
+                Some(Eviction::Lru) | None => EvictionPolicy::lru(),
+            },
             first_number: settings.first_number.unwrap_or(0),
             hasher,
         };
@@ -87,6 +93,14 @@ impl Session {
             Command::Invalidate(key) => {
                 self.cache.invalidate(&key, self.moment);
                 one(self.alloc, Answer::Done)
+            }
+            Command::Tasks => {
+                self.cache.run_pending_tasks(self.moment);
+                one(self.alloc, Answer::Done)
+            }
+            Command::Count => {
+                let count = self.cache.entry_count();
+                one(self.alloc, Answer::Counted(count))
             }
             Command::Notices => self.notices(),
         }

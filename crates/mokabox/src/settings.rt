@@ -2,7 +2,7 @@
 ghost use Rattle.std.specs.Prelude.{◌≡◌, ◌↔◌, IsSome, IfSome, OnSome, List, option_map};
 ghost use Rattle.std.specs.List.{AllByRecursion};
 ghost use Rattle.mokabox.specs.FieldsLeft.{fields_left};
-ghost use Rattle.mokabox.specs.Settings.{halves, setting_of, with_setting, settings_of, settings_by, first_line_of, IsGivable, settings_together};
+ghost use Rattle.mokabox.specs.Settings.{halves, setting_of, eviction_of, with_setting, decided, settings_of, settings_by, first_line_of, IsGivable, settings_together};
 ghost use Rattle.mokabox.specs.declared.settings.Setting.{Setting};
 
 use crate::fields::{Fields, number};
@@ -16,6 +16,17 @@ pub struct Settings {
     pub time_to_idle: Option<u64>,
     /// The first number that the cache draws.
     pub first_number: Option<u64>,
+    /// How many keys may stay stored.
+    pub capacity: Option<u64>,
+    /// Which keys leave where the capacity is passed.
+    pub policy: Option<Eviction>,
+}
+
+/// Which keys leave a cache that is too full.
+#[derive(Clone, Copy, Debug, PartialEq, Eq)]
+pub enum Eviction {
+    /// The least recently used ones.
+    Lru,
 }
 
 /// One setting of a first line.
@@ -27,6 +38,10 @@ pub enum Setting {
     TimeToIdle(u64),
     /// The first number that the cache draws.
     FirstNumber(u64),
+    /// How many keys may stay stored.
+    Capacity(u64),
+    /// Which keys leave where the capacity is passed.
+    Policy(Eviction),
 }
 
 impl Settings {
@@ -39,8 +54,20 @@ impl Settings {
             Setting::TimeToLive(seconds) => give(&mut settings.time_to_live, seconds)?,
             Setting::TimeToIdle(seconds) => give(&mut settings.time_to_idle, seconds)?,
             Setting::FirstNumber(number) => give(&mut settings.first_number, number)?,
+            Setting::Capacity(keys) => give(&mut settings.capacity, keys)?,
+            Setting::Policy(eviction) => give(&mut settings.policy, eviction)?,
         }
         Some(settings)
+    }
+
+    /// These settings. `None` where they give a capacity, and don't say which keys leave.
+    fn decided(self) -> Option<Settings>
+        ensures { result ≡ decided self }
+    {
+        if self.capacity.is_some() && self.policy.is_none() {
+            return None;
+        }
+        Some(self)
     }
 }
 
@@ -56,12 +83,13 @@ fn give<T: Drop>(place: &mut Option<T>, value: T) -> Option<()>
     Some(())
 }
 
-/// The settings that a first line gives. `None` where it is no such line, or gives one twice.
+/// The settings that a first line gives. `None` where it is no such line, gives one twice, or gives a capacity without a
+/// policy.
 pub fn parse(line: &[u8]) -> Option<Settings>
-    // The line gives settings, none of them twice, and these are what they say together.
+    // The line gives settings, and these are what they say together.
     ensures found { IfSome result (λ settings. (given : List Setting) × AllByRecursion IsGivable given
         × (line.now ≡ first_line_of given) × (settings_together given ≡ Some settings)) }
-    // A line that gives settings is read as what they say together, if none is given twice.
+    // A line that gives settings is read as what they say together, if they say anything.
     ensures only { (given : List Setting) → AllByRecursion IsGivable given →
         line.now ≡ first_line_of given → result ≡ settings_together given }
     // So these are the settings.
@@ -84,7 +112,7 @@ fn read(mut fields: Fields<'_>) -> Option<Settings>
     for field in fields {
         settings = settings.with(read_setting(field)?)?;
     }
-    Some(settings)
+    settings.decided()
 }
 
 /// The setting that a field gives.
@@ -96,6 +124,18 @@ fn read_setting(field: &str) -> Option<Setting>
         "ttl" => Some(Setting::TimeToLive(number(value)?)),
         "tti" => Some(Setting::TimeToIdle(number(value)?)),
         "first" => Some(Setting::FirstNumber(number(value)?)),
+        "capacity" => Some(Setting::Capacity(number(value)?)),
+        "policy" => Some(Setting::Policy(read_eviction(value)?)),
+        _ => None,
+    }
+}
+
+/// The keys that leave, by their name.
+fn read_eviction(name: &str) -> Option<Eviction>
+    ensures { result ≡ eviction_of name.now }
+{
+    match name {
+        "lru" => Some(Eviction::Lru),
         _ => None,
     }
 }

@@ -33,6 +33,25 @@ fn scripts_print(rt: HostRuntime) -> Result<(), Fail> {
             "ok\nok\nok\ntrue\nfalse\nnotice 1 a Replaced\nend\n",
             Status::Done,
         ),
+        (
+            "new capacity=2 policy=lru\ninsert 1 a\ninsert 2 b\ntasks\nget 1\ninsert 3 c\ntasks\nnotices\n",
+            "ok\nok\nok\nok\nsome a\nok\nok\nnotice 2 b Size\nend\n",
+            Status::Done,
+        ),
+        (
+            "new capacity=10 policy=lru ttl=10\ninsert 1 one\nat 9999999999\nget 1\nat 10000000000\nget 1\nat 9000000000\nget 1\ncount\ntasks\ncount\nnotices\n",
+            "ok\nok\nsome one\nnone\nnone\n1\nok\n0\nnotice 1 one Expired\nend\n",
+            Status::Done,
+        ),
+        (
+            "new policy=lru capacity=0\ninsert 0 x\nhas 0\nget 0\ncount\ntasks\ncount\nnotices\n",
+            "ok\nok\nfalse\nnone\n0\nok\n0\nend\n",
+            Status::Done,
+        ),
+        ("new policy=lru\ncount\n", "ok\n0\n", Status::Done),
+        ("new capacity=10\ncount\n", "bad line\n", Status::Bad),
+        ("new capacity=1 policy=tinylfu\n", "bad line\n", Status::Bad),
+        ("new policy=lru policy=lru\n", "bad line\n", Status::Bad),
         ("", "", Status::Done),
         ("\n", "bad line\n", Status::Bad),
         ("insert 1 a\nnew\n", "bad line\n", Status::Bad),
@@ -44,6 +63,31 @@ fn scripts_print(rt: HostRuntime) -> Result<(), Fail> {
         assert_eq!(rt; printed.as_slice(), wanted.as_bytes(), "of {script:?}");
         assert_eq!(rt; ended, status, "of {script:?}");
     }
+    Ok(())
+}
+
+#[test]
+fn the_65th_write_finds_64_waiting(rt: HostRuntime) -> Result<(), Fail> {
+    let mut script = Vec::new(rt.alloc());
+    script.extend_from_slice(b"new capacity=10 policy=lru\n")?;
+    for key in 1..66_u64 {
+        writeln!(script, "insert {key} v")?;
+    }
+    script.extend_from_slice(b"notices\ncount\n")?;
+
+    // The maintenance admits keys 1 to 64, and the capacity keeps the last 10 of them.
+    let mut wanted = Vec::new(rt.alloc());
+    for _ in 0..66_u64 {
+        wanted.extend_from_slice(b"ok\n")?;
+    }
+    for key in 1..55_u64 {
+        writeln!(wanted, "notice {key} v Size")?;
+    }
+    wanted.extend_from_slice(b"end\n11\n")?;
+
+    let (printed, ended) = ran(rt.alloc(), &script);
+    assert_eq!(rt; printed, wanted);
+    assert_eq!(rt; ended, Status::Done);
     Ok(())
 }
 
@@ -67,6 +111,8 @@ fn bad_lines_are_said(rt: HostRuntime) -> Result<(), Fail> {
         b"insert 1",
         b"insert 1 a b",
         b"notices 1",
+        b"tasks 1",
+        b"count 1",
         b"at",
         b"insert 1 \xff\xfe",
         b"insert 1 \xed\xa0\x80",

@@ -1,4 +1,4 @@
-use Rattle.mokabox.proofs.SessionLaws.{moved, contained, invalidated, one_line}
+use Rattle.mokabox.proofs.SessionLaws.{moved, contained, invalidated, maintained, counted, one_line}
 use Rattle.mokabox.specs.declared.answer.Answer.TheVariants as answers
 use Rattle.mokabox.specs.declared.command.Command.TheVariants as commands
 use Rattle.mokabox.proofs.session.Session.execute.Goals as goal
@@ -17,6 +17,12 @@ returns-in-Has c = rw c.in-Has.is (one_line c.one-in-Has.result _ _ _ _ (command
 
 pub returns-in-Invalidate : goal.returns-in-Invalidate
 returns-in-Invalidate c = rw c.in-Invalidate.is (one_line c.one-in-Invalidate.result _ _ _ _ (commands.Invalidate c.in-Invalidate.key) answers.Done c.one-in-Invalidate.ensures (invalidated _ _ _ c.in-Invalidate.key c.invalidate.ensures))
+
+pub returns-in-Tasks : goal.returns-in-Tasks
+returns-in-Tasks c = rw c.in-Tasks.is (one_line c.one-in-Tasks.result _ _ _ _ commands.Tasks answers.Done c.one-in-Tasks.ensures (maintained _ _ _ c.run_pending_tasks.ensures))
+
+pub returns-in-Count : goal.returns-in-Count
+returns-in-Count c = rw c.in-Count.is (one_line c.one-in-Count.result _ _ _ _ commands.Count (answers.Counted c.entry_count-count.result) c.one-in-Count.ensures (counted _ _ c.entry_count-count.result c.entry_count-count.ensures.reply c.entry_count-count.ensures.stands))
 
 pub returns-in-Notices : goal.returns-in-Notices
 returns-in-Notices c = rw c.in-Notices.is c.notices.ensures
