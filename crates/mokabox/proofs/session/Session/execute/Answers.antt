@@ -19,7 +19,7 @@ pub returns-in-Invalidate : goal.returns-in-Invalidate
 returns-in-Invalidate c = rw c.in-Invalidate.is (one_line c.one-in-Invalidate.result _ _ _ _ (commands.Invalidate c.in-Invalidate.key) answers.Done c.one-in-Invalidate.ensures (invalidated _ _ _ c.in-Invalidate.key c.invalidate.ensures))
 
 pub returns-in-Tasks : goal.returns-in-Tasks
-returns-in-Tasks c = rw c.in-Tasks.is (one_line c.one-in-Tasks.result _ _ _ _ commands.Tasks answers.Done c.one-in-Tasks.ensures (maintained _ _ _ c.run_pending_tasks.ensures))
+returns-in-Tasks c = rw c.in-Tasks.is (one_line c.one-in-Tasks.result _ _ _ _ commands.Tasks answers.Done c.one-in-Tasks.ensures (maintained _ _ _ c.run_pending_tasks.ensures.stands))
 
 pub returns-in-Count : goal.returns-in-Count
 returns-in-Count c = rw c.in-Count.is (one_line c.one-in-Count.result _ _ _ _ commands.Count (answers.Counted c.entry_count-count.result) c.one-in-Count.ensures (counted _ _ c.entry_count-count.result c.entry_count-count.ensures.reply c.entry_count-count.ensures.stands))
