@@ -101,7 +101,7 @@ look_refused cache after moment key cause same memory hit rules before is =
     let refuse = subst (λ c. Refuses before (codes "1") ((codes "refused " ++ decimal (refusal_number c)) ∷ []) before) (sym memory) (refuses before) in
     (before, inr (subst P is.same mapped, refuse), subst (λ held. IsAt held moment rules before) (sym same) is)
 
--- a number is used up where the next one is the greatest and a capacity of 0 doesn't stop the write
+-- A write finds no number left: the next one is the greatest. With a capacity of 0 it wants none.
 abbrev AreUsedUp : ScriptHoldings → Type 0
 AreUsedUp cache = (stores_nothing cache.max_capacity ≡ false) × (cache.next_number ≡ greatest_number)
 
