@@ -11,12 +11,8 @@ use Rattle.moka_base.specs.StandsFor.{writes_of}
 use Rattle.moka_base.specs.OrderLaws.{keys, lasts, openings, waits}
 use Rattle.moka_base.proofs.Maintenance.{after-parts}
 use Rattle.moka_base.proofs.ListLemmas.{filter-both, one_side}
-use Rattle.moka_base.proofs.QueuesHold.{opening, held-queues, held-append}
+use Rattle.moka_base.proofs.QueuesHold.{opening, held-queues, held-append, maintained-none_waits}
 use Rattle.moka_base.proofs.Moves.{none_held, written_in-anew, look-waiting_keys, overwrite-waiting_keys, removed_in-waiting_keys}
-
--- nothing waits after a maintenance
-pub maintained-waiting_keys : {K V : Type 0} (rules : Rules) (at : ℕ) (q : Queues (Write K V)) → keys (maintained rules at q).waiting ≡ []
-maintained-waiting_keys {K} {V} rules at q = ap (λ (r : Queues (Write K V)). keys r.waiting) (after-parts (λ (w : Write K V). 1) rules.max_capacity (λ (w : Write K V). is_live rules w at) (λ (w : Write K V) (victims : List (Write K V)). true) q)
 
 -- one more element that a test may find
 list_any-push : {K : Type 0} (p : K → Bool) (ks : List K) (k : K) → list_any p (ks ++ k ∷ []) ≡ (list_any p ks || p k)
@@ -194,7 +190,7 @@ module _ {K V : Type 0} (eq : K → K → Bool) (rules : Rules) (laws : IsEquiva
       go None e kept = subst (λ ks. KeepsArrival eq ks (openings eq rules h ++ p ∷ [])) (sym (opening-waiting_keys p v at h e)) (KeepsArrival-push eq laws (keys (queues eq rules h).waiting) (openings eq rules h) p (is_among-none h p e) kept)
       go (Some w) e kept = subst (λ ks. KeepsArrival eq ks (openings eq rules h)) (sym (standing-waiting_keys p v at h w e)) kept
   keeps_arrival (Invalidate p at ∷ h) = subst (λ ks. KeepsArrival eq ks (openings eq rules h)) (sym (removed_in-waiting_keys eq rules p (queues eq rules h))) (KeepsArrival-filter eq laws (keys (queues eq rules h).waiting) (openings eq rules h) p (keeps_arrival h))
-  keeps_arrival (Maintain at ∷ h) = subst (λ ks. KeepsArrival eq ks (openings eq rules h)) (sym (maintained-waiting_keys rules (latest (Maintain at ∷ h)) (queues eq rules h))) (KeepsArrival-none eq laws (openings eq rules h))
+  keeps_arrival (Maintain at ∷ h) = subst (λ ks. KeepsArrival eq ks (openings eq rules h)) (sym (ap keys (maintained-none_waits eq rules (latest (Maintain at ∷ h)) (queues eq rules h)))) (KeepsArrival-none eq laws (openings eq rules h))
   keeps_arrival (Skip at ∷ h) = keeps_arrival h
   keeps_arrival (EntryCount ∷ h) = keeps_arrival h
   keeps_arrival (TakeNotice ∷ h) = keeps_arrival h

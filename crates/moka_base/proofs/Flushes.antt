@@ -10,7 +10,8 @@ use Rattle.moka_base.specs.OrderLaws.{written_anew}
 use Rattle.moka_base.specs.Replies.{Found, Counted, answer}
 use Rattle.moka_base.specs.SizeLaws.{leaving_as}
 use Rattle.moka_base.specs.WorkedSize.{at_capacity, all_left}
-use Rattle.moka_base.proofs.Sizes.{maintained-none_waits, admitted-within, leaving-within}
+use Rattle.moka_base.proofs.QueuesHold.{maintained-none_waits}
+use Rattle.moka_base.proofs.Sizes.{admitted-within, leaving-within}
 
 -- the writes of the keys from 1 up to a number
 abbrev pub all_wait : ℕ → List (Write ℕ ℕ)

@@ -10,7 +10,8 @@ use Rattle.moka_base.specs.OrderLaws.{keys, lasts, openings, waits}
 use Rattle.moka_base.proofs.InOrder.{Each, InOrder, Each-from, Each-filtered, InOrder-filter, InOrder-same, InOrder-push, InOrder-at}
 use Rattle.moka_base.proofs.Places.{standing-nothing, stored_under_first_write}
 use Rattle.moka_base.proofs.Moves.{look-waiting_keys, removed_in-waiting_keys}
-use Rattle.moka_base.proofs.Arrivals.{maintained-waiting_keys, opening-waiting_keys, standing-waiting_keys, waiting_in_order}
+use Rattle.moka_base.proofs.QueuesHold.{maintained-none_waits}
+use Rattle.moka_base.proofs.Arrivals.{opening-waiting_keys, standing-waiting_keys, waiting_in_order}
 
 module _ {K V : Type 0} (eq : K → K → Bool) (rules : Rules) where
   -- how many events there were with the opening write of a key
@@ -108,7 +109,7 @@ module _ {K V : Type 0} (eq : K → K → Bool) (rules : Rules) where
             (InOrder-push (place (Insert p v at ∷ h)) (keys (queues eq rules h).waiting) p (Each-from (λ k. place (Insert p v at ∷ h) k ≡ place h k) (λ k. place (Insert p v at ∷ h) k ≡ place h k) (λ k. place (Insert p v at ∷ h) k < place (Insert p v at ∷ h) p) below (keys (queues eq rules h).waiting) (places_stay (Insert p v at) h) (places_stay (Insert p v at) h)) o)
         go (Some w) e o = subst (InOrder (place (Insert p v at ∷ h))) (sym (standing-waiting_keys eq rules laws p v at h w e)) o
     waiting_in_places (Invalidate p at ∷ h) = subst (InOrder (place h)) (sym (removed_in-waiting_keys eq rules p (queues eq rules h))) (InOrder-filter (place h) (λ x. not (eq x p)) (keys (queues eq rules h).waiting) (waiting_in_places h))
-    waiting_in_places (Maintain at ∷ h) = subst (InOrder (place h)) (sym (maintained-waiting_keys rules (latest (Maintain at ∷ h)) (queues eq rules h))) tt
+    waiting_in_places (Maintain at ∷ h) = subst (InOrder (place h)) (sym (ap keys (maintained-none_waits eq rules (latest (Maintain at ∷ h)) (queues eq rules h)))) tt
     waiting_in_places (Skip at ∷ h) = waiting_in_places h
     waiting_in_places (EntryCount ∷ h) = waiting_in_places h
     waiting_in_places (TakeNotice ∷ h) = waiting_in_places h

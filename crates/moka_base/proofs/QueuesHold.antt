@@ -9,6 +9,7 @@ use Rattle.moka_base.specs.History.{Event, Get, ContainsKey, Insert, Invalidate,
 use Rattle.moka_base.specs.StandsFor.{writes_of}
 use Rattle.moka_base.specs.OrderLaws.{held}
 use Rattle.moka_base.proofs.Standing.{IsStoredUnder, stored_key, standing_congr}
+use Rattle.moka_base.proofs.Maintenance.{after-parts}
 use Rattle.moka_base.proofs.MaintenanceKept.{one_leaves_or_stays}
 use Rattle.moka_base.proofs.ListLemmas.{filter_comm, filter-changed_where, filter-moved_last, changed_if, used-option}
 
@@ -61,6 +62,10 @@ module _ {K V : Type 0} (eq : K → K → Bool) (rules : Rules) where
       go : (t : Bool) → (cond t (record w { used = max w.used at }) w).key ≡ w.key
       go true = refl
       go false = refl
+
+  -- nothing waits after a maintenance
+  pub maintained-none_waits : (at : ℕ) (q : Queues (Write K V)) → (maintained rules at q).waiting ≡ []
+  maintained-none_waits at q = ap (λ (r : Queues (Write K V)). r.waiting) (after-parts (λ (w : Write K V). 1) rules.max_capacity (λ (w : Write K V). is_live rules w at) (λ (w : Write K V) (victims : List (Write K V)). true) q)
 
   -- in a maintenance the write of a key leaves, or it stays as it is
   pub held-maintained : (k : K) (at : ℕ) (q : Queues (Write K V)) (o : Option (Write K V)) → held eq k q ≡ option_to_list o

@@ -17,7 +17,7 @@ use Rattle.moka_base.specs.SizeLaws.{dead, living, gone, excess, leaving_as}
 use Rattle.moka_base.proofs.Maintenance.{after-parts, All-live-after, total-after-le}
 use Rattle.moka_base.proofs.MaintenanceOrder.{leaving-room, admitted-room, take-leaving}
 use Rattle.moka_base.proofs.MaintenanceOnes.{total-ones, leaving-ones, admitted-ones}
-use Rattle.moka_base.proofs.QueuesHold.{opening, overwrite, held-append, held-queues}
+use Rattle.moka_base.proofs.QueuesHold.{opening, overwrite, held-append, held-queues, maintained-none_waits}
 
 -- no more pass a test than there are
 pub length-filter-le : {A : Type 0} (p : A → Bool) (xs : List A) → length (filter p xs) ≤ length xs
@@ -49,11 +49,7 @@ module _ {K V : Type 0} (eq : K → K → Bool) (rules : Rules) where
   length-opened_by-le w [] q = let all = length-append q.waiting (w ∷ []) in omega arith
   length-opened_by-le w (v ∷ ws) q = omega arith
 
-  -- nothing waits after a maintenance
-  pub maintained-none_waits : (at : ℕ) (q : Queues (Write K V)) → (maintained rules at q).waiting ≡ []
-  maintained-none_waits at q = ap (λ (r : Queues (Write K V)). r.waiting) (after-parts weighs_one rules.max_capacity (λ (w : Write K V). is_live rules w at) each_wins q)
-
-  -- and no more are admitted than the capacity allows
+  -- after a maintenance no more are admitted than the capacity allows
   maintained-admitted-le : (at : ℕ) (q : Queues (Write K V)) (capacity : ℕ) → rules.max_capacity ≡ Some capacity → length (maintained rules at q).admitted ≤ capacity
   maintained-admitted-le at q capacity e =
       let after : Option ℕ → List (Write K V) = λ m. (after_parts q (parts weighs_one m (λ (w : Write K V). is_live rules w at) each_wins q)).admitted in
@@ -66,7 +62,7 @@ module _ {K V : Type 0} (eq : K → K → Bool) (rules : Rules) where
   maintained-entry_count-le h at capacity e =
       let now : ℕ = latest (Maintain at ∷ h) in
       let admitted = maintained-admitted-le now (queues eq rules h) capacity e in
-      let waiting : length (maintained rules now (queues eq rules h)).waiting ≡ 0 = ap length (maintained-none_waits now (queues eq rules h)) in
+      let waiting : length (maintained rules now (queues eq rules h)).waiting ≡ 0 = ap length (maintained-none_waits eq rules now (queues eq rules h)) in
       let all = length-append (maintained rules now (queues eq rules h)).admitted (maintained rules now (queues eq rules h)).waiting in
       omega arith
 
@@ -76,7 +72,7 @@ module _ {K V : Type 0} (eq : K → K → Bool) (rules : Rules) where
     maintained-held h at k =
         let after : Queues (Write K V) = queues eq rules (Maintain at ∷ h) in
         sym (append-nil (writes_of eq k after.admitted))
-        ∙ ap (λ ws. writes_of eq k after.admitted ++ writes_of eq k ws) (sym (maintained-none_waits (latest (Maintain at ∷ h)) (queues eq rules h)))
+        ∙ ap (λ ws. writes_of eq k after.admitted ++ writes_of eq k ws) (sym (maintained-none_waits eq rules (latest (Maintain at ∷ h)) (queues eq rules h)))
         ∙ sym (held-append eq rules k after)
         ∙ held-queues eq rules laws k (Maintain at ∷ h)
 
@@ -135,7 +131,7 @@ module _ {K V : Type 0} (eq : K → K → Bool) (rules : Rules) where
       let before = waiting-le h g in
       let fewer = length-filter-le (λ (w : Write K V). not (eq w.key k)) (queues eq rules h).waiting in
       omega arith
-  waiting-le (Maintain at ∷ h) g = let none = ap length (maintained-none_waits (latest (Maintain at ∷ h)) (queues eq rules h)) in omega arith
+  waiting-le (Maintain at ∷ h) g = let none = ap length (maintained-none_waits eq rules (latest (Maintain at ∷ h)) (queues eq rules h)) in omega arith
   waiting-le (Skip at ∷ h) g = waiting-le h g
   waiting-le (EntryCount ∷ h) g = waiting-le h g
   waiting-le (TakeNotice ∷ h) g = waiting-le h g

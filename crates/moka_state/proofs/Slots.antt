@@ -10,7 +10,7 @@ use Rattle.std.proofs.lemmas.List.{length-map}
 use Rattle.moka_base.specs.declared.notification.Notice.{Notice}
 use Rattle.moka_base.specs.History.{Event, Insert, Maintain, Rules, Write, latest, standing, queues, leaves_in, stores_nothing, is_flush_due, after_insert}
 use Rattle.moka_base.specs.StandsFor.{StandsFor}
-use Rattle.moka_base.proofs.Sizes.{maintained-none_waits}
+use Rattle.moka_base.proofs.QueuesHold.{maintained-none_waits}
 use Rattle.moka_state.specs.declared.lives.Lives.{Lives}
 use Rattle.moka_state.specs.declared.rows.Row.{Row}
 use Rattle.moka_state.specs.declared.rows.EntryInfo.{EntryInfo}

@@ -16,6 +16,7 @@ use Rattle.moka_state.specs.Lives.{deadline_of}
 use Rattle.moka_state.specs.Maintain.{is_alive, living, dead, notices_for, excess, IsDueFrom, IsMaintained}
 use Rattle.moka_state.specs.Rows.{row_under, with_row, without_row, touched, overwritten}
 use Rattle.moka_state.specs.Table.{Contents, entries, SameRows, UsesRow, TakesRow}
+use Rattle.moka_state.proofs.Deadlines.{has_come-earlier_left, has_come-earlier_right}
 use Rattle.moka_state.proofs.RowLemmas.{row_under-append_left, row_under-append_right, split_at_row}
 
 module _ {A : Type 0} (P : A → Type 0) where
@@ -120,17 +121,6 @@ due-touched lives was is at modified accessed come =
     ends None (Some n) c = le-leb (was.last_accessed + n) at (let late = leb-true (is.last_accessed + n) at c in omega arith)
     ends (Some m) (Some n) c = le-leb (min (was.last_modified + m) (was.last_accessed + n)) at (let late = leb-true (min (was.last_modified + m) (is.last_accessed + n)) at c in omega arith)
 
--- an earlier deadline has come where either has
-pub come-left : (a b : Option ℕ) (at : ℕ) → has_come a at ≡ true → has_come (earlier a b) at ≡ true
-come-left None b at c = absurd (true≢false (sym c))
-come-left (Some m) None at c = c
-come-left (Some m) (Some n) at c = le-leb (min m n) at (let late = leb-true m at c in omega arith)
-
-pub come-right : (a b : Option ℕ) (at : ℕ) → has_come b at ≡ true → has_come (earlier a b) at ≡ true
-come-right None b at c = c
-come-right (Some m) None at c = absurd (true≢false (sym c))
-come-right (Some m) (Some n) at c = le-leb (min m n) at (let late = leb-true n at c in omega arith)
-
 module _ {K V : Type 0} where
   -- the admitted, after a use of a row
   pub of-used-admitted : (P : Row K V → Type 0) (n : ℕ) (change : Row K V → Row K V) (row : Row K V) (old new : Contents K V) → OfEach P old.admitted → row_under n (entries old) ≡ Some row → (P row → P (change row)) → UsesRow n change old new → OfEach P new.admitted
@@ -163,7 +153,7 @@ module _ {K V : Type 0} where
   -- an earlier bound bounds all the more
   pub IsDueFrom-left : (a b : Option ℕ) (lives : Lives) (rows : List (ℕ × Row K V)) → IsDueFrom a lives rows → IsDueFrom (earlier a b) lives rows
   IsDueFrom-left a b lives [] due = tt
-  IsDueFrom-left a b lives (p ∷ ps) due = (λ at c. come-left a b at (due.0 at c), IsDueFrom-left a b lives ps due.1)
+  IsDueFrom-left a b lives (p ∷ ps) due = (λ at c. has_come-earlier_left a b at (due.0 at c), IsDueFrom-left a b lives ps due.1)
 
 -- the same rows keep all
 pub IsSound-same : {K V : Type 0} (keeps : K → V → Type 0) (hash_of : K → ℕ) (lives : Lives) (earliest : Option ℕ) (old new : Contents K V) → SameRows old new → IsSound keeps hash_of lives earliest old → IsSound keeps hash_of lives earliest new
@@ -183,7 +173,7 @@ module _ {K V : Type 0} (keeps : K → V → Type 0) (hash_of : K → ℕ) (live
   IsSound-overwritten n row v info notice there kept left used notices =
       let Due : Row K V → Type 0 = λ r. (at : ℕ) → has_come (deadline_of lives r.info) at ≡ true → has_come (earlier earliest (deadline_of lives info)) at ≡ true in
       record {
-        due = of-used-admitted Due n (overwritten v info) row old new (IsDueFrom-left earliest (deadline_of lives info) lives old.admitted sound.due) there (λ _ at c. come-right earliest (deadline_of lives info) at c) used;
+        due = of-used-admitted Due n (overwritten v info) row old new (IsDueFrom-left earliest (deadline_of lives info) lives old.admitted sound.due) there (λ _ at c. has_come-earlier_right earliest (deadline_of lives info) at c) used;
         hashed = of-used (λ (r : Row K V). r.hash ≡ hash_of (arc_value r.key)) n (overwritten v info) row old new sound.hashed there (of-row (λ (r : Row K V). r.hash ≡ hash_of (arc_value r.key)) n (entries old) row sound.hashed there) used;
         kept = of-used (λ (r : Row K V). keeps (arc_value r.key) r.value) n (overwritten v info) row old new sound.kept there kept used;
         notices_kept = rw notices (all-append (λ (m : Notice K V). keeps (arc_value m.key) m.value) old.notices (notice ∷ []) sound.notices_kept (left (of-row (λ (r : Row K V). keeps (arc_value r.key) r.value) n (entries old) row sound.kept there), tt));

@@ -1,6 +1,7 @@
 use Rattle.moka_base.specs.History.{Maintain, latest, queues}
 use Rattle.std.proofs.Common.{◌∷◌}
-use Rattle.moka_base.proofs.Sizes.{maintained-none_waits, maintained-live, maintained-entry_count-le}
+use Rattle.moka_base.proofs.QueuesHold.{maintained-none_waits}
+use Rattle.moka_base.proofs.Sizes.{maintained-live, maintained-entry_count-le}
 use Rattle.moka_base.proofs.size_laws.after_a_maintenance.Goals as goal
 
 pub returns-clause-none_waits : goal.returns-clause-none_waits
