@@ -1,5 +1,6 @@
 pub mod Arrivals
 pub mod Conserved
+pub mod Counters
 pub mod Expiry
 pub mod Flushes
 pub mod HeldOnes

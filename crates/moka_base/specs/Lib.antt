@@ -1,3 +1,4 @@
+pub mod Frequency
 pub mod History
 pub mod Laws
 pub mod Maintenance

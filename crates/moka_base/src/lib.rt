@@ -2,6 +2,8 @@
 //! contract cites, with the laws above them.
 #![tactic(auto)]
 
+pub mod frequency;
+pub mod frequency_laws;
 pub mod laws;
 pub mod maintenance_laws;
 pub mod notification;
@@ -9,5 +11,6 @@ pub mod order_laws;
 pub mod policy;
 pub mod size_laws;
 pub mod worked;
+pub mod worked_frequency;
 pub mod worked_maintenance;
 pub mod worked_size;

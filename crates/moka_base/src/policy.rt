@@ -2,6 +2,7 @@
 ghost use Rattle.std.specs.Prelude.{◌≡◌, ℕ, true};
 ghost use Rattle.moka_base.specs.NumberHash.{number_hash};
 
+pub use crate::frequency::{CountTable, FrequencySource};
 use std::hash::{BuildHasher, Hasher};
 use thiserror::Error;
 
