@@ -29,7 +29,7 @@ fn ten_seconds(alloc: Global) -> Result<CacheState<u64, String, Names>, Refused>
         Settings {
             time_to_live: Some(Duration::from_secs(10)),
             time_to_idle: None,
-            max_capacity: None,
+            max_capacity: Some(100),
             eviction_policy: EvictionPolicy::lru(),
             first_number: 0,
             hasher,
@@ -54,6 +54,11 @@ fn remove(cache: &mut CacheState<u64, String, Names>) -> Option<RemovalCause> {
     cache.invalidate(&97, 10_000_000_000);
     let notice = cache.take_notice()?;
     Some(notice.cause)
+}
+
+fn settle(cache: &mut CacheState<u64, String, Names>, now: u64) -> u64 {
+    cache.run_pending_tasks(now);
+    cache.entry_count()
 }
 
 fn steps(alloc: Global, name: String) -> Result<Vec<Step<u64, String>>, AllocError> {
@@ -87,6 +92,17 @@ fn a_value_is_found_until_its_life_ends(rt: HostRuntime) -> Result<(), Fail> {
     assert!(rt; too_late.is_none());
     assert_eq!(rt; remove(&mut cache), Some(RemovalCause::Expired));
     assert_eq!(rt; remove(&mut cache), None);
+    Ok(())
+}
+
+#[test]
+fn an_expired_value_leaves_in_a_maintenance(rt: HostRuntime) -> Result<(), Fail> {
+    let mut cache = ten_seconds(rt.alloc())?;
+    let (in_time, _) = look_up(&mut cache, String::from_str(rt.alloc(), "Alice")?)?;
+    assert!(rt; in_time.is_some());
+    assert_eq!(rt; settle(&mut cache, 10_000_000_000), 0);
+    let notice = cache.take_notice().ok_or("a notice")?;
+    assert_eq!(rt; notice.cause, RemovalCause::Expired);
     Ok(())
 }
 
