@@ -1,7 +1,8 @@
 //! Calls and their answers as data, and runs of them.
-ghost use Rattle.std.specs.Prelude.{◌≡◌, IfOk, IfErr, OnErr};
+ghost use Rattle.std.specs.Prelude.{◌≡◌, ◌+◌, ◌≤◌, length, IfOk, IfErr, IfSome, OnErr};
 ghost use Rattle.std.specs.List.{AllByRecursion};
-ghost use Rattle.moka_base.specs.StandsFor.{StandsFor, AtEachHistory};
+ghost use Rattle.moka_base.specs.History.{flush_point};
+ghost use Rattle.moka_base.specs.StandsFor.{StandsFor, AtEachHistory, writes};
 ghost use Rattle.moka_state.specs.Step.{IsReplyTo, StepKeeps, ReplyKeeps, after, IsRun, after_all};
 
 #[cfg(test)]
@@ -83,11 +84,13 @@ impl<K: Hash + Drop, V: Clone, C: CacheTypes<K, V>, R: RowStore<K, V>> State<K, 
         }
     }
 
-    /// Does steps in order, and answers their replies. Where the list of replies finds no room, no step was done.
+    /// Does steps in order, and answers their replies. With a capacity no more keys are stored then than it allows, and
+    /// 64. Where the list of replies finds no room, no step was done.
     pub fn run(&mut self, steps: Vec<Step<K, V>>) -> Result<Vec<Reply<K, V>>, Refused>
         requires { AllByRecursion (StepKeeps C.keeps) steps.items }
         ensures replies { IfOk result (λ replies. AtEachHistory K.eq self.old (λ rules h. IsRun K.eq V.is_clone rules h steps.items replies.items)) }
         ensures stands { IfOk result (λ replies. AtEachHistory K.eq self.old (λ rules h. StandsFor K.eq rules self.new (after_all K.eq rules steps.items replies.items h))) }
+        ensures bounded { IfOk result (λ _. AtEachHistory K.eq self.old (λ rules h. IfSome self.new.max_capacity (λ capacity. length (writes self.new) ≤ capacity + flush_point))) }
         ensures refused { OnErr result (self.new ≡ self.old) }
         ensures cause { IfErr result (λ cause. cause ≡ Refused.OutOfMemory) }
     {

@@ -1,5 +1,6 @@
 use Rattle.std.proofs.Common.{[], ◌∷◌, ◌++◌, sym, ap, ◌∙◌, arith, append_assoc}
 use Rattle.std.proofs.lemmas.List.{append-nil}
+use Rattle.moka_state.proofs.Counts.{writes-bounded}
 use Rattle.moka_state.proofs.Runs.{IsRun-more, stands-more, same_as_rest-empty}
 use Rattle.moka_state.proofs.state.State.run.Goals as goal
 
@@ -39,3 +40,8 @@ returns-clause-stands g c rules h stands =
     let empty = same_as_rest-empty c.loop-step.left.items (c.in_default-pop_front.ensures.items ∙ c.in_default-pop_front.ensures.rest) in
     let whole = was.1 ∙ ap (λ l. was.0 ++ l) empty ∙ append-nil was.0 in
     rw whole was.3
+
+pub returns-clause-bounded : goal.returns-clause-bounded
+returns-clause-bounded g c rules h stands =
+    let was = c.loop-step.invariant.so_far rules h stands in
+    writes-bounded g.K.PartialEq.eq rules _ _ was.3
