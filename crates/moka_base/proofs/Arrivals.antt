@@ -6,7 +6,7 @@ use Rattle.std.specs.Cmp.{IsEquivalence}
 use Rattle.std.proofs.lemmas.List.{map-append}
 use Rattle.std.proofs.lemmas.List.Elements.{filter-append, filter_agree}
 use Rattle.moka_base.specs.Maintenance.{Queues}
-use Rattle.moka_base.specs.History.{Event, Get, ContainsKey, Insert, Invalidate, Maintain, Skip, EntryCount, TakeNotice, Rules, Write, latest, is_live, standing, maintained, queues}
+use Rattle.moka_base.specs.History.{Event, Get, ContainsKey, Insert, Invalidate, Maintain, Skip, Measure, TakeNotice, Rules, Write, latest, is_live, standing, maintained, queues}
 use Rattle.moka_base.specs.StandsFor.{writes_of}
 use Rattle.moka_base.specs.OrderLaws.{keys, lasts, openings, waits}
 use Rattle.moka_base.proofs.Maintenance.{after-parts}
@@ -140,7 +140,7 @@ module _ {K : Type 0} (eq : K → K → Bool) where
         ∙ sym (filter-both (is_among ks) (λ x. not (eq x p)) (lasts eq all))
         ∙ filter_agree (λ x. is_among ks x && not (eq x p)) (is_among (filter (λ x. not (eq x p)) ks)) (λ x. sym (is_among-filter p x ks)) (lasts eq all)
 
-module _ {K V : Type 0} (eq : K → K → Bool) (rules : Rules) (laws : IsEquivalence eq) where
+module _ {K V : Type 0} (eq : K → K → Bool) (rules : Rules K V) (laws : IsEquivalence eq) where
   -- a write of a key that does not stand puts it behind those that wait
   pub opening-waiting_keys : (p : K) (v : V) (at : ℕ) (h : List (Event K V)) → standing eq rules p h ≡ None → keys (queues eq rules (Insert p v at ∷ h)).waiting ≡ keys (queues eq rules h).waiting ++ p ∷ []
   opening-waiting_keys p v at h none =
@@ -192,7 +192,7 @@ module _ {K V : Type 0} (eq : K → K → Bool) (rules : Rules) (laws : IsEquiva
   keeps_arrival (Invalidate p at ∷ h) = subst (λ ks. KeepsArrival eq ks (openings eq rules h)) (sym (removed_in-waiting_keys eq rules p (queues eq rules h))) (KeepsArrival-filter eq laws (keys (queues eq rules h).waiting) (openings eq rules h) p (keeps_arrival h))
   keeps_arrival (Maintain at ∷ h) = subst (λ ks. KeepsArrival eq ks (openings eq rules h)) (sym (ap keys (maintained-none_waits eq rules (latest (Maintain at ∷ h)) (queues eq rules h)))) (KeepsArrival-none eq laws (openings eq rules h))
   keeps_arrival (Skip at ∷ h) = keeps_arrival h
-  keeps_arrival (EntryCount ∷ h) = keeps_arrival h
+  keeps_arrival (Measure what ∷ h) = keeps_arrival h
   keeps_arrival (TakeNotice ∷ h) = keeps_arrival h
 
   -- so they are the last openings of the keys that wait

@@ -6,7 +6,7 @@ use Rattle.std.proofs.lemmas.Bool.{cond-true, cond-false, cond_both, cases_Bool}
 use Rattle.std.proofs.lemmas.List.Elements.{filter-append}
 use Rattle.moka_base.specs.declared.notification.RemovalCause.{RemovalCause}
 use Rattle.moka_base.specs.declared.notification.RemovalCause.TheVariants.{Explicit, Replaced, Size}
-use Rattle.moka_base.specs.History.{Event, Get, ContainsKey, Insert, Invalidate, Maintain, Skip, EntryCount, TakeNotice, Rules, Write, Leaving, latest, is_live, after_look, after_write, let_go, queues, leaves_in, standing, leaving_of, left, leavings}
+use Rattle.moka_base.specs.History.{Event, Get, ContainsKey, Insert, Invalidate, Maintain, Skip, Measure, TakeNotice, Rules, Write, Leaving, latest, is_live, after_look, after_write, let_go, queues, leaves_in, standing, leaving_of, left, leavings}
 use Rattle.moka_base.specs.Laws.{values_written, values_left, value_standing}
 use Rattle.moka_base.specs.StandsFor.{writes_of}
 use Rattle.moka_base.proofs.QueuesHold.{held-maintained, held-queues}
@@ -22,7 +22,7 @@ pub values_left-append : {K V : Type 0} (eq : K → K → Bool) (k : K) (a b : L
 values_left-append eq k [] b = refl
 values_left-append eq k (l ∷ a) b = rw (values_left-append eq k a b) (if-append (eq l.key k) (l.value ∷ values_left eq k a) (values_left eq k a) (values_left eq k b))
 
-module _ {K V : Type 0} (eq : K → K → Bool) (rules : Rules) where
+module _ {K V : Type 0} (eq : K → K → Bool) (rules : Rules K V) where
   -- what stood under an equal key leaves with its value
   values_left-left_same : (k : K) (own : RemovalCause) (at : ℕ) (o : Option (Write K V)) → IsStoredUnder eq k o → values_left eq k (left rules own at o) ≡ value_standing o
   values_left-left_same k own at None s = refl
@@ -102,7 +102,7 @@ module _ {K V : Type 0} (eq : K → K → Bool) (rules : Rules) where
       let now : ℕ = latest (Maintain at ∷ h) in
       conserved_maintained k now (values_written eq k h) (leavings eq rules h) (let_go rules now (queues eq rules h)) (standing eq rules k h) (leaves_in eq rules k at h) (held-maintained eq rules k now (queues eq rules h) (standing eq rules k h) (held-queues eq rules e k h)).0 (values_conserved e k h)
   values_conserved e k (Skip at ∷ h) = rw (append-nil (leavings eq rules h)) (values_conserved e k h)
-  values_conserved e k (EntryCount ∷ h) = rw (append-nil (leavings eq rules h)) (values_conserved e k h)
+  values_conserved e k (Measure what ∷ h) = rw (append-nil (leavings eq rules h)) (values_conserved e k h)
   values_conserved e k (TakeNotice ∷ h) = rw (append-nil (leavings eq rules h)) (values_conserved e k h)
 
   -- so for each test as many written values pass it as stand or left

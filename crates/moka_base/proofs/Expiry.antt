@@ -2,7 +2,7 @@
 use Rattle.std.proofs.Common.{◌≡◌, ◌↔◌, ◌⊎◌, inl, inr, ⊎_elim, ℕ, max, min, ◌+◌, ◌≤◌, length, filter, Bool, true, false, not, if◌then◌else◌, Option, Some, None, List, [], ◌∷◌, ◌++◌, refl, ap, subst, arith}
 use Rattle.std.specs.Option.{option_map}
 use Rattle.std.proofs.lemmas.Bool.{leb-true, le-leb}
-use Rattle.moka_base.specs.History.{Event, Get, ContainsKey, Insert, Invalidate, Maintain, Skip, EntryCount, TakeNotice, Rules, Write, latest, ends_at, earlier, has_come, deadline, is_expired, live, live_one, after_look, leaves_in, standing, next_number}
+use Rattle.moka_base.specs.History.{Event, Get, ContainsKey, Insert, Invalidate, Maintain, Skip, Measure, TakeNotice, Rules, Write, latest, ends_at, earlier, has_come, deadline, is_expired, live, live_one, after_look, leaves_in, standing, next_number}
 use Rattle.moka_base.specs.Replies.{Found, Contains, answer}
 use Rattle.moka_base.specs.Laws.{IsUnwritten, IsUntouched, HasEnded, is_write}
 
@@ -17,12 +17,12 @@ has_come-later None at later le come = come
 has_come-later (Some d) at later le come = le-leb d later (let h = leb-true d at come in omega arith)
 
 -- the next number never falls
-pub next_number-more : {K V : Type 0} (rules : Rules) (later h : List (Event K V)) → next_number rules h ≤ next_number rules (later ++ h)
+pub next_number-more : {K V : Type 0} (rules : Rules K V) (later h : List (Event K V)) → next_number rules h ≤ next_number rules (later ++ h)
 next_number-more rules [] h = omega arith
 next_number-more rules (e ∷ later) h = let ih : next_number rules h ≤ next_number rules (later ++ h) = next_number-more rules later h in omega arith
 
 -- which is the first plus as many as there were writes
-pub next_number-counted : {K V : Type 0} (rules : Rules) (h : List (Event K V)) → next_number rules h ≡ rules.first_number + length (filter is_write h)
+pub next_number-counted : {K V : Type 0} (rules : Rules K V) (h : List (Event K V)) → next_number rules h ≡ rules.first_number + length (filter is_write h)
 next_number-counted rules [] = omega arith
 next_number-counted rules (Get q at ∷ h) = let ih = next_number-counted rules h in omega arith
 next_number-counted rules (ContainsKey q at ∷ h) = let ih = next_number-counted rules h in omega arith
@@ -30,7 +30,7 @@ next_number-counted rules (Insert q v at ∷ h) = let ih = next_number-counted r
 next_number-counted rules (Invalidate q at ∷ h) = let ih = next_number-counted rules h in omega arith
 next_number-counted rules (Maintain at ∷ h) = let ih = next_number-counted rules h in omega arith
 next_number-counted rules (Skip at ∷ h) = let ih = next_number-counted rules h in omega arith
-next_number-counted rules (EntryCount ∷ h) = let ih = next_number-counted rules h in omega arith
+next_number-counted rules (Measure what ∷ h) = let ih = next_number-counted rules h in omega arith
 next_number-counted rules (TakeNotice ∷ h) = let ih = next_number-counted rules h in omega arith
 
 -- of the lives of two moments the earlier end is the deadline
@@ -62,7 +62,7 @@ has_come-ended a b written used at = (to a b, from a b)
     from (Some m) (Some n) (inl h) = le-leb (min (written + m) (used + n)) at (let le = by m written h in omega arith)
     from (Some m) (Some n) (inr h) = le-leb (min (written + m) (used + n)) at (let le = by n used h in omega arith)
 
-module _ {K V : Type 0} (eq : K → K → Bool) (rules : Rules) (k : K) where
+module _ {K V : Type 0} (eq : K → K → Bool) (rules : Rules K V) (k : K) where
   -- an expired write stays as it is until its key is written or removed
   pub expired_stays : (later h : List (Event K V)) (w : Write K V) → standing eq rules k h ≡ Some w → is_expired rules w (latest h) ≡ true → IsUntouched eq rules k later h → standing eq rules k (later ++ h) ≡ Some w
   expired_stays [] h w stands gone u = stands
@@ -85,7 +85,7 @@ module _ {K V : Type 0} (eq : K → K → Bool) (rules : Rules) (k : K) where
   expired_stays (Invalidate q at ∷ later) h w stands gone u = rw (u.0) (expired_stays later h w stands gone u.1)
   expired_stays (Maintain at ∷ later) h w stands gone u = rw (u.0) (expired_stays later h w stands gone u.1)
   expired_stays (Skip at ∷ later) h w stands gone u = expired_stays later h w stands gone u.1
-  expired_stays (EntryCount ∷ later) h w stands gone u = expired_stays later h w stands gone u.1
+  expired_stays (Measure what ∷ later) h w stands gone u = expired_stays later h w stands gone u.1
   expired_stays (TakeNotice ∷ later) h w stands gone u = expired_stays later h w stands gone u.1
 
   -- no live write stands at a moment
@@ -120,7 +120,7 @@ module _ {K V : Type 0} (eq : K → K → Bool) (rules : Rules) (k : K) where
   unseen_from (Invalidate q at ∷ later) h u unseen = IsUnseen-removal (eq q k) (standing eq rules k (later ++ h)) (latest (Invalidate q at ∷ later ++ h)) (IsUnseen-later (standing eq rules k (later ++ h)) (latest (later ++ h)) (latest (Invalidate q at ∷ later ++ h)) (omega arith) (unseen_from later h u.1 unseen))
   unseen_from (Maintain at ∷ later) h u unseen = IsUnseen-removal (leaves_in eq rules k at (later ++ h)) (standing eq rules k (later ++ h)) (latest (Maintain at ∷ later ++ h)) (IsUnseen-later (standing eq rules k (later ++ h)) (latest (later ++ h)) (latest (Maintain at ∷ later ++ h)) (omega arith) (unseen_from later h u.1 unseen))
   unseen_from (Skip at ∷ later) h u unseen = IsUnseen-later (standing eq rules k (later ++ h)) (latest (later ++ h)) (latest (Skip at ∷ later ++ h)) (omega arith) (unseen_from later h u.1 unseen)
-  unseen_from (EntryCount ∷ later) h u unseen = IsUnseen-later (standing eq rules k (later ++ h)) (latest (later ++ h)) (latest (EntryCount ∷ later ++ h)) (omega arith) (unseen_from later h u.1 unseen)
+  unseen_from (Measure what ∷ later) h u unseen = IsUnseen-later (standing eq rules k (later ++ h)) (latest (later ++ h)) (latest (Measure what ∷ later ++ h)) (omega arith) (unseen_from later h u.1 unseen)
   unseen_from (TakeNotice ∷ later) h u unseen = IsUnseen-later (standing eq rules k (later ++ h)) (latest (later ++ h)) (latest (TakeNotice ∷ later ++ h)) (omega arith) (unseen_from later h u.1 unseen)
 
   -- what a look finds nothing of is not seen

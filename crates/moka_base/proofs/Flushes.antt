@@ -5,7 +5,7 @@ use Rattle.std.proofs.lemmas.Bool.{cond_both}
 use Rattle.moka_base.specs.declared.notification.RemovalCause.TheVariants.{Expired, Replaced, Size}
 use Rattle.moka_base.specs.Maintenance.{Queues}
 use Rattle.moka_base.specs.MaintenanceLaws.{the_dead, the_living}
-use Rattle.moka_base.specs.History.{Event, Get, Insert, Maintain, EntryCount, Rules, Write, latest, is_live, live_one, written_in, queues, leaves_in, standing, left, leaving, leavings, greatest_number, after_write}
+use Rattle.moka_base.specs.History.{Event, Get, Insert, Maintain, Measure, EntryCount, Rules, Write, latest, is_live, live_one, written_in, queues, leaves_in, standing, left, leaving, leavings, greatest_number, after_write}
 use Rattle.moka_base.specs.OrderLaws.{written_anew}
 use Rattle.moka_base.specs.Replies.{Found, Counted, answer}
 use Rattle.moka_base.specs.SizeLaws.{leaving_as}
@@ -62,7 +62,7 @@ module _ (h : List (Event ℕ ℕ)) (waiting : queues nat_eq at_ten h ≡ all_64
         ∙ ap (written_in nat_eq at_ten 65 65 (latest (Insert 65 65 1 ∷ Maintain 1 ∷ h))) queues-flush
         ∙ ap (λ m. written_in nat_eq at_ten 65 65 (max (max m 1) 1) (record { admitted = drop 54 (all_wait 64); waiting = [] })) now
 
-    pub entry_count-65 : answer nat_eq at_ten EntryCount g ≡ Counted 11
+    pub entry_count-65 : answer nat_eq at_ten (Measure EntryCount) g ≡ Counted 11
     entry_count-65 = ap (λ (q : Queues (Write ℕ ℕ)). Counted (min (length (q.admitted ++ q.waiting)) greatest_number)) queues-65
 
     pub get-65 : answer nat_eq at_ten (Get 65 1) g ≡ Found (Some 65)

@@ -13,7 +13,7 @@ option_to_list-one : {A : Type 0} (o : Option A) (x : A) → option_to_list o �
 option_to_list-one None x e = cc
 option_to_list-one (Some y) x e = cc
 
-module _ {K V : Type 0} (eq : K → K → Bool) (rules : Rules) (laws : IsEquivalence eq) (h : List (Event K V)) where
+module _ {K V : Type 0} (eq : K → K → Bool) (rules : Rules K V) (laws : IsEquivalence eq) (h : List (Event K V)) where
   pub each_stands : (before after : List (Write K V)) (w : Write K V) → (queues eq rules h).admitted ++ (queues eq rules h).waiting ≡ before ++ w ∷ after → standing eq rules w.key h ≡ Some w
   each_stands before after w is =
       option_to_list-one (standing eq rules w.key h) w (sym (held-queues eq rules laws w.key h) ∙ held-alone eq rules w.key (queues eq rules h) (λ k. (standing eq rules k h, held-queues eq rules laws k h)) before after w (laws.refl w.key) before after is)

@@ -9,12 +9,12 @@ use Rattle.moka_base.proofs.QueuesHold.{held-maintained, held-queues}
 use Rattle.std.proofs.lemmas.Bool.{true≢false}
 use Rattle.moka_base.specs.declared.notification.RemovalCause.{RemovalCause}
 use Rattle.moka_base.specs.declared.notification.RemovalCause.TheVariants.{Explicit, Replaced, Size}
-use Rattle.moka_base.specs.History.{Event, Get, ContainsKey, Insert, Invalidate, Maintain, Skip, EntryCount, TakeNotice, Rules, Write, Leaving, latest, let_go, queues, leaves_in, standing, leaving_of, left, leaving}
+use Rattle.moka_base.specs.History.{Event, Get, ContainsKey, Insert, Invalidate, Maintain, Skip, Measure, TakeNotice, Rules, Write, Leaving, latest, let_go, queues, leaves_in, standing, leaving_of, left, leaving}
 use Rattle.moka_base.specs.Laws.{ends, LastWrite, NothingStands, IsLeavingOf, leavings_of}
 use Rattle.moka_base.proofs.Places.{last_write_stands, standing-nothing, last_or_nothing}
 use Rattle.moka_base.proofs.Standing.{IsStoredUnder, stored_key, standing_congr}
 
-module _ {K V : Type 0} (eq : K → K → Bool) (rules : Rules) where
+module _ {K V : Type 0} (eq : K → K → Bool) (rules : Rules K V) where
   -- the last write leaves where its key is written or removed
   pub last_write_leaves : IsEquivalence eq → (k q : K) (h : List (Event K V)) (own : RemovalCause) (at : ℕ) (last : LastWrite eq rules k h) → eq q k ≡ true → (l : Leaving K V) × (left rules own at (standing eq rules q h) ≡ l ∷ []) × IsLeavingOf last own at l
   last_write_leaves e k q h own at last same =
@@ -72,7 +72,7 @@ module _ {K V : Type 0} (eq : K → K → Bool) (rules : Rules) where
   leaving-nothing equiv k h (Invalidate q at) ends_it none = ap (left rules Explicit (latest (Invalidate q at ∷ h))) (standing_congr eq rules equiv q k h ends_it ∙ standing-nothing eq rules k h none)
   leaving-nothing equiv k h (Maintain at) ends_it none = absurd (true≢false (sym ends_it ∙ leaves_in-nothing equiv k h at (standing-nothing eq rules k h none)))
   leaving-nothing equiv k h (Skip at) ends_it none = refl
-  leaving-nothing equiv k h EntryCount ends_it none = refl
+  leaving-nothing equiv k h (Measure what) ends_it none = refl
   leaving-nothing equiv k h TakeNotice ends_it none = refl
 
   -- all that leaves is a last write of the key that the event writes or removes
@@ -89,7 +89,7 @@ module _ {K V : Type 0} (eq : K → K → Bool) (rules : Rules) where
           let leaves : leaves_in eq rules w.key at h ≡ true = ap (list_any (λ (u : Write K V). eq u.key w.key)) is ∙ ap (λ t. t || list_any (λ (u : Write K V). eq u.key w.key) ws) (equiv.refl w.key) in
           (w.key, leaves, ⊎_elim (λ last. last) (λ none. absurd (true≢false (sym leaves ∙ leaves_in-nothing equiv w.key h at (standing-nothing eq rules w.key h none)))) (last_or_nothing eq rules w.key h))
   leaving_alone equiv h (Skip at) some = absurd (some refl)
-  leaving_alone equiv h EntryCount some = absurd (some refl)
+  leaving_alone equiv h (Measure what) some = absurd (some refl)
   leaving_alone equiv h TakeNotice some = absurd (some refl)
 
   -- an event that writes and removes no key makes nothing leave
@@ -106,5 +106,5 @@ module _ {K V : Type 0} (eq : K → K → Bool) (rules : Rules) where
           let leaves : leaves_in eq rules w.key at h ≡ true = ap (list_any (λ (u : Write K V). eq u.key w.key)) is ∙ ap (λ t. t || list_any (λ (u : Write K V). eq u.key w.key) ws) (equiv.refl w.key) in
           absurd (true≢false (sym leaves ∙ none w.key))
   leaving-looks equiv h (Skip at) none = refl
-  leaving-looks equiv h EntryCount none = refl
+  leaving-looks equiv h (Measure what) none = refl
   leaving-looks equiv h TakeNotice none = refl

@@ -1,6 +1,6 @@
 -- A look by `contains_key` is as if it had not been: nothing that follows depends on it.
 use Rattle.std.proofs.Common.{◌≡◌, ℕ, max, ◌+◌, Bool, List, [], ◌∷◌, ◌++◌, map, refl, ap, ◌∙◌, arith, add-zero, append-nil}
-use Rattle.moka_base.specs.History.{Event, Get, ContainsKey, Insert, Invalidate, Maintain, Skip, EntryCount, TakeNotice, Rules, recorded, latest, let_go, leaving_of, queues, leaves_in, standing, leaving, leavings, taken, noticed, drawn, next_number}
+use Rattle.moka_base.specs.History.{Event, Get, ContainsKey, Insert, Invalidate, Maintain, Skip, Measure, TakeNotice, Rules, recorded, latest, let_go, leaving_of, queues, leaves_in, standing, leaving, leavings, taken, noticed, drawn, next_number}
 use Rattle.moka_base.specs.declared.notification.RemovalCause.TheVariants.{Size}
 use Rattle.std.specs.List.{list_any}
 use Rattle.moka_base.specs.Replies.{answer}
@@ -12,11 +12,11 @@ module _ {K V : Type 0} (q : K) (at : ℕ) (h : List (Event K V)) where
   latest_without_look (e ∷ later) = ap (λ m. max m (recorded e)) (latest_without_look later)
 
   -- no number is drawn
-  pub next_number_without_look : (rules : Rules) (later : List (Event K V)) → next_number rules (later ++ ContainsKey q at ∷ h) ≡ next_number rules (later ++ h)
+  pub next_number_without_look : (rules : Rules K V) (later : List (Event K V)) → next_number rules (later ++ ContainsKey q at ∷ h) ≡ next_number rules (later ++ h)
   next_number_without_look rules [] = add-zero (next_number rules h)
   next_number_without_look rules (e ∷ later) = ap (λ n. n + drawn e) (next_number_without_look rules later)
 
-module _ {K V : Type 0} (eq : K → K → Bool) (rules : Rules) (q : K) (at : ℕ) (h : List (Event K V)) where
+module _ {K V : Type 0} (eq : K → K → Bool) (rules : Rules K V) (q : K) (at : ℕ) (h : List (Event K V)) where
   -- the two orders are the same
   pub queues_without_look : (later : List (Event K V)) → queues eq rules (later ++ ContainsKey q at ∷ h) ≡ queues eq rules (later ++ h)
   queues_without_look [] = refl
@@ -26,7 +26,7 @@ module _ {K V : Type 0} (eq : K → K → Bool) (rules : Rules) (q : K) (at : �
   queues_without_look (Invalidate p t ∷ later) = rw (queues_without_look later) refl
   queues_without_look (Maintain t ∷ later) = rw (latest_without_look q at h later, queues_without_look later) refl
   queues_without_look (Skip t ∷ later) = queues_without_look later
-  queues_without_look (EntryCount ∷ later) = queues_without_look later
+  queues_without_look (Measure what ∷ later) = queues_without_look later
   queues_without_look (TakeNotice ∷ later) = queues_without_look later
 
   -- the same leaves in a maintenance
@@ -45,7 +45,7 @@ module _ {K V : Type 0} (eq : K → K → Bool) (rules : Rules) (q : K) (at : �
   standing_without_look k (Invalidate p t ∷ later) = rw (standing_without_look k later)
   standing_without_look k (Maintain t ∷ later) = rw (leaves_in_without_look k t later, standing_without_look k later)
   standing_without_look k (Skip t ∷ later) = standing_without_look k later
-  standing_without_look k (EntryCount ∷ later) = standing_without_look k later
+  standing_without_look k (Measure what ∷ later) = standing_without_look k later
   standing_without_look k (TakeNotice ∷ later) = standing_without_look k later
 
   -- the same leaves at an event
@@ -56,7 +56,7 @@ module _ {K V : Type 0} (eq : K → K → Bool) (rules : Rules) (q : K) (at : �
   leaving_without_look (Invalidate p t) later = rw (latest_without_look q at h later, standing_without_look p later)
   leaving_without_look (Maintain t) later = ap (λ m. map (leaving_of rules Size (max m t)) (let_go rules (latest (Maintain t ∷ later ++ ContainsKey q at ∷ h)) (queues eq rules (later ++ ContainsKey q at ∷ h)))) (latest_without_look q at h later) ∙ ap (map (leaving_of rules Size (latest (Maintain t ∷ later ++ h)))) (let_go_without_look t later)
   leaving_without_look (Skip t) later = refl
-  leaving_without_look EntryCount later = refl
+  leaving_without_look (Measure what) later = refl
   leaving_without_look TakeNotice later = refl
 
   -- the same has left
@@ -73,7 +73,7 @@ module _ {K V : Type 0} (eq : K → K → Bool) (rules : Rules) (q : K) (at : �
   taken_without_look (Invalidate p t ∷ later) = taken_without_look later
   taken_without_look (Maintain t ∷ later) = taken_without_look later
   taken_without_look (Skip t ∷ later) = taken_without_look later
-  taken_without_look (EntryCount ∷ later) = taken_without_look later
+  taken_without_look (Measure what ∷ later) = taken_without_look later
   taken_without_look (TakeNotice ∷ later) = rw (taken_without_look later, leavings_without_look later)
 
   -- the same is left to give out
@@ -88,5 +88,5 @@ module _ {K V : Type 0} (eq : K → K → Bool) (rules : Rules) (q : K) (at : �
   answer_without_look (Invalidate p t) later = refl
   answer_without_look (Maintain t) later = refl
   answer_without_look (Skip t) later = refl
-  answer_without_look EntryCount later = rw (queues_without_look later) refl
+  answer_without_look (Measure what) later = rw (queues_without_look later) refl
   answer_without_look TakeNotice later = rw (taken_without_look later, leavings_without_look later)

@@ -14,7 +14,7 @@ use Rattle.moka_base.proofs.QueuesHold.{opening, overwrite, overwritten, held-ap
 same_queues : {K V : Type 0} (us vs xs ys : List (Write K V)) → us ≡ vs → xs ≡ ys → ◌≡◌ {A = Queues (Write K V)} (record { admitted = us; waiting = xs }) (record { admitted = vs; waiting = ys })
 same_queues us vs xs ys e d = rw (e, d)
 
-module _ {K V : Type 0} (eq : K → K → Bool) (rules : Rules) (k : K) (q : Queues (Write K V)) where
+module _ {K V : Type 0} (eq : K → K → Bool) (rules : Rules K V) (k : K) (q : Queues (Write K V)) where
   -- each order has no write of a key that neither has
   pub none_held : held eq k q ≡ [] → (writes_of eq k q.admitted ≡ []) × (writes_of eq k q.waiting ≡ [])
   none_held none = empty_parts (writes_of eq k q.admitted) (writes_of eq k q.waiting) (sym (held-append eq rules k q) ∙ none)

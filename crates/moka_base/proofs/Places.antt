@@ -2,11 +2,11 @@
 use Rattle.std.proofs.Common.{◌≡◌, ◌↔◌, ◌⊎◌, inl, inr, ⊎_elim, ℕ, max, Bool, true, false, not, ◌&&◌, if◌then◌else◌, Option, Some, None, List, [], ◌∷◌, ◌++◌, refl, sym, ap, ◌∙◌, subst, arith, append-nil, is_some}
 use Rattle.std.specs.Option.{option_map}
 use Rattle.std.proofs.lemmas.Bool.{cond-true, cond_both, cases_Bool, true≢false}
-use Rattle.moka_base.specs.History.{Event, Get, ContainsKey, Insert, Invalidate, Maintain, Skip, EntryCount, TakeNotice, Rules, Write, latest, is_live, is_expired, live_one, after_look, after_write, leaves_in, standing}
+use Rattle.moka_base.specs.History.{Event, Get, ContainsKey, Insert, Invalidate, Maintain, Skip, Measure, TakeNotice, Rules, Write, latest, is_live, is_expired, live_one, after_look, after_write, leaves_in, standing}
 use Rattle.moka_base.specs.Replies.{Answer, Found, Contains, answer}
 use Rattle.moka_base.specs.Laws.{writes, ends, removes, IsUnwritten, IsUnremoved, IsUntouched, LastWrite, FirstEnd, Removal, NothingStands, FirstWrite, up_to_write, hits, greatest, IsAsWritten}
 
-module _ {K V : Type 0} (eq : K → K → Bool) (rules : Rules) (k : K) where
+module _ {K V : Type 0} (eq : K → K → Bool) (rules : Rules K V) (k : K) where
   -- one more event that does not write or remove the key
   LastWrite-more : (e : Event K V) (h : List (Event K V)) → ends eq rules k e h ≡ false → LastWrite eq rules k h → LastWrite eq rules k (e ∷ h)
   LastWrite-more e h apart last = record {
@@ -70,7 +70,7 @@ module _ {K V : Type 0} (eq : K → K → Bool) (rules : Rules) (k : K) where
   last_or_nothing (Invalidate q at ∷ h) = last-removed (Invalidate q at) h (λ e. e) refl (last_or_nothing h)
   last_or_nothing (Maintain at ∷ h) = last-removed (Maintain at) h (λ e. e) refl (last_or_nothing h)
   last_or_nothing (Skip at ∷ h) = last-more (Skip at) h refl refl (last_or_nothing h)
-  last_or_nothing (EntryCount ∷ h) = last-more EntryCount h refl refl (last_or_nothing h)
+  last_or_nothing (Measure what ∷ h) = last-more (Measure what) h refl refl (last_or_nothing h)
   last_or_nothing (TakeNotice ∷ h) = last-more TakeNotice h refl refl (last_or_nothing h)
 
   -- either there is a first write, or nothing stands
@@ -86,10 +86,10 @@ module _ {K V : Type 0} (eq : K → K → Bool) (rules : Rules) (k : K) where
   first_or_nothing (Invalidate q at ∷ h) = first-removed (Invalidate q at) h refl (first_or_nothing h)
   first_or_nothing (Maintain at ∷ h) = first-removed (Maintain at) h refl (first_or_nothing h)
   first_or_nothing (Skip at ∷ h) = first-more (Skip at) h refl refl (first_or_nothing h)
-  first_or_nothing (EntryCount ∷ h) = first-more EntryCount h refl refl (first_or_nothing h)
+  first_or_nothing (Measure what ∷ h) = first-more (Measure what) h refl refl (first_or_nothing h)
   first_or_nothing (TakeNotice ∷ h) = first-more TakeNotice h refl refl (first_or_nothing h)
 
-module _ {K V : Type 0} (eq : K → K → Bool) (rules : Rules) (k : K) where
+module _ {K V : Type 0} (eq : K → K → Bool) (rules : Rules K V) (k : K) where
   -- two places of events that end a key, with nothing later that does, are one place
   place_unique : (later₁ later₂ before₁ before₂ : List (Event K V)) (e₁ e₂ : Event K V) → ends eq rules k e₁ before₁ ≡ true → ends eq rules k e₂ before₂ ≡ true
       → IsUntouched eq rules k later₁ (e₁ ∷ before₁) → IsUntouched eq rules k later₂ (e₂ ∷ before₂)
@@ -153,7 +153,7 @@ if_same : {A : Type 0} (t : Bool) (x : A) → (if t then x else x) ≡ x
 if_same true x = refl
 if_same false x = refl
 
-module _ {K V : Type 0} (eq : K → K → Bool) (rules : Rules) (k : K) where
+module _ {K V : Type 0} (eq : K → K → Bool) (rules : Rules K V) (k : K) where
   -- where nothing stood and nothing was written, nothing stands
   standing_unwritten : (later before : List (Event K V)) → IsUnwritten eq k later → standing eq rules k before ≡ None → standing eq rules k (later ++ before) ≡ None
   standing_unwritten [] before u none = none
@@ -163,7 +163,7 @@ module _ {K V : Type 0} (eq : K → K → Bool) (rules : Rules) (k : K) where
   standing_unwritten (Invalidate q at ∷ later) before u none = rw (standing_unwritten later before u.1 none) (if_same (eq q k) None)
   standing_unwritten (Maintain at ∷ later) before u none = rw (standing_unwritten later before u.1 none) (if_same (leaves_in eq rules k at (later ++ before)) None)
   standing_unwritten (Skip at ∷ later) before u none = standing_unwritten later before u.1 none
-  standing_unwritten (EntryCount ∷ later) before u none = standing_unwritten later before u.1 none
+  standing_unwritten (Measure what ∷ later) before u none = standing_unwritten later before u.1 none
   standing_unwritten (TakeNotice ∷ later) before u none = standing_unwritten later before u.1 none
 
   -- where an event removes the key nothing stands
@@ -174,7 +174,7 @@ module _ {K V : Type 0} (eq : K → K → Bool) (rules : Rules) (k : K) where
   standing-removed (Invalidate q at) before gone = cond-true (eq q k) None (standing eq rules k before) gone
   standing-removed (Maintain at) before gone = cond-true (leaves_in eq rules k at before) None (standing eq rules k before) gone
   standing-removed (Skip at) before gone = absurd (true≢false (sym gone))
-  standing-removed EntryCount before gone = absurd (true≢false (sym gone))
+  standing-removed (Measure what) before gone = absurd (true≢false (sym gone))
   standing-removed TakeNotice before gone = absurd (true≢false (sym gone))
 
   -- where no write has come, or the last was removed, nothing stands
@@ -214,7 +214,7 @@ module _ {K V : Type 0} (eq : K → K → Bool) (rules : Rules) (k : K) where
   standing_from q v at before (Invalidate p t ∷ later) same u = rw (u.0) (standing_from q v at before later same u.1)
   standing_from q v at before (Maintain t ∷ later) same u = rw (u.0) (standing_from q v at before later same u.1)
   standing_from q v at before (Skip t ∷ later) same u = standing_from q v at before later same u.1
-  standing_from q v at before (EntryCount ∷ later) same u = standing_from q v at before later same u.1
+  standing_from q v at before (Measure what ∷ later) same u = standing_from q v at before later same u.1
   standing_from q v at before (TakeNotice ∷ later) same u = standing_from q v at before later same u.1
 
   -- so the last write stands
@@ -266,7 +266,7 @@ module _ {K V : Type 0} (eq : K → K → Bool) (rules : Rules) (k : K) where
   stored_from q v at before (Invalidate p t ∷ later) same none u = rw (u.0) (stored_from q v at before later same none u.1)
   stored_from q v at before (Maintain t ∷ later) same none u = rw (u.0) (stored_from q v at before later same none u.1)
   stored_from q v at before (Skip t ∷ later) same none u = stored_from q v at before later same none u.1
-  stored_from q v at before (EntryCount ∷ later) same none u = stored_from q v at before later same none u.1
+  stored_from q v at before (Measure what ∷ later) same none u = stored_from q v at before later same none u.1
   stored_from q v at before (TakeNotice ∷ later) same none u = stored_from q v at before later same none u.1
 
   -- so what stands is stored under the first write's key

@@ -4,7 +4,7 @@ use Rattle.std.specs.List.{list_any}
 use Rattle.std.proofs.lemmas.Bool.{and_parts}
 use Rattle.std.specs.Cmp.{IsEquivalence}
 use Rattle.std.proofs.lemmas.List.{map-append}
-use Rattle.moka_base.specs.History.{Event, Get, ContainsKey, Insert, Invalidate, Maintain, Skip, EntryCount, TakeNotice, Rules, Write, latest, standing, queues}
+use Rattle.moka_base.specs.History.{Event, Get, ContainsKey, Insert, Invalidate, Maintain, Skip, Measure, TakeNotice, Rules, Write, latest, standing, queues}
 use Rattle.moka_base.specs.Laws.{IsUnremoved, NothingStands, FirstWrite}
 use Rattle.moka_base.specs.OrderLaws.{keys, lasts, openings, waits}
 use Rattle.moka_base.proofs.InOrder.{Each, InOrder, Each-from, Each-filtered, InOrder-filter, InOrder-same, InOrder-push, InOrder-at}
@@ -13,7 +13,7 @@ use Rattle.moka_base.proofs.Moves.{look-waiting_keys, removed_in-waiting_keys}
 use Rattle.moka_base.proofs.QueuesHold.{maintained-none_waits}
 use Rattle.moka_base.proofs.Arrivals.{opening-waiting_keys, standing-waiting_keys, waiting_in_order}
 
-module _ {K V : Type 0} (eq : K → K → Bool) (rules : Rules) where
+module _ {K V : Type 0} (eq : K → K → Bool) (rules : Rules K V) where
   -- how many events there were with the opening write of a key
   abbrev place : List (Event K V) → K → ℕ
   place [] k = 0
@@ -23,7 +23,7 @@ module _ {K V : Type 0} (eq : K → K → Bool) (rules : Rules) where
   place (Invalidate p at ∷ h) k = place h k
   place (Maintain at ∷ h) k = place h k
   place (Skip at ∷ h) k = place h k
-  place (EntryCount ∷ h) k = place h k
+  place (Measure what ∷ h) k = place h k
   place (TakeNotice ∷ h) k = place h k
 
   -- the place of a key that stands stays
@@ -39,7 +39,7 @@ module _ {K V : Type 0} (eq : K → K → Bool) (rules : Rules) where
   place-stands k (Invalidate p at) h there = refl
   place-stands k (Maintain at) h there = refl
   place-stands k (Skip at) h there = refl
-  place-stands k EntryCount h there = refl
+  place-stands k (Measure what) h there = refl
   place-stands k TakeNotice h there = refl
 
   -- a place is one of those that there are
@@ -55,7 +55,7 @@ module _ {K V : Type 0} (eq : K → K → Bool) (rules : Rules) where
   place-le k (Invalidate p at ∷ h) = let l = place-le k h in omega arith
   place-le k (Maintain at ∷ h) = let l = place-le k h in omega arith
   place-le k (Skip at ∷ h) = let l = place-le k h in omega arith
-  place-le k (EntryCount ∷ h) = let l = place-le k h in omega arith
+  place-le k (Measure what ∷ h) = let l = place-le k h in omega arith
   place-le k (TakeNotice ∷ h) = let l = place-le k h in omega arith
 
   -- the place of a key that is opened
@@ -111,7 +111,7 @@ module _ {K V : Type 0} (eq : K → K → Bool) (rules : Rules) where
     waiting_in_places (Invalidate p at ∷ h) = subst (InOrder (place h)) (sym (removed_in-waiting_keys eq rules p (queues eq rules h))) (InOrder-filter (place h) (λ x. not (eq x p)) (keys (queues eq rules h).waiting) (waiting_in_places h))
     waiting_in_places (Maintain at ∷ h) = subst (InOrder (place h)) (sym (ap keys (maintained-none_waits eq rules (latest (Maintain at ∷ h)) (queues eq rules h)))) tt
     waiting_in_places (Skip at ∷ h) = waiting_in_places h
-    waiting_in_places (EntryCount ∷ h) = waiting_in_places h
+    waiting_in_places (Measure what ∷ h) = waiting_in_places h
     waiting_in_places (TakeNotice ∷ h) = waiting_in_places h
 
     -- so of two that wait the first has the older first write

@@ -5,7 +5,7 @@ use Rattle.std.specs.List.{filter, list_any}
 use Rattle.std.specs.Cmp.{IsEquivalence}
 use Rattle.std.proofs.lemmas.List.Elements.{filter-append}
 use Rattle.moka_base.specs.Maintenance.{Queues}
-use Rattle.moka_base.specs.History.{Event, Get, ContainsKey, Insert, Invalidate, Maintain, Skip, EntryCount, TakeNotice, Rules, Write, latest, is_live, after_look, after_write, standing, changed_where, moved_last, is_of, is_hit, used_where, opened_by, written_in, removed_in, let_go, maintained, queues}
+use Rattle.moka_base.specs.History.{Event, Get, ContainsKey, Insert, Invalidate, Maintain, Skip, Measure, TakeNotice, Rules, Write, latest, is_live, after_look, after_write, standing, changed_where, moved_last, is_of, is_hit, used_where, opened_by, written_in, removed_in, let_go, maintained, queues}
 use Rattle.moka_base.specs.StandsFor.{writes_of}
 use Rattle.moka_base.specs.OrderLaws.{held}
 use Rattle.moka_base.proofs.Standing.{IsStoredUnder, stored_key, standing_congr}
@@ -13,7 +13,7 @@ use Rattle.moka_base.proofs.Maintenance.{after-parts}
 use Rattle.moka_base.proofs.MaintenanceKept.{one_leaves_or_stays}
 use Rattle.moka_base.proofs.ListLemmas.{filter_comm, filter-changed_where, filter-moved_last, changed_if, used-option}
 
-module _ {K V : Type 0} (eq : K → K → Bool) (rules : Rules) where
+module _ {K V : Type 0} (eq : K → K → Bool) (rules : Rules K V) where
   -- the write of a key that does not stand
   abbrev pub opening : K → V → ℕ → Write K V
   opening p v at = after_write rules p v at None
@@ -164,5 +164,5 @@ module _ {K V : Type 0} (eq : K → K → Bool) (rules : Rules) where
         held-removed_in k p (queues eq rules h) ∙ ap (filter (λ (w : Write K V). not (eq w.key p))) (held-queues k h) ∙ held-removal k p (standing eq rules k h) (stored_key eq rules k h)
     held-queues k (Maintain at ∷ h) = (held-maintained k (latest (Maintain at ∷ h)) (queues eq rules h) (standing eq rules k h) (held-queues k h)).1
     held-queues k (Skip at ∷ h) = held-queues k h
-    held-queues k (EntryCount ∷ h) = held-queues k h
+    held-queues k (Measure what ∷ h) = held-queues k h
     held-queues k (TakeNotice ∷ h) = held-queues k h

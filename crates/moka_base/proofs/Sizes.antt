@@ -10,7 +10,7 @@ use Rattle.std.proofs.lemmas.List.Filters.{length-filter_both}
 use Rattle.moka_base.specs.declared.notification.RemovalCause.{RemovalCause}
 use Rattle.moka_base.specs.declared.notification.RemovalCause.TheVariants.{Expired, Explicit, Replaced, Size}
 use Rattle.moka_base.specs.Maintenance.{Queues, parts, leaving_in, after_parts}
-use Rattle.moka_base.specs.History.{Event, Get, ContainsKey, Insert, Invalidate, Maintain, Skip, EntryCount, TakeNotice, Rules, Write, Leaving, latest, is_expired, is_live, live_one, after_look, changed_where, moved_last, is_of, is_hit, used_where, opened_by, written_in, maintained, queues, leaves_in, standing, leaving_of, left, leaving, leavings, next_number, entry_count, stores_nothing, flush_point, is_flush_due, after_insert, IsHistory}
+use Rattle.moka_base.specs.History.{Event, Get, ContainsKey, Insert, Invalidate, Maintain, Skip, Measure, TakeNotice, Rules, Write, Leaving, latest, is_expired, is_live, live_one, after_look, changed_where, moved_last, is_of, is_hit, used_where, opened_by, written_in, maintained, queues, leaves_in, standing, leaving_of, left, leaving, leavings, next_number, entry_count, stores_nothing, flush_point, is_flush_due, after_insert, IsHistory}
 use Rattle.moka_base.specs.StandsFor.{writes_of}
 use Rattle.moka_base.specs.Replies.{Found, answer}
 use Rattle.moka_base.specs.SizeLaws.{dead, living, gone, excess, leaving_as}
@@ -33,7 +33,7 @@ length-moved_last {A} p change xs =
     let all : length (others ++ map change moved) ≡ length others + length (map change moved) = length-append others (map change moved) in
     omega arith
 
-module _ {K V : Type 0} (eq : K → K → Bool) (rules : Rules) where
+module _ {K V : Type 0} (eq : K → K → Bool) (rules : Rules K V) where
   abbrev weighs_one : Write K V → ℕ
   weighs_one w = 1
 
@@ -108,7 +108,7 @@ module _ {K V : Type 0} (eq : K → K → Bool) (rules : Rules) where
       omega arith
   admitted-le (Maintain at ∷ h) capacity e = maintained-admitted-le (latest (Maintain at ∷ h)) (queues eq rules h) capacity e
   admitted-le (Skip at ∷ h) capacity e = admitted-le h capacity e
-  admitted-le (EntryCount ∷ h) capacity e = admitted-le h capacity e
+  admitted-le (Measure what ∷ h) capacity e = admitted-le h capacity e
   admitted-le (TakeNotice ∷ h) capacity e = admitted-le h capacity e
 
   -- no more wait than the flush point says
@@ -133,7 +133,7 @@ module _ {K V : Type 0} (eq : K → K → Bool) (rules : Rules) where
       omega arith
   waiting-le (Maintain at ∷ h) g = let none = ap length (maintained-none_waits eq rules (latest (Maintain at ∷ h)) (queues eq rules h)) in omega arith
   waiting-le (Skip at ∷ h) g = waiting-le h g
-  waiting-le (EntryCount ∷ h) g = waiting-le h g
+  waiting-le (Measure what ∷ h) g = waiting-le h g
   waiting-le (TakeNotice ∷ h) g = waiting-le h g
 
   pub entry_count-le : (h : List (Event K V)) (capacity : ℕ) → rules.max_capacity ≡ Some capacity → IsHistory eq rules h → entry_count eq rules h ≤ capacity + flush_point
@@ -148,7 +148,7 @@ map-agree : {A B : Type 0} (f g : A → B) (xs : List A) → All (λ x. f x ≡ 
 map-agree f g [] same = refl
 map-agree f g (x ∷ xs) same = ap (λ y. y ∷ map f xs) (All-head (λ z. f z ≡ g z) x xs same) ∙ ap (λ ys. g x ∷ ys) (map-agree f g xs (All-tail (λ z. f z ≡ g z) x xs same))
 
-module _ {K V : Type 0} (eq : K → K → Bool) (rules : Rules) (at : ℕ) (h : List (Event K V)) where
+module _ {K V : Type 0} (eq : K → K → Bool) (rules : Rules K V) (at : ℕ) (h : List (Event K V)) where
   abbrev now : ℕ
   now = latest (Maintain at ∷ h)
 
@@ -224,7 +224,7 @@ module _ {K V : Type 0} (eq : K → K → Bool) (rules : Rules) (at : ℕ) (h : 
   pub leaving-without : rules.max_capacity ≡ None → leaving eq rules (Maintain at) h ≡ map (leaving_as Expired) (dead eq rules at h)
   leaving-without e = ap (map (leaving_of rules Size now)) (gone-without e) ∙ map-leaving-dead
 
-module _ {K V : Type 0} (eq : K → K → Bool) (rules : Rules) where
+module _ {K V : Type 0} (eq : K → K → Bool) (rules : Rules K V) where
   -- it did not leave for size
   abbrev NotForSize : Leaving K V → Type 0
   NotForSize l = l.cause ≢ Size
@@ -249,7 +249,7 @@ module _ {K V : Type 0} (eq : K → K → Bool) (rules : Rules) where
           each [] = All-nil (λ w. NotForSize (leaving_as Expired w))
           each (w ∷ ws) = All-cons (λ u. NotForSize (leaving_as Expired u)) w ws (λ same. cc) (each ws)
       at_event (Skip at) = All-nil NotForSize
-      at_event EntryCount = All-nil NotForSize
+      at_event (Measure what) = All-nil NotForSize
       at_event TakeNotice = All-nil NotForSize
 
   pub nothing_leaves_for_size : (h : List (Event K V)) → rules.max_capacity ≡ None → AllByRecursion NotForSize (leavings eq rules h)
@@ -265,7 +265,7 @@ module _ {K V : Type 0} (eq : K → K → Bool) (rules : Rules) where
     queues-empty (Invalidate k at ∷ h) g = rw (queues-empty h g) refl
     queues-empty (Maintain at ∷ h) g = rw (queues-empty h g) refl
     queues-empty (Skip at ∷ h) g = queues-empty h g
-    queues-empty (EntryCount ∷ h) g = queues-empty h g
+    queues-empty (Measure what ∷ h) g = queues-empty h g
     queues-empty (TakeNotice ∷ h) g = queues-empty h g
 
     -- nothing stands,
@@ -277,7 +277,7 @@ module _ {K V : Type 0} (eq : K → K → Bool) (rules : Rules) where
     standing-empty k (Invalidate p at ∷ h) g = cond_both (eq p k) None (standing eq rules k h) (λ o. o ≡ None) (λ _. refl) (λ _. standing-empty k h g)
     standing-empty k (Maintain at ∷ h) g = cond_both (leaves_in eq rules k at h) None (standing eq rules k h) (λ o. o ≡ None) (λ _. refl) (λ _. standing-empty k h g)
     standing-empty k (Skip at ∷ h) g = standing-empty k h g
-    standing-empty k (EntryCount ∷ h) g = standing-empty k h g
+    standing-empty k (Measure what ∷ h) g = standing-empty k h g
     standing-empty k (TakeNotice ∷ h) g = standing-empty k h g
 
     -- nothing leaves,
@@ -289,7 +289,7 @@ module _ {K V : Type 0} (eq : K → K → Bool) (rules : Rules) where
     leavings-empty (Invalidate k at ∷ h) g = rw (leavings-empty h g, standing-empty k h g) refl
     leavings-empty (Maintain at ∷ h) g = rw (leavings-empty h g, queues-empty h g) refl
     leavings-empty (Skip at ∷ h) g = rw (leavings-empty h g) refl
-    leavings-empty (EntryCount ∷ h) g = rw (leavings-empty h g) refl
+    leavings-empty (Measure what ∷ h) g = rw (leavings-empty h g) refl
     leavings-empty (TakeNotice ∷ h) g = rw (leavings-empty h g) refl
 
     -- and no number is drawn
@@ -301,7 +301,7 @@ module _ {K V : Type 0} (eq : K → K → Bool) (rules : Rules) where
     next_number-empty (Invalidate k at ∷ h) g = let same = next_number-empty h g in omega arith
     next_number-empty (Maintain at ∷ h) g = let same = next_number-empty h g in omega arith
     next_number-empty (Skip at ∷ h) g = let same = next_number-empty h g in omega arith
-    next_number-empty (EntryCount ∷ h) g = let same = next_number-empty h g in omega arith
+    next_number-empty (Measure what ∷ h) g = let same = next_number-empty h g in omega arith
     next_number-empty (TakeNotice ∷ h) g = let same = next_number-empty h g in omega arith
 
     -- so no look finds anything after a write

@@ -4,7 +4,7 @@ use Rattle.std.specs.Cmp.{IsEquivalence}
 use Rattle.std.specs.Option.{option_map}
 use Rattle.std.specs.List.{list_any}
 use Rattle.std.proofs.lemmas.Bool.{cond_both}
-use Rattle.moka_base.specs.History.{Event, Get, ContainsKey, Insert, Invalidate, Maintain, Skip, EntryCount, TakeNotice, Rules, Write, latest, is_live, after_look, after_write, let_go, queues, leaves_in, standing}
+use Rattle.moka_base.specs.History.{Event, Get, ContainsKey, Insert, Invalidate, Maintain, Skip, Measure, TakeNotice, Rules, Write, latest, is_live, after_look, after_write, let_go, queues, leaves_in, standing}
 
 -- a key is equal to just what an equal key is equal to
 pub eq_congr_right : {K : Type 0} {eq : K → K → Bool} → IsEquivalence eq → (p q k : K) → eq q k ≡ true → eq p q ≡ eq p k
@@ -15,7 +15,7 @@ abbrev pub IsStoredUnder : {K V : Type 0} → (K → K → Bool) → K → Optio
 IsStoredUnder eq k None = Unit {0}
 IsStoredUnder eq k (Some w) = eq w.key k ≡ true
 
-module _ {K V : Type 0} (eq : K → K → Bool) (rules : Rules) where
+module _ {K V : Type 0} (eq : K → K → Bool) (rules : Rules K V) where
   -- a hit keeps the stored key
   IsStoredUnder-after_look : (k : K) (at : ℕ) (o : Option (Write K V)) → IsStoredUnder eq k o → IsStoredUnder eq k (option_map (after_look rules at) o)
   IsStoredUnder-after_look k at None s = tt
@@ -35,7 +35,7 @@ module _ {K V : Type 0} (eq : K → K → Bool) (rules : Rules) where
   stored_key k (Invalidate q at ∷ h) = cond_both (eq q k) None (standing eq rules k h) (IsStoredUnder eq k) (λ _. tt) (λ _. stored_key k h)
   stored_key k (Maintain at ∷ h) = cond_both (leaves_in eq rules k at h) None (standing eq rules k h) (IsStoredUnder eq k) (λ _. tt) (λ _. stored_key k h)
   stored_key k (Skip at ∷ h) = stored_key k h
-  stored_key k (EntryCount ∷ h) = stored_key k h
+  stored_key k (Measure what ∷ h) = stored_key k h
   stored_key k (TakeNotice ∷ h) = stored_key k h
 
   -- some write has an equal key just where it has this one
@@ -56,5 +56,5 @@ module _ {K V : Type 0} (eq : K → K → Bool) (rules : Rules) where
   standing_congr e q k (Invalidate p at ∷ h) same = rw (eq_congr_right e p q k same, standing_congr e q k h same)
   standing_congr e q k (Maintain at ∷ h) same = rw (leaves_in-congr e q k at h same, standing_congr e q k h same)
   standing_congr e q k (Skip at ∷ h) same = standing_congr e q k h same
-  standing_congr e q k (EntryCount ∷ h) same = standing_congr e q k h same
+  standing_congr e q k (Measure what ∷ h) same = standing_congr e q k h same
   standing_congr e q k (TakeNotice ∷ h) same = standing_congr e q k h same

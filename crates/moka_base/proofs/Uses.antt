@@ -9,7 +9,7 @@ use Rattle.std.proofs.lemmas.List.Elements.{All-nil, All-cons, All-head, All-tai
 use Rattle.std.proofs.lemmas.List.Folds.{list_any_none}
 use Rattle.std.proofs.lemmas.Map.Views.{any-filter_same}
 use Rattle.moka_base.specs.Maintenance.{Queues}
-use Rattle.moka_base.specs.History.{Event, Get, ContainsKey, Insert, Invalidate, Maintain, Skip, EntryCount, TakeNotice, Rules, Write, latest, is_live, live_one, after_look, after_write, moved_last, is_of, is_hit, used_where, queues, standing}
+use Rattle.moka_base.specs.History.{Event, Get, ContainsKey, Insert, Invalidate, Maintain, Skip, Measure, TakeNotice, Rules, Write, latest, is_live, live_one, after_look, after_write, moved_last, is_of, is_hit, used_where, queues, standing}
 use Rattle.moka_base.specs.StandsFor.{writes_of}
 use Rattle.moka_base.specs.OrderLaws.{keys, held, HasOneEach, lasts, admitted_in, uses, is_admitted, LastUse}
 use Rattle.moka_base.specs.SizeLaws.{living, excess}
@@ -184,7 +184,7 @@ module _ {K V : Type 0} (eq : K → K → Bool) where
         first rest zero live = ap (λ l. filter (is_in l) (w ∷ ws)) (is_live_one live) ∙ with_first rest ∙ sym (is_live_one live)
         first rest (suc m) live = ap (λ l. filter (is_in (drop (suc m) l)) (w ∷ ws)) (is_live_one live) ∙ without rest m ∙ ap (drop (suc m)) (sym (is_live_one live))
 
-module _ {K V : Type 0} (eq : K → K → Bool) (rules : Rules) (laws : IsEquivalence eq) where
+module _ {K V : Type 0} (eq : K → K → Bool) (rules : Rules K V) (laws : IsEquivalence eq) where
   -- a use of a write that stands for a key
   used_where-keeps : (k : K) (h : List (Event K V)) (w : Write K V) (p : Write K V → Bool) (change : Write K V → Write K V) (all : List K) → standing eq rules k h ≡ Some w
       → ((u : Write K V) → p u ≡ true → eq u.key k ≡ true) → p w ≡ true → (change w).key ≡ w.key
@@ -325,7 +325,7 @@ module _ {K V : Type 0} (eq : K → K → Bool) (rules : Rules) (laws : IsEquiva
       subst (λ ks. KeepsArrival eq ks (uses eq rules h)) (sym (map-filter (λ (w : Write K V). w.key) (λ x. not (eq x p)) (queues eq rules h).admitted)) (KeepsArrival-filter eq laws (keys (queues eq rules h).admitted) (uses eq rules h) p (keeps_use h))
   keeps_use (Maintain at ∷ h) = maintained-keeps h at (uses eq rules h) (keeps_use h)
   keeps_use (Skip at ∷ h) = keeps_use h
-  keeps_use (EntryCount ∷ h) = keeps_use h
+  keeps_use (Measure what ∷ h) = keeps_use h
   keeps_use (TakeNotice ∷ h) = keeps_use h
 
   -- so they are the last uses of the keys that are admitted
@@ -393,7 +393,7 @@ module _ {K : Type 0} (eq : K → K → Bool) where
             (λ k is _. let ge = last_at-ge (n + 1) xs k in let b : last_at n (x ∷ xs) x < last_at n (x ∷ xs) k = omega arith in b)
             (lasts eq xs) later later
 
-module _ {K V : Type 0} (eq : K → K → Bool) (rules : Rules) (laws : IsEquivalence eq) (h : List (Event K V)) where
+module _ {K V : Type 0} (eq : K → K → Bool) (rules : Rules K V) (laws : IsEquivalence eq) (h : List (Event K V)) where
   -- each that is admitted has a last use
   pub each_used : (before after : List (Write K V)) (w : Write K V) → (queues eq rules h).admitted ≡ before ++ w ∷ after → LastUse eq w.key (uses eq rules h)
   each_used before after w is =

@@ -5,6 +5,7 @@ pub mod Maintenance
 pub mod MaintenanceLaws
 pub mod NumberHash
 pub mod OrderLaws
+pub mod Policy
 pub mod Replies
 pub mod SizeLaws
 pub mod StandsFor

@@ -1,9 +1,10 @@
 -- The words of the laws over the two orders.
-use Rattle.std.specs.Prelude.{◌≡◌, ℕ, max, Bool, true, false, not, ◌&&◌, if◌then◌else◌, Option, List, [], ◌∷◌, ◌++◌, map, is_some, option_to_list}
+use Rattle.std.specs.Prelude.{◌≡◌, ℕ, Bool, true, false, not, ◌&&◌, if◌then◌else◌, Option, None, List, [], ◌∷◌, ◌++◌, map, is_some, option_to_list}
 use Rattle.std.specs.List.{filter, list_any}
 use Rattle.moka_base.specs.Maintenance.{Queues}
-use Rattle.moka_base.specs.History.{Event, Get, ContainsKey, Insert, Invalidate, Maintain, Skip, EntryCount, TakeNotice, Rules, Write, latest, after_write, standing, live, queues}
+use Rattle.moka_base.specs.History.{Event, Get, ContainsKey, Insert, Invalidate, Maintain, Skip, Measure, TakeNotice, Rules, Write, latest, after_write, standing, live, queues}
 use Rattle.moka_base.specs.StandsFor.{writes_of}
+use Rattle.moka_base.specs.Worked.{without_lives}
 
 module _ {K V : Type 0} where
   -- the keys of writes, in order
@@ -26,25 +27,13 @@ module _ {K V : Type 0} where
   abbrev pub with_waiting : Queues (Write K V) → List (Write K V) → Queues (Write K V)
   with_waiting q ws = record { admitted = q.admitted; waiting = ws }
 
-  -- a write after a hit at a moment
-  abbrev pub hit_at : ℕ → Write K V → Write K V
-  hit_at at w = record w { used = max w.used at }
-
-  -- a value in place of another, under the stored key
-  abbrev pub written_over : V → ℕ → Write K V → Write K V
-  written_over v at w = record { key = w.key; value = v; written = at; used = at }
-
-  -- a value under a key that did not stand
-  abbrev pub written_anew : K → V → ℕ → Write K V
-  written_anew k v at = record { key = k; value = v; written = at; used = at }
-
 module _ {K : Type 0} (eq : K → K → Bool) where
   -- each key at the place where it stands last
   abbrev pub lasts : List K → List K
   lasts [] = []
   lasts (k ∷ ks) = if list_any (eq k) ks then lasts ks else k ∷ lasts ks
 
-  module _ {V : Type 0} (rules : Rules) where
+  module _ {V : Type 0} (rules : Rules K V) where
     -- The keys of the opening writes, oldest first: a write is one where nothing stood for its key.
     abbrev pub openings : List (Event K V) → List K
     openings [] = []
@@ -54,7 +43,7 @@ module _ {K : Type 0} (eq : K → K → Bool) where
     openings (Invalidate k at ∷ h) = openings h
     openings (Maintain at ∷ h) = openings h
     openings (Skip at ∷ h) = openings h
-    openings (EntryCount ∷ h) = openings h
+    openings (Measure what ∷ h) = openings h
     openings (TakeNotice ∷ h) = openings h
 
     -- a key waits where it stands and is not admitted
@@ -76,7 +65,7 @@ module _ {K : Type 0} (eq : K → K → Bool) where
     uses (Invalidate k at ∷ h) = uses h
     uses (Maintain at ∷ h) = uses h ++ admitted_in at h
     uses (Skip at ∷ h) = uses h
-    uses (EntryCount ∷ h) = uses h
+    uses (Measure what ∷ h) = uses h
     uses (TakeNotice ∷ h) = uses h
 
     -- a key is admitted where its write is
@@ -112,6 +101,10 @@ first_removed = Invalidate 1 5 ∷ second_hit
 abbrev pub first_anew : List (Event ℕ ℕ)
 first_anew = Insert 1 12 6 ∷ first_removed
 
+-- the write of a key that did not stand
+abbrev pub newly : ℕ → ℕ → ℕ → Write ℕ ℕ
+newly k v at = after_write without_lives k v at None
+
 -- the three admitted, the first the least recently used, and a fourth that waits
 abbrev pub three_admitted : Queues (Write ℕ ℕ)
-three_admitted = record { admitted = written_anew 1 10 0 ∷ written_anew 2 20 1 ∷ written_anew 3 30 2 ∷ []; waiting = written_anew 4 40 3 ∷ [] }
+three_admitted = record { admitted = newly 1 10 0 ∷ newly 2 20 1 ∷ newly 3 30 2 ∷ []; waiting = newly 4 40 3 ∷ [] }

@@ -2,10 +2,10 @@
 use Rattle.std.specs.Prelude.{ℕ, ◌-◌, Bool, List, ◌∷◌, length}
 use Rattle.moka_base.specs.declared.notification.RemovalCause.{RemovalCause}
 use Rattle.moka_base.specs.MaintenanceLaws.{the_dead, the_living}
-use Rattle.moka_base.specs.History.{Event, Maintain, Rules, Write, Leaving, latest, is_live, queues, let_go}
+use Rattle.moka_base.specs.History.{Event, Maintain, Rules, Write, Leaving, frequency, latest, is_live, queues, let_go}
 
 -- The words of one maintenance at a moment, the events before it being h.
-module _ {K V : Type 0} (eq : K → K → Bool) (rules : Rules) (at : ℕ) (h : List (Event K V)) where
+module _ {K V : Type 0} (eq : K → K → Bool) (rules : Rules K V) (at : ℕ) (h : List (Event K V)) where
   -- a write is live at its moment
   abbrev pub lives : Write K V → Bool
   lives w = is_live rules w (latest (Maintain at ∷ h))
@@ -20,7 +20,7 @@ module _ {K V : Type 0} (eq : K → K → Bool) (rules : Rules) (at : ℕ) (h : 
 
   -- all that leaves in it, in order
   abbrev pub gone : List (Write K V)
-  gone = let_go rules (latest (Maintain at ∷ h)) (queues eq rules h)
+  gone = let_go rules (frequency rules h) (latest (Maintain at ∷ h)) (queues eq rules h)
 
   -- by how many the living pass a capacity
   abbrev pub excess : ℕ → ℕ

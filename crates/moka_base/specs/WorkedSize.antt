@@ -2,15 +2,15 @@
 use Rattle.std.specs.Prelude.{ℕ, nat_eq, zero, suc, Some, None, List, [], ◌∷◌, ◌++◌}
 use Rattle.moka_base.specs.declared.notification.RemovalCause.TheVariants.{Size}
 use Rattle.moka_base.specs.History.{Event, Get, Insert, Maintain, Rules, Leaving, after_insert}
-use Rattle.moka_base.specs.Worked.{seconds, left_as}
+use Rattle.moka_base.specs.Worked.{seconds, without_lives, left_as}
 
 -- a capacity, and no life ends
-abbrev pub at_capacity : ℕ → Rules
-at_capacity capacity = record { time_to_live = None; time_to_idle = None; max_capacity = Some capacity; first_number = 0 }
+abbrev pub at_capacity : ℕ → Rules ℕ ℕ
+at_capacity capacity = record without_lives { max_capacity = Some capacity }
 
 -- ten seconds to live, at a capacity of ten
-abbrev pub ten_to_live_at_ten : Rules
-ten_to_live_at_ten = record { time_to_live = Some (seconds 10); time_to_idle = None; max_capacity = Some 10; first_number = 0 }
+abbrev pub ten_to_live_at_ten : Rules ℕ ℕ
+ten_to_live_at_ten = record without_lives { time_to_live = Some (seconds 10); max_capacity = Some 10 }
 
 -- two keys come and are admitted, the first is hit, and a third comes
 abbrev pub third_comes : List (Event ℕ ℕ)

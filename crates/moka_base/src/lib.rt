@@ -2,6 +2,7 @@
 //! contract cites, with the laws above them.
 #![tactic(auto)]
 
+pub mod expiry;
 pub mod frequency;
 pub mod frequency_laws;
 pub mod laws;
@@ -10,6 +11,7 @@ pub mod notification;
 pub mod order_laws;
 pub mod policy;
 pub mod size_laws;
+pub mod weigher;
 pub mod worked;
 pub mod worked_frequency;
 pub mod worked_maintenance;

@@ -11,13 +11,13 @@ ghost use Rattle.moka_base.specs.OrderLaws.{keys, held, HasOneEach, with_admitte
 /// The two orders hold just what stands: the write that stands for a key is in one of them, once, and
 /// nothing else is in either.
 pub fn the_queues_hold_what_stands<K: Eq, V>()
-    ensures held { (rules : Rules) (h : List (Event K V)) (k : K)
+    ensures held { (rules : Rules K V) (h : List (Event K V)) (k : K)
         → held K.eq k (queues K.eq rules h) ≡ option_to_list (standing K.eq rules k h) }
-    ensures one_each { (rules : Rules) (h : List (Event K V)) → HasOneEach K.eq (queues K.eq rules h) }
-    ensures each_stands { (rules : Rules) (h : List (Event K V)) (before after : List (Write K V)) (w : Write K V)
+    ensures one_each { (rules : Rules K V) (h : List (Event K V)) → HasOneEach K.eq (queues K.eq rules h) }
+    ensures each_stands { (rules : Rules K V) (h : List (Event K V)) (before after : List (Write K V)) (w : Write K V)
         → (queues K.eq rules h).admitted ++ (queues K.eq rules h).waiting ≡ before ++ w ∷ after
         → standing K.eq rules w.key h ≡ Some w }
-    ensures in_one_order { (rules : Rules) (h : List (Event K V)) (k : K) (w : Write K V) → standing K.eq rules k h ≡ Some w
+    ensures in_one_order { (rules : Rules K V) (h : List (Event K V)) (k : K) (w : Write K V) → standing K.eq rules k h ≡ Some w
         → ((writes_of K.eq k (queues K.eq rules h).admitted ≡ w ∷ []) × (writes_of K.eq k (queues K.eq rules h).waiting ≡ []))
         ⊎ ((writes_of K.eq k (queues K.eq rules h).admitted ≡ []) × (writes_of K.eq k (queues K.eq rules h).waiting ≡ w ∷ [])) }
 {}
@@ -26,21 +26,21 @@ pub fn the_queues_hold_what_stands<K: Eq, V>()
 /// over a key that stands leave the waiting keys in their order; a removal takes out its own key; a
 /// write of a key that does not stand puts it behind all others. So in any two orders.
 pub fn a_hit_leaves_the_waiting_order_alone<K: Eq, V>()
-    ensures look { (rules : Rules) (q : Queues (Write K V)) (k : K) (at : ℕ)
+    ensures look { (rules : Rules K V) (q : Queues (Write K V)) (k : K) (at : ℕ)
         → keys (used_where K.eq rules (is_hit K.eq rules k at) (after_look rules at) q).waiting ≡ keys q.waiting }
-    ensures overwrite { (rules : Rules) (q : Queues (Write K V)) (k : K) (v : V) (at : ℕ) → held K.eq k q ≢ []
+    ensures overwrite { (rules : Rules K V) (q : Queues (Write K V)) (k : K) (v : V) (at : ℕ) → held K.eq k q ≢ []
         → keys (written_in K.eq rules k v at q).waiting ≡ keys q.waiting }
-    ensures removal { (rules : Rules) (q : Queues (Write K V)) (k : K)
+    ensures removal { (rules : Rules K V) (q : Queues (Write K V)) (k : K)
         → keys (removed_in K.eq rules k q).waiting ≡ filter (λ p. not (K.eq p k)) (keys q.waiting) }
-    ensures opening { (rules : Rules) (q : Queues (Write K V)) (k : K) (v : V) (at : ℕ) → held K.eq k q ≡ []
+    ensures opening { (rules : Rules K V) (q : Queues (Write K V)) (k : K) (v : V) (at : ℕ) → held K.eq k q ≡ []
         → written_in K.eq rules k v at q ≡ with_waiting q (q.waiting ++ written_anew k v at ∷ []) }
-    ensures hit_in_place { (rules : Rules) (q : Queues (Write K V)) (k : K) (at : ℕ) (before after : List (Write K V)) (w : Write K V)
+    ensures hit_in_place { (rules : Rules K V) (q : Queues (Write K V)) (k : K) (at : ℕ) (before after : List (Write K V)) (w : Write K V)
         → HasOneEach K.eq q → K.eq w.key k ≡ true → q.waiting ≡ before ++ w ∷ after → is_live rules w at ≡ true
         → used_where K.eq rules (is_hit K.eq rules k at) (after_look rules at) q ≡ with_waiting q (before ++ hit_at at w ∷ after) }
-    ensures overwrite_in_place { (rules : Rules) (q : Queues (Write K V)) (k : K) (v : V) (at : ℕ) (before after : List (Write K V)) (w : Write K V)
+    ensures overwrite_in_place { (rules : Rules K V) (q : Queues (Write K V)) (k : K) (v : V) (at : ℕ) (before after : List (Write K V)) (w : Write K V)
         → HasOneEach K.eq q → K.eq w.key k ≡ true → q.waiting ≡ before ++ w ∷ after
         → written_in K.eq rules k v at q ≡ with_waiting q (before ++ written_over v at w ∷ after) }
-    ensures removal_alone { (rules : Rules) (q : Queues (Write K V)) (k : K) (before after : List (Write K V)) (w : Write K V)
+    ensures removal_alone { (rules : Rules K V) (q : Queues (Write K V)) (k : K) (before after : List (Write K V)) (w : Write K V)
         → HasOneEach K.eq q → K.eq w.key k ≡ true → q.waiting ≡ before ++ w ∷ after
         → removed_in K.eq rules k q ≡ with_waiting q (before ++ after) }
 {}
@@ -49,27 +49,27 @@ pub fn a_hit_leaves_the_waiting_order_alone<K: Eq, V>()
 /// it, its write is taken from its place and stands last. A look that hits nothing leaves both orders
 /// as they are, and so does a removal of a key that has no write. So in any two orders.
 pub fn a_use_moves_an_admitted_key_behind_all_others<K: Eq, V>()
-    ensures hit { (rules : Rules) (q : Queues (Write K V)) (k : K) (at : ℕ) (before after : List (Write K V)) (w : Write K V)
+    ensures hit { (rules : Rules K V) (q : Queues (Write K V)) (k : K) (at : ℕ) (before after : List (Write K V)) (w : Write K V)
         → HasOneEach K.eq q → K.eq w.key k ≡ true → q.admitted ≡ before ++ w ∷ after → is_live rules w at ≡ true
         → used_where K.eq rules (is_hit K.eq rules k at) (after_look rules at) q ≡ with_admitted q ((before ++ after) ++ hit_at at w ∷ []) }
-    ensures overwrite { (rules : Rules) (q : Queues (Write K V)) (k : K) (v : V) (at : ℕ) (before after : List (Write K V)) (w : Write K V)
+    ensures overwrite { (rules : Rules K V) (q : Queues (Write K V)) (k : K) (v : V) (at : ℕ) (before after : List (Write K V)) (w : Write K V)
         → HasOneEach K.eq q → K.eq w.key k ≡ true → q.admitted ≡ before ++ w ∷ after
         → written_in K.eq rules k v at q ≡ with_admitted q ((before ++ after) ++ written_over v at w ∷ []) }
-    ensures no_hit { (rules : Rules) (q : Queues (Write K V)) (k : K) (at : ℕ) → filter (λ w. is_live rules w at) (held K.eq k q) ≡ []
+    ensures no_hit { (rules : Rules K V) (q : Queues (Write K V)) (k : K) (at : ℕ) → filter (λ w. is_live rules w at) (held K.eq k q) ≡ []
         → used_where K.eq rules (is_hit K.eq rules k at) (after_look rules at) q ≡ q }
-    ensures removal { (rules : Rules) (q : Queues (Write K V)) (k : K) (before after : List (Write K V)) (w : Write K V)
+    ensures removal { (rules : Rules K V) (q : Queues (Write K V)) (k : K) (before after : List (Write K V)) (w : Write K V)
         → HasOneEach K.eq q → K.eq w.key k ≡ true → q.admitted ≡ before ++ w ∷ after
         → removed_in K.eq rules k q ≡ with_admitted q (before ++ after) }
-    ensures no_removal { (rules : Rules) (q : Queues (Write K V)) (k : K) → held K.eq k q ≡ [] → removed_in K.eq rules k q ≡ q }
+    ensures no_removal { (rules : Rules K V) (q : Queues (Write K V)) (k : K) → held K.eq k q ≡ [] → removed_in K.eq rules k q ≡ q }
 {}
 
 /// What waits stands in the order of arrival: the waiting keys are those of the writes that found
 /// their key not standing, each at its last such write, kept where the key still waits. So of two
 /// that wait, the one whose first write is the older stands before the other.
 pub fn waiting_is_the_order_of_arrival<K: Eq, V>()
-    ensures in_order { (rules : Rules) (h : List (Event K V))
+    ensures in_order { (rules : Rules K V) (h : List (Event K V))
         → keys (queues K.eq rules h).waiting ≡ filter (waits K.eq rules h) (lasts K.eq (openings K.eq rules h)) }
-    ensures older_first { (rules : Rules) (h : List (Event K V)) (before middle after : List (Write K V)) (a b : Write K V)
+    ensures older_first { (rules : Rules K V) (h : List (Event K V)) (before middle after : List (Write K V)) (a b : Write K V)
         → (queues K.eq rules h).waiting ≡ before ++ a ∷ (middle ++ b ∷ after)
         → (x : FirstWrite K.eq rules a.key h) (y : FirstWrite K.eq rules b.key h) → length x.before < length y.before }
 {}
@@ -78,11 +78,11 @@ pub fn waiting_is_the_order_of_arrival<K: Eq, V>()
 /// place of its last use, of those that are admitted. So each has a last use, and of two the one whose
 /// last use is older stands before the other.
 pub fn admitted_is_the_order_of_use<K: Eq, V>()
-    ensures in_order { (rules : Rules) (h : List (Event K V))
+    ensures in_order { (rules : Rules K V) (h : List (Event K V))
         → keys (queues K.eq rules h).admitted ≡ filter (is_admitted K.eq rules h) (lasts K.eq (uses K.eq rules h)) }
-    ensures used { (rules : Rules) (h : List (Event K V)) (before after : List (Write K V)) (w : Write K V)
+    ensures used { (rules : Rules K V) (h : List (Event K V)) (before after : List (Write K V)) (w : Write K V)
         → (queues K.eq rules h).admitted ≡ before ++ w ∷ after → LastUse K.eq w.key (uses K.eq rules h) }
-    ensures later_used_behind { (rules : Rules) (h : List (Event K V)) (before middle after : List (Write K V)) (a b : Write K V)
+    ensures later_used_behind { (rules : Rules K V) (h : List (Event K V)) (before middle after : List (Write K V)) (a b : Write K V)
         → (queues K.eq rules h).admitted ≡ before ++ a ∷ (middle ++ b ∷ after)
         → (x : LastUse K.eq a.key (uses K.eq rules h)) (y : LastUse K.eq b.key (uses K.eq rules h)) → length x.before < length y.before }
 {}

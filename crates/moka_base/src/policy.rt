@@ -1,8 +1,12 @@
 //! The types that a cache is made of, the hasher of number keys, and the refusals.
-ghost use Rattle.std.specs.Prelude.{◌≡◌, ℕ, true};
+ghost use Rattle.std.specs.Prelude.{◌≡◌, ℕ, true, false, not};
+ghost use Rattle.moka_base.specs.History.{Lifetimes};
 ghost use Rattle.moka_base.specs.NumberHash.{number_hash};
+ghost use Rattle.moka_base.specs.Policy.{is_lru};
 
+pub use crate::expiry::Expiry;
 pub use crate::frequency::{CountTable, FrequencySource};
+pub use crate::weigher::{WeighBy, Weigher};
 use std::hash::{BuildHasher, Hasher};
 use thiserror::Error;
 
@@ -10,6 +14,24 @@ use thiserror::Error;
 pub trait CacheTypes<K: Eq, V: Clone> {
     /// Makes the hasher of the cache's keys.
     type Hasher: BuildHasher + Drop;
+
+    /// Weighs what is stored, where the cache is given a weigher.
+    type Weigher: Weigher<K, V> + Drop;
+
+    /// Gives values lives of their own, where the cache is given an expiry.
+    type Expiry: Expiry<K, V> + Drop;
+
+    /// Estimates how often each key was looked for.
+    type Frequency: FrequencySource;
+
+    /// The weight of a key with a value. A weigher that the cache is given answers it.
+    ghost weight: { K → V → ℕ };
+
+    /// Equal keys weigh alike.
+    ghost equal_keys_weigh: { (a b : K) (v : V) → K.eq a b ≡ true → weight a v ≡ weight b v };
+
+    /// The lives that values have of their own. An expiry that the cache is given answers them.
+    ghost lifetimes: { Lifetimes K V };
 
     /// Holds of each key and value that the cache stores. Every writer owes it.
     ghost keeps: { K → V → Type 0 };
@@ -32,21 +54,53 @@ pub enum Refused {
     NumbersUsedUp,
 }
 
-/// Which keys leave where a cache has passed its capacity, and which new ones are admitted.
-#[derive(Clone, Debug, Drop)]
+/// Which keys leave where a cache has passed its capacity, and which new ones are admitted. The default is
+/// [`EvictionPolicy::tiny_lfu`].
+#[derive(Clone, Copy, Debug)]
 pub struct EvictionPolicy {
     kind: Kind,
 }
 
-#[derive(Clone, Debug, Drop)]
+#[derive(Clone, Copy, Debug)]
 enum Kind {
     Lru,
+    TinyLfu,
 }
 
 impl EvictionPolicy {
     /// The least recently used keys leave, and each new key is admitted.
-    pub fn lru() -> Self {
+    pub fn lru() -> Self
+        ensures { is_lru result ≡ true }
+    {
         EvictionPolicy { kind: Kind::Lru }
+    }
+
+    /// The least recently used keys leave too, but only for a new key that was looked for more often than all of them
+    /// together; a key that was not is not admitted.
+    pub fn tiny_lfu() -> Self
+        ensures { is_lru result ≡ false }
+    {
+        EvictionPolicy {
+            kind: Kind::TinyLfu,
+        }
+    }
+
+    /// Whether it is [`EvictionPolicy::tiny_lfu`].
+    pub fn is_tiny_lfu(&self) -> bool
+        ensures { result ≡ not (is_lru self.now) }
+    {
+        match self.kind {
+            Kind::Lru => false,
+            Kind::TinyLfu => true,
+        }
+    }
+}
+
+impl Default for EvictionPolicy {
+    fn default() -> Self
+        ensures { is_lru result ≡ false }
+    {
+        EvictionPolicy::tiny_lfu()
     }
 }
 

@@ -9,44 +9,44 @@ ghost use Rattle.moka_base.specs.SizeLaws.{dead, living, gone, excess, leaving_a
 /// After a maintenance nothing waits, all that stands is live at its moment, and no more stand than
 /// the capacity allows.
 pub fn after_a_maintenance<K: Eq, V>()
-    ensures none_waits { (rules : Rules) (h : List (Event K V)) (at : ℕ) → (queues K.eq rules (Maintain at ∷ h)).waiting ≡ [] }
-    ensures all_live { (rules : Rules) (h : List (Event K V)) (at : ℕ) (k : K) (w : Write K V)
+    ensures none_waits { (rules : Rules K V) (h : List (Event K V)) (at : ℕ) → (queues K.eq rules (Maintain at ∷ h)).waiting ≡ [] }
+    ensures all_live { (rules : Rules K V) (h : List (Event K V)) (at : ℕ) (k : K) (w : Write K V)
         → standing K.eq rules k (Maintain at ∷ h) ≡ Some w → is_live rules w (latest (Maintain at ∷ h)) ≡ true }
-    ensures within { (rules : Rules) (h : List (Event K V)) (at capacity : ℕ) → rules.max_capacity ≡ Some capacity
+    ensures within { (rules : Rules K V) (h : List (Event K V)) (at capacity : ℕ) → rules.max_capacity ≡ Some capacity
         → entry_count K.eq rules (Maintain at ∷ h) ≤ capacity }
 {}
 
 /// The size stays bounded between maintenances too: no more are admitted than the capacity allows, no
 /// more wait than the flush point says, and so no more stand than both together.
 pub fn the_size_stays_bounded<K: Eq, V>()
-    ensures admitted { (rules : Rules) (h : List (Event K V)) (capacity : ℕ) → rules.max_capacity ≡ Some capacity
+    ensures admitted { (rules : Rules K V) (h : List (Event K V)) (capacity : ℕ) → rules.max_capacity ≡ Some capacity
         → length (queues K.eq rules h).admitted ≤ capacity }
-    ensures waiting { (rules : Rules) (h : List (Event K V)) → IsHistory K.eq rules h
+    ensures waiting { (rules : Rules K V) (h : List (Event K V)) → IsHistory K.eq rules h
         → length (queues K.eq rules h).waiting ≤ flush_point }
-    ensures all { (rules : Rules) (h : List (Event K V)) (capacity : ℕ) → rules.max_capacity ≡ Some capacity → IsHistory K.eq rules h
+    ensures all { (rules : Rules K V) (h : List (Event K V)) (capacity : ℕ) → rules.max_capacity ≡ Some capacity → IsHistory K.eq rules h
         → entry_count K.eq rules h ≤ capacity + flush_point }
 {}
 
 /// Without a capacity nothing ever leaves for size, and in a maintenance just the dead leave.
 pub fn without_a_capacity_nothing_leaves_for_size<K: Eq, V>()
-    ensures never { (rules : Rules) (h : List (Event K V)) → rules.max_capacity ≡ None
+    ensures never { (rules : Rules K V) (h : List (Event K V)) → rules.max_capacity ≡ None
         → AllByRecursion (λ l. l.cause ≢ Size) (leavings K.eq rules h) }
-    ensures just_the_dead { (rules : Rules) (h : List (Event K V)) (at : ℕ) → rules.max_capacity ≡ None
+    ensures just_the_dead { (rules : Rules K V) (h : List (Event K V)) (at : ℕ) → rules.max_capacity ≡ None
         → leaving K.eq rules (Maintain at) h ≡ map (leaving_as Expired) (dead K.eq rules at h) }
 {}
 
 /// With a capacity of 0 nothing is ever stored, found or counted, nothing leaves, and no number is
 /// drawn.
 pub fn a_capacity_of_0_stores_nothing<K: Eq, V>()
-    ensures queues { (rules : Rules) (h : List (Event K V)) → stores_nothing rules.max_capacity ≡ true → IsHistory K.eq rules h
+    ensures queues { (rules : Rules K V) (h : List (Event K V)) → stores_nothing rules.max_capacity ≡ true → IsHistory K.eq rules h
         → ((queues K.eq rules h).admitted ≡ []) × ((queues K.eq rules h).waiting ≡ []) × (entry_count K.eq rules h ≡ 0) }
-    ensures standing { (rules : Rules) (h : List (Event K V)) (k : K) → stores_nothing rules.max_capacity ≡ true → IsHistory K.eq rules h
+    ensures standing { (rules : Rules K V) (h : List (Event K V)) (k : K) → stores_nothing rules.max_capacity ≡ true → IsHistory K.eq rules h
         → standing K.eq rules k h ≡ None }
-    ensures looks { (rules : Rules) (h : List (Event K V)) (k : K) (at : ℕ) → stores_nothing rules.max_capacity ≡ true → IsHistory K.eq rules h
+    ensures looks { (rules : Rules K V) (h : List (Event K V)) (k : K) (at : ℕ) → stores_nothing rules.max_capacity ≡ true → IsHistory K.eq rules h
         → (answer K.eq rules (Get k at) h ≡ Found None) × (answer K.eq rules (ContainsKey k at) h ≡ Contains false) }
-    ensures leavings { (rules : Rules) (h : List (Event K V)) → stores_nothing rules.max_capacity ≡ true → IsHistory K.eq rules h
+    ensures leavings { (rules : Rules K V) (h : List (Event K V)) → stores_nothing rules.max_capacity ≡ true → IsHistory K.eq rules h
         → leavings K.eq rules h ≡ [] }
-    ensures next_number { (rules : Rules) (h : List (Event K V)) → stores_nothing rules.max_capacity ≡ true → IsHistory K.eq rules h
+    ensures next_number { (rules : Rules K V) (h : List (Event K V)) → stores_nothing rules.max_capacity ≡ true → IsHistory K.eq rules h
         → next_number rules h ≡ rules.first_number }
 {}
 
@@ -54,12 +54,12 @@ pub fn a_capacity_of_0_stores_nothing<K: Eq, V>()
 /// those that wait; then, of the living in their order of use, those that waited last, just as many
 /// leave from the front as pass the capacity, for size, and the rest are admitted in that order.
 pub fn what_is_least_recently_used_leaves<K: Eq, V>()
-    ensures leaving { (rules : Rules) (h : List (Event K V)) (at capacity : ℕ) → rules.max_capacity ≡ Some capacity
+    ensures leaving { (rules : Rules K V) (h : List (Event K V)) (at capacity : ℕ) → rules.max_capacity ≡ Some capacity
         → gone K.eq rules at h ≡ dead K.eq rules at h ++ take (excess K.eq rules at h capacity) (living K.eq rules at h) }
-    ensures causes { (rules : Rules) (h : List (Event K V)) (at capacity : ℕ) → rules.max_capacity ≡ Some capacity
+    ensures causes { (rules : Rules K V) (h : List (Event K V)) (at capacity : ℕ) → rules.max_capacity ≡ Some capacity
         → leaving K.eq rules (Maintain at) h ≡ map (leaving_as Expired) (dead K.eq rules at h) ++ map (leaving_as Size) (take (excess K.eq rules at h capacity) (living K.eq rules at h)) }
-    ensures admitted { (rules : Rules) (h : List (Event K V)) (at capacity : ℕ) → rules.max_capacity ≡ Some capacity
+    ensures admitted { (rules : Rules K V) (h : List (Event K V)) (at capacity : ℕ) → rules.max_capacity ≡ Some capacity
         → (queues K.eq rules (Maintain at ∷ h)).admitted ≡ drop (excess K.eq rules at h capacity) (living K.eq rules at h) }
-    ensures without_a_capacity { (rules : Rules) (h : List (Event K V)) (at : ℕ) → rules.max_capacity ≡ None
+    ensures without_a_capacity { (rules : Rules K V) (h : List (Event K V)) (at : ℕ) → rules.max_capacity ≡ None
         → (queues K.eq rules (Maintain at ∷ h)).admitted ≡ living K.eq rules at h }
 {}

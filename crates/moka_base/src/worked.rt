@@ -1,7 +1,7 @@
 //! Worked cases of the definitions over the list of events, at numbers: each computes.
 ghost use Rattle.std.specs.Prelude.{◌≡◌, true, false, nat_eq, [], ◌∷◌};
 ghost use Rattle.moka_base.specs.declared.notification.RemovalCause.TheVariants.{Expired, Explicit, Replaced};
-ghost use Rattle.moka_base.specs.History.{Get, ContainsKey, Insert, Invalidate, Maintain, Skip, EntryCount, TakeNotice, leaving, leavings, next_number, greatest_number};
+ghost use Rattle.moka_base.specs.History.{Get, ContainsKey, Insert, Invalidate, Maintain, Skip, Measure, TakeNotice, leaving, leavings, next_number, greatest_number};
 ghost use Rattle.moka_base.specs.Replies.{Found, Contains, Noticed, IsOutOfNumbers, answer};
 ghost use Rattle.moka_base.specs.Worked.{seconds, without_lives, ten_to_live, five_to_idle, both_lives, at_the_last_number, written, same_last_digit, left_as};
 

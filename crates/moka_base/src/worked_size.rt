@@ -2,7 +2,7 @@
 //! the laws of the size take the step.
 ghost use Rattle.std.specs.Prelude.{◌≡◌, true, false, nat_eq, Some, None, [], ◌∷◌};
 ghost use Rattle.moka_base.specs.declared.notification.RemovalCause.TheVariants.{Expired, Size};
-ghost use Rattle.moka_base.specs.History.{Get, Insert, Maintain, Skip, EntryCount, queues, leaving, leavings, entry_count, next_number, is_flush_due};
+ghost use Rattle.moka_base.specs.History.{Get, Insert, Maintain, Skip, Measure, EntryCount, queues, leaving, leavings, entry_count, next_number, is_flush_due};
 ghost use Rattle.moka_base.specs.OrderLaws.{keys, lasts, uses};
 ghost use Rattle.moka_base.specs.Replies.{Found, Counted, answer};
 ghost use Rattle.moka_base.specs.Worked.{seconds, written, left_as};
@@ -26,7 +26,7 @@ pub fn three_keys_in_use()
     ensures leaving { leaving nat_eq (at_capacity 3) (Maintain 12) fourth_comes ≡ left_as 3 30 Size ∷ [] }
     ensures order_then { keys (queues nat_eq (at_capacity 3) (Maintain 12 ∷ fourth_comes)).admitted ≡ 1 ∷ 2 ∷ 4 ∷ [] }
     ensures found { answer nat_eq (at_capacity 3) (Get 4 13) (Maintain 12 ∷ fourth_comes) ≡ Found (Some 40) }
-    ensures counted { answer nat_eq (at_capacity 3) EntryCount (Maintain 12 ∷ fourth_comes) ≡ Counted 3 }
+    ensures counted { answer nat_eq (at_capacity 3) (Measure EntryCount) (Maintain 12 ∷ fourth_comes) ≡ Counted 3 }
 {}
 
 /// Ten seconds to live at a capacity of ten: a maintenance at the end lets the value go as expired,
@@ -42,7 +42,7 @@ pub fn a_dead_value_leaves_as_expired()
 pub fn a_capacity_of_0()
     ensures skips { skipped ≡ Skip 0 ∷ [] }
     ensures not_found { answer nat_eq (at_capacity 0) (Get 1 0) skipped ≡ Found None }
-    ensures counted { answer nat_eq (at_capacity 0) EntryCount skipped ≡ Counted 0 }
+    ensures counted { answer nat_eq (at_capacity 0) (Measure EntryCount) skipped ≡ Counted 0 }
     ensures none_drawn { next_number (at_capacity 0) skipped ≡ 0 }
 {}
 
@@ -56,6 +56,6 @@ pub fn the_flush_point()
     ensures left { leavings nat_eq (at_capacity 10) after_65 ≡ all_left 54 }
     ensures admitted { keys (queues nat_eq (at_capacity 10) after_65).admitted ≡ 55 ∷ 56 ∷ 57 ∷ 58 ∷ 59 ∷ 60 ∷ 61 ∷ 62 ∷ 63 ∷ 64 ∷ [] }
     ensures waiting { keys (queues nat_eq (at_capacity 10) after_65).waiting ≡ 65 ∷ [] }
-    ensures counted { answer nat_eq (at_capacity 10) EntryCount after_65 ≡ Counted 11 }
+    ensures counted { answer nat_eq (at_capacity 10) (Measure EntryCount) after_65 ≡ Counted 11 }
     ensures found { answer nat_eq (at_capacity 10) (Get 65 1) after_65 ≡ Found (Some 65) }
 {}

@@ -39,7 +39,7 @@ and-first true b h = refl
 and-first false b h = h
 
 -- the same rows stand for the same list
-pub stands-same : {K V : Type 0} (eq : K → K → Bool) (rules : Rules) (lives : Lives) (capacity : Option ℕ) (old new : Contents K V) (moment number : ℕ) (h : List (Event K V)) → SameRows old new
+pub stands-same : {K V : Type 0} (eq : K → K → Bool) (rules : Rules K V) (lives : Lives) (capacity : Option ℕ) (old new : Contents K V) (moment number : ℕ) (h : List (Event K V)) → SameRows old new
     → StandsFor eq rules (holdings lives capacity old moment number) h → StandsFor eq rules (holdings lives capacity new moment number) h
 stands-same eq rules lives capacity old new moment number h same stands = record {
   history = stands.history;
@@ -54,7 +54,7 @@ stands-same eq rules lives capacity old new moment number h same stands = record
   next_number = stands.next_number;
 }
 
-module _ {K V : Type 0} (eq : K → K → Bool) (laws : IsEquivalence eq) (rules : Rules) (lives : Lives) (capacity : Option ℕ) (contents : Contents K V) (moment number : ℕ) (h : List (Event K V)) (stands : StandsFor eq rules (holdings lives capacity contents moment number) h) where
+module _ {K V : Type 0} (eq : K → K → Bool) (laws : IsEquivalence eq) (rules : Rules K V) (lives : Lives) (capacity : Option ℕ) (contents : Contents K V) (moment number : ℕ) (h : List (Event K V)) (stands : StandsFor eq rules (holdings lives capacity contents moment number) h) where
   -- a change of the rows is a change of the writes in both orders
   by-orders : (new : Contents K V) (k : K) (o : Option (Write K V)) → ChangesAt eq laws k (stored_writes (entries contents)) (stored_writes (entries new)) o
       → ChangesAt eq laws k (stored_writes contents.admitted ++ stored_writes contents.waiting) (stored_writes new.admitted ++ stored_writes new.waiting) o

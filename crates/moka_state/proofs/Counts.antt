@@ -10,7 +10,7 @@ use Rattle.moka_state.specs.Table.{Contents, entries, stored_write, stored_write
 use Rattle.moka_state.specs.State.{holdings}
 
 -- with a capacity, as many as it allows and the flush point together
-pub writes-bounded : {K V : Type 0} (eq : K → K → Bool) (rules : Rules) (state : Holdings K V) (h : List (Event K V)) → StandsFor eq rules state h → IfSome state.max_capacity (λ capacity. length (writes state) ≤ capacity + flush_point)
+pub writes-bounded : {K V : Type 0} (eq : K → K → Bool) (rules : Rules K V) (state : Holdings K V) (h : List (Event K V)) → StandsFor eq rules state h → IfSome state.max_capacity (λ capacity. length (writes state) ≤ capacity + flush_point)
 writes-bounded eq rules state h stands = go state.max_capacity refl
   where
     counted : length (writes state) ≡ entry_count eq rules h
@@ -21,7 +21,7 @@ writes-bounded eq rules state h stands = go state.max_capacity refl
     go (Some capacity) some = let few = entry_count-le eq rules h capacity (sym stands.max_capacity ∙ some) stands.history in omega (arith, counted)
 
 -- so it is with the rows that store them
-pub entries-bounded : {K V : Type 0} (eq : K → K → Bool) (rules : Rules) (lives : Lives) (capacity : Option ℕ) (contents : Contents K V) (moment number : ℕ) (h : List (Event K V)) → StandsFor eq rules (holdings lives capacity contents moment number) h
+pub entries-bounded : {K V : Type 0} (eq : K → K → Bool) (rules : Rules K V) (lives : Lives) (capacity : Option ℕ) (contents : Contents K V) (moment number : ℕ) (h : List (Event K V)) → StandsFor eq rules (holdings lives capacity contents moment number) h
     → (count : ℕ) → count ≡ length (entries contents) → IfSome capacity (λ c. count ≤ c + flush_point)
 entries-bounded {K} {V} eq rules lives capacity contents moment number h stands count is =
     go capacity (writes-bounded eq rules (holdings lives capacity contents moment number) h stands)

@@ -59,7 +59,7 @@ map-drop read zero xs = refl
 map-drop read (suc n) [] = refl
 map-drop read (suc n) (x ∷ xs) = map-drop read n xs
 
-module _ {K V : Type 0} (eq : K → K → Bool) (laws : IsEquivalence eq) (rules : Rules) (lives : Lives) (capacity : Option ℕ) (contents : Contents K V) (moment number : ℕ) (h : List (Event K V)) (stands : StandsFor eq rules (holdings lives capacity contents moment number) h) (at : ℕ) where
+module _ {K V : Type 0} (eq : K → K → Bool) (laws : IsEquivalence eq) (rules : Rules K V) (lives : Lives) (capacity : Option ℕ) (contents : Contents K V) (moment number : ℕ) (h : List (Event K V)) (stands : StandsFor eq rules (holdings lives capacity contents moment number) h) (at : ℕ) where
   abbrev now : ℕ
   now = max moment at
 

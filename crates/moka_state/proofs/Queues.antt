@@ -176,7 +176,7 @@ filter-both p q (x ∷ xs) = go (p x) refl (filter-both p q xs)
     go true h more = rw h (ap (λ l. cond (q x) (x ∷ l) l) more)
     go false h more = rw h more
 
-module _ {K V : Type 0} (eq : K → K → Bool) (rules : Rules) where
+module _ {K V : Type 0} (eq : K → K → Bool) (rules : Rules K V) where
   -- where none passes, both orders stay
   pub used_where-none : (p : Write K V → Bool) (change : Write K V → Write K V) (q : Queues (Write K V)) → filter p (q.admitted ++ q.waiting) ≡ [] → used_where eq rules p change q ≡ q
   used_where-none p change q none =

@@ -6,7 +6,7 @@ use Rattle.moka_state.specs.declared.step.Step.{Step}
 use Rattle.moka_state.specs.declared.step.Reply.{Reply}
 use Rattle.moka_state.specs.Step.{IsReplyTo, IsRun, after, after_all}
 
-module _ {K V : Type 0} (eq : K → K → Bool) (is_clone : V → V → Type 0) (rules : Rules) where
+module _ {K V : Type 0} (eq : K → K → Bool) (is_clone : V → V → Type 0) (rules : Rules K V) where
   -- a reply to the step after a run makes a longer run
   pub IsRun-more : (h : List (Event K V)) (steps : List (Step K V)) (replies : List (Reply K V)) (step : Step K V) (reply : Reply K V)
       → IsRun eq is_clone rules h steps replies → IsReplyTo eq is_clone rules (after_all eq rules steps replies h) step reply → IsRun eq is_clone rules h (steps ++ step ∷ []) (replies ++ reply ∷ [])

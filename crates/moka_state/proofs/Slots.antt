@@ -70,7 +70,7 @@ module _ {K V : Type 0} (eq : K → K → Bool) (laws : IsEquivalence eq) (key :
   IsSound-put keeps hash_of lives earliest new hash v info (New shared) alike hashed kept sound goes put =
       IsSound-added keeps hash_of lives earliest contents new sound put.0 _ (hashed ∙ ap hash_of (sym goes)) (subst (λ k. keeps k v) (sym goes) kept) put.1 put.2 put.3
 
-module _ {K V : Type 0} (eq : K → K → Bool) (laws : IsEquivalence eq) (rules : Rules) (lives : Lives) (capacity : Option ℕ) (contents : Contents K V) (moment number : ℕ) (h : List (Event K V)) (stands : StandsFor eq rules (holdings lives capacity contents moment number) h) (key : K) where
+module _ {K V : Type 0} (eq : K → K → Bool) (laws : IsEquivalence eq) (rules : Rules K V) (lives : Lives) (capacity : Option ℕ) (contents : Contents K V) (moment number : ℕ) (h : List (Event K V)) (stands : StandsFor eq rules (holdings lives capacity contents moment number) h) (key : K) where
   -- A slot is where the definition writes: over the write that stands for the key, whose stored key it has, or anew
   -- where none stands.
   abbrev pub IsWhere : Slot K → Type 0
@@ -102,7 +102,7 @@ stood : {A : Type 0} (t : Bool) (o : Option A) (x y : A) → o ≡ Some x → co
 stood true o x y was is = cc
 stood false o x y was is = cc
 
-module _ {K V : Type 0} (eq : K → K → Bool) (laws : IsEquivalence eq) (rules : Rules) (lives : Lives) (capacity : Option ℕ) (contents : Contents K V) (moment number : ℕ) (h : List (Event K V)) (stands : StandsFor eq rules (holdings lives capacity contents moment number) h)
+module _ {K V : Type 0} (eq : K → K → Bool) (laws : IsEquivalence eq) (rules : Rules K V) (lives : Lives) (capacity : Option ℕ) (contents : Contents K V) (moment number : ℕ) (h : List (Event K V)) (stands : StandsFor eq rules (holdings lives capacity contents moment number) h)
     (at : ℕ) (kept : Contents K V) (now : ℕ) (stands_then : StandsFor eq rules (holdings lives capacity kept now number) (Maintain at ∷ h)) (key : K) where
   -- the slot at the key's place once some of the rows have left
   pub where-now : {keeps : K → V → Type 0} {hash_of : K → ℕ} {earliest due : Option ℕ} → IsSound keeps hash_of lives earliest contents → IsSound keeps hash_of lives due kept → ((a b : K) → eq a b ≡ true → hash_of a ≡ hash_of b)
@@ -124,7 +124,7 @@ module _ {K V : Type 0} (eq : K → K → Bool) (laws : IsEquivalence eq) (rules
       nothing true = sym (standing-absent eq laws rules lives capacity contents moment number h stands sound respects key hash hashed is)
       nothing false = refl
 
-module _ {K V : Type 0} (eq : K → K → Bool) (rules : Rules) (lives : Lives) (capacity : Option ℕ) (contents : Contents K V) (moment number : ℕ) (h : List (Event K V)) (stands : StandsFor eq rules (holdings lives capacity contents moment number) h) where
+module _ {K V : Type 0} (eq : K → K → Bool) (rules : Rules K V) (lives : Lives) (capacity : Option ℕ) (contents : Contents K V) (moment number : ℕ) (h : List (Event K V)) (stands : StandsFor eq rules (holdings lives capacity contents moment number) h) where
   -- as many rows wait as the definition counts
   waiting-counted : length contents.waiting ≡ length (queues eq rules h).waiting
   waiting-counted = sym (length-map contents.waiting (λ (p : ℕ × Row K V). stored_write p.1)) ∙ ap length stands.waiting

@@ -15,7 +15,7 @@ use Rattle.moka_state.specs.State.{holdings, IsSound}
 use Rattle.moka_state.proofs.Changes.{ChangesAt, OneEach, option_to_list-same, writes_of-equal}
 use Rattle.moka_state.proofs.Found.{writes_of-row, writes_of-absent, stored-append}
 
-module _ {K V : Type 0} (eq : K → K → Bool) (laws : IsEquivalence eq) (rules : Rules) (lives : Lives) (capacity : Option ℕ) (contents : Contents K V) (moment number : ℕ) (h : List (Event K V)) (stands : StandsFor eq rules (holdings lives capacity contents moment number) h) where
+module _ {K V : Type 0} (eq : K → K → Bool) (laws : IsEquivalence eq) (rules : Rules K V) (lives : Lives) (capacity : Option ℕ) (contents : Contents K V) (moment number : ℕ) (h : List (Event K V)) (stands : StandsFor eq rules (holdings lives capacity contents moment number) h) where
   -- for each key the rows store the write that stands and no other
   pub stored-standing : (k : K) → writes_of eq k (stored_writes (entries contents)) ≡ option_to_list (standing eq rules k h)
   stored-standing k = ap (writes_of eq k) (stored-append eq laws contents.admitted contents.waiting) ∙ stands.writes k

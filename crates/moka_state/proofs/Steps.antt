@@ -5,7 +5,7 @@ use Rattle.std.specs.Cmp.{IsEquivalence}
 use Rattle.std.proofs.lemmas.List.{append-nil, drop-append-le, drop-drop, drop_all}
 use Rattle.std.proofs.lemmas.Bool.{leb-true, leb-false}
 use Rattle.moka_base.specs.declared.notification.RemovalCause.TheVariants.{Explicit, Replaced}
-use Rattle.moka_base.specs.History.{Event, Get, ContainsKey, Insert, Invalidate, Maintain, Skip, EntryCount, TakeNotice, Rules, Write, Leaving, latest, standing, queues, used_where, is_hit, written_in, removed_in, after_look, after_write, left, leaving, leavings, taken, noticed, drawn, next_number, stores_nothing, is_flush_due, IsHistory}
+use Rattle.moka_base.specs.History.{Event, Get, ContainsKey, Insert, Invalidate, Maintain, Skip, Measure, TakeNotice, Rules, Write, Leaving, latest, standing, queues, used_where, is_hit, written_in, removed_in, after_look, after_write, left, leaving, leavings, taken, noticed, drawn, next_number, stores_nothing, is_flush_due, IsHistory}
 use Rattle.moka_base.specs.Maintenance.{Queues}
 use Rattle.moka_base.specs.StandsFor.{Holdings, StandsFor, writes, writes_of}
 use Rattle.moka_state.proofs.Changes.{ChangesAt, OneEach, writes_of-equal, option_to_list-same}
@@ -28,7 +28,7 @@ one-less n xs short = drop-drop 1 n xs ∙ ends (nat_le (n + 1) (length xs)) ref
 abbrev pub held : {K V : Type 0} → Holdings K V → Queues (Write K V)
 held state = record { admitted = state.admitted; waiting = state.waiting }
 
-module _ {K V : Type 0} (eq : K → K → Bool) (rules : Rules) where
+module _ {K V : Type 0} (eq : K → K → Bool) (rules : Rules K V) where
   -- no more leavings were given out than there are
   pub taken-≤ : (h : List (Event K V)) → taken eq rules h ≤ length (leavings eq rules h)
   taken-≤ [] = omega arith
@@ -38,14 +38,14 @@ module _ {K V : Type 0} (eq : K → K → Bool) (rules : Rules) where
   taken-≤ (Invalidate k at ∷ h) = omega (arith, taken-≤ h, length-append (leavings eq rules h) (leaving eq rules (Invalidate k at) h))
   taken-≤ (Maintain at ∷ h) = omega (arith, taken-≤ h, length-append (leavings eq rules h) (leaving eq rules (Maintain at) h))
   taken-≤ (Skip at ∷ h) = omega (arith, taken-≤ h, length-append (leavings eq rules h) [])
-  taken-≤ (EntryCount ∷ h) = omega (arith, taken-≤ h, length-append (leavings eq rules h) [])
+  taken-≤ (Measure what ∷ h) = omega (arith, taken-≤ h, length-append (leavings eq rules h) [])
   taken-≤ (TakeNotice ∷ h) = omega (arith, taken-≤ h, length-append (leavings eq rules h) [])
 
   -- what leaves is noticed behind what was noticed before
   pub noticed-more : (h : List (Event K V)) (more : List (Leaving K V)) → drop (taken eq rules h) (leavings eq rules h ++ more) ≡ noticed eq rules h ++ more
   noticed-more h more = drop-append-le (taken eq rules h) (leavings eq rules h) more (taken-≤ h)
 
-module _ {K V : Type 0} (eq : K → K → Bool) (laws : IsEquivalence eq) (rules : Rules) (state : Holdings K V) (h : List (Event K V)) (stands : StandsFor eq rules state h) where
+module _ {K V : Type 0} (eq : K → K → Bool) (laws : IsEquivalence eq) (rules : Rules K V) (state : Holdings K V) (h : List (Event K V)) (stands : StandsFor eq rules state h) where
   -- each key has one stored write at most
   pub one-each : OneEach eq laws (writes state)
   one-each q = (standing eq rules q h, stands.writes q)

@@ -1,10 +1,16 @@
 -- The deadline of a row's value.
 use Rattle.std.specs.Prelude.{ℕ, Option, option_map}
 use Rattle.std.specs.Duration.{as_nanos}
-use Rattle.moka_base.specs.History.{ends_at, earlier}
+use Rattle.moka_base.specs.History.{ends_at, earlier, own_end}
+use Rattle.moka_base.specs.History as history
 use Rattle.moka_state.specs.declared.lives.Lives.{Lives}
 use Rattle.moka_state.specs.declared.rows.EntryInfo.{EntryInfo}
+use Rattle.moka_state.specs.declared.rows.OwnLife.{OwnLife}
 
--- a value's deadline under these lives, by its moments
+-- the life of its own that a value has
+abbrev pub own_of : EntryInfo → Option history.OwnLife
+own_of info = option_map (λ (it : OwnLife). record { from = it.from; life = as_nanos it.life }) info.own_life
+
+-- a value's deadline under these lives, by its moments and the life of its own
 abbrev pub deadline_of : Lives → EntryInfo → Option ℕ
-deadline_of lives info = earlier (ends_at (option_map as_nanos lives.time_to_live) info.last_modified) (ends_at (option_map as_nanos lives.time_to_idle) info.last_accessed)
+deadline_of lives info = earlier (earlier (ends_at (option_map as_nanos lives.time_to_live) info.last_modified) (ends_at (option_map as_nanos lives.time_to_idle) info.last_accessed)) (own_end (own_of info))

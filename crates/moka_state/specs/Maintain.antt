@@ -1,14 +1,15 @@
--- What a maintenance under the order of use does with the rows, each of weight 1.
-use Rattle.std.specs.Prelude.{◌≡◌, ℕ, ◌-◌, Bool, true, not, Option, Some, None, List, [], ◌++◌, length, take, drop, filter, map}
+-- What a maintenance does with the rows.
+use Rattle.std.specs.Prelude.{◌≡◌, ℕ, ◌+◌, Bool, true, not, ◌||◌, if◌then◌else◌, nat_le, Option, List, [], ◌++◌, filter, map}
 use Rattle.std.specs.List.{AllByRecursion}
 use Rattle.moka_base.specs.declared.notification.Notice.{Notice}
 use Rattle.moka_base.specs.declared.notification.RemovalCause.{RemovalCause}
 use Rattle.moka_base.specs.declared.notification.RemovalCause.TheVariants.{Expired, Size}
 use Rattle.moka_base.specs.History.{has_come}
+use Rattle.moka_base.specs.Maintenance.{Queues, Part, total, parts, leaving_in, after_parts}
 use Rattle.moka_state.specs.declared.lives.Lives.{Lives}
 use Rattle.moka_state.specs.declared.rows.Row.{Row}
 use Rattle.moka_state.specs.Lives.{deadline_of}
-use Rattle.moka_state.specs.Table.{Contents, entries}
+use Rattle.moka_state.specs.Table.{Contents, weight_of}
 
 module _ {K V : Type 0} where
   -- the row's value is not expired at a moment
@@ -31,18 +32,33 @@ module _ {K V : Type 0} where
   abbrev pub notices_for : RemovalCause → List (ℕ × Row K V) → List (Notice K V)
   notices_for cause rows = map (notice_for cause) rows
 
+  -- the notice of a row that leaves in a maintenance: as expired where its deadline has come, and else for size
+  abbrev pub notice_at : Lives → ℕ → ℕ × Row K V → Notice K V
+  notice_at lives at p = notice_for (if has_come (deadline_of lives p.1.info) at then Expired else Size) p
+
   -- no deadline of these rows comes before the earliest, and where there is no earliest none comes at all
   abbrev pub IsDueFrom : Option ℕ → Lives → List (ℕ × Row K V) → Type 0
   IsDueFrom earliest lives rows = AllByRecursion (λ p. (at : ℕ) → has_come (deadline_of lives p.1.info) at ≡ true → has_come earliest at ≡ true) rows
 
--- by how many rows a number of them is over the capacity, if there is one
-abbrev pub excess : Option ℕ → ℕ → ℕ
-excess None count = 0
-excess (Some capacity) count = count - capacity
+  -- the rows in their two orders
+  abbrev pub rows_of : Contents K V → Queues (ℕ × Row K V)
+  rows_of c = record { admitted = c.admitted; waiting = c.waiting }
 
--- What a maintenance at a moment makes of a table: the dead leave, all that live are admitted behind each other, and
--- of these the least recently used leave that are over the capacity.
-pub record IsMaintained {K V : Type 0} (lives : Lives) (capacity : Option ℕ) (at : ℕ) (old new : Contents K V) : Type 0 where
+  -- how often the hashes of some rows were noted, together
+  abbrev pub frequencies : (ℕ → ℕ) → List (ℕ × Row K V) → ℕ
+  frequencies frequency_of rows = total (λ p. frequency_of p.1.hash) rows
+
+  -- A row that waits wins against its victims under least recently used, and else where its hash was noted more often
+  -- than theirs together.
+  abbrev pub row_wins : Bool → (ℕ → ℕ) → ℕ × Row K V → List (ℕ × Row K V) → Bool
+  row_wins is_lru frequency_of p victims = is_lru || nat_le (frequencies frequency_of victims + 1) (frequency_of p.1.hash)
+
+  -- the parts of a maintenance of rows
+  abbrev pub row_parts : Lives → Bool → (ℕ → ℕ) → Option ℕ → ℕ → Contents K V → List (Part (ℕ × Row K V))
+  row_parts lives is_lru frequency_of capacity at c = parts weight_of capacity (is_alive lives at) (row_wins is_lru frequency_of) (rows_of c)
+
+-- What a maintenance at a moment makes of a table: its parts are done, and what leaves is noticed, in order.
+pub record IsMaintained {K V : Type 0} (lives : Lives) (is_lru : Bool) (frequency_of : ℕ → ℕ) (capacity : Option ℕ) (at : ℕ) (old new : Contents K V) : Type 0 where
   pub waiting : new.waiting ≡ []
-  pub admitted : new.admitted ≡ drop (excess capacity (length (living lives at (entries old)))) (living lives at (entries old))
-  pub notices : new.notices ≡ old.notices ++ (notices_for Expired (dead lives at (entries old)) ++ notices_for Size (take (excess capacity (length (living lives at (entries old)))) (living lives at (entries old))))
+  pub admitted : new.admitted ≡ (after_parts (rows_of old) (row_parts lives is_lru frequency_of capacity at old)).admitted
+  pub notices : new.notices ≡ old.notices ++ map (notice_at lives at) (leaving_in (row_parts lives is_lru frequency_of capacity at old))

@@ -12,7 +12,7 @@ use Rattle.moka_state.specs.Table.{leaving_of}
 
 -- The event that a step is, where it is accepted, and the last of them where it is more than one. Where the capacity
 -- is 0 an insert writes nothing.
-abbrev pub event_of : {K V : Type 0} → Rules → Step K V → Event K V
+abbrev pub event_of : {K V : Type 0} → Rules K V → Step K V → Event K V
 event_of rules (Get key now) = Event.Get (arc_value key) now
 event_of rules (ContainsKey key now) = Event.ContainsKey (arc_value key) now
 event_of rules (Insert key value now) = if stores_nothing rules.max_capacity then Event.Skip now else Event.Insert (arc_value key) value now
@@ -23,7 +23,7 @@ event_of rules TakeNotice = Event.TakeNotice
 
 -- An accepted step answers what the definition gives, and a step that draws a number is accepted only where one is
 -- left. A refused one says for want of what it was refused, and that is so.
-abbrev pub IsReplyTo : {K V : Type 0} → (K → K → Bool) → (V → V → Type 0) → Rules → List (Event K V) → Step K V → Reply K V → Type 0
+abbrev pub IsReplyTo : {K V : Type 0} → (K → K → Bool) → (V → V → Type 0) → Rules K V → List (Event K V) → Step K V → Reply K V → Type 0
 IsReplyTo eq is_clone rules h step (Refused OutOfMemory) = MayTakeMemory eq rules (event_of rules step) h
 IsReplyTo eq is_clone rules h step (Refused NumbersUsedUp) = IsOutOfNumbers rules (event_of rules step) h
 IsReplyTo eq is_clone rules h step (Found v) = IsAnswer is_clone (answer eq rules (event_of rules step) h) (Answer.Found v) × ¬ (IsOutOfNumbers rules (event_of rules step) h)
@@ -33,7 +33,7 @@ IsReplyTo eq is_clone rules h step (Counted n) = IsAnswer is_clone (answer eq ru
 IsReplyTo eq is_clone rules h step (Noticed n) = IsAnswer is_clone (answer eq rules (event_of rules step) h) (Answer.Noticed (option_map leaving_of n)) × ¬ (IsOutOfNumbers rules (event_of rules step) h)
 
 -- The events after an accepted step: one more, but where an insert flushes a maintenance comes first.
-abbrev pub accepted : {K V : Type 0} → (K → K → Bool) → Rules → Step K V → List (Event K V) → List (Event K V)
+abbrev pub accepted : {K V : Type 0} → (K → K → Bool) → Rules K V → Step K V → List (Event K V) → List (Event K V)
 accepted eq rules (Insert key value now) h = after_insert eq rules (arc_value key) value now h
 accepted eq rules (Get key now) h = Event.Get (arc_value key) now ∷ h
 accepted eq rules (ContainsKey key now) h = Event.ContainsKey (arc_value key) now ∷ h
@@ -43,7 +43,7 @@ accepted eq rules EntryCount h = Event.EntryCount ∷ h
 accepted eq rules TakeNotice h = Event.TakeNotice ∷ h
 
 -- The events after a step: a refused one leaves them as they are.
-abbrev pub after : {K V : Type 0} → (K → K → Bool) → Rules → Step K V → Reply K V → List (Event K V) → List (Event K V)
+abbrev pub after : {K V : Type 0} → (K → K → Bool) → Rules K V → Step K V → Reply K V → List (Event K V) → List (Event K V)
 after eq rules step (Refused cause) h = h
 after eq rules step (Found v) h = accepted eq rules step h
 after eq rules step (Contains b) h = accepted eq rules step h
@@ -52,14 +52,14 @@ after eq rules step (Counted n) h = accepted eq rules step h
 after eq rules step (Noticed n) h = accepted eq rules step h
 
 -- Each reply is the step's, after the accepted steps before it, and there are as many replies as steps.
-abbrev pub IsRun : {K V : Type 0} → (K → K → Bool) → (V → V → Type 0) → Rules → List (Event K V) → List (Step K V) → List (Reply K V) → Type 0
+abbrev pub IsRun : {K V : Type 0} → (K → K → Bool) → (V → V → Type 0) → Rules K V → List (Event K V) → List (Step K V) → List (Reply K V) → Type 0
 IsRun eq is_clone rules h [] [] = ⊤
 IsRun eq is_clone rules h (step ∷ steps) (reply ∷ replies) = IsReplyTo eq is_clone rules h step reply × IsRun eq is_clone rules (after eq rules step reply h) steps replies
 IsRun eq is_clone rules h [] (reply ∷ replies) = ⊥
 IsRun eq is_clone rules h (step ∷ steps) [] = ⊥
 
 -- the events after a run: its accepted steps, on those before it
-abbrev pub after_all : {K V : Type 0} → (K → K → Bool) → Rules → List (Step K V) → List (Reply K V) → List (Event K V) → List (Event K V)
+abbrev pub after_all : {K V : Type 0} → (K → K → Bool) → Rules K V → List (Step K V) → List (Reply K V) → List (Event K V) → List (Event K V)
 after_all eq rules [] replies h = h
 after_all eq rules (step ∷ steps) [] h = h
 after_all eq rules (step ∷ steps) (reply ∷ replies) h = after_all eq rules steps replies (after eq rules step reply h)

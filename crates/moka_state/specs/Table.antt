@@ -4,6 +4,7 @@ use Rattle.std.specs.Arc.{arc_value}
 use Rattle.moka_base.specs.declared.notification.Notice.{Notice}
 use Rattle.moka_base.specs.History.{Write, Leaving}
 use Rattle.moka_state.specs.declared.rows.Row.{Row}
+use Rattle.moka_state.specs.Lives.{own_of}
 use Rattle.moka_state.specs.Rows.{with_row, without_row, row_under}
 
 pub record Contents (K V : Type 0) : Type 0 where
@@ -19,7 +20,11 @@ module _ {K V : Type 0} where
 
   -- the write that a row stores
   abbrev pub stored_write : Row K V → Write K V
-  stored_write row = record { key = arc_value row.key; value = row.value; written = row.info.last_modified; used = row.info.last_accessed }
+  stored_write row = record { key = arc_value row.key; hash = row.hash; value = row.value; weight = row.info.policy_weight; written = row.info.last_modified; used = row.info.last_accessed; own = own_of row.info }
+
+  -- how heavy a row is
+  abbrev pub weight_of : ℕ × Row K V → ℕ
+  weight_of p = p.1.info.policy_weight
 
   -- the writes that rows store, in their order
   abbrev pub stored_writes : List (ℕ × Row K V) → List (Write K V)

@@ -8,14 +8,28 @@ ghost use Rattle.moka_state.specs.Rows.{row_under, with_row, without_row, touche
 use std::alloc::{AllocError, Global};
 use std::mem;
 use std::sync::Arc;
+use std::time::Duration;
 
-/// The moments that a row keeps of its value, in nanoseconds.
+/// A life that a value has of its own.
+#[derive(Clone, Copy, Debug, PartialEq, Eq)]
+pub struct OwnLife {
+    /// The moment from which it counts, in nanoseconds.
+    pub from: u64,
+    /// How long it is.
+    pub life: Duration,
+}
+
+/// What a row keeps of its value: its moments, in nanoseconds, its life and its weight.
 #[derive(Clone, Copy, Debug, PartialEq, Eq)]
 pub struct EntryInfo {
     /// When the value was written.
     pub last_modified: u64,
     /// When it was written or last found by a recorded look.
     pub last_accessed: u64,
+    /// The life of its own, if it has one.
+    pub own_life: Option<OwnLife>,
+    /// How heavy it is.
+    pub policy_weight: u32,
 }
 
 /// One stored key with its value.

@@ -8,7 +8,7 @@ use Rattle.moka_base.proofs.ListLemmas.{map-filter}
 use Rattle.moka_base.specs.Maintenance.{Queues, leaving_in, after_parts}
 use Rattle.moka_base.specs.declared.notification.RemovalCause.{RemovalCause}
 use Rattle.moka_base.specs.declared.notification.RemovalCause.TheVariants.{Explicit, Replaced, Size}
-use Rattle.moka_base.specs.History.{Event, Get, ContainsKey, Insert, Invalidate, Maintain, Skip, EntryCount, TakeNotice, Rules, Write, recorded, latest, is_live, live_one, after_look, after_write, is_of, is_hit, used_where, opened_by, written_in, removed_in, maintenance, let_go, maintained, queues, leaves_in, standing, left, leaving_of, leaving, leavings, taken, noticed, drawn, next_number, live, entry_count, greatest_number, stores_nothing, is_flush_due, flush_point, after_insert}
+use Rattle.moka_base.specs.History.{Event, Get, ContainsKey, Insert, Invalidate, Maintain, Skip, Measure, TakeNotice, Rules, Write, recorded, latest, is_live, live_one, after_look, after_write, is_of, is_hit, used_where, opened_by, written_in, removed_in, maintenance, let_go, maintained, queues, leaves_in, standing, left, leaving_of, leaving, leavings, taken, noticed, drawn, next_number, live, entry_count, greatest_number, stores_nothing, is_flush_due, flush_point, after_insert}
 use Rattle.moka_base.specs.Replies as replies
 use Rattle.moka_base.specs.Replies.{Answer, answer}
 use Rattle.mokabox.specs.Events.{event_by, write_by, leaving_by, answer_by}
@@ -22,14 +22,14 @@ module _ {K V W : Type 0} (f : V → W) where
   recorded-by (Invalidate key at) = refl
   recorded-by (Maintain at) = refl
   recorded-by (Skip at) = refl
-  recorded-by EntryCount = refl
+  recorded-by (Measure what) = refl
   recorded-by TakeNotice = refl
 
   pub latest-by : (h : List (Event K V)) → latest (map (event_by f) h) ≡ latest h
   latest-by [] = refl
   latest-by (e ∷ h) = rw (latest-by h, recorded-by e) refl
 
-  module _ (rules : Rules) where
+  module _ (rules : Rules K V) where
     after_look-by : (at : ℕ) (w : Write K V) → after_look rules at (write_by f w) ≡ write_by f (after_look rules at w)
     after_look-by at w = either (is_live rules w at) where
       either : (t : Bool) → cond t (record (write_by f w) { used = max w.used at }) (write_by f w) ≡ write_by f (cond t (record w { used = max w.used at }) w)
@@ -104,7 +104,7 @@ module _ {K V W : Type 0} (f : V → W) where
       queues-by (Invalidate q at ∷ h) = rw (queues-by h) (removed_in-by q (queues eq rules h))
       queues-by (Maintain at ∷ h) = rw (queues-by h, latest-by h) (maintained-by (max (latest h) at) (queues eq rules h))
       queues-by (Skip at ∷ h) = queues-by h
-      queues-by (EntryCount ∷ h) = queues-by h
+      queues-by (Measure what ∷ h) = queues-by h
       queues-by (TakeNotice ∷ h) = queues-by h
 
       -- what a maintenance lets go
@@ -137,7 +137,7 @@ module _ {K V W : Type 0} (f : V → W) where
       standing-by k (Invalidate q at ∷ h) = rw (standing-by k h) (gone-by (eq q k) (standing eq rules k h))
       standing-by k (Maintain at ∷ h) = rw (standing-by k h, leaves_in-by k at h) (gone-by (leaves_in eq rules k at h) (standing eq rules k h))
       standing-by k (Skip at ∷ h) = standing-by k h
-      standing-by k (EntryCount ∷ h) = standing-by k h
+      standing-by k (Measure what ∷ h) = standing-by k h
       standing-by k (TakeNotice ∷ h) = standing-by k h
 
       pub live-by : (k : K) (at : ℕ) (h : List (Event K V)) → live eq rules k at (map (event_by f) h) ≡ option_map (write_by f) (live eq rules k at h)
@@ -150,7 +150,7 @@ module _ {K V W : Type 0} (f : V → W) where
       leaving_at-by (Invalidate q at) h = rw (standing-by q h, latest-by h) (left-by Explicit (max (latest h) at) (standing eq rules q h))
       leaving_at-by (Maintain at) h = rw (going-by at h, latest-by h) (all_left-by Size (max (latest h) at) (let_go rules (max (latest h) at) (queues eq rules h)))
       leaving_at-by (Skip at) h = refl
-      leaving_at-by EntryCount h = refl
+      leaving_at-by (Measure what) h = refl
       leaving_at-by TakeNotice h = refl
 
       leavings-by : (h : List (Event K V)) → leavings eq rules (map (event_by f) h) ≡ map (leaving_by f) (leavings eq rules h)
@@ -166,7 +166,7 @@ module _ {K V W : Type 0} (f : V → W) where
       taken-by (Invalidate q at ∷ h) = taken-by h
       taken-by (Maintain at ∷ h) = taken-by h
       taken-by (Skip at ∷ h) = taken-by h
-      taken-by (EntryCount ∷ h) = taken-by h
+      taken-by (Measure what ∷ h) = taken-by h
 
       pub noticed-by : (h : List (Event K V)) → noticed eq rules (map (event_by f) h) ≡ map (leaving_by f) (noticed eq rules h)
       noticed-by h = rw (taken-by h, leavings-by h) (drop-map (leaving_by f) (taken eq rules h) (leavings eq rules h))
@@ -178,7 +178,7 @@ module _ {K V W : Type 0} (f : V → W) where
     drawn-by (Invalidate q at) = refl
     drawn-by (Maintain at) = refl
     drawn-by (Skip at) = refl
-    drawn-by EntryCount = refl
+    drawn-by (Measure what) = refl
     drawn-by TakeNotice = refl
 
     pub next_number-by : (h : List (Event K V)) → next_number rules (map (event_by f) h) ≡ next_number rules h
@@ -201,5 +201,5 @@ module _ {K V W : Type 0} (f : V → W) where
       answer-by (Invalidate q at) h = refl
       answer-by (Maintain at) h = refl
       answer-by (Skip at) h = refl
-      answer-by EntryCount h = ap (λ n. replies.Counted (min n greatest_number)) (entry_count-by eq h)
+      answer-by (Measure what) h = ap (λ n. replies.Counted (min n greatest_number)) (entry_count-by eq h)
       answer-by TakeNotice h = rw (noticed-by eq h) (ap replies.Noticed (slice_get-map (leaving_by f) (noticed eq rules h) 0))

@@ -61,7 +61,7 @@ first_not_built settings given refusal known held held_after some written = if_s
     (codes "refused build 5" ∷ [], subst (λ o. FirstPrints o (lines_of input) (codes "refused build 5" ∷ []) 2) (sym some) (inr (refl, refl)), one_written held held_after (codes "refused build 5") line))
 
 -- a first line that is done, and the lines after it
-pub first_done : (settings : Option Settings) (given : Settings) (known held held_mid held_after : Option (List ℕ)) (cache : ScriptHoldings) (moment : ℕ) (bad : Bool) (code : ℕ) → settings ≡ Some given → IsAt cache moment (rules_by given) beginning → Appends held held_mid (answer_line answers.Done) → ((rules : Rules) (before : Course) → IsAt cache moment rules before → IfSome known (λ input. (printed : List (List ℕ)) × LinesPrint rules before (lines_of input) printed bad × Appends held_mid held_after (lines_text printed))) → code ≡ status_of bad → IfSome known (λ input. (printed : List (List ℕ)) × FirstPrints settings (lines_of input) printed code × Appends held held_after (lines_text printed))
+pub first_done : (settings : Option Settings) (given : Settings) (known held held_mid held_after : Option (List ℕ)) (cache : ScriptHoldings) (moment : ℕ) (bad : Bool) (code : ℕ) → settings ≡ Some given → IsAt cache moment (rules_by given) beginning → Appends held held_mid (answer_line answers.Done) → ((rules : Rules K V) (before : Course) → IsAt cache moment rules before → IfSome known (λ input. (printed : List (List ℕ)) × LinesPrint rules before (lines_of input) printed bad × Appends held_mid held_after (lines_text printed))) → code ≡ status_of bad → IfSome known (λ input. (printed : List (List ℕ)) × FirstPrints settings (lines_of input) printed code × Appends held held_after (lines_text printed))
 first_done settings given None held held_mid held_after cache moment bad code some begins written rest is_code = tt
 first_done settings given (Some input) held held_mid held_after cache moment bad code some begins written rest is_code =
     let later = rest (rules_by given) beginning begins in (

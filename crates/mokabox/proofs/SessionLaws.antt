@@ -30,7 +30,7 @@ abbrev pub is_copy : Text → Text → Type 0
 is_copy s t = string_bytes t ≡ string_bytes s
 
 -- the script goes on by an event that the cache follows
-pub accepted : (cache after : ScriptHoldings) (moment : ℕ) (rules : Rules) (before : Course) (event : Event ℕ Text) → IsAt cache moment rules before → Follows nat_eq cache event after → IsAt after moment rules (course_with before (event_by string_bytes event))
+pub accepted : (cache after : ScriptHoldings) (moment : ℕ) (rules : Rules K V) (before : Course) (event : Event ℕ Text) → IsAt cache moment rules before → Follows nat_eq cache event after → IsAt after moment rules (course_with before (event_by string_bytes event))
 accepted cache after moment rules before event is follows = record {
   events = event ∷ is.events;
   stands = follows rules is.events is.stands;
@@ -39,18 +39,18 @@ accepted cache after moment rules before event is follows = record {
 }
 
 -- the answer of the definitions, its values being bytes
-pub answered : (cache : ScriptHoldings) (moment : ℕ) (rules : Rules) (before : Course) (event : Event ℕ Text) (is : IsAt cache moment rules before) → answer nat_eq rules (event_by string_bytes event) before.events ≡ answer_by string_bytes (answer nat_eq rules event is.events)
+pub answered : (cache : ScriptHoldings) (moment : ℕ) (rules : Rules K V) (before : Course) (event : Event ℕ Text) (is : IsAt cache moment rules before) → answer nat_eq rules (event_by string_bytes event) before.events ≡ answer_by string_bytes (answer nat_eq rules event is.events)
 answered cache moment rules before event is = ap (answer nat_eq rules (event_by string_bytes event)) (sym is.same) ∙ answer-by string_bytes rules nat_eq event is.events
 
 -- an event is accepted with the text of its answer
-accepts : (cache : ScriptHoldings) (moment : ℕ) (rules : Rules) (before : Course) (event : Event ℕ Text) (text : List ℕ) (is : IsAt cache moment rules before) → text ≡ reply_text (answer_by string_bytes (answer nat_eq rules event is.events)) → Accepts rules before (event_by string_bytes event) (text ∷ []) (course_with before (event_by string_bytes event))
+accepts : (cache : ScriptHoldings) (moment : ℕ) (rules : Rules K V) (before : Course) (event : Event ℕ Text) (text : List ℕ) (is : IsAt cache moment rules before) → text ≡ reply_text (answer_by string_bytes (answer nat_eq rules event is.events)) → Accepts rules before (event_by string_bytes event) (text ∷ []) (course_with before (event_by string_bytes event))
 accepts cache moment rules before event text is same = record {
   printed = ap (λ line. line ∷ []) (same ∙ ap reply_text (sym (answered cache moment rules before event is)));
   after = refl;
 }
 
 -- the next number is that of the events
-numbers : (cache : ScriptHoldings) (moment : ℕ) (rules : Rules) (before : Course) (is : IsAt cache moment rules before) → next_number rules before.events ≡ cache.next_number
+numbers : (cache : ScriptHoldings) (moment : ℕ) (rules : Rules K V) (before : Course) (is : IsAt cache moment rules before) → next_number rules before.events ≡ cache.next_number
 numbers cache moment rules before is = ap (next_number rules) (sym is.same) ∙ next_number-by string_bytes rules is.events ∙ sym is.stands.next_number
 
 -- a step that is refused for want of memory changes nothing
@@ -106,7 +106,7 @@ abbrev AreUsedUp : ScriptHoldings → Type 0
 AreUsedUp cache = (stores_nothing cache.max_capacity ≡ false) × (cache.next_number ≡ greatest_number)
 
 -- a write wants a number exactly where the cache has used all up
-out_of_numbers : (cache : ScriptHoldings) (moment key : ℕ) (value : List ℕ) (rules : Rules) (before : Course) (is : IsAt cache moment rules before) → IsOutOfNumbers rules (write_event rules key value before.moment) before.events ↔ AreUsedUp cache
+out_of_numbers : (cache : ScriptHoldings) (moment key : ℕ) (value : List ℕ) (rules : Rules K V) (before : Course) (is : IsAt cache moment rules before) → IsOutOfNumbers rules (write_event rules key value before.moment) before.events ↔ AreUsedUp cache
 out_of_numbers cache moment key value rules before is = either (stores_nothing rules.max_capacity) refl where
   nothing : stores_nothing cache.max_capacity ≡ stores_nothing rules.max_capacity
   nothing = ap stores_nothing is.stands.max_capacity
@@ -119,14 +119,14 @@ out_of_numbers cache moment key value rules before is = either (stores_nothing r
   either false e = (λ out. (nothing ∙ e, sym number ∙ out.1), λ used. (lit< tt, number ∙ used.1))
 
 -- the answer to a write is that it is done
-write_answer : (key : ℕ) (value : List ℕ) (rules : Rules) (before : Course) → codes "ok" ≡ reply_text (answer nat_eq rules (write_event rules key value before.moment) before.events)
+write_answer : (key : ℕ) (value : List ℕ) (rules : Rules K V) (before : Course) → codes "ok" ≡ reply_text (answer nat_eq rules (write_event rules key value before.moment) before.events)
 write_answer key value rules before = either (stores_nothing rules.max_capacity) where
   either : (test : Bool) → codes "ok" ≡ reply_text (answer nat_eq rules (cond test (history.Skip before.moment) (history.Insert key value before.moment)) before.events)
   either true = refl
   either false = refl
 
 -- a write is refused for want of memory only where the capacity isn't 0
-write_takes_memory : (key : ℕ) (value : List ℕ) (rules : Rules) (before : Course) → stores_nothing rules.max_capacity ≡ false → MayTakeMemory nat_eq rules (write_event rules key value before.moment) before.events
+write_takes_memory : (key : ℕ) (value : List ℕ) (rules : Rules K V) (before : Course) → stores_nothing rules.max_capacity ≡ false → MayTakeMemory nat_eq rules (write_event rules key value before.moment) before.events
 write_takes_memory key value rules before some = rw some tt
 
 -- a write that is accepted

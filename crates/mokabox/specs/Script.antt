@@ -41,7 +41,7 @@ reply_text (replies.Noticed None) = codes "end"
 reply_text (replies.Noticed (Some left)) = notice_text left
 
 -- The event is accepted, and its answer is printed.
-pub record Accepts (rules : Rules) (before : Course) (event : ScriptEvent) (lines : List (List ℕ)) (course : Course) : Type 0 where
+pub record Accepts (rules : Rules K V) (before : Course) (event : ScriptEvent) (lines : List (List ℕ)) (course : Course) : Type 0 where
   pub printed : lines ≡ reply_text (answer nat_eq rules event before.events) ∷ []
   pub after : course ≡ course_with before event
 
@@ -50,7 +50,7 @@ abbrev pub write_event : Rules → ℕ → List ℕ → ℕ → ScriptEvent
 write_event rules key value at = if stores_nothing rules.max_capacity then history.Skip at else history.Insert key value at
 
 -- The write is accepted, and its answer is printed. Where a flush is due, a maintenance comes before it.
-pub record AcceptsWrite (rules : Rules) (before : Course) (key : ℕ) (value : List ℕ) (lines : List (List ℕ)) (course : Course) : Type 0 where
+pub record AcceptsWrite (rules : Rules K V) (before : Course) (key : ℕ) (value : List ℕ) (lines : List (List ℕ)) (course : Course) : Type 0 where
   pub printed : lines ≡ reply_text (answer nat_eq rules (write_event rules key value before.moment) before.events) ∷ []
   pub after : course ≡ record before { events = after_insert nat_eq rules key value before.moment before.events }
 

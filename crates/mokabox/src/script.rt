@@ -105,7 +105,7 @@ fn go_on<R: BufRead + Drop, W: Write>(
     writer: &mut W,
 ) -> io::Result<bool>
     requires { split_byte lines ≡ 10 }
-    ensures { IfOk result (λ bad. (rules : Rules) (before : Course) →
+    ensures { IfOk result (λ bad. (rules : Rules K V) (before : Course) →
         IsAt session.cache session.moment rules before → IfSome (split_known_bytes R.remaining lines) (λ input.
         (printed : List (List ℕ)) × LinesPrint rules before (lines_of input) printed bad
         × Appends (W.contents writer.old) (W.contents writer.new) (lines_text printed))) }

@@ -14,7 +14,7 @@ abbrev pub invariant-loop-step : goal.invariant-loop-step
 invariant-loop-step g l = record {
   kept : AllByRecursion (StepKeeps g.C.CacheTypes.keeps) l.left.items;
   room : vec_len l.replies + deque_len l.left ≤ vec_capacity l.replies;
-  so_far : (rules : Rules) (h : List (Event _ _)) → StandsFor g.K.PartialEq.eq rules l.fn.self h
+  so_far : (rules : Rules K V) (h : List (Event _ _)) → StandsFor g.K.PartialEq.eq rules l.fn.self h
       → (done : List (Step _ _)) × (l.fn.steps.items ≡ done ++ l.left.items) × IsRun g.K.PartialEq.eq g.V.Clone.is_clone rules h done l.replies.items × StandsFor g.K.PartialEq.eq rules l.self (after_all g.K.PartialEq.eq rules done l.replies.items h);
 }
 

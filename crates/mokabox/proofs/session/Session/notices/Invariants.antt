@@ -7,4 +7,4 @@ use Rattle.mokabox.specs.Session.{IsAt}
 use Rattle.mokabox.proofs.session.Session.notices.Given as goal
 
 abbrev pub invariant-loop : goal.invariant-loop
-invariant-loop l = (rules : Rules) (before : Course) → IsAt l.initial.self.cache l.initial.self.moment rules before → HasTaken l.self.cache l.self.moment rules before l.counter (map answer_text l.answers.items)
+invariant-loop l = (rules : Rules K V) (before : Course) → IsAt l.initial.self.cache l.initial.self.moment rules before → HasTaken l.self.cache l.self.moment rules before l.counter (map answer_text l.answers.items)
