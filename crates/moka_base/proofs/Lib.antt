@@ -9,6 +9,7 @@ pub mod Leavings
 pub mod ListLemmas
 pub mod Looks
 pub mod Maintenance
+pub mod MaintenanceBy
 pub mod MaintenanceCounted
 pub mod MaintenanceJudged
 pub mod MaintenanceKept

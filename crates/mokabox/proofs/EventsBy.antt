@@ -12,7 +12,7 @@ use Rattle.moka_base.specs.History.{Event, Get, ContainsKey, Insert, Invalidate,
 use Rattle.moka_base.specs.Replies as replies
 use Rattle.moka_base.specs.Replies.{Answer, answer}
 use Rattle.mokabox.specs.Events.{event_by, write_by, leaving_by, answer_by}
-use Rattle.mokabox.proofs.MaintenanceBy.{queues_by, part_by, leaving_in-by, after_parts-by, changed_where-by, moved_last-by, parts-by}
+use Rattle.moka_base.proofs.MaintenanceBy.{queues_by, part_by, leaving_in-by, after_parts-by, changed_where-by, moved_last-by, parts-by}
 
 module _ {K V W : Type 0} (f : V → W) where
   recorded-by : (e : Event K V) → recorded (event_by f e) ≡ recorded e

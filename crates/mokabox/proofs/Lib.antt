@@ -3,7 +3,6 @@ pub mod EventsBy
 pub mod FieldLaws
 pub mod FieldTexts
 pub mod LineLaws
-pub mod MaintenanceBy
 pub mod NoticeLaws
 pub mod NumberLaws
 pub mod RunLaws
