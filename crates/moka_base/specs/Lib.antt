@@ -10,5 +10,6 @@ pub mod Replies
 pub mod SizeLaws
 pub mod StandsFor
 pub mod Worked
+pub mod WorkedAdmission
 pub mod WorkedMaintenance
 pub mod WorkedSize

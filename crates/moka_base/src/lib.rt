@@ -13,6 +13,7 @@ pub mod policy;
 pub mod size_laws;
 pub mod weigher;
 pub mod worked;
+pub mod worked_admission;
 pub mod worked_frequency;
 pub mod worked_maintenance;
 pub mod worked_size;
