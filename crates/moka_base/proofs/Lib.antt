@@ -1,7 +1,7 @@
 pub mod Arrivals
 pub mod Conserved
 pub mod Counters
-pub mod Expiry
+pub mod Deadlines
 pub mod Flushes
 pub mod HeldOnes
 pub mod InOrder

@@ -1,4 +1,4 @@
-use Rattle.moka_base.proofs.Expiry.{has_come-ended}
+use Rattle.moka_base.proofs.Deadlines.{has_come-ended}
 use Rattle.moka_base.proofs.laws.expired_where_a_life_has_ended.Goals as goal
 
 pub returns : goal.returns
