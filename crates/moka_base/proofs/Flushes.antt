@@ -10,7 +10,7 @@ use Rattle.moka_base.specs.Replies.{Found, Counted, answer}
 use Rattle.moka_base.specs.SizeLaws.{leaving_as}
 use Rattle.moka_base.specs.WorkedSize.{at_capacity, all_left}
 use Rattle.moka_base.proofs.QueuesHold.{maintained-none_waits}
-use Rattle.moka_base.proofs.Sizes.{admitted-within, leaving-within}
+use Rattle.moka_base.proofs.Departures.{admitted-within, leaving-within}
 
 -- the writes of the keys from 1 up to a number
 abbrev pub all_wait : ℕ → List (Write ℕ ℕ)
@@ -34,13 +34,13 @@ module _ (h : List (Event ℕ ℕ)) (waiting : queues nat_eq at_ten h ≡ all_64
 
   leaving-flush : leaving nat_eq at_ten (Maintain 1) h ≡ all_left 54
   leaving-flush =
-      leaving-within nat_eq at_ten 1 h 10 refl
+      leaving-within nat_eq at_ten 1 h refl (λ k v. refl) 10 refl
       ∙ ap (λ q. map (leaving_as Expired) (the_dead lives q) ++ map (leaving_as Size) (take (length (the_living lives q) - 10) (the_living lives q))) waiting
 
   queues-flush : queues nat_eq at_ten (Maintain 1 ∷ h) ≡ record { admitted = drop 54 (all_wait 64); waiting = [] }
   queues-flush =
       let admitted : (queues nat_eq at_ten (Maintain 1 ∷ h)).admitted ≡ drop 54 (all_wait 64) =
-      admitted-within nat_eq at_ten 1 h 10 refl ∙ ap (λ q. drop (length (the_living lives q) - 10) (the_living lives q)) waiting in
+      admitted-within nat_eq at_ten 1 h refl (λ k v. refl) 10 refl ∙ ap (λ q. drop (length (the_living lives q) - 10) (the_living lives q)) waiting in
       ap (λ ws. record { admitted = ws; waiting = (queues nat_eq at_ten (Maintain 1 ∷ h)).waiting }) admitted
       ∙ ap (λ ws. record { admitted = drop 54 (all_wait 64); waiting = ws }) (maintained-none_waits nat_eq at_ten (frequency at_ten h) (latest (Maintain 1 ∷ h)) (queues nat_eq at_ten h))
 

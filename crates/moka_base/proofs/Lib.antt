@@ -2,6 +2,8 @@ pub mod Arrivals
 pub mod Conserved
 pub mod Counters
 pub mod Deadlines
+pub mod Departures
+pub mod EachWrite
 pub mod Flushes
 pub mod HeldOnes
 pub mod InOrder
@@ -9,6 +11,7 @@ pub mod Leavings
 pub mod ListLemmas
 pub mod Looks
 pub mod Maintenance
+pub mod MaintenanceAgreeing
 pub mod MaintenanceBy
 pub mod MaintenanceCounted
 pub mod MaintenanceJudged
@@ -24,6 +27,7 @@ pub mod NumberHashes
 pub mod Places
 pub mod Positions
 pub mod QueuesHold
+pub mod Rests
 pub mod Sizes
 pub mod Standing
 pub mod Uses
