@@ -34,7 +34,7 @@ next_number-counted rules (Measure what ∷ h) = let ih = next_number-counted ru
 next_number-counted rules (TakeNotice ∷ h) = let ih = next_number-counted rules h in omega arith
 
 -- of two deadlines the earlier has come where one of them has
-has_come-earlier : (a b : Option ℕ) (at : ℕ) → (has_come (earlier a b) at ≡ true) ↔ ((has_come a at ≡ true) ⊎ (has_come b at ≡ true))
+pub has_come-earlier : (a b : Option ℕ) (at : ℕ) → (has_come (earlier a b) at ≡ true) ↔ ((has_come a at ≡ true) ⊎ (has_come b at ≡ true))
 has_come-earlier None b at = (λ come. inr come, λ either. ⊎_elim (λ none. absurd (cc)) (λ come. come) either)
 has_come-earlier (Some m) None at = (λ come. inl come, λ either. ⊎_elim (λ come. come) (λ none. absurd (cc)) either)
 has_come-earlier (Some m) (Some n) at = (

@@ -31,3 +31,4 @@ pub mod Rests
 pub mod Sizes
 pub mod Standing
 pub mod Uses
+pub mod Written

@@ -3,23 +3,24 @@
 ghost use Rattle.std.specs.Prelude.{◌≡◌, ◌≢◌, ◌⊎◌, ◌↔◌, ℕ, ◌+◌, ◌<◌, ◌≤◌, max, Bool, not, if◌then◌else◌, true, false, List, [], ◌∷◌, ◌++◌, length, filter, slice_get, ◌^◌, fold};
 ghost use Rattle.moka_base.specs.declared.notification.RemovalCause.TheVariants.{Explicit, Replaced, Size};
 ghost use Rattle.moka_base.specs.History.{Event, Get, ContainsKey, Insert, Invalidate, Maintain, TakeNotice, Rules, Write, Leaving, latest, frequency, is_expired, leaves_in, standing, leaving, leavings, taken, noticed, next_number, stores_nothing, after_insert, IsHistory};
-ghost use Rattle.moka_base.specs.Laws.{ends, IsUnwritten, IsUntouched, LastWrite, FirstWrite, FirstEnd, NothingStands, up_to_write, IsAsWritten, IsLeavingOf, HasEnded, OwnHasEnded, is_write, values_written, values_left, leavings_of, value_standing, given_out};
+ghost use Rattle.moka_base.specs.Laws.{ends, IsUnwritten, IsUntouched, LastWrite, FirstWrite, FirstEnd, NothingStands, up_to_write, IsAsWritten, IsLeavingOf, HasEnded, OwnHasEnded, is_write, life_by_write, before_write, values_written, values_left, leavings_of, value_standing, given_out};
 ghost use Rattle.moka_base.specs.NumberHash.{number_hash};
 ghost use Rattle.std.specs.Hash.{u64 as number_writes};
 ghost use Rattle.moka_base.specs.Replies.{Found, Contains, Noticed, answer};
 
 /// After a write a look at the same moment, or at an earlier one, finds its value; with a life of
-/// nothing no look finds it at any moment. The value of an accepted write is found alike, whether a
+/// nothing, be it one of all values or its own, no look finds it at any moment. The value of an accepted write is found alike, whether a
 /// maintenance came before it or not; but where the capacity is 0 no look finds anything.
 pub fn get_after_insert<K: Eq, V>()
     ensures found { (rules : Rules K V) (h : List (Event K V)) (k q : K) (v : V) (at now : ℕ) → K.eq k q ≡ true → now ≤ at
-        → rules.time_to_live ≢ Some 0 → rules.time_to_idle ≢ Some 0
+        → rules.time_to_live ≢ Some 0 → rules.time_to_idle ≢ Some 0 → life_by_write K.eq rules k v at h ≢ Some 0
         → answer K.eq rules (Get q now) (Insert k v at ∷ h) ≡ Found (Some v) }
     ensures expired { (rules : Rules K V) (h : List (Event K V)) (k q : K) (v : V) (at now : ℕ) → K.eq k q ≡ true
-        → (rules.time_to_live ≡ Some 0) ⊎ (rules.time_to_idle ≡ Some 0)
+        → (rules.time_to_live ≡ Some 0) ⊎ (rules.time_to_idle ≡ Some 0) ⊎ (life_by_write K.eq rules k v at h ≡ Some 0)
         → answer K.eq rules (Get q now) (Insert k v at ∷ h) ≡ Found None }
     ensures accepted { (rules : Rules K V) (h : List (Event K V)) (k q : K) (v : V) (at now : ℕ) → K.eq k q ≡ true → now ≤ at
         → stores_nothing rules.max_capacity ≡ false → rules.time_to_live ≢ Some 0 → rules.time_to_idle ≢ Some 0
+        → life_by_write K.eq rules k v at (before_write K.eq rules at h) ≢ Some 0
         → answer K.eq rules (Get q now) (after_insert K.eq rules k v at h) ≡ Found (Some v) }
     ensures not_stored { (rules : Rules K V) (h : List (Event K V)) (k q : K) (v : V) (at now : ℕ)
         → stores_nothing rules.max_capacity ≡ true → IsHistory K.eq rules h
