@@ -1,3 +1,4 @@
+pub mod Admissions
 pub mod Arrivals
 pub mod Conserved
 pub mod Counters
@@ -22,6 +23,7 @@ pub mod MaintenanceOrder
 pub mod MaintenanceResumed
 pub mod MaintenanceShortest
 pub mod Moves
+pub mod Noted
 pub mod Notices
 pub mod NumberHashes
 pub mod Places

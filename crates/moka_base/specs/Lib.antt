@@ -1,3 +1,4 @@
+pub mod AdmissionLaws
 pub mod Frequency
 pub mod History
 pub mod Laws

@@ -2,6 +2,7 @@
 //! contract cites, with the laws above them.
 #![tactic(auto)]
 
+pub mod admission_laws;
 pub mod expiry;
 pub mod frequency;
 pub mod frequency_laws;
