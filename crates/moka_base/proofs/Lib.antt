@@ -26,6 +26,7 @@ pub mod Moves
 pub mod Noted
 pub mod Notices
 pub mod NumberHashes
+pub mod OwnLives
 pub mod Places
 pub mod Positions
 pub mod QueuesHold

@@ -6,6 +6,7 @@ pub mod Maintenance
 pub mod MaintenanceLaws
 pub mod NumberHash
 pub mod OrderLaws
+pub mod OwnLifeLaws
 pub mod Policy
 pub mod Replies
 pub mod SizeLaws

@@ -10,6 +10,7 @@ pub mod laws;
 pub mod maintenance_laws;
 pub mod notification;
 pub mod order_laws;
+pub mod own_life_laws;
 pub mod policy;
 pub mod size_laws;
 pub mod weigher;

@@ -6,6 +6,13 @@ ghost use Rattle.moka_base.specs.History.{Event, Get, ContainsKey, Maintain, Rul
 ghost use Rattle.moka_base.specs.Replies.{Found, Contains, answer};
 ghost use Rattle.moka_base.specs.SizeLaws.{WeighsOnes, lives, dead, living, gone, gone_behind, excess, overweight, leaving_as};
 
+use crate::policy::CacheTypes;
+
+/// Equal keys weigh alike with each value: it does not matter under which of them a value is written.
+pub fn equal_keys_weigh_alike<K: Eq, V: Clone, C: CacheTypes<K, V>>()
+    ensures { (a b : K) (v : V) → K.eq a b ≡ true → C.weight a v ≡ C.weight b v }
+{}
+
 /// After a maintenance nothing waits, all that stands is live at its moment, and its weight is within the capacity. Where
 /// each key weighs one, no more stand than the capacity allows.
 pub fn after_a_maintenance<K: Eq, V>()
