@@ -6,10 +6,9 @@ use Rattle.std.specs.Cmp.{IsEquivalence}
 use Rattle.std.proofs.lemmas.List.{map-append}
 use Rattle.std.proofs.lemmas.List.Elements.{filter-append, filter_agree}
 use Rattle.moka_base.specs.Maintenance.{Queues}
-use Rattle.moka_base.specs.History.{Event, Get, ContainsKey, Insert, Invalidate, Maintain, Skip, Measure, TakeNotice, Rules, Write, latest, is_live, standing, frequency, queues}
+use Rattle.moka_base.specs.History.{Event, Get, ContainsKey, Insert, Invalidate, Maintain, Skip, Measure, TakeNotice, Rules, Write, latest, standing, frequency, queues}
 use Rattle.moka_base.specs.StandsFor.{writes_of}
 use Rattle.moka_base.specs.OrderLaws.{keys, lasts, openings, waits}
-use Rattle.moka_base.proofs.Maintenance.{after-parts}
 use Rattle.moka_base.proofs.ListLemmas.{filter-both, one_side}
 use Rattle.moka_base.proofs.QueuesHold.{opening, held-queues, held-append, maintained-none_waits}
 use Rattle.moka_base.proofs.Moves.{none_held, written_in-anew, look-waiting_keys, overwrite-waiting_keys, removed_in-waiting_keys}

@@ -38,9 +38,9 @@ pub has_come-earlier : (a b : Option ℕ) (at : ℕ) → (has_come (earlier a b)
 has_come-earlier None b at = (λ come. inr come, λ either. ⊎_elim (λ none. absurd (cc)) (λ come. come) either)
 has_come-earlier (Some m) None at = (λ come. inl come, λ either. ⊎_elim (λ come. come) (λ none. absurd (cc)) either)
 has_come-earlier (Some m) (Some n) at = (
-      λ come. let le = leb-true (min m n) at come in let either : (m ≤ at) ⊎ (n ≤ at) = grind arith in ⊎_elim (λ h. inl (le-leb m at h)) (λ h. inr (le-leb n at h)) either,
-      λ either. ⊎_elim (λ h. le-leb (min m n) at (let le = leb-true m at h in omega arith)) (λ h. le-leb (min m n) at (let le = leb-true n at h in omega arith)) either,
-    )
+  λ come. let le = leb-true (min m n) at come in let either : (m ≤ at) ⊎ (n ≤ at) = grind arith in ⊎_elim (λ h. inl (le-leb m at h)) (λ h. inr (le-leb n at h)) either,
+  λ either. ⊎_elim (λ h. le-leb (min m n) at (let le = leb-true m at h in omega arith)) (λ h. le-leb (min m n) at (let le = leb-true n at h in omega arith)) either,
+)
 
 -- the end of a life has come where it has ended
 has_come-life : (life : Option ℕ) (from at : ℕ) → (has_come (ends_at life from) at ≡ true) ↔ HasEnded life from at

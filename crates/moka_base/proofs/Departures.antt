@@ -161,4 +161,3 @@ module _ {K V : Type 0} (eq : K → K → Bool) (rules : Rules K V) where
 
   pub nothing_leaves_for_size : (h : List (Event K V)) → rules.max_capacity ≡ None → AllByRecursion NotForSize (leavings eq rules h)
   nothing_leaves_for_size h e = recursion_from_All NotForSize (leavings eq rules h) (none_for_size h e)
-

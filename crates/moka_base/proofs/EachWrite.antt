@@ -1,12 +1,12 @@
 -- What is true of each write that is made, and stays true of it, is true of all that stand.
-use Rattle.std.proofs.Common.{◌≡◌, ℕ, Bool, cond, Option, Some, None, List, [], ◌∷◌, ◌++◌, map, not, filter, subst, ap, ◌∙◌}
+use Rattle.std.proofs.Common.{◌≡◌, ℕ, Bool, cond, Some, None, List, [], ◌∷◌, ◌++◌, map, not, filter, subst, ap, ◌∙◌}
 use Rattle.std.specs.Option.{option_to_list}
 use Rattle.std.specs.List.{All}
 use Rattle.std.specs.Cmp.{IsEquivalence}
 use Rattle.std.proofs.lemmas.Bool.{cond_both}
 use Rattle.std.proofs.lemmas.List.Elements.{All-nil, All-cons, All-head, All-tail, All-append, All-push, All-filter, All-drop}
 use Rattle.moka_base.specs.Maintenance.{Queues, front}
-use Rattle.moka_base.specs.History.{Event, Get, ContainsKey, Insert, Invalidate, Maintain, Skip, Measure, TakeNotice, Rules, Write, frequency, latest, is_live, hit, after_look, after_write, changed_where, moved_last, is_of, is_hit, used_where, opened_by, written_in, removed_in, wins, maintained, queues, standing}
+use Rattle.moka_base.specs.History.{Event, Get, ContainsKey, Insert, Invalidate, Maintain, Skip, Measure, TakeNotice, Rules, Write, frequency, latest, is_live, hit, after_look, after_write, changed_where, moved_last, is_of, is_hit, used_where, opened_by, written_in, wins, maintained, queues, standing}
 use Rattle.moka_base.specs.StandsFor.{writes_of}
 use Rattle.moka_base.proofs.Maintenance.{within, after-parts, All-admitted_after}
 use Rattle.moka_base.proofs.QueuesHold.{held-queues}

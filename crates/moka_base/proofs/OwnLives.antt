@@ -1,9 +1,9 @@
 -- At which events the expiry is asked, and what is left of a life of its own.
-use Rattle.std.proofs.Common.{◌≡◌, inr, ⊎_elim, ℕ, ◌+◌, ◌-◌, ◌<◌, ◌≤◌, max, Bool, true, false, not, ◌&&◌, cond, is_some, nat_le, Option, Some, None, List, [], ◌∷◌, refl, sym, ap, ◌∙◌, subst, arith}
+use Rattle.std.proofs.Common.{◌≡◌, inr, ⊎_elim, ℕ, ◌+◌, ◌-◌, ◌<◌, ◌≤◌, Bool, true, false, not, ◌&&◌, cond, is_some, nat_le, Option, Some, None, List, [], ◌∷◌, refl, sym, ap, ◌∙◌, subst, arith}
 use Rattle.std.specs.Option.{option_map}
 use Rattle.std.specs.Cmp.{IsEquivalence}
 use Rattle.std.proofs.lemmas.Bool.{cases_Bool, cond-true, cond-false, cond_both, true≢false, leb-true, leb-false}
-use Rattle.moka_base.specs.History.{Event, Get, ContainsKey, Insert, Invalidate, Maintain, Skip, Measure, TakeNotice, Rules, OwnLife, Write, no_lifetimes, recorded, latest, given, rest, is_live, live_one, hit, after_look, life_given, after_write, leaves_in, standing, live}
+use Rattle.moka_base.specs.History.{Event, Get, ContainsKey, Insert, Invalidate, Maintain, Skip, Measure, TakeNotice, Rules, OwnLife, Write, no_lifetimes, latest, given, rest, is_live, live_one, hit, after_look, life_given, after_write, leaves_in, standing, live}
 use Rattle.moka_base.specs.OwnLifeLaws.{asks}
 use Rattle.moka_base.proofs.Deadlines.{is_expired-ended}
 use Rattle.moka_base.proofs.EachWrite.{standing-holds}

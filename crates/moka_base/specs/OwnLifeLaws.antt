@@ -1,5 +1,5 @@
 -- The words of the laws of lives of single values.
-use Rattle.std.specs.Prelude.{ℕ, Bool, false, ◌&&◌, List, ◌∷◌, is_some}
+use Rattle.std.specs.Prelude.{Bool, false, ◌&&◌, List, ◌∷◌, is_some}
 use Rattle.moka_base.specs.History.{Event, Get, ContainsKey, Insert, Invalidate, Maintain, Skip, Measure, TakeNotice, Rules, latest, live}
 
 -- Whether the expiry is asked about a key at an event, the events before it being h: at a write of the key, and at a
