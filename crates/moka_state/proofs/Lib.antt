@@ -16,3 +16,4 @@ pub mod Slots
 pub mod Sound
 pub mod Stands
 pub mod Steps
+pub mod Weights
