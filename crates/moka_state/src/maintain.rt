@@ -173,8 +173,12 @@ fn judge<K: Eq + Drop, V: Drop, R: RowStore<K, V>, F: FrequencySource>(
 {
     let row = table.row(number);
     let (hash, weight) = (row.hash, row.info.policy_weight);
+    if !fits(capacity, weight, 0) {
+        table.let_go(number, RemovalCause::Size);
+        return;
+    }
     let count = victims(table, capacity, weight);
-    if fits(capacity, weight, 0) && (count == 0 || wins(table, policy, source, hash, count)) {
+    if count == 0 || wins(table, policy, source, hash, count) {
         let_first_go(table, count);
         table.admit(number);
     } else {

@@ -7,7 +7,7 @@ use Rattle.moka_state.specs.Table.{weight_of}
 use Rattle.moka_state.specs.Maintain.{notices_for}
 use Rattle.moka_state.proofs.Verdicts.{first-stored, judges-admit, judges-drop, admits-none, admits-won, drops-heavy, drops-lost}
 use Rattle.moka_state.proofs.maintain.judge.Goals as goal
-use Rattle.moka_state.proofs.maintain.judge.Goals.{else-fits-via-then-fits+else-wins, then-count-eq0, else-count-eq0, else-fits-via-else-fits}
+use Rattle.moka_state.proofs.maintain.judge.Goals.{then-count-eq0, else-count-eq0}
 
 pub row-row-requires : goal.row-row-requires
 row-row-requires g c = first-stored c.args.table.now c.args.number c.requires.first
@@ -22,7 +22,7 @@ pub returns-then-wins-clause-judged : goal.returns-then-wins-clause-judged
 returns-then-wins-clause-judged g c =
     let old = c.args.table.now in
     let row = c.row-row.result.now in
-    let alone = sym c.fits.ensures ∙ c.if-fits.true in
+    let alone = sym c.fits.ensures ∙ c.if-not-fits.false in
     judges-admit (is_lru c.args.policy) (g.F.FrequencySource.count c.args.source.now) c.args.capacity old c.admit.new.self c.args.number row c.requires.apart c.requires.first c.row-row.ensures
     (elim c.if-count-eq0.branch [
       | then-count-eq0 w ↦ λ rest. admits-none (is_lru c.args.policy) (g.F.FrequencySource.count c.args.source.now) c.args.capacity old.admitted c.args.number row rest alone c.victims-count.result c.victims-count.ensures (sym w.value-is ∙ c.if-wins.true)
@@ -34,16 +34,22 @@ returns-then-wins-clause-judged g c =
     (c.let_first_go.ensures.notices ∙ ap (λ k. old.notices ++ notices_for Size (take k old.admitted)) c.victims-count.ensures)
     c.admit.ensures.waiting c.admit.ensures.admitted c.admit.ensures.notices
 
-pub returns-else-fits-clause-judged : goal.returns-else-fits-clause-judged
-returns-else-fits-clause-judged g c =
+pub returns-then-not-fits-clause-judged : goal.returns-then-not-fits-clause-judged
+returns-then-not-fits-clause-judged g c =
     let old = c.args.table.now in
     let row = c.row-row.result.now in
     judges-drop (is_lru c.args.policy) (g.F.FrequencySource.count c.args.source.now) c.args.capacity old c.let_go.new.self c.args.number row c.requires.apart c.requires.first c.row-row.ensures
-    (elim c.else-fits.branch [
-      | else-fits-via-then-fits+else-wins w ↦ elim w.if-count-eq0.branch [
-        | then-count-eq0 v ↦ λ rest. absurd (true≢false (sym (eq-eqb c.victims-count.result 0 v.if-count-eq0.true) ∙ sym v.value-is ∙ w.if-wins.false))
-        | else-count-eq0 v ↦ λ rest. drops-lost (is_lru c.args.policy) (g.F.FrequencySource.count c.args.source.now) c.args.capacity old.admitted c.args.number row rest (sym c.fits.ensures ∙ w.if-fits.true) c.victims-count.result c.victims-count.ensures (ne_eqb c.victims-count.result 0 v.if-count-eq0.false) v.wins.result v.wins.ensures (sym v.value-is ∙ w.if-wins.false)
-      ]
-      | else-fits-via-else-fits w ↦ λ rest. drops-heavy (is_lru c.args.policy) (g.F.FrequencySource.count c.args.source.now) c.args.capacity old.admitted c.args.number row rest (sym c.fits.ensures ∙ w.if-fits.false)
-    ])
+    (λ rest. drops-heavy (is_lru c.args.policy) (g.F.FrequencySource.count c.args.source.now) c.args.capacity old.admitted c.args.number row rest (sym c.fits.ensures ∙ c.if-not-fits.true))
     c.let_go.ensures.rows c.let_go.ensures.notices
+
+pub returns-else-wins-clause-judged : goal.returns-else-wins-clause-judged
+returns-else-wins-clause-judged g c =
+    let old = c.args.table.now in
+    let row = c.row-row.result.now in
+    let alone = sym c.fits.ensures ∙ c.if-not-fits.false in
+    judges-drop (is_lru c.args.policy) (g.F.FrequencySource.count c.args.source.now) c.args.capacity old c.let_go-else-wins.new.self c.args.number row c.requires.apart c.requires.first c.row-row.ensures
+    (elim c.if-count-eq0.branch [
+      | then-count-eq0 w ↦ λ rest. absurd (true≢false (sym (eq-eqb c.victims-count.result 0 w.if-count-eq0.true) ∙ sym w.value-is ∙ c.if-wins.false))
+      | else-count-eq0 w ↦ λ rest. drops-lost (is_lru c.args.policy) (g.F.FrequencySource.count c.args.source.now) c.args.capacity old.admitted c.args.number row rest alone c.victims-count.result c.victims-count.ensures (ne_eqb c.victims-count.result 0 w.if-count-eq0.false) w.wins.result w.wins.ensures (sym w.value-is ∙ c.if-wins.false)
+    ])
+    c.let_go-else-wins.ensures.rows c.let_go-else-wins.ensures.notices
