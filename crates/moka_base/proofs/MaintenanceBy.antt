@@ -50,7 +50,7 @@ module _ {X Y : Type 0} (g : X → Y) where
     abbrev weight_before : X → ℕ
     weight_before x = weight (g x)
 
-    total-by : (xs : List X) → total weight (map g xs) ≡ total weight_before xs
+    pub total-by : (xs : List X) → total weight (map g xs) ≡ total weight_before xs
     total-by [] = refl
     total-by (x ∷ xs) = ap (λ n. weight (g x) + n) (total-by xs)
 

@@ -4,9 +4,9 @@ ghost use Rattle.moka_base.specs.History.{Lifetimes};
 ghost use Rattle.moka_base.specs.NumberHash.{number_hash};
 ghost use Rattle.moka_base.specs.Policy.{is_lru};
 
-pub use crate::expiry::Expiry;
+pub use crate::expiry::{ExpireBy, Expiry, NoExpiry};
 pub use crate::frequency::{CountTable, FrequencySource};
-pub use crate::weigher::{WeighBy, Weigher};
+pub use crate::weigher::{NoWeigher, WeighBy, Weigher};
 use std::hash::{BuildHasher, Hasher};
 use thiserror::Error;
 
@@ -126,3 +126,6 @@ impl Hasher for NumberHash {
         }
     }
 }
+
+#[cfg(test)]
+mod tests;

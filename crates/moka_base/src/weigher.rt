@@ -35,3 +35,18 @@ impl<K, V, F: Fn(&K, &V) -> u32> Weigher<K, V> for WeighBy<F> {
         (self.weigh)(key, value)
     }
 }
+
+/// Weighs each value as one: the type of a cache's weigher where it is given none.
+#[derive(Clone, Copy, Debug, Default)]
+pub struct NoWeigher;
+
+impl<K, V> Weigher<K, V> for NoWeigher {
+    ghost weighs = { λ _ weight. weight ≡ (λ _ _. 1) };
+
+    fn weigh(&self, _key: &K, _value: &V) -> u32 {
+        1
+    }
+}
+
+#[cfg(test)]
+mod tests;

@@ -6,7 +6,7 @@ use Rattle.std.proofs.lemmas.Option.{option_and_then_some}
 use Rattle.std.proofs.lemmas.Slice.Eq.{bytes_eq-Decides}
 use Rattle.std.proofs.lemmas.List.Splits.{join_with_byte-slice_split}
 use Rattle.mokabox.specs.declared.command.Command.{Command}
-use Rattle.mokabox.specs.declared.command.Command.TheVariants.{At, Insert, Get, Has, Invalidate, Tasks, Count, Notices}
+use Rattle.mokabox.specs.declared.command.Command.TheVariants.{At, Insert, Get, Has, Invalidate, Tasks, Count, Weight, Notices}
 use Rattle.mokabox.specs.Command.{PlainCommand, plain_command, command_fields, line_of, IsExpressible, Reader, insert_of, alone, words, read_by, command_of, command_by_line}
 use Rattle.mokabox.specs.Fields.{fields_of, number_of, text_of, sole_number_of, sole_text_of, IsText}
 use Rattle.mokabox.proofs.NumberLaws.{number_takes, number_again}
@@ -83,8 +83,11 @@ words_take = (
             (
               alone_takes (codes "count") Count refl tt,
               (
-                alone_takes (codes "notices") Notices refl tt,
-                tt,
+                alone_takes (codes "weight") Weight refl tt,
+                (
+                  alone_takes (codes "notices") Notices refl tt,
+                  tt,
+                ),
               ),
             ),
           ),
@@ -117,6 +120,7 @@ command_again (Has key) small = rw (number_again key small) refl
 command_again (Invalidate key) small = rw (number_again key small) refl
 command_again Tasks sayable = refl
 command_again Count sayable = refl
+command_again Weight sayable = refl
 command_again Notices sayable = refl
 
 number_written : (word : List ℕ) (n : ℕ) → is_plain word ≡ true → n < 2 ^ 64 → AllByRecursion IsField (word ∷ decimal n ∷ [])
@@ -131,6 +135,7 @@ command_fields_are (Has key) small = (omega arith, number_written (codes "has") 
 command_fields_are (Invalidate key) small = (omega arith, number_written (codes "invalidate") key refl small)
 command_fields_are Tasks sayable = (omega arith, (word_field (codes "tasks") refl, tt))
 command_fields_are Count sayable = (omega arith, (word_field (codes "count") refl, tt))
+command_fields_are Weight sayable = (omega arith, (word_field (codes "weight") refl, tt))
 command_fields_are Notices sayable = (omega arith, (word_field (codes "notices") refl, tt))
 
 -- a line that is read as a command is the one that it is written as

@@ -3,7 +3,6 @@ use Rattle.std.proofs.Common.{◌≡◌, ◌<◌, ℕ, Bool, true, false, ◌||�
 use Rattle.std.specs.Io.BufRead.{drop_through, first_piece, DropsThrough}
 use Rattle.std.specs.Io.KnownBytes.{Appends, Keeps}
 use Rattle.std.proofs.lemmas.Fmt.{decimal_digit}
-use Rattle.moka_base.specs.History.{Rules}
 use Rattle.mokabox.proofs.LineLaws.{IsRunning, run_step, or_when_true, or_when_false, lines_first, one_written, appends-appends, if_some}
 use Rattle.mokabox.specs.Answer.{answer_text, answer_line}
 use Rattle.mokabox.specs.Command.{PlainCommand, command_by_line}
@@ -11,7 +10,7 @@ use Rattle.mokabox.specs.declared.answer.Answer.TheVariants as answers
 use Rattle.mokabox.specs.declared.answer.BuildRefusal.{BuildRefusal}
 use Rattle.mokabox.specs.declared.answer.BuildRefusal.TheVariants as builds
 use Rattle.mokabox.specs.declared.settings.Settings.{Settings}
-use Rattle.mokabox.specs.Script.{Course, LinePrints, LinesPrint, FirstPrints, ScriptPrints, lines_of, lines_text, rules_by, beginning, status_of}
+use Rattle.mokabox.specs.Script.{ScriptRules, Course, LinePrints, LinesPrint, FirstPrints, ScriptPrints, lines_of, lines_text, rules_by, beginning, status_of}
 use Rattle.mokabox.specs.Session.{ScriptHoldings, IsAt, Prints, DoesLine}
 use Rattle.mokabox.specs.Settings.{settings_by}
 
@@ -61,7 +60,7 @@ first_not_built settings given refusal known held held_after some written = if_s
     (codes "refused build 5" ∷ [], subst (λ o. FirstPrints o (lines_of input) (codes "refused build 5" ∷ []) 2) (sym some) (inr (refl, refl)), one_written held held_after (codes "refused build 5") line))
 
 -- a first line that is done, and the lines after it
-pub first_done : (settings : Option Settings) (given : Settings) (known held held_mid held_after : Option (List ℕ)) (cache : ScriptHoldings) (moment : ℕ) (bad : Bool) (code : ℕ) → settings ≡ Some given → IsAt cache moment (rules_by given) beginning → Appends held held_mid (answer_line answers.Done) → ((rules : Rules K V) (before : Course) → IsAt cache moment rules before → IfSome known (λ input. (printed : List (List ℕ)) × LinesPrint rules before (lines_of input) printed bad × Appends held_mid held_after (lines_text printed))) → code ≡ status_of bad → IfSome known (λ input. (printed : List (List ℕ)) × FirstPrints settings (lines_of input) printed code × Appends held held_after (lines_text printed))
+pub first_done : (settings : Option Settings) (given : Settings) (known held held_mid held_after : Option (List ℕ)) (cache : ScriptHoldings) (moment : ℕ) (bad : Bool) (code : ℕ) → settings ≡ Some given → IsAt cache moment (rules_by given) beginning → Appends held held_mid (answer_line answers.Done) → ((rules : ScriptRules) (before : Course) → IsAt cache moment rules before → IfSome known (λ input. (printed : List (List ℕ)) × LinesPrint rules before (lines_of input) printed bad × Appends held_mid held_after (lines_text printed))) → code ≡ status_of bad → IfSome known (λ input. (printed : List (List ℕ)) × FirstPrints settings (lines_of input) printed code × Appends held held_after (lines_text printed))
 first_done settings given None held held_mid held_after cache moment bad code some begins written rest is_code = tt
 first_done settings given (Some input) held held_mid held_after cache moment bad code some begins written rest is_code =
     let later = rest (rules_by given) beginning begins in (

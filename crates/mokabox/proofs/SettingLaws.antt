@@ -8,11 +8,13 @@ use Rattle.std.proofs.lemmas.Option.{option_and_then_some, same_Some}
 use Rattle.std.proofs.lemmas.Slice.Eq.{bytes_eq-Decides}
 use Rattle.std.proofs.lemmas.Str.Pattern.{IsSplitOnceResult, split_parts}
 use Rattle.mokabox.specs.declared.settings.Eviction.{Eviction}
-use Rattle.mokabox.specs.declared.settings.Eviction.TheVariants.{Lru}
+use Rattle.mokabox.specs.declared.settings.Eviction.TheVariants.{Lru, TinyLfu}
 use Rattle.mokabox.specs.declared.settings.Setting.{Setting}
-use Rattle.mokabox.specs.declared.settings.Setting.TheVariants.{TimeToLive, TimeToIdle, FirstNumber, Capacity, Policy}
+use Rattle.mokabox.specs.declared.settings.Setting.TheVariants.{TimeToLive, TimeToIdle, FirstNumber, Capacity, Policy, Weigher}
 use Rattle.mokabox.specs.declared.settings.Settings.{Settings}
-use Rattle.mokabox.specs.Settings.{eviction_text, eviction_of, setting_text, first_line_of, IsGivable, none_given, with_setting, decided, settings_with_all, settings_together, halves, names, value_by, setting_of, settings_from, settings_of, settings_by}
+use Rattle.mokabox.specs.declared.settings.Weighing.{Weighing}
+use Rattle.mokabox.specs.declared.settings.Weighing.TheVariants.{Bytes}
+use Rattle.mokabox.specs.Settings.{eviction_text, eviction_of, weighing_text, weighing_of, setting_text, first_line_of, IsGivable, none_given, with_setting, settings_with_all, settings_together, halves, names, value_by, setting_of, settings_from, settings_of, settings_by}
 use Rattle.mokabox.specs.Fields.{fields_of, number_of}
 use Rattle.mokabox.proofs.Truth.{mapped}
 use Rattle.mokabox.proofs.NumberLaws.{number_takes, number_again}
@@ -64,15 +66,27 @@ numbered name make spelled givable value setting h =
     subst (λ x. (name ++ 61 ∷ value ≡ setting_text x) × IsGivable x) read.2 (ap (λ digits. name ++ 61 ∷ digits) parts.0 ∙ spelled read.0, givable read.0 parts.1)
 
 eviction_takes : (name : List ℕ) (eviction : Eviction) → eviction_of name ≡ Some eviction → name ≡ eviction_text eviction
-eviction_takes name Lru h = either (bytes_eq name (codes "lru")) refl h where
-  either : (test : Bool) → bytes_eq name (codes "lru") ≡ test → cond test (Some Lru) None ≡ Some Lru → name ≡ codes "lru"
-  either true e given = (bytes_eq-Decides name (codes "lru")).0 e
+eviction_takes name eviction h = either (bytes_eq name (codes "lru")) (bytes_eq name (codes "tinylfu")) refl refl h where
+  either : (lru tiny : Bool) → bytes_eq name (codes "lru") ≡ lru → bytes_eq name (codes "tinylfu") ≡ tiny → cond lru (Some Lru) (cond tiny (Some TinyLfu) None) ≡ Some eviction → name ≡ eviction_text eviction
+  either true tiny e f given = (bytes_eq-Decides name (codes "lru")).0 e ∙ ap eviction_text (same_Some Lru eviction given)
+  either false true e f given = (bytes_eq-Decides name (codes "tinylfu")).0 f ∙ ap eviction_text (same_Some TinyLfu eviction given)
+  either false false e f given = cc
+
+weighing_takes : (name : List ℕ) (weighing : Weighing) → weighing_of name ≡ Some weighing → name ≡ weighing_text weighing
+weighing_takes name Bytes h = either (bytes_eq name (codes "bytes")) refl h where
+  either : (test : Bool) → bytes_eq name (codes "bytes") ≡ test → cond test (Some Bytes) None ≡ Some Bytes → name ≡ codes "bytes"
+  either true e given = (bytes_eq-Decides name (codes "bytes")).0 e
   either false e given = cc
 
 policy_takes : ValueTakes (codes "policy") (λ value. option_map Policy (eviction_of value))
 policy_takes value setting h =
     let read = mapped Policy (eviction_of value) setting h in
     subst (λ x. (codes "policy" ++ 61 ∷ value ≡ setting_text x) × IsGivable x) read.2 (ap (λ name. codes "policy" ++ 61 ∷ name) (eviction_takes value read.0 read.1), tt)
+
+weigher_takes : ValueTakes (codes "weigher") (λ value. option_map Weigher (weighing_of value))
+weigher_takes value setting h =
+    let read = mapped Weigher (weighing_of value) setting h in
+    subst (λ x. (codes "weigher" ++ 61 ∷ value ≡ setting_text x) × IsGivable x) read.2 (ap (λ name. codes "weigher" ++ 61 ∷ name) (weighing_takes value read.0 read.1), tt)
 
 names_take : AllByRecursion (λ entry. ValueTakes entry.0 entry.1) names
 names_take = (
@@ -85,7 +99,10 @@ names_take = (
         numbered (codes "capacity") Capacity (λ n. refl) (λ n small. small),
         (
           policy_takes,
-          tt,
+          (
+            weigher_takes,
+            tt,
+          ),
         ),
       ),
     ),
@@ -112,8 +129,10 @@ setting_again : (setting : Setting) → IsGivable setting → setting_of (settin
 setting_again (TimeToLive seconds) small = rw (number_again seconds small) refl
 setting_again (TimeToIdle seconds) small = rw (number_again seconds small) refl
 setting_again (FirstNumber number) small = rw (number_again number small) refl
-setting_again (Capacity keys) small = rw (number_again keys small) refl
+setting_again (Capacity most) small = rw (number_again most small) refl
 setting_again (Policy Lru) givable = refl
+setting_again (Policy TinyLfu) givable = refl
+setting_again (Weigher Bytes) givable = refl
 
 -- the fields that are read as settings are what they are written as
 abbrev AreGiven : List (List ℕ) → Settings → Settings → Type 0
@@ -145,8 +164,10 @@ setting_field : (setting : Setting) → IsGivable setting → IsField (setting_t
 setting_field (TimeToLive seconds) small = joined_field (codes "ttl=") (decimal seconds) (word_field (codes "ttl=") refl) (number_field seconds small)
 setting_field (TimeToIdle seconds) small = joined_field (codes "tti=") (decimal seconds) (word_field (codes "tti=") refl) (number_field seconds small)
 setting_field (FirstNumber number) small = joined_field (codes "first=") (decimal number) (word_field (codes "first=") refl) (number_field number small)
-setting_field (Capacity keys) small = joined_field (codes "capacity=") (decimal keys) (word_field (codes "capacity=") refl) (number_field keys small)
+setting_field (Capacity most) small = joined_field (codes "capacity=") (decimal most) (word_field (codes "capacity=") refl) (number_field most small)
 setting_field (Policy Lru) givable = word_field (codes "policy=lru") refl
+setting_field (Policy TinyLfu) givable = word_field (codes "policy=tinylfu") refl
+setting_field (Weigher Bytes) givable = word_field (codes "weigher=bytes") refl
 
 setting_fields : (given : List Setting) → AllByRecursion IsGivable given → AllByRecursion IsField (map setting_text given)
 setting_fields [] givable = tt
@@ -156,18 +177,16 @@ setting_fields (setting ∷ more) givable = (setting_field setting givable.0, se
 pub first_again : (given : List Setting) → AllByRecursion IsGivable given → settings_by (first_line_of given) ≡ settings_together given
 first_again given givable =
     says_again settings_of (codes "new" ∷ map setting_text given) (omega arith) (word_field (codes "new") refl, setting_fields given givable)
-    ∙ ap (option_and_then decided) (settings_again given none_given givable)
+    ∙ settings_again given none_given givable
 
 first_takes : (fields : List (List ℕ)) (settings : Settings) → settings_of fields ≡ Some settings → (given : List Setting) × AllByRecursion IsGivable given × (fields ≡ codes "new" ∷ map setting_text given) × (settings_together given ≡ Some settings)
 first_takes [] settings h = cc
 first_takes (word ∷ fields) settings h = either (bytes_eq word (codes "new")) refl h where
-  either : (test : Bool) → bytes_eq word (codes "new") ≡ test → cond test (option_and_then decided (settings_from none_given fields)) None ≡ Some settings → (given : List Setting) × AllByRecursion IsGivable given × (word ∷ fields ≡ codes "new" ∷ map setting_text given) × (settings_together given ≡ Some settings)
+  either : (test : Bool) → bytes_eq word (codes "new") ≡ test → cond test (settings_from none_given fields) None ≡ Some settings → (given : List Setting) × AllByRecursion IsGivable given × (word ∷ fields ≡ codes "new" ∷ map setting_text given) × (settings_together given ≡ Some settings)
   either true e given =
       let same : word ≡ codes "new" = (bytes_eq-Decides word (codes "new")).0 e in
-      option_and_then_some decided (settings_from none_given fields) settings given (λ all is_all is_decided.
-      let read = settings_take fields none_given all is_all in
-      let together : settings_together read.0 ≡ Some settings = rw read.3 is_decided in
-      (read.0, read.1, ap (λ w. w ∷ fields) same ∙ ap (λ more. codes "new" ∷ more) (sym read.2), together))
+      let read = settings_take fields none_given settings given in
+      (read.0, read.1, ap (λ w. w ∷ fields) same ∙ ap (λ more. codes "new" ∷ more) (sym read.2), read.3)
   either false e given = cc
 
 -- a first line that is read gives settings that say what it was read as

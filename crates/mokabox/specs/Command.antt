@@ -5,7 +5,7 @@ use Rattle.std.specs.List.{join_with_byte}
 use Rattle.std.specs.Str.{bytes_eq}
 use Rattle.mokabox.specs.Fields.{line_reading, number_of, sole_number_of, sole_text_of, IsText}
 use Rattle.mokabox.specs.declared.command.Command.{Command}
-use Rattle.mokabox.specs.declared.command.Command.TheVariants.{At, Insert, Get, Has, Invalidate, Tasks, Count, Notices}
+use Rattle.mokabox.specs.declared.command.Command.TheVariants.{At, Insert, Get, Has, Invalidate, Tasks, Count, Weight, Notices}
 
 -- a command with the bytes of its texts
 abbrev pub PlainCommand : Type 0
@@ -19,6 +19,7 @@ plain_command (Has key) = Has key
 plain_command (Invalidate key) = Invalidate key
 plain_command Tasks = Tasks
 plain_command Count = Count
+plain_command Weight = Weight
 plain_command Notices = Notices
 
 -- the fields that a command is written as
@@ -30,6 +31,7 @@ command_fields (Has key) = codes "has" ∷ decimal key ∷ []
 command_fields (Invalidate key) = codes "invalidate" ∷ decimal key ∷ []
 command_fields Tasks = codes "tasks" ∷ []
 command_fields Count = codes "count" ∷ []
+command_fields Weight = codes "weight" ∷ []
 command_fields Notices = codes "notices" ∷ []
 
 -- the line that a command is written as, its fields separated by one space
@@ -45,6 +47,7 @@ IsExpressible (Has key) = key < 2 ^ 64
 IsExpressible (Invalidate key) = key < 2 ^ 64
 IsExpressible Tasks = Unit {0}
 IsExpressible Count = Unit {0}
+IsExpressible Weight = Unit {0}
 IsExpressible Notices = Unit {0}
 
 -- what reads the fields behind a command's word
@@ -68,6 +71,7 @@ words = (codes "at", λ rest. option_map At (sole_number_of rest))
     ∷ (codes "invalidate", λ rest. option_map Invalidate (sole_number_of rest))
     ∷ (codes "tasks", alone Tasks)
     ∷ (codes "count", alone Count)
+    ∷ (codes "weight", alone Weight)
     ∷ (codes "notices", alone Notices)
     ∷ []
 

@@ -22,6 +22,8 @@ pub enum Command<T> {
     Tasks,
     /// Asks how many keys are stored.
     Count,
+    /// Asks for the weight of all that is stored.
+    Weight,
     /// Takes all notices.
     Notices,
 }
@@ -53,6 +55,7 @@ fn read(mut fields: Fields<'_>) -> Option<Command<&str>>
         "invalidate" => Command::Invalidate(fields.sole_number()?),
         "tasks" => alone(fields, Command::Tasks)?,
         "count" => alone(fields, Command::Count)?,
+        "weight" => alone(fields, Command::Weight)?,
         "notices" => alone(fields, Command::Notices)?,
         _ => return None,
     };

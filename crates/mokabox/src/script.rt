@@ -2,9 +2,8 @@
 ghost use Rattle.std.specs.Prelude.{◌≡◌, ◌≢◌, ℕ, List, map, IfOk, IfSome, OnOk};
 ghost use Rattle.std.specs.Io.Iter.{split_byte, split_known_bytes};
 ghost use Rattle.std.specs.Io.KnownBytes.{Appends};
-ghost use Rattle.moka_base.specs.History.{Rules};
 ghost use Rattle.mokabox.specs.Answer.{answer_text};
-ghost use Rattle.mokabox.specs.Script.{Course, FirstPrints, LinesPrint, ScriptPrints, lines_of, lines_text};
+ghost use Rattle.mokabox.specs.Script.{ScriptRules, Course, FirstPrints, LinesPrint, ScriptPrints, lines_of, lines_text};
 ghost use Rattle.mokabox.specs.Session.{DoesLine, IsAt};
 ghost use Rattle.mokabox.specs.Status.{code_of};
 
@@ -105,7 +104,7 @@ fn go_on<R: BufRead + Drop, W: Write>(
     writer: &mut W,
 ) -> io::Result<bool>
     requires { split_byte lines ≡ 10 }
-    ensures { IfOk result (λ bad. (rules : Rules K V) (before : Course) →
+    ensures { IfOk result (λ bad. (rules : ScriptRules) (before : Course) →
         IsAt session.cache session.moment rules before → IfSome (split_known_bytes R.remaining lines) (λ input.
         (printed : List (List ℕ)) × LinesPrint rules before (lines_of input) printed bad
         × Appends (W.contents writer.old) (W.contents writer.new) (lines_text printed))) }

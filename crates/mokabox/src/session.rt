@@ -1,16 +1,20 @@
 //! The cache that a script drives.
-ghost use Rattle.std.specs.Prelude.{◌≡◌, [], ◌∷◌, map, IfOk, IfErr};
+ghost use Rattle.std.specs.Prelude.{◌≡◌, [], ◌∷◌, map, is_some, IfOk, IfErr};
+ghost use Rattle.std.specs.String.{string_bytes};
+ghost use Rattle.moka_base.specs.History.{no_lifetimes};
+ghost use Rattle.moka_base.specs.Policy.{is_lru};
 ghost use Rattle.mokabox.specs.Answer.{answer_text};
 ghost use Rattle.mokabox.specs.Command.{plain_command};
-ghost use Rattle.mokabox.specs.Script.{beginning, rules_by};
+ghost use Rattle.mokabox.specs.Script.{beginning, is_lru_by, rules_by};
 ghost use Rattle.mokabox.specs.Session.{IsAt, Prints};
+ghost use Rattle.mokabox.specs.Settings.{byte_weight};
 ghost use Rattle.mokabox.specs.declared.command.Command.TheVariants as commands;
 
 use crate::answer::{Answer, BuildRefusal};
 use crate::command::Command;
 use crate::settings;
-use crate::settings::Eviction;
-use moka::policy::{CacheTypes, EvictionPolicy, NumberHash};
+use crate::settings::{Eviction, Weighing};
+use moka::policy::{CacheTypes, CountTable, EvictionPolicy, NoExpiry, NumberHash, Weigher};
 use moka::state::{CacheState, Settings};
 use std::alloc::{AllocError, Global};
 use std::hash::BuildHasherDefault;
@@ -23,11 +27,35 @@ pub struct ScriptTypes;
 impl CacheTypes<u64, String> for ScriptTypes {
     type Hasher = BuildHasherDefault<NumberHash>;
 
+    type Weigher = Bytes;
+
+    type Expiry = NoExpiry;
+
+    type Frequency = CountTable<6>;
+
+    ghost weight = { λ _ text. byte_weight (string_bytes text) };
+
+    ghost equal_keys_weigh = { λ _ _ _ _. refl };
+
+    ghost lifetimes = { no_lifetimes };
+
     ghost keeps = { λ _ _. Unit {0} };
 
     ghost equal_keys_keep = { λ _ _ _ _ _. tt };
 
     ghost copies_keep = { λ _ _ _ _ _. tt };
+}
+
+/// Weighs each text by its length in bytes, or by the greatest weight where it is longer than that.
+#[derive(Clone, Copy, Debug)]
+pub struct Bytes;
+
+impl Weigher<u64, String> for Bytes {
+    ghost weighs = { λ _ weight. weight ≡ (λ _ text. byte_weight (string_bytes text)) };
+
+    fn weigh(&self, _key: &u64, text: &String) -> u32 {
+        u32::try_from(text.len()).unwrap_or(u32::MAX)
+    }
 }
 
 /// A cache and the moment of the commands.
@@ -46,14 +74,16 @@ impl Session {
         let Ok(hasher) = Arc::new(alloc, BuildHasherDefault::default()) else {
             return Err(BuildRefusal::OutOfMemory);
         };
+        let Ok(weigher) = weigher_of(alloc, settings.weigher) else {
+            return Err(BuildRefusal::OutOfMemory);
+        };
         let settings = Settings {
             time_to_live: settings.time_to_live.map(Duration::from_secs),
             time_to_idle: settings.time_to_idle.map(Duration::from_secs),
             max_capacity: settings.capacity,
-            // Where no policy is given there is no capacity, and then none matters.
-            eviction_policy: match settings.policy {
-                Some(Eviction::Lru) | None => EvictionPolicy::lru(),
-            },
+            eviction_policy: policy_of(settings.policy),
+            weigher,
+            expiry: None,
             first_number: settings.first_number.unwrap_or(0),
             hasher,
         };
@@ -102,6 +132,10 @@ impl Session {
                 let count = self.cache.entry_count();
                 one(self.alloc, Answer::Counted(count))
             }
+            Command::Weight => {
+                let weight = self.cache.weighted_size();
+                one(self.alloc, Answer::Counted(weight))
+            }
             Command::Notices => self.notices(),
         }
     }
@@ -140,6 +174,29 @@ impl Session {
         }
         answers.push(Answer::End)?;
         Ok(answers)
+    }
+}
+
+// What weighs the values of a cache, where its settings say how.
+fn weigher_of(
+    alloc: Global,
+    weighing: Option<Weighing>,
+) -> Result<Option<Arc<Bytes>>, AllocError>
+    ensures { IfOk result (λ weigher. is_some weigher ≡ is_some weighing) }
+{
+    match weighing {
+        Some(Weighing::Bytes) => Ok(Some(Arc::new(alloc, Bytes)?)),
+        None => Ok(None),
+    }
+}
+
+// The policy of a cache: TinyLFU, where its settings don't say otherwise.
+fn policy_of(eviction: Option<Eviction>) -> EvictionPolicy
+    ensures { is_lru result ≡ is_lru_by eviction }
+{
+    match eviction {
+        Some(Eviction::Lru) => EvictionPolicy::lru(),
+        Some(Eviction::TinyLfu) | None => EvictionPolicy::tiny_lfu(),
     }
 }
 

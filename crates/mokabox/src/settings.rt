@@ -2,7 +2,7 @@
 ghost use Rattle.std.specs.Prelude.{◌≡◌, ◌↔◌, IsSome, IfSome, OnSome, List, option_map};
 ghost use Rattle.std.specs.List.{AllByRecursion};
 ghost use Rattle.mokabox.specs.FieldsLeft.{fields_left};
-ghost use Rattle.mokabox.specs.Settings.{halves, setting_of, eviction_of, with_setting, decided, settings_of, settings_by, first_line_of, IsGivable, settings_together};
+ghost use Rattle.mokabox.specs.Settings.{halves, setting_of, eviction_of, weighing_of, with_setting, settings_of, settings_by, first_line_of, IsGivable, settings_together};
 ghost use Rattle.mokabox.specs.declared.settings.Setting.{Setting};
 
 use crate::fields::{Fields, number};
@@ -16,17 +16,28 @@ pub struct Settings {
     pub time_to_idle: Option<u64>,
     /// The first number that the cache draws.
     pub first_number: Option<u64>,
-    /// How many keys may stay stored.
+    /// How much may stay stored, by weight.
     pub capacity: Option<u64>,
-    /// Which keys leave where the capacity is passed.
+    /// Which keys leave where the capacity is passed, and which are admitted.
     pub policy: Option<Eviction>,
+    /// How values are weighed.
+    pub weigher: Option<Weighing>,
 }
 
-/// Which keys leave a cache that is too full.
+/// Which keys leave a cache that is too full, and which are admitted.
 #[derive(Clone, Copy, Debug, PartialEq, Eq)]
 pub enum Eviction {
-    /// The least recently used ones.
+    /// The least recently used ones leave, and each new one is admitted.
     Lru,
+    /// The least recently used ones leave, for a new one that was looked for more often than they.
+    TinyLfu,
+}
+
+/// How the values of a cache are weighed.
+#[derive(Clone, Copy, Debug, PartialEq, Eq)]
+pub enum Weighing {
+    /// By their length in bytes.
+    Bytes,
 }
 
 /// One setting of a first line.
@@ -38,10 +49,12 @@ pub enum Setting {
     TimeToIdle(u64),
     /// The first number that the cache draws.
     FirstNumber(u64),
-    /// How many keys may stay stored.
+    /// How much may stay stored, by weight.
     Capacity(u64),
-    /// Which keys leave where the capacity is passed.
+    /// Which keys leave where the capacity is passed, and which are admitted.
     Policy(Eviction),
+    /// How values are weighed.
+    Weigher(Weighing),
 }
 
 impl Settings {
@@ -54,20 +67,11 @@ impl Settings {
             Setting::TimeToLive(seconds) => give(&mut settings.time_to_live, seconds)?,
             Setting::TimeToIdle(seconds) => give(&mut settings.time_to_idle, seconds)?,
             Setting::FirstNumber(number) => give(&mut settings.first_number, number)?,
-            Setting::Capacity(keys) => give(&mut settings.capacity, keys)?,
+            Setting::Capacity(most) => give(&mut settings.capacity, most)?,
             Setting::Policy(eviction) => give(&mut settings.policy, eviction)?,
+            Setting::Weigher(weighing) => give(&mut settings.weigher, weighing)?,
         }
         Some(settings)
-    }
-
-    /// These settings. `None` where they give a capacity, and don't say which keys leave.
-    fn decided(self) -> Option<Settings>
-        ensures { result ≡ decided self }
-    {
-        if self.capacity.is_some() && self.policy.is_none() {
-            return None;
-        }
-        Some(self)
     }
 }
 
@@ -83,8 +87,7 @@ fn give<T: Drop>(place: &mut Option<T>, value: T) -> Option<()>
     Some(())
 }
 
-/// The settings that a first line gives. `None` where it is no such line, gives one twice, or gives a capacity without a
-/// policy.
+/// The settings that a first line gives. `None` where it is no such line, or gives one twice.
 pub fn parse(line: &[u8]) -> Option<Settings>
     // The line gives settings, and these are what they say together.
     ensures found { IfSome result (λ settings. (given : List Setting) × AllByRecursion IsGivable given
@@ -112,7 +115,7 @@ fn read(mut fields: Fields<'_>) -> Option<Settings>
     for field in fields {
         settings = settings.with(read_setting(field)?)?;
     }
-    settings.decided()
+    Some(settings)
 }
 
 /// The setting that a field gives.
@@ -126,16 +129,28 @@ fn read_setting(field: &str) -> Option<Setting>
         "first" => Some(Setting::FirstNumber(number(value)?)),
         "capacity" => Some(Setting::Capacity(number(value)?)),
         "policy" => Some(Setting::Policy(read_eviction(value)?)),
+        "weigher" => Some(Setting::Weigher(read_weighing(value)?)),
         _ => None,
     }
 }
 
-/// The keys that leave, by their name.
+/// The keys that leave and those that are admitted, by their name.
 fn read_eviction(name: &str) -> Option<Eviction>
     ensures { result ≡ eviction_of name.now }
 {
     match name {
         "lru" => Some(Eviction::Lru),
+        "tinylfu" => Some(Eviction::TinyLfu),
+        _ => None,
+    }
+}
+
+/// How values are weighed, by its name.
+fn read_weighing(name: &str) -> Option<Weighing>
+    ensures { result ≡ weighing_of name.now }
+{
+    match name {
+        "bytes" => Some(Weighing::Bytes),
         _ => None,
     }
 }

@@ -1,4 +1,4 @@
-use Rattle.mokabox.proofs.SessionLaws.{moved, contained, invalidated, maintained, counted, one_line}
+use Rattle.mokabox.proofs.SessionLaws.{moved, contained, invalidated, maintained, counted, weighed, one_line}
 use Rattle.mokabox.specs.declared.answer.Answer.TheVariants as answers
 use Rattle.mokabox.specs.declared.command.Command.TheVariants as commands
 use Rattle.mokabox.proofs.session.Session.execute.Goals as goal
@@ -23,6 +23,9 @@ returns-in-Tasks c = rw c.in-Tasks.is (one_line c.one-in-Tasks.result _ _ _ _ co
 
 pub returns-in-Count : goal.returns-in-Count
 returns-in-Count c = rw c.in-Count.is (one_line c.one-in-Count.result _ _ _ _ commands.Count (answers.Counted c.entry_count-count.result) c.one-in-Count.ensures (counted _ _ c.entry_count-count.result c.entry_count-count.ensures.reply c.entry_count-count.ensures.stands))
+
+pub returns-in-Weight : goal.returns-in-Weight
+returns-in-Weight c = rw c.in-Weight.is (one_line c.one-in-Weight.result _ _ _ _ commands.Weight (answers.Counted c.weighted_size-weight.result) c.one-in-Weight.ensures (weighed _ _ c.weighted_size-weight.result c.weighted_size-weight.ensures.reply c.weighted_size-weight.ensures.stands))
 
 pub returns-in-Notices : goal.returns-in-Notices
 returns-in-Notices c = rw c.in-Notices.is c.notices.ensures
