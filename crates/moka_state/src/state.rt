@@ -5,6 +5,7 @@ ghost use Rattle.std.specs.List.{AllByRecursion};
 ghost use Rattle.moka_base.specs.History.{Event, Get, ContainsKey, Invalidate, Maintain, Measure, EntryCount, WeightedSize, TakeNotice, latest, is_live, live, noticed, greatest_number, flush_point, stores_nothing, after_insert};
 ghost use Rattle.moka_base.specs.Maintenance.{total};
 ghost use Rattle.moka_base.specs.Replies.{answer, Found, Contains, Done, Counted, Noticed, IsAnswer};
+ghost use Rattle.moka_base.specs.SizeLaws.{WeighsOnes};
 ghost use Rattle.moka_base.specs.StandsFor.{StandsFor, Follows, AtEachHistory};
 ghost use Rattle.moka_base.specs.Policy.{is_lru};
 ghost use Rattle.moka_state.specs.Table.{leaving_of};
@@ -360,7 +361,7 @@ impl<K: Hash + Drop, V: Clone, C: CacheTypes<K, V>, R: RowStore<K, V>> State<K, 
         ensures counted { result ≡ length (all_writes self.now) }
         ensures reply { AtEachHistory K.eq (⟦<C as Means<K, V>>⟧.held self.now) (λ rules h. answer K.eq rules (Measure EntryCount) h ≡ Counted result) }
         ensures stands { Follows K.eq (⟦<C as Means<K, V>>⟧.held self.now) (Measure EntryCount) (⟦<C as Means<K, V>>⟧.held self.now) }
-        ensures bounded { AtEachHistory K.eq (⟦<C as Means<K, V>>⟧.held self.now) (λ rules h. ((k : K) (v : V) → rules.ways.weight k v ≡ 1) →
+        ensures bounded { AtEachHistory K.eq (⟦<C as Means<K, V>>⟧.held self.now) (λ rules h. WeighsOnes rules →
             IfSome self.now.max_capacity (λ capacity. result ≤ capacity + flush_point)) }
     {
         self.table.len() as u64

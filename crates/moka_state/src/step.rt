@@ -2,6 +2,7 @@
 ghost use Rattle.std.specs.Prelude.{◌≡◌, ◌+◌, ◌≤◌, length, IfOk, IfErr, IfSome, OnErr};
 ghost use Rattle.std.specs.List.{AllByRecursion};
 ghost use Rattle.moka_base.specs.History.{flush_point};
+ghost use Rattle.moka_base.specs.SizeLaws.{WeighsOnes};
 ghost use Rattle.moka_base.specs.StandsFor.{StandsFor, AtEachHistory};
 ghost use Rattle.moka_state.specs.State.{all_writes};
 ghost use Rattle.moka_state.specs.Step.{IsReplyTo, StepKeeps, ReplyKeeps, after, IsRun, after_all};
@@ -95,7 +96,7 @@ impl<K: Hash + Drop, V: Clone, C: CacheTypes<K, V>, R: RowStore<K, V>> State<K, 
         requires { AllByRecursion (StepKeeps C.keeps) steps.items }
         ensures replies { IfOk result (λ replies. AtEachHistory K.eq (⟦<C as Means<K, V>>⟧.held self.old) (λ rules h. IsRun K.eq V.is_clone rules h steps.items replies.items)) }
         ensures stands { IfOk result (λ replies. AtEachHistory K.eq (⟦<C as Means<K, V>>⟧.held self.old) (λ rules h. StandsFor K.eq rules (⟦<C as Means<K, V>>⟧.held self.new) (after_all K.eq rules steps.items replies.items h))) }
-        ensures bounded { IfOk result (λ _. AtEachHistory K.eq (⟦<C as Means<K, V>>⟧.held self.old) (λ rules h. ((k : K) (v : V) → rules.ways.weight k v ≡ 1) →
+        ensures bounded { IfOk result (λ _. AtEachHistory K.eq (⟦<C as Means<K, V>>⟧.held self.old) (λ rules h. WeighsOnes rules →
             IfSome self.new.max_capacity (λ capacity. length (all_writes self.new) ≤ capacity + flush_point))) }
         ensures refused { OnErr result (self.new ≡ self.old) }
         ensures cause { IfErr result (λ cause. cause ≡ Refused.OutOfMemory) }

@@ -42,6 +42,6 @@ returns-clause-stands g c rules h stands =
     rw whole was.3
 
 pub returns-clause-bounded : goal.returns-clause-bounded
-returns-clause-bounded g c rules h stands =
+returns-clause-bounded g c rules h stands ones =
     let was = c.loop-step.invariant.so_far rules h stands in
-    writes-bounded g.K.PartialEq.eq rules _ _ was.3
+    writes-bounded g.K.PartialEq.eq rules _ _ ones was.3
