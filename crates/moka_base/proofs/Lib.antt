@@ -22,6 +22,7 @@ pub mod MaintenanceOnes
 pub mod MaintenanceOrder
 pub mod MaintenanceResumed
 pub mod MaintenanceShortest
+pub mod MaintenanceWins
 pub mod Moves
 pub mod Noted
 pub mod Notices
