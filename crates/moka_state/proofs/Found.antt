@@ -1,15 +1,14 @@
 -- From rows by their numbers to stored writes by their keys.
-use Rattle.std.proofs.Common.{◌≡◌, ℕ, ◌+◌, ◌==◌, Bool, true, false, ◌&&◌, List, [], ◌∷◌, ◌++◌, Option, Some, None, MatchOption, refl, sym, ap, ◌∙◌, append_assoc, eq-eqb}
+use Rattle.std.proofs.Common.{◌≡◌, ℕ, ◌==◌, Bool, true, false, ◌&&◌, List, [], ◌∷◌, ◌++◌, Option, Some, None, MatchOption, refl, sym, ap, ◌∙◌, append_assoc, eq-eqb}
 use Rattle.std.specs.Arc.{arc_value}
 use Rattle.std.specs.List.{filter, AllByRecursion}
 use Rattle.std.specs.Cmp.{IsEquivalence}
 use Rattle.std.proofs.lemmas.List.{map-append}
 use Rattle.moka_base.specs.History.{Write}
-use Rattle.moka_base.specs.Maintenance.{total}
 use Rattle.moka_base.specs.StandsFor.{writes_of}
 use Rattle.moka_state.specs.declared.rows.Row.{Row}
 use Rattle.moka_state.specs.Rows.{row_under, with_row, without_row, is_row_of, IsRowOf, NoneIsRowOf}
-use Rattle.moka_state.specs.Table.{Contents, weight_of, entries, stored_write, stored_writes, UsesRow, TakesRow}
+use Rattle.moka_state.specs.Table.{Contents, entries, stored_write, stored_writes, UsesRow, TakesRow}
 use Rattle.moka_state.proofs.RowLemmas.{row_under-append_left, row_under-append_right, split_at_row}
 use Rattle.moka_state.proofs.Changes.{ChangesAt, OneEach, writes_of-found, changed, removed}
 
@@ -29,14 +28,6 @@ module _ {K V : Type 0} (eq : K → K → Bool) (laws : IsEquivalence eq) where
 
   pub stored-append : (ps qs : List (ℕ × Row K V)) → stored_writes (ps ++ qs) ≡ stored_writes ps ++ stored_writes qs
   stored-append ps qs = map-append (λ (p : ℕ × Row K V). stored_write p.1) ps qs
-
-  -- stored writes are as heavy as their rows
-  total-stored : (ps : List (ℕ × Row K V)) → total (λ (w : Write K V). w.weight) (stored_writes ps) ≡ total weight_of ps
-  total-stored [] = refl
-  total-stored (p ∷ ps) = ap (λ n. weight_of p + n) (total-stored ps)
-
-  pub stored-weight : (contents : Contents K V) → total (λ (w : Write K V). w.weight) (stored_writes contents.admitted ++ stored_writes contents.waiting) ≡ total weight_of (entries contents)
-  stored-weight contents = ap (total (λ (w : Write K V). w.weight)) (sym (stored-append contents.admitted contents.waiting)) ∙ total-stored (entries contents)
 
   -- the same change, of writes that are equal
   pub changes-along : (k : K) {a b a' b' : List (Write K V)} (o : Option (Write K V)) → a ≡ a' → b ≡ b' → ChangesAt eq laws k a' b' o → ChangesAt eq laws k a b o
