@@ -3,6 +3,7 @@ pub mod Changes
 pub mod Counts
 pub mod Cursors
 pub mod Deadlines
+pub mod Elements
 pub mod Found
 pub mod Judging
 pub mod Lengths
