@@ -14,7 +14,7 @@ use Rattle.moka_state.specs.declared.rows.Row.{Row}
 use Rattle.moka_state.specs.Lives.{deadline_of}
 use Rattle.moka_state.specs.Table.{Contents, entries, weight_of}
 use Rattle.moka_state.specs.Maintain.{is_alive, living, dead, notices_for, notice_for, notice_at, row_wins, rows_of, row_parts, judgements, IsDueFrom, IsMaintained}
-use Rattle.moka_state.proofs.Sound.{all-front, all-back}
+use Rattle.moka_state.proofs.Elements.{all-front, all-back}
 
 -- what leaves as those that wait are judged was admitted or waited
 pub All-leaving_judged : {X : Type 0} (P : X → Type 0) (weight : X → ℕ) (capacity : Option ℕ) (wins : X → List X → Bool) (admitted waiting : List X) → All P admitted → All P waiting → All P (leaving_in (judged weight capacity wins admitted waiting))
