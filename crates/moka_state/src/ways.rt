@@ -7,6 +7,9 @@ ghost use Rattle.moka_base.specs.Policy.{is_lru};
 ghost use Rattle.moka_state.specs.Lives.{own_life, own_of};
 ghost use Rattle.moka_state.specs.Ways.{WaysData};
 
+#[cfg(test)]
+mod tests;
+
 use crate::lives::{given, rest};
 use crate::means::Means;
 use crate::rows::{EntryInfo, OwnLife};

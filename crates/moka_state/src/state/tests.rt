@@ -1,13 +1,16 @@
 //! Caches over lists of rows, by their calls.
-ghost use Rattle.std.specs.Prelude.{◌%◌, nat_eq};
+ghost use Rattle.std.specs.Prelude.{◌%◌, nat_eq, refl};
 ghost use Rattle.std.proofs.Common.{rules};
 ghost use Rattle.std.specs.Cmp.Rules.{comparing, hashing};
 ghost use Rattle.std.specs.Ordering.{on};
 ghost use Rattle.std.specs.Hash as fed;
+ghost use Rattle.moka_base.specs.History.{no_lifetimes};
 
 use crate::state::{CacheState, InsertRefused, Settings, State};
 use moka_base::notification::RemovalCause;
-use moka_base::policy::{CacheTypes, EvictionPolicy, NumberHash, Refused};
+use moka_base::policy::{
+    CacheTypes, CountTable, EvictionPolicy, NoExpiry, NoWeigher, NumberHash, Refused,
+};
 use std::alloc::{AllocError, Global};
 use std::hash::{BuildHasher, BuildHasherDefault, Hash, Hasher};
 use std::process::Abort;
@@ -15,11 +18,23 @@ use std::sync::Arc;
 use std::test::Fail;
 use std::time::Duration;
 
-/// The types of a cache that keeps every key and value.
+/// The types of a cache that keeps every key and value, without a weigher and an expiry.
 pub(crate) struct Types<S>(S);
 
 impl<K: Eq, V: Clone, S: BuildHasher + Drop> CacheTypes<K, V> for Types<S> {
     type Hasher = S;
+
+    type Weigher = NoWeigher;
+
+    type Expiry = NoExpiry;
+
+    type Frequency = CountTable<6>;
+
+    ghost weight = { λ _ _. 1 };
+
+    ghost equal_keys_weigh = { λ _ _ _ _. refl };
+
+    ghost lifetimes = { no_lifetimes };
 
     ghost keeps = { λ _ _. Unit {0} };
 
@@ -46,10 +61,11 @@ impl Hasher for Collides {
     fn write(&mut self, _bytes: &[u8]) {}
 }
 
-/// How a cache is built: its capacity, its lives in seconds, and its first number.
+/// How a cache is built: its capacity and its policy, its lives in seconds, and its first number.
 #[derive(Clone, Copy)]
 pub(crate) struct Rules {
     pub max_capacity: Option<u64>,
+    pub is_tiny_lfu: bool,
     pub time_to_live: Option<u64>,
     pub time_to_idle: Option<u64>,
     pub first_number: u64,
@@ -57,6 +73,7 @@ pub(crate) struct Rules {
 
 pub(crate) const WITHOUT_LIVES: Rules = Rules {
     max_capacity: None,
+    is_tiny_lfu: false,
     time_to_live: None,
     time_to_idle: None,
     first_number: 0,
@@ -70,11 +87,18 @@ pub(crate) fn built<K: Hash + Drop, V: Clone, S: BuildHasher + Drop>(
     let Ok(hasher) = Arc::new(alloc, hasher) else {
         return Err(Refused::OutOfMemory);
     };
+    let eviction_policy = if rules.is_tiny_lfu {
+        EvictionPolicy::tiny_lfu()
+    } else {
+        EvictionPolicy::lru()
+    };
     State::new(
         alloc,
         Settings {
             max_capacity: rules.max_capacity,
-            eviction_policy: EvictionPolicy::lru(),
+            eviction_policy,
+            weigher: None,
+            expiry: None,
             time_to_live: rules.time_to_live.map(Duration::from_secs),
             time_to_idle: rules.time_to_idle.map(Duration::from_secs),
             first_number: rules.first_number,
@@ -138,6 +162,22 @@ fn answer<S: BuildHasher + Drop>(
     }
 }
 
+/// Each call at its moment answers this text, with this hasher.
+pub(crate) fn answers_by<S: BuildHasher + Drop>(
+    rt: &impl Abort,
+    alloc: Global,
+    rules: Rules,
+    hasher: S,
+    calls: &[(Call, u64, &'static str)],
+) -> Result<(), Fail> {
+    let mut cache = built::<u64, String, _>(alloc, rules, hasher)?;
+    for (call, now, expected) in calls {
+        let found = answer(alloc, &mut cache, *call, *now)?;
+        assert_eq!(rt; found.as_str(), *expected, "at {now}");
+    }
+    Ok(())
+}
+
 /// Each call at its moment answers this text, whatever the hasher.
 pub(crate) fn answers(
     rt: &impl Abort,
@@ -145,19 +185,14 @@ pub(crate) fn answers(
     rules: Rules,
     calls: &[(Call, u64, &'static str)],
 ) -> Result<(), Fail> {
-    let mut by_number = built::<u64, String, _>(alloc, rules, ByNumber::new())?;
-    let mut colliding = built::<u64, String, _>(
+    answers_by(rt, alloc, rules, ByNumber::new(), calls)?;
+    answers_by(
+        rt,
         alloc,
         rules,
         BuildHasherDefault::<Collides>::new(),
-    )?;
-    for (call, now, expected) in calls {
-        let found = answer(alloc, &mut by_number, *call, *now)?;
-        assert_eq!(rt; found.as_str(), *expected, "at {now}");
-        let found = answer(alloc, &mut colliding, *call, *now)?;
-        assert_eq!(rt; found.as_str(), *expected, "at {now}, where keys collide");
-    }
-    Ok(())
+        calls,
+    )
 }
 
 const ALL_CALLS: [(Call, u64, &str); 19] = [

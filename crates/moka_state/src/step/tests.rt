@@ -34,13 +34,14 @@ fn said(alloc: Global, reply: Reply<u64, String>) -> Result<String, AllocError> 
 }
 
 /// A step of each kind, and what one after another they answer where one number is left.
-const EXPECTED: [&str; 10] = [
+const EXPECTED: [&str; 11] = [
     "found none",
     "done",
     "refused NumbersUsedUp",
     "found one",
     "contains true",
     "done",
+    "counted 1",
     "counted 1",
     "done",
     "noticed 1 one Explicit",
@@ -83,6 +84,7 @@ fn steps(alloc: Global) -> Result<Vec<Step<u64, String>>, AllocError>
         },
         Step::RunPendingTasks { now: 0 },
         Step::EntryCount,
+        Step::WeightedSize,
         Step::Invalidate { key, now: 0 },
         Step::TakeNotice,
         Step::TakeNotice,
@@ -132,6 +134,7 @@ fn answers_each_step(rt: HostRuntime) -> Result<(), Fail> {
     }))?;
     found.push(cache.step(Step::RunPendingTasks { now: 0 }))?;
     found.push(cache.step(Step::EntryCount))?;
+    found.push(cache.step(Step::WeightedSize))?;
     found.push(cache.step(Step::Invalidate { key, now: 0 }))?;
     found.push(cache.step(Step::TakeNotice))?;
     found.push(cache.step(Step::TakeNotice))?;
