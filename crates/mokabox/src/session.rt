@@ -1,5 +1,5 @@
 //! The cache that a script drives.
-ghost use Rattle.std.specs.Prelude.{◌≡◌, [], ◌∷◌, map, is_some, IfOk, IfErr};
+ghost use Rattle.std.specs.Prelude.{◌≡◌, refl, [], ◌∷◌, map, is_some, IfOk, IfErr};
 ghost use Rattle.std.specs.String.{string_bytes};
 ghost use Rattle.moka_base.specs.History.{no_lifetimes};
 ghost use Rattle.moka_base.specs.Policy.{is_lru};
