@@ -178,10 +178,7 @@ impl Session {
 }
 
 // What weighs the values of a cache, where its settings say how.
-fn weigher_of(
-    alloc: Global,
-    weighing: Option<Weighing>,
-) -> Result<Option<Arc<Bytes>>, AllocError>
+fn weigher_of(alloc: Global, weighing: Option<Weighing>) -> Result<Option<Arc<Bytes>>, AllocError>
     ensures { IfOk result (λ weigher. is_some weigher ≡ is_some weighing) }
 {
     match weighing {
