@@ -1,5 +1,5 @@
 -- A cache that was just built is where a script begins.
-use Rattle.std.proofs.Common.{◌≡◌, ◌*◌, ◌%◌, ◌^◌, ◌<◌, ℕ, Bool, false, cond, is_some, List, [], Option, Some, None, option_map, unwrap_or, nat_eq, refl, sym, ap, ◌∙◌, subst}
+use Rattle.std.proofs.Common.{◌≡◌, ◌*◌, ◌%◌, ◌^◌, ◌<◌, ℕ, Bool, false, cond, is_some, [], Option, Some, None, option_map, unwrap_or, nat_eq, refl, ap, ◌∙◌, subst}
 use Rattle.std.proofs.Math.Path.{fun_ext}
 use Rattle.std.specs.Duration.{as_nanos}
 use Rattle.std.specs.declared.time.Duration.{Duration}

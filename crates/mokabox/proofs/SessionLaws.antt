@@ -17,7 +17,7 @@ use Rattle.mokabox.specs.Answer.{answer_text, refusal_number}
 use Rattle.mokabox.specs.declared.answer.Answer.TheVariants as answers
 use Rattle.mokabox.specs.Command.{PlainCommand}
 use Rattle.mokabox.specs.declared.command.Command.TheVariants as commands
-use Rattle.mokabox.specs.Events.{event_by, write_by, answer_by, rules_before}
+use Rattle.mokabox.specs.Events.{event_by, write_by, answer_by}
 use Rattle.mokabox.specs.Script.{ScriptEvent, ScriptRules, Course, course_with, reply_text, write_event, Accepts, AcceptsWrite, Refuses, CommandPrints}
 use Rattle.mokabox.specs.Session.{ScriptCache, held, text_rules, IsAt, Prints}
 use Rattle.mokabox.proofs.Truth.{untrue, ne_true-false}

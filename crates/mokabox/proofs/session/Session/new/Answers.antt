@@ -1,4 +1,4 @@
-use Rattle.std.proofs.Common.{is_some, rules, arith}
+use Rattle.std.proofs.Common.{is_some, rules}
 use Rattle.std.specs.Arc.{arc_value}
 use Rattle.moka_base.specs.Policy.{is_lru}
 use Rattle.mokabox.proofs.FirstCache.{begins}
