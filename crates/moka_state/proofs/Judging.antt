@@ -1,8 +1,6 @@
 -- What a judgement of the waiting rows finds and does, row by row.
-use Rattle.std.proofs.Common.{◌≡◌, ℕ, zero, suc, ◌+◌, ◌-◌, ◌*◌, ◌<◌, ◌≤◌, Bool, true, false, cond, Option, Some, None, List, [], ◌∷◌, ◌++◌, length, take, drop, refl, sym, ap, subst, ◌∙◌, arith, append_assoc, length-append, add-one}
-use Rattle.std.specs.Option.{IfSome}
+use Rattle.std.proofs.Common.{◌≡◌, ℕ, suc, ◌+◌, ◌*◌, ◌≤◌, true, false, Option, Some, None, List, [], ◌∷◌, ◌++◌, length, refl, sym, ap, ◌∙◌, arith, length-append}
 use Rattle.std.proofs.lemmas.Bool.{cond-false}
-use Rattle.std.proofs.Math.Seq.{take-append_seam}
 use Rattle.moka_base.specs.Maintenance.{total, fits, front}
 use Rattle.moka_base.proofs.Maintenance.{total-append, front-fits}
 use Rattle.moka_state.specs.declared.rows.Row.{Row}
@@ -105,23 +103,9 @@ module _ {K V : Type 0} where
       pub sum_is : sum ≡ frequencies frequency_of passed
       pub small : sum ≤ count * 255
 
-    pub adds-first : (rows : List (ℕ × Row K V)) (cursor : Option ℕ) → cursor ≡ first_number rows → Adds rows cursor 0 0 [] rows
-    adds-first rows cursor first = record { walks = walks-first rows cursor first; counted = refl; sum_is = refl; small = omega arith }
 
     module _ (rows : List (ℕ × Row K V)) (sum count : ℕ) (passed rest : List (ℕ × Row K V)) where
-      -- so many are passed, so theirs is the sum
-      pub adds-all : (cursor : Option ℕ) → Adds rows cursor sum count passed rest → sum ≡ frequencies frequency_of (take count rows)
-      adds-all cursor adds =
-          let front : take count rows ≡ passed = ap (λ n. take n rows) adds.counted ∙ ap (take (length passed)) adds.walks.whole ∙ take-append_seam passed rest in
-          adds.sum_is ∙ ap (frequencies frequency_of) (sym front)
 
-      -- before the last there is one more
-      pub adds-more : Adds rows None sum count passed rest → length rows ≤ count
-      adds-more adds =
-          let nothing : length rest ≡ 0 = ap length (none-left rest adds.walks.cursor_at) in
-          let lengths = ap length adds.walks.whole ∙ length-append passed rest in
-          let counted = adds.counted in
-          omega (arith, lengths)
 
       pub adds-on : (n : ℕ) → Adds rows (Some n) sum count passed rest → (row : Row K V) (next : Option ℕ) (back : List (ℕ × Row K V)) → AtCursor rows passed rest n row next back
           → (more : ℕ) → more ≡ frequency_of row.hash → more ≤ 255 → Adds rows next (sum + more) (count + 1) (passed ++ (n, row) ∷ []) back

@@ -1,5 +1,5 @@
 -- A sweep of the rows of an order: the dead leave, and the earliest deadline of those that stay is found.
-use Rattle.std.proofs.Common.{◌≡◌, ℕ, suc, true, false, Option, Some, None, List, [], ◌∷◌, ◌++◌, length, refl, sym, ap, subst, ◌∙◌, append_assoc}
+use Rattle.std.proofs.Common.{◌≡◌, ℕ, suc, true, false, Option, Some, List, [], ◌∷◌, ◌++◌, length, refl, sym, ap, subst, ◌∙◌, append_assoc}
 use Rattle.std.proofs.lemmas.List.{append-nil}
 use Rattle.moka_base.specs.declared.notification.Notice.{Notice}
 use Rattle.moka_base.specs.declared.notification.RemovalCause.TheVariants.{Expired}
@@ -38,15 +38,6 @@ module _ {K V : Type 0} (lives : Lives) (at : ℕ) (settled first : List (ℕ ×
     pub noticed : notices ≡ noted ++ notices_for Expired (dead lives at first)
     pub due : IsDueFrom earliest lives (settled ++ rows)
 
-  pub sweeps-done : (rows : List (ℕ × Row K V)) (notices : List (Notice K V)) (earliest : Option ℕ) (kept rest : List (ℕ × Row K V)) → Sweeps rows notices None earliest kept rest → IsSwept rows notices earliest
-  sweeps-done rows notices earliest kept rest swept =
-      let none : rest ≡ [] = sym swept.ahead in
-      let all : rows ≡ kept = swept.walks.whole ∙ ap (λ l. kept ++ l) none ∙ append-nil kept in
-      record {
-        alive = all ∙ sym (append-nil kept) ∙ ap (λ l. kept ++ living lives at l) (sym none) ∙ swept.alive;
-        noticed = sym (append-nil notices) ∙ ap (λ l. notices ++ notices_for Expired (dead lives at l)) (sym none) ∙ swept.noticed;
-        due = subst (λ (l : List (ℕ × Row K V)). IsDueFrom earliest lives (settled ++ l)) (sym all) swept.due;
-      }
 
   module _ (rows : List (ℕ × Row K V)) (notices : List (Notice K V)) (n : ℕ) (earliest : Option ℕ) (kept rest : List (ℕ × Row K V)) (swept : Sweeps rows notices (Some n) earliest kept rest)
       (row : Row K V) (cursor : Option ℕ) (back : List (ℕ × Row K V)) (here : AtCursor rows kept rest n row cursor back) (deadline : Option ℕ) (deadline_is : deadline ≡ deadline_of lives row.info) where

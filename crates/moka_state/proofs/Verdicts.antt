@@ -1,15 +1,14 @@
 -- The judgement of the first row that waits, and of all, as what is left to do.
-use Rattle.std.proofs.Common.{◌≡◌, ℕ, suc, ◌==◌, ◌||◌, ◌&&◌, ◌+◌, Bool, true, false, cond, Option, Some, None, List, [], ◌∷◌, ◌++◌, length, map, take, drop, refl, sym, ap, subst, ◌∙◌, arith, append_assoc}
+use Rattle.std.proofs.Common.{◌≡◌, ℕ, ◌==◌, ◌||◌, ◌+◌, Bool, true, false, cond, Option, Some, None, List, [], ◌∷◌, ◌++◌, take, drop, refl, sym, ap, subst, ◌∙◌}
 use Rattle.std.specs.Option.{IfSome, IsSome}
 use Rattle.std.proofs.lemmas.Bool.{cond-true, cond-false}
-use Rattle.std.proofs.lemmas.List.{append-nil, map-append}
 use Rattle.moka_base.specs.declared.notification.RemovalCause.TheVariants.{Size}
-use Rattle.moka_base.specs.Maintenance.{Queues, Part, fits, front, judge, judged, leaving_in, after_parts}
-use Rattle.moka_base.proofs.Maintenance.{admitting, dropping, judge_both}
+use Rattle.moka_base.specs.Maintenance.{Part, fits, front, judge, judged, leaving_in, after_parts}
+use Rattle.moka_base.proofs.Maintenance.{admitting, dropping}
 use Rattle.moka_state.specs.declared.rows.Row.{Row}
 use Rattle.moka_state.specs.Rows.{row_under, without_row, first_number, NumbersDiffer}
 use Rattle.moka_state.specs.Table.{Contents, entries, weight_of, TakesRow}
-use Rattle.moka_state.specs.Maintain.{notice_for, notices_for, is_within, hash_wins, row_wins, rows_of, judgements, JudgesFirst}
+use Rattle.moka_state.specs.Maintain.{notice_for, notices_for, is_within, hash_wins, row_wins, JudgesFirst}
 use Rattle.moka_state.proofs.RowLemmas.{row_under-append_right}
 use Rattle.moka_state.proofs.Cursors.{begins-with, absent-before, stored-at, row_under-at, without_row-at}
 use Rattle.moka_state.proofs.Maintaining.{left-waiting}
@@ -139,38 +138,7 @@ module _ {K V : Type 0} where
     abbrev leaves : List (ℕ × Row K V) → List (ℕ × Row K V) → List (ℕ × Row K V)
     leaves admitted waiting = leaving_in (judged weight_of capacity wins admitted waiting)
 
-    ends-step : (admitted : List (ℕ × Row K V)) (x : ℕ × Row K V) (xs : List (ℕ × Row K V)) → ends admitted (x ∷ xs) ≡ ends (judge weight_of capacity wins admitted x xs).after.admitted xs
-    ends-step admitted x xs =
-        let next : List (ℕ × Row K V) = (judge weight_of capacity wins admitted x xs).after.admitted in
-        let still : (judge weight_of capacity wins admitted x xs).after ≡ record { admitted = next; waiting = xs } =
-        judge_both weight_of capacity wins admitted x xs (λ (p : Part (ℕ × Row K V)). p.after ≡ record { admitted = p.after.admitted; waiting = xs }) (λ _. refl) refl in
-        ap (λ (q : Queues (ℕ × Row K V)). (after_parts q (judged weight_of capacity wins next xs)).admitted) still
-
     -- The judgements on their way: what those that are left make of the admitted and let leave is what it was at first.
     pub record JudgesAll (first table : Contents K V) : Type 0 where
       pub admitted : ends table.admitted table.waiting ≡ ends first.admitted first.waiting
       pub notices : table.notices ++ notices_for Size (leaves table.admitted table.waiting) ≡ first.notices ++ notices_for Size (leaves first.admitted first.waiting)
-
-    -- they go on over the first that waits,
-    pub judges-on : (first table new : Contents K V) → JudgesAll first table → (p : ℕ × Row K V) (rest : List (ℕ × Row K V)) → JudgesFirst is_lru frequency_of capacity p rest table new
-        → JudgesAll first new × (length table.waiting ≡ suc (length new.waiting))
-    judges-on first table new all p rest is =
-        let part : Part (ℕ × Row K V) = judge weight_of capacity wins table.admitted p rest in
-        (
-          record {
-            admitted = ap (λ l. ends l new.waiting) is.admitted ∙ ap (ends part.after.admitted) is.waiting ∙ sym (ends-step table.admitted p rest) ∙ ap (ends table.admitted) (sym is.waited) ∙ all.admitted;
-            notices = ap (λ l. l ++ notices_for Size (leaves new.admitted new.waiting)) is.notices
-                ∙ ap (λ l. (table.notices ++ notices_for Size part.leaves) ++ notices_for Size (leaves l new.waiting)) is.admitted
-                ∙ ap (λ l. (table.notices ++ notices_for Size part.leaves) ++ notices_for Size (leaves part.after.admitted l)) is.waiting
-                ∙ append_assoc table.notices (notices_for Size part.leaves) (notices_for Size (leaves part.after.admitted rest))
-                ∙ ap (λ l. table.notices ++ l) (sym (map-append (notice_for Size) part.leaves (leaves part.after.admitted rest)))
-                ∙ ap (λ l. table.notices ++ notices_for Size (leaves table.admitted l)) (sym is.waited)
-                ∙ all.notices;
-          },
-          ap length is.waited ∙ ap (λ (l : List (ℕ × Row K V)). suc (length l)) (sym is.waiting),
-        )
-
-    -- and end where none waits
-    pub judges-done : (first table : Contents K V) → JudgesAll first table → table.waiting ≡ [] → (table.admitted ≡ ends first.admitted first.waiting) × (table.notices ≡ first.notices ++ notices_for Size (leaves first.admitted first.waiting))
-    judges-done first table all none =
-        (ap (ends table.admitted) (sym none) ∙ all.admitted, sym (append-nil table.notices) ∙ ap (λ l. table.notices ++ notices_for Size (leaves table.admitted l)) (sym none) ∙ all.notices)

@@ -12,7 +12,7 @@ use Rattle.moka_state.specs.Table.{Contents, entries, weight_of, UsesRow, TakesR
 use Rattle.moka_state.proofs.Cursors.{absent-before, row_under-at}
 use Rattle.moka_state.proofs.RowLemmas.{row_under-append_left, row_under-append_right, split_at_row}
 use Rattle.moka_state.proofs.Elements.{all-append, all-front, all-back}
-use Rattle.moka_state.proofs.Sound.{of-row, of-used, of-taken}
+use Rattle.moka_state.proofs.Sound.{of-used, of-taken}
 
 module _ {K V : Type 0} where
   -- rows whose weights are of 32 bits weigh less than as many times the least that is not

@@ -1,6 +1,6 @@
-use Rattle.std.proofs.Common.{[], ◌∷◌, ◌++◌, sym, ◌∙◌, arith}
+use Rattle.std.proofs.Common.{[], ◌∷◌, ◌++◌, ◌∙◌, arith}
 use Rattle.moka_state.proofs.Walks.{at-admitted, walks-stored}
-use Rattle.moka_state.proofs.Judging.{adds-first, adds-all, adds-more, adds-on}
+use Rattle.moka_state.proofs.Judging.{adds-on}
 use Rattle.moka_state.proofs.maintain.frequency_of_first.Goals as goal
 
 pub next-cursor-requires : goal.next-cursor-requires

@@ -2,7 +2,7 @@ use Rattle.std.proofs.Common.{◌∙◌, None, [], ◌∷◌, ◌++◌, refl, sy
 use Rattle.moka_base.specs.declared.notification.RemovalCause.TheVariants.{Expired}
 use Rattle.moka_state.proofs.Walks.{at-admitted, walks-stored}
 use Rattle.moka_state.proofs.Maintaining.{left-admitted}
-use Rattle.moka_state.proofs.Sweeping.{sweeps-first, sweeps-done, sweeps-over_dead, sweeps-over_alive, rest-shorter}
+use Rattle.moka_state.proofs.Sweeping.{sweeps-first, sweeps-over_dead, sweeps-over_alive, rest-shorter}
 use Rattle.moka_state.proofs.maintain.sweep.Goals as goal
 
 pub loop-cursor-init : goal.loop-cursor-init

@@ -3,7 +3,7 @@ use Rattle.std.proofs.lemmas.List.{append-nil}
 use Rattle.moka_base.specs.declared.notification.RemovalCause.TheVariants.{Expired}
 use Rattle.moka_state.proofs.Walks.{at-waiting, walks-stored}
 use Rattle.moka_state.proofs.Maintaining.{left-waiting}
-use Rattle.moka_state.proofs.Sweeping.{sweeps-first, sweeps-done, sweeps-over_dead, sweeps-over_alive, rest-shorter}
+use Rattle.moka_state.proofs.Sweeping.{sweeps-first, sweeps-over_dead, sweeps-over_alive, rest-shorter}
 use Rattle.moka_state.proofs.maintain.sweep_waiting.Goals as goal
 
 pub loop-cursor-init : goal.loop-cursor-init

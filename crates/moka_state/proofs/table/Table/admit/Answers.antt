@@ -1,4 +1,4 @@
-use Rattle.std.proofs.Common.{refl, ◌+◌, ◌-◌, arith}
+use Rattle.std.proofs.Common.{◌+◌, ◌-◌, arith}
 use Rattle.moka_base.proofs.Maintenance.{total-append}
 use Rattle.moka_state.specs.Table.{weight_of}
 use Rattle.moka_state.proofs.Lengths.{length-admitted}
