@@ -12,11 +12,15 @@ use std::test::Fail;
 const FIRST: EntryInfo = EntryInfo {
     last_modified: 5,
     last_accessed: 5,
+    own_life: None,
+    policy_weight: 1,
 };
 
 const LATER: EntryInfo = EntryInfo {
     last_modified: 8,
     last_accessed: 8,
+    own_life: None,
+    policy_weight: 1,
 };
 
 /// Adds a row for a key of this hash.
