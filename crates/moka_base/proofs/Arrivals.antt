@@ -6,10 +6,9 @@ use Rattle.std.specs.Cmp.{IsEquivalence}
 use Rattle.std.proofs.lemmas.List.{map-append}
 use Rattle.std.proofs.lemmas.List.Elements.{filter-append, filter_agree}
 use Rattle.moka_base.specs.Maintenance.{Queues}
-use Rattle.moka_base.specs.History.{Event, Get, ContainsKey, Insert, Invalidate, Maintain, Skip, Measure, TakeNotice, Rules, Write, latest, is_live, standing, maintained, queues}
+use Rattle.moka_base.specs.History.{Event, Get, ContainsKey, Insert, Invalidate, Maintain, Skip, Measure, TakeNotice, Rules, Write, latest, standing, frequency, queues}
 use Rattle.moka_base.specs.StandsFor.{writes_of}
 use Rattle.moka_base.specs.OrderLaws.{keys, lasts, openings, waits}
-use Rattle.moka_base.proofs.Maintenance.{after-parts}
 use Rattle.moka_base.proofs.ListLemmas.{filter-both, one_side}
 use Rattle.moka_base.proofs.QueuesHold.{opening, held-queues, held-append, maintained-none_waits}
 use Rattle.moka_base.proofs.Moves.{none_held, written_in-anew, look-waiting_keys, overwrite-waiting_keys, removed_in-waiting_keys}
@@ -190,7 +189,7 @@ module _ {K V : Type 0} (eq : K → K → Bool) (rules : Rules K V) (laws : IsEq
       go None e kept = subst (λ ks. KeepsArrival eq ks (openings eq rules h ++ p ∷ [])) (sym (opening-waiting_keys p v at h e)) (KeepsArrival-push eq laws (keys (queues eq rules h).waiting) (openings eq rules h) p (is_among-none h p e) kept)
       go (Some w) e kept = subst (λ ks. KeepsArrival eq ks (openings eq rules h)) (sym (standing-waiting_keys p v at h w e)) kept
   keeps_arrival (Invalidate p at ∷ h) = subst (λ ks. KeepsArrival eq ks (openings eq rules h)) (sym (removed_in-waiting_keys eq rules p (queues eq rules h))) (KeepsArrival-filter eq laws (keys (queues eq rules h).waiting) (openings eq rules h) p (keeps_arrival h))
-  keeps_arrival (Maintain at ∷ h) = subst (λ ks. KeepsArrival eq ks (openings eq rules h)) (sym (ap keys (maintained-none_waits eq rules (latest (Maintain at ∷ h)) (queues eq rules h)))) (KeepsArrival-none eq laws (openings eq rules h))
+  keeps_arrival (Maintain at ∷ h) = subst (λ ks. KeepsArrival eq ks (openings eq rules h)) (sym (ap keys (maintained-none_waits eq rules (frequency rules h) (latest (Maintain at ∷ h)) (queues eq rules h)))) (KeepsArrival-none eq laws (openings eq rules h))
   keeps_arrival (Skip at ∷ h) = keeps_arrival h
   keeps_arrival (Measure what ∷ h) = keeps_arrival h
   keeps_arrival (TakeNotice ∷ h) = keeps_arrival h

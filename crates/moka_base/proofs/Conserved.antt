@@ -1,12 +1,12 @@
 -- Each value that was written to a key has left, or stands.
-use Rattle.std.proofs.Common.{◌≡◌, ℕ, max, Bool, true, false, if◌then◌else◌, Option, Some, None, List, [], ◌∷◌, ◌++◌, refl, sym, ap, ◌∙◌, append-nil, map, cond, length, filter, length-append, add_comm, ◌+◌, ⊎_elim}
+use Rattle.std.proofs.Common.{◌≡◌, ℕ, Bool, true, false, if◌then◌else◌, Option, Some, None, List, [], ◌∷◌, ◌++◌, refl, sym, ap, ◌∙◌, append-nil, map, cond, length, filter, length-append, add_comm, ◌+◌, ⊎_elim}
 use Rattle.std.specs.Cmp.{IsEquivalence}
 use Rattle.std.specs.Option.{option_map, option_to_list}
 use Rattle.std.proofs.lemmas.Bool.{cond-true, cond-false, cond_both, cases_Bool}
 use Rattle.std.proofs.lemmas.List.Elements.{filter-append}
 use Rattle.moka_base.specs.declared.notification.RemovalCause.{RemovalCause}
 use Rattle.moka_base.specs.declared.notification.RemovalCause.TheVariants.{Explicit, Replaced, Size}
-use Rattle.moka_base.specs.History.{Event, Get, ContainsKey, Insert, Invalidate, Maintain, Skip, Measure, TakeNotice, Rules, Write, Leaving, latest, is_live, after_look, after_write, let_go, queues, leaves_in, standing, leaving_of, left, leavings}
+use Rattle.moka_base.specs.History.{Event, Get, ContainsKey, Insert, Invalidate, Maintain, Skip, Measure, TakeNotice, Rules, Write, Leaving, latest, is_live, hit, after_look, after_write, frequency, let_go, queues, leaves_in, standing, leaving_of, left, leavings}
 use Rattle.moka_base.specs.Laws.{values_written, values_left, value_standing}
 use Rattle.moka_base.specs.StandsFor.{writes_of}
 use Rattle.moka_base.proofs.QueuesHold.{held-maintained, held-queues}
@@ -36,7 +36,7 @@ module _ {K V : Type 0} (eq : K → K → Bool) (rules : Rules K V) where
   -- a hit keeps the value
   value_standing-after_look : (at : ℕ) (o : Option (Write K V)) → value_standing (option_map (after_look rules at) o) ≡ value_standing o
   value_standing-after_look at None = refl
-  value_standing-after_look at (Some w) = cond_both (is_live rules w at) (record w { used = max w.used at }) w (λ (u : Write K V). (u.value ∷ []) ≡ (w.value ∷ [])) (λ _. refl) (λ _. refl)
+  value_standing-after_look at (Some w) = cond_both (is_live rules w at) (hit rules at w) w (λ (u : Write K V). (u.value ∷ []) ≡ (w.value ∷ [])) (λ _. refl) (λ _. refl)
 
   -- so does a look at any key
   value_standing-look : (t : Bool) (at : ℕ) (o : Option (Write K V)) → value_standing (if t then option_map (after_look rules at) o else o) ≡ value_standing o
@@ -100,7 +100,7 @@ module _ {K V : Type 0} (eq : K → K → Bool) (rules : Rules K V) where
       (cases_Bool (eq q k))
   values_conserved e k (Maintain at ∷ h) =
       let now : ℕ = latest (Maintain at ∷ h) in
-      conserved_maintained k now (values_written eq k h) (leavings eq rules h) (let_go rules now (queues eq rules h)) (standing eq rules k h) (leaves_in eq rules k at h) (held-maintained eq rules k now (queues eq rules h) (standing eq rules k h) (held-queues eq rules e k h)).0 (values_conserved e k h)
+      conserved_maintained k now (values_written eq k h) (leavings eq rules h) (let_go rules (frequency rules h) now (queues eq rules h)) (standing eq rules k h) (leaves_in eq rules k at h) (held-maintained eq rules (frequency rules h) k now (queues eq rules h) (standing eq rules k h) (held-queues eq rules e k h)).0 (values_conserved e k h)
   values_conserved e k (Skip at ∷ h) = rw (append-nil (leavings eq rules h)) (values_conserved e k h)
   values_conserved e k (Measure what ∷ h) = rw (append-nil (leavings eq rules h)) (values_conserved e k h)
   values_conserved e k (TakeNotice ∷ h) = rw (append-nil (leavings eq rules h)) (values_conserved e k h)

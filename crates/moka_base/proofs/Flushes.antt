@@ -5,20 +5,19 @@ use Rattle.std.proofs.lemmas.Bool.{cond_both}
 use Rattle.moka_base.specs.declared.notification.RemovalCause.TheVariants.{Expired, Replaced, Size}
 use Rattle.moka_base.specs.Maintenance.{Queues}
 use Rattle.moka_base.specs.MaintenanceLaws.{the_dead, the_living}
-use Rattle.moka_base.specs.History.{Event, Get, Insert, Maintain, Measure, EntryCount, Rules, Write, latest, is_live, live_one, written_in, queues, leaves_in, standing, left, leaving, leavings, greatest_number, after_write}
-use Rattle.moka_base.specs.OrderLaws.{written_anew}
+use Rattle.moka_base.specs.History.{Event, Get, Insert, Maintain, Measure, EntryCount, Rules, Write, latest, is_live, live_one, written_in, frequency, queues, leaves_in, standing, left, leaving, leavings, greatest_number, after_write}
 use Rattle.moka_base.specs.Replies.{Found, Counted, answer}
 use Rattle.moka_base.specs.SizeLaws.{leaving_as}
 use Rattle.moka_base.specs.WorkedSize.{at_capacity, all_left}
 use Rattle.moka_base.proofs.QueuesHold.{maintained-none_waits}
-use Rattle.moka_base.proofs.Sizes.{admitted-within, leaving-within}
+use Rattle.moka_base.proofs.Departures.{admitted-within, leaving-within}
 
 -- the writes of the keys from 1 up to a number
 abbrev pub all_wait : ℕ → List (Write ℕ ℕ)
 all_wait zero = []
-all_wait (suc n) = all_wait n ++ written_anew (suc n) (suc n) 0 ∷ []
+all_wait (suc n) = all_wait n ++ after_write (at_capacity 10) (suc n) (suc n) 0 None ∷ []
 
-abbrev pub at_ten : Rules
+abbrev pub at_ten : Rules ℕ ℕ
 at_ten = at_capacity 10
 
 -- the 64 wait, and none is admitted
@@ -27,7 +26,7 @@ all_64 = record { admitted = []; waiting = all_wait 64 }
 
 -- the last ten are admitted, and the next key waits
 abbrev pub ten_and_one : Queues (Write ℕ ℕ)
-ten_and_one = record { admitted = drop 54 (all_wait 64); waiting = written_anew 65 65 1 ∷ [] }
+ten_and_one = record { admitted = drop 54 (all_wait 64); waiting = after_write (at_capacity 10) 65 65 1 None ∷ [] }
 
 module _ (h : List (Event ℕ ℕ)) (waiting : queues nat_eq at_ten h ≡ all_64) where
   abbrev lives : Write ℕ ℕ → Bool
@@ -35,15 +34,15 @@ module _ (h : List (Event ℕ ℕ)) (waiting : queues nat_eq at_ten h ≡ all_64
 
   leaving-flush : leaving nat_eq at_ten (Maintain 1) h ≡ all_left 54
   leaving-flush =
-      leaving-within nat_eq at_ten 1 h 10 refl
+      leaving-within nat_eq at_ten 1 h refl (λ k v. refl) 10 refl
       ∙ ap (λ q. map (leaving_as Expired) (the_dead lives q) ++ map (leaving_as Size) (take (length (the_living lives q) - 10) (the_living lives q))) waiting
 
   queues-flush : queues nat_eq at_ten (Maintain 1 ∷ h) ≡ record { admitted = drop 54 (all_wait 64); waiting = [] }
   queues-flush =
       let admitted : (queues nat_eq at_ten (Maintain 1 ∷ h)).admitted ≡ drop 54 (all_wait 64) =
-      admitted-within nat_eq at_ten 1 h 10 refl ∙ ap (λ q. drop (length (the_living lives q) - 10) (the_living lives q)) waiting in
+      admitted-within nat_eq at_ten 1 h refl (λ k v. refl) 10 refl ∙ ap (λ q. drop (length (the_living lives q) - 10) (the_living lives q)) waiting in
       ap (λ ws. record { admitted = ws; waiting = (queues nat_eq at_ten (Maintain 1 ∷ h)).waiting }) admitted
-      ∙ ap (λ ws. record { admitted = drop 54 (all_wait 64); waiting = ws }) (maintained-none_waits nat_eq at_ten (latest (Maintain 1 ∷ h)) (queues nat_eq at_ten h))
+      ∙ ap (λ ws. record { admitted = drop 54 (all_wait 64); waiting = ws }) (maintained-none_waits nat_eq at_ten (frequency at_ten h) (latest (Maintain 1 ∷ h)) (queues nat_eq at_ten h))
 
   module _ (now : latest h ≡ 0) (absent : standing nat_eq at_ten 65 h ≡ None) (kept : leavings nat_eq at_ten h ≡ []) (g : List (Event ℕ ℕ)) (next : g ≡ Insert 65 65 1 ∷ Maintain 1 ∷ h) where
     standing-flush : standing nat_eq at_ten 65 (Maintain 1 ∷ h) ≡ None

@@ -9,7 +9,7 @@ use Rattle.moka_base.proofs.QueuesHold.{held-maintained, held-queues}
 use Rattle.std.proofs.lemmas.Bool.{true≢false}
 use Rattle.moka_base.specs.declared.notification.RemovalCause.{RemovalCause}
 use Rattle.moka_base.specs.declared.notification.RemovalCause.TheVariants.{Explicit, Replaced, Size}
-use Rattle.moka_base.specs.History.{Event, Get, ContainsKey, Insert, Invalidate, Maintain, Skip, Measure, TakeNotice, Rules, Write, Leaving, latest, let_go, queues, leaves_in, standing, leaving_of, left, leaving}
+use Rattle.moka_base.specs.History.{Event, Get, ContainsKey, Insert, Invalidate, Maintain, Skip, Measure, TakeNotice, Rules, Write, Leaving, latest, frequency, let_go, queues, leaves_in, standing, leaving_of, left, leaving}
 use Rattle.moka_base.specs.Laws.{ends, LastWrite, NothingStands, IsLeavingOf, leavings_of}
 use Rattle.moka_base.proofs.Places.{last_write_stands, standing-nothing, last_or_nothing}
 use Rattle.moka_base.proofs.Standing.{IsStoredUnder, stored_key, standing_congr}
@@ -36,7 +36,7 @@ module _ {K V : Type 0} (eq : K → K → Bool) (rules : Rules K V) where
   leavings_of-maintained : IsEquivalence eq → (k : K) (h : List (Event K V)) (at : ℕ) → leavings_of eq k (leaving eq rules (Maintain at) h) ≡ map (leaving_of rules Size (latest (Maintain at ∷ h))) (option_to_list (cond (leaves_in eq rules k at h) (standing eq rules k h) None))
   leavings_of-maintained e k h at =
       let now : ℕ = latest (Maintain at ∷ h) in
-      leavings_of-let_go k now (let_go rules now (queues eq rules h)) ∙ ap (map (leaving_of rules Size now)) (held-maintained eq rules k now (queues eq rules h) (standing eq rules k h) (held-queues eq rules e k h)).0
+      leavings_of-let_go k now (let_go rules (frequency rules h) now (queues eq rules h)) ∙ ap (map (leaving_of rules Size now)) (held-maintained eq rules (frequency rules h) k now (queues eq rules h) (standing eq rules k h) (held-queues eq rules e k h)).0
 
   pub maintained-stays : IsEquivalence eq → (k : K) (h : List (Event K V)) (at : ℕ) → leaves_in eq rules k at h ≡ false → leavings_of eq k (leaving eq rules (Maintain at) h) ≡ []
   maintained-stays e k h at stays = leavings_of-maintained e k h at ∙ ap (λ t. map (leaving_of rules Size (latest (Maintain at ∷ h))) (option_to_list (cond t (standing eq rules k h) None))) stays
@@ -56,9 +56,9 @@ module _ {K V : Type 0} (eq : K → K → Bool) (rules : Rules K V) where
   leaves_in-nothing : IsEquivalence eq → (k : K) (h : List (Event K V)) (at : ℕ) → standing eq rules k h ≡ None → leaves_in eq rules k at h ≡ false
   leaves_in-nothing e k h at none =
       let now : ℕ = latest (Maintain at ∷ h) in
-      let left : writes_of eq k (let_go rules now (queues eq rules h)) ≡ [] =
-      (held-maintained eq rules k now (queues eq rules h) (standing eq rules k h) (held-queues eq rules e k h)).0 ∙ ap (λ o. option_to_list (cond (leaves_in eq rules k at h) o None)) none ∙ if_none (leaves_in eq rules k at h) in
-      list_any-filtered (λ (w : Write K V). eq w.key k) (let_go rules now (queues eq rules h)) left
+      let left : writes_of eq k (let_go rules (frequency rules h) now (queues eq rules h)) ≡ [] =
+      (held-maintained eq rules (frequency rules h) k now (queues eq rules h) (standing eq rules k h) (held-queues eq rules e k h)).0 ∙ ap (λ o. option_to_list (cond (leaves_in eq rules k at h) o None)) none ∙ if_none (leaves_in eq rules k at h) in
+      list_any-filtered (λ (w : Write K V). eq w.key k) (let_go rules (frequency rules h) now (queues eq rules h)) left
     where
       if_none : (t : Bool) → ◌≡◌ {A = List (Write K V)} (option_to_list (cond t None None)) []
       if_none true = refl
@@ -81,9 +81,9 @@ module _ {K V : Type 0} (eq : K → K → Bool) (rules : Rules K V) where
   leaving_alone equiv h (ContainsKey q at) some = absurd (some refl)
   leaving_alone equiv h (Insert q v at) some = (q, equiv.refl q, ⊎_elim (λ last. last) (λ none. absurd (some (leaving-nothing equiv q h (Insert q v at) (equiv.refl q) none))) (last_or_nothing eq rules q h))
   leaving_alone equiv h (Invalidate q at) some = (q, equiv.refl q, ⊎_elim (λ last. last) (λ none. absurd (some (leaving-nothing equiv q h (Invalidate q at) (equiv.refl q) none))) (last_or_nothing eq rules q h))
-  leaving_alone equiv h (Maintain at) some = first (let_go rules (latest (Maintain at ∷ h)) (queues eq rules h)) refl
+  leaving_alone equiv h (Maintain at) some = first (let_go rules (frequency rules h) (latest (Maintain at ∷ h)) (queues eq rules h)) refl
     where
-      first : (ws : List (Write K V)) → let_go rules (latest (Maintain at ∷ h)) (queues eq rules h) ≡ ws → (k : K) × (leaves_in eq rules k at h ≡ true) × LastWrite eq rules k h
+      first : (ws : List (Write K V)) → let_go rules (frequency rules h) (latest (Maintain at ∷ h)) (queues eq rules h) ≡ ws → (k : K) × (leaves_in eq rules k at h ≡ true) × LastWrite eq rules k h
       first [] none = absurd (some (ap (map (leaving_of rules Size (latest (Maintain at ∷ h)))) none))
       first (w ∷ ws) is =
           let leaves : leaves_in eq rules w.key at h ≡ true = ap (list_any (λ (u : Write K V). eq u.key w.key)) is ∙ ap (λ t. t || list_any (λ (u : Write K V). eq u.key w.key) ws) (equiv.refl w.key) in
@@ -98,9 +98,9 @@ module _ {K V : Type 0} (eq : K → K → Bool) (rules : Rules K V) where
   leaving-looks equiv h (ContainsKey q at) none = refl
   leaving-looks equiv h (Insert q v at) none = absurd (true≢false (sym (equiv.refl q) ∙ none q))
   leaving-looks equiv h (Invalidate q at) none = absurd (true≢false (sym (equiv.refl q) ∙ none q))
-  leaving-looks equiv h (Maintain at) none = nobody (let_go rules (latest (Maintain at ∷ h)) (queues eq rules h)) refl
+  leaving-looks equiv h (Maintain at) none = nobody (let_go rules (frequency rules h) (latest (Maintain at ∷ h)) (queues eq rules h)) refl
     where
-      nobody : (ws : List (Write K V)) → let_go rules (latest (Maintain at ∷ h)) (queues eq rules h) ≡ ws → leaving eq rules (Maintain at) h ≡ []
+      nobody : (ws : List (Write K V)) → let_go rules (frequency rules h) (latest (Maintain at ∷ h)) (queues eq rules h) ≡ ws → leaving eq rules (Maintain at) h ≡ []
       nobody [] is = ap (map (leaving_of rules Size (latest (Maintain at ∷ h)))) is
       nobody (w ∷ ws) is =
           let leaves : leaves_in eq rules w.key at h ≡ true = ap (list_any (λ (u : Write K V). eq u.key w.key)) is ∙ ap (λ t. t || list_any (λ (u : Write K V). eq u.key w.key) ws) (equiv.refl w.key) in

@@ -1,7 +1,10 @@
+pub mod Admissions
 pub mod Arrivals
 pub mod Conserved
 pub mod Counters
-pub mod Expiry
+pub mod Deadlines
+pub mod Departures
+pub mod EachWrite
 pub mod Flushes
 pub mod HeldOnes
 pub mod InOrder
@@ -9,6 +12,7 @@ pub mod Leavings
 pub mod ListLemmas
 pub mod Looks
 pub mod Maintenance
+pub mod MaintenanceAgreeing
 pub mod MaintenanceBy
 pub mod MaintenanceCounted
 pub mod MaintenanceJudged
@@ -18,12 +22,17 @@ pub mod MaintenanceOnes
 pub mod MaintenanceOrder
 pub mod MaintenanceResumed
 pub mod MaintenanceShortest
+pub mod MaintenanceWins
 pub mod Moves
+pub mod Noted
 pub mod Notices
 pub mod NumberHashes
+pub mod OwnLives
 pub mod Places
 pub mod Positions
 pub mod QueuesHold
+pub mod Rests
 pub mod Sizes
 pub mod Standing
 pub mod Uses
+pub mod Written

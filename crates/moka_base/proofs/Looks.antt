@@ -1,6 +1,6 @@
 -- A look by `contains_key` is as if it had not been: nothing that follows depends on it.
 use Rattle.std.proofs.Common.{◌≡◌, ℕ, max, ◌+◌, Bool, List, [], ◌∷◌, ◌++◌, map, refl, ap, ◌∙◌, arith, add-zero, append-nil}
-use Rattle.moka_base.specs.History.{Event, Get, ContainsKey, Insert, Invalidate, Maintain, Skip, Measure, TakeNotice, Rules, recorded, latest, let_go, leaving_of, queues, leaves_in, standing, leaving, leavings, taken, noticed, drawn, next_number}
+use Rattle.moka_base.specs.History.{Event, Get, ContainsKey, Insert, Invalidate, Maintain, Skip, Measure, EntryCount, WeightedSize, TakeNotice, Rules, recorded, latest, notes, frequency, let_go, maintained, leaving_of, queues, leaves_in, standing, leaving, leavings, taken, noticed, drawn, next_number}
 use Rattle.moka_base.specs.declared.notification.RemovalCause.TheVariants.{Size}
 use Rattle.std.specs.List.{list_any}
 use Rattle.moka_base.specs.Replies.{answer}
@@ -16,6 +16,22 @@ module _ {K V : Type 0} (q : K) (at : ℕ) (h : List (Event K V)) where
   next_number_without_look rules [] = add-zero (next_number rules h)
   next_number_without_look rules (e ∷ later) = ap (λ n. n + drawn e) (next_number_without_look rules later)
 
+  -- no hash is noted
+  notes_without_look : (rules : Rules K V) (later : List (Event K V)) → notes rules (later ++ ContainsKey q at ∷ h) ≡ notes rules (later ++ h)
+  notes_without_look rules [] = refl
+  notes_without_look rules (Get p t ∷ later) = ap (λ ns. ns ++ rules.ways.hash p ∷ []) (notes_without_look rules later)
+  notes_without_look rules (ContainsKey p t ∷ later) = notes_without_look rules later
+  notes_without_look rules (Insert p v t ∷ later) = notes_without_look rules later
+  notes_without_look rules (Invalidate p t ∷ later) = notes_without_look rules later
+  notes_without_look rules (Maintain t ∷ later) = notes_without_look rules later
+  notes_without_look rules (Skip t ∷ later) = notes_without_look rules later
+  notes_without_look rules (Measure what ∷ later) = notes_without_look rules later
+  notes_without_look rules (TakeNotice ∷ later) = notes_without_look rules later
+
+  -- so each hash has the same frequency
+  pub frequency_without_look : (rules : Rules K V) (later : List (Event K V)) → frequency rules (later ++ ContainsKey q at ∷ h) ≡ frequency rules (later ++ h)
+  frequency_without_look rules later = ap (λ ns hash. rules.frequency ns hash) (notes_without_look rules later)
+
 module _ {K V : Type 0} (eq : K → K → Bool) (rules : Rules K V) (q : K) (at : ℕ) (h : List (Event K V)) where
   -- the two orders are the same
   pub queues_without_look : (later : List (Event K V)) → queues eq rules (later ++ ContainsKey q at ∷ h) ≡ queues eq rules (later ++ h)
@@ -24,14 +40,22 @@ module _ {K V : Type 0} (eq : K → K → Bool) (rules : Rules K V) (q : K) (at 
   queues_without_look (ContainsKey p t ∷ later) = queues_without_look later
   queues_without_look (Insert p v t ∷ later) = rw (latest_without_look q at h later, queues_without_look later) refl
   queues_without_look (Invalidate p t ∷ later) = rw (queues_without_look later) refl
-  queues_without_look (Maintain t ∷ later) = rw (latest_without_look q at h later, queues_without_look later) refl
+  queues_without_look (Maintain t ∷ later) =
+      ap (λ f. maintained rules f (latest (Maintain t ∷ later ++ ContainsKey q at ∷ h)) (queues eq rules (later ++ ContainsKey q at ∷ h))) (frequency_without_look q at h rules later)
+      ∙ ap (λ m. maintained rules (frequency rules (later ++ h)) (max m t) (queues eq rules (later ++ ContainsKey q at ∷ h))) (latest_without_look q at h later)
+      ∙ ap (maintained rules (frequency rules (later ++ h)) (latest (Maintain t ∷ later ++ h))) (queues_without_look later)
   queues_without_look (Skip t ∷ later) = queues_without_look later
   queues_without_look (Measure what ∷ later) = queues_without_look later
   queues_without_look (TakeNotice ∷ later) = queues_without_look later
 
   -- the same leaves in a maintenance
-  let_go_without_look : (t : ℕ) (later : List (Event K V)) → let_go rules (latest (Maintain t ∷ later ++ ContainsKey q at ∷ h)) (queues eq rules (later ++ ContainsKey q at ∷ h)) ≡ let_go rules (latest (Maintain t ∷ later ++ h)) (queues eq rules (later ++ h))
-  let_go_without_look t later = ap (λ m. let_go rules (max m t) (queues eq rules (later ++ ContainsKey q at ∷ h))) (latest_without_look q at h later) ∙ ap (let_go rules (latest (Maintain t ∷ later ++ h))) (queues_without_look later)
+  let_go_without_look : (t : ℕ) (later : List (Event K V))
+      → let_go rules (frequency rules (later ++ ContainsKey q at ∷ h)) (latest (Maintain t ∷ later ++ ContainsKey q at ∷ h)) (queues eq rules (later ++ ContainsKey q at ∷ h))
+      ≡ let_go rules (frequency rules (later ++ h)) (latest (Maintain t ∷ later ++ h)) (queues eq rules (later ++ h))
+  let_go_without_look t later =
+      ap (λ f. let_go rules f (latest (Maintain t ∷ later ++ ContainsKey q at ∷ h)) (queues eq rules (later ++ ContainsKey q at ∷ h))) (frequency_without_look q at h rules later)
+      ∙ ap (λ m. let_go rules (frequency rules (later ++ h)) (max m t) (queues eq rules (later ++ ContainsKey q at ∷ h))) (latest_without_look q at h later)
+      ∙ ap (let_go rules (frequency rules (later ++ h)) (latest (Maintain t ∷ later ++ h))) (queues_without_look later)
 
   leaves_in_without_look : (k : K) (t : ℕ) (later : List (Event K V)) → leaves_in eq rules k t (later ++ ContainsKey q at ∷ h) ≡ leaves_in eq rules k t (later ++ h)
   leaves_in_without_look k t later = ap (list_any (λ w. eq w.key k)) (let_go_without_look t later)
@@ -54,7 +78,7 @@ module _ {K V : Type 0} (eq : K → K → Bool) (rules : Rules K V) (q : K) (at 
   leaving_without_look (ContainsKey p t) later = refl
   leaving_without_look (Insert p v t) later = rw (latest_without_look q at h later, standing_without_look p later)
   leaving_without_look (Invalidate p t) later = rw (latest_without_look q at h later, standing_without_look p later)
-  leaving_without_look (Maintain t) later = ap (λ m. map (leaving_of rules Size (max m t)) (let_go rules (latest (Maintain t ∷ later ++ ContainsKey q at ∷ h)) (queues eq rules (later ++ ContainsKey q at ∷ h)))) (latest_without_look q at h later) ∙ ap (map (leaving_of rules Size (latest (Maintain t ∷ later ++ h)))) (let_go_without_look t later)
+  leaving_without_look (Maintain t) later = ap (λ m. map (leaving_of rules Size (max m t)) (let_go rules (frequency rules (later ++ ContainsKey q at ∷ h)) (latest (Maintain t ∷ later ++ ContainsKey q at ∷ h)) (queues eq rules (later ++ ContainsKey q at ∷ h)))) (latest_without_look q at h later) ∙ ap (map (leaving_of rules Size (latest (Maintain t ∷ later ++ h)))) (let_go_without_look t later)
   leaving_without_look (Skip t) later = refl
   leaving_without_look (Measure what) later = refl
   leaving_without_look TakeNotice later = refl
@@ -88,5 +112,6 @@ module _ {K V : Type 0} (eq : K → K → Bool) (rules : Rules K V) (q : K) (at 
   answer_without_look (Invalidate p t) later = refl
   answer_without_look (Maintain t) later = refl
   answer_without_look (Skip t) later = refl
-  answer_without_look (Measure what) later = rw (queues_without_look later) refl
+  answer_without_look (Measure EntryCount) later = rw (queues_without_look later) refl
+  answer_without_look (Measure WeightedSize) later = rw (queues_without_look later) refl
   answer_without_look TakeNotice later = rw (taken_without_look later, leavings_without_look later)

@@ -1,12 +1,12 @@
 -- What a use, a write and a removal make of two orders in which each key has one write at most.
-use Rattle.std.proofs.Common.{◌≡◌, ◌≢◌, ℕ, Bool, true, not, cond, List, [], ◌∷◌, ◌++◌, refl, sym, ap, ◌∙◌, append_assoc}
+use Rattle.std.proofs.Common.{◌≡◌, ◌≢◌, ℕ, Bool, true, not, cond, Some, None, List, [], ◌∷◌, ◌++◌, refl, sym, ap, ◌∙◌, append_assoc}
 use Rattle.std.specs.List.{filter}
 use Rattle.std.proofs.lemmas.Bool.{and_parts, and_from, cond-true}
 use Rattle.std.proofs.lemmas.List.Elements.{filter-append}
 use Rattle.moka_base.specs.Maintenance.{Queues}
-use Rattle.moka_base.specs.History.{Rules, Write, is_live, after_look, changed_where, moved_last, is_of, is_hit, used_where, opened_by, written_in, removed_in}
+use Rattle.moka_base.specs.History.{Rules, Write, is_live, hit, after_look, after_write, changed_where, moved_last, is_of, is_hit, used_where, opened_by, written_in, removed_in}
 use Rattle.moka_base.specs.StandsFor.{writes_of}
-use Rattle.moka_base.specs.OrderLaws.{keys, held, HasOneEach, with_admitted, with_waiting, hit_at, written_over, written_anew}
+use Rattle.moka_base.specs.OrderLaws.{keys, held, HasOneEach, with_admitted, with_waiting}
 use Rattle.moka_base.proofs.ListLemmas.{filter-both, rest-all, changed_where-none, moved_last-none, rest-one, moved_last-one, changed_where-one, filter-narrower, alone, empty_parts, map-changed_where, map-filter}
 use Rattle.moka_base.proofs.QueuesHold.{opening, overwrite, overwritten, held-append, after_look-key}
 
@@ -34,7 +34,7 @@ module _ {K V : Type 0} (eq : K → K → Bool) (rules : Rules K V) (k : K) (q :
   removed_in-none none = let parts = none_held none in same_queues _ _ _ _ (rest-all (λ (w : Write K V). eq w.key k) q.admitted parts.0) (rest-all (λ (w : Write K V). eq w.key k) q.waiting parts.1)
 
   -- a write of a key without one waits behind all others
-  pub written_in-anew : (v : V) (at : ℕ) → held eq k q ≡ [] → written_in eq rules k v at q ≡ with_waiting q (q.waiting ++ written_anew k v at ∷ [])
+  pub written_in-anew : (v : V) (at : ℕ) → held eq k q ≡ [] → written_in eq rules k v at q ≡ with_waiting q (q.waiting ++ after_write rules k v at None ∷ [])
   written_in-anew v at none =
       ap (λ l. opened_by eq rules (opening eq rules k v at) l (overwritten eq rules k v at q)) none
       ∙ ap (opened_by eq rules (opening eq rules k v at) []) (used_where-none (is_of eq rules k) (overwrite eq rules k v at) none)
@@ -79,7 +79,7 @@ module _ {K V : Type 0} (eq : K → K → Bool) (rules : Rules K V) (k : K) (q :
 
     -- a hit on the key is of its write
     hit_is_of : (at : ℕ) (u : Write K V) → is_hit eq rules k at u ≡ true → eq u.key k ≡ true
-    hit_is_of at u hit = (and_parts (eq u.key k) (is_live rules u at) hit).0
+    hit_is_of at u is = (and_parts (eq u.key k) (is_live rules u at) is).0
 
     module _ (place : q.admitted ≡ before ++ w ∷ after) where
       whole_admitted : q.admitted ++ q.waiting ≡ before ++ w ∷ (after ++ q.waiting)
@@ -101,13 +101,13 @@ module _ {K V : Type 0} (eq : K → K → Bool) (rules : Rules K V) (k : K) (q :
           same_queues _ _ _ _ (ap (moved_last p change) place ∙ moved_last-one p before after w passes (none before others.0) (none after others.1) change) (changed_where-none p change q.waiting (none q.waiting others.2))
 
       -- where it is hit
-      pub hit-admitted : (at : ℕ) → is_live rules w at ≡ true → used_where eq rules (is_hit eq rules k at) (after_look rules at) q ≡ with_admitted q ((before ++ after) ++ hit_at at w ∷ [])
+      pub hit-admitted : (at : ℕ) → is_live rules w at ≡ true → used_where eq rules (is_hit eq rules k at) (after_look rules at) q ≡ with_admitted q ((before ++ after) ++ hit rules at w ∷ [])
       hit-admitted at live =
           used-admitted (is_hit eq rules k at) (after_look rules at) (hit_is_of at) (and_from (eq w.key k) (is_live rules w at) same live)
-          ∙ ap (λ (u : Write K V). with_admitted q ((before ++ after) ++ u ∷ [])) (cond-true (is_live rules w at) (hit_at at w) w live)
+          ∙ ap (λ (u : Write K V). with_admitted q ((before ++ after) ++ u ∷ [])) (cond-true (is_live rules w at) (hit rules at w) w live)
 
       -- and where it is written over
-      pub written-admitted : (v : V) (at : ℕ) → written_in eq rules k v at q ≡ with_admitted q ((before ++ after) ++ written_over v at w ∷ [])
+      pub written-admitted : (v : V) (at : ℕ) → written_in eq rules k v at q ≡ with_admitted q ((before ++ after) ++ after_write rules k v at (Some w) ∷ [])
       written-admitted v at = written_in-over v at (held-some before (after ++ q.waiting) whole_admitted) ∙ used-admitted (is_of eq rules k) (overwrite eq rules k v at) (λ u h. h) same
 
       -- an admitted one that is removed is taken out
@@ -136,13 +136,13 @@ module _ {K V : Type 0} (eq : K → K → Bool) (rules : Rules K V) (k : K) (q :
           same_queues _ _ _ _ (moved_last-none p change q.admitted (none q.admitted others.0)) (ap (changed_where p change) place ∙ changed_where-one p before after w passes (none before others.1) (none after others.2) change)
 
       -- where it is hit
-      pub hit-waiting : (at : ℕ) → is_live rules w at ≡ true → used_where eq rules (is_hit eq rules k at) (after_look rules at) q ≡ with_waiting q (before ++ hit_at at w ∷ after)
+      pub hit-waiting : (at : ℕ) → is_live rules w at ≡ true → used_where eq rules (is_hit eq rules k at) (after_look rules at) q ≡ with_waiting q (before ++ hit rules at w ∷ after)
       hit-waiting at live =
           used-waiting (is_hit eq rules k at) (after_look rules at) (hit_is_of at) (and_from (eq w.key k) (is_live rules w at) same live)
-          ∙ ap (λ (u : Write K V). with_waiting q (before ++ u ∷ after)) (cond-true (is_live rules w at) (hit_at at w) w live)
+          ∙ ap (λ (u : Write K V). with_waiting q (before ++ u ∷ after)) (cond-true (is_live rules w at) (hit rules at w) w live)
 
       -- and where it is written over
-      pub written-waiting : (v : V) (at : ℕ) → written_in eq rules k v at q ≡ with_waiting q (before ++ written_over v at w ∷ after)
+      pub written-waiting : (v : V) (at : ℕ) → written_in eq rules k v at q ≡ with_waiting q (before ++ after_write rules k v at (Some w) ∷ after)
       written-waiting v at = written_in-over v at (held-some (q.admitted ++ before) after whole_waiting) ∙ used-waiting (is_of eq rules k) (overwrite eq rules k v at) (λ u h. h) same
 
       -- one that waits and is removed is taken out

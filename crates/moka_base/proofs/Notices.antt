@@ -1,7 +1,7 @@
 -- The leavings are given out in order, each once.
 use Rattle.std.proofs.Common.{◌≡◌, ◌↔◌, ℕ, zero, suc, min, ◌+◌, ◌≤◌, Bool, None, List, [], ◌∷◌, ◌++◌, length, take, drop, refl, sym, ap, ◌∙◌, arith, append-nil, length-append, slice_get, add-one}
 use Rattle.std.proofs.lemmas.List.{take-append-le, take-append-drop, take_min, take_all, length-take-le}
-use Rattle.moka_base.specs.History.{Event, Get, ContainsKey, Insert, Invalidate, Maintain, Skip, Measure, TakeNotice, Rules, Leaving, leaving, leavings, taken, noticed}
+use Rattle.moka_base.specs.History.{Event, Get, ContainsKey, Insert, Invalidate, Maintain, Skip, Measure, EntryCount, WeightedSize, TakeNotice, Rules, Leaving, leaving, leavings, taken, noticed}
 use Rattle.moka_base.specs.Replies.{Noticed, answer}
 use Rattle.moka_base.specs.Laws.{given_by, given_out}
 
@@ -60,7 +60,8 @@ module _ {K V : Type 0} (eq : K → K → Bool) (rules : Rules K V) where
   given_out_is (Invalidate q at ∷ h) = given_more (leavings eq rules h) (leaving eq rules (Invalidate q at) h) (given_out eq rules h) (taken eq rules h) (taken-le h) (given_out_is h)
   given_out_is (Maintain at ∷ h) = given_more (leavings eq rules h) (leaving eq rules (Maintain at) h) (given_out eq rules h) (taken eq rules h) (taken-le h) (given_out_is h)
   given_out_is (Skip at ∷ h) = given_more (leavings eq rules h) [] (given_out eq rules h) (taken eq rules h) (taken-le h) (given_out_is h)
-  given_out_is (Measure what ∷ h) = given_more (leavings eq rules h) [] (given_out eq rules h) (taken eq rules h) (taken-le h) (given_out_is h)
+  given_out_is (Measure EntryCount ∷ h) = given_more (leavings eq rules h) [] (given_out eq rules h) (taken eq rules h) (taken-le h) (given_out_is h)
+  given_out_is (Measure WeightedSize ∷ h) = given_more (leavings eq rules h) [] (given_out eq rules h) (taken eq rules h) (taken-le h) (given_out_is h)
   given_out_is (TakeNotice ∷ h) = given_next (leavings eq rules h) (given_out eq rules h) (taken eq rules h) (given_out_is h)
 
   -- what was given out, and then what is left to give out, is what left

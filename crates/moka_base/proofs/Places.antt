@@ -2,7 +2,7 @@
 use Rattle.std.proofs.Common.{◌≡◌, ◌↔◌, ◌⊎◌, inl, inr, ⊎_elim, ℕ, max, Bool, true, false, not, ◌&&◌, if◌then◌else◌, Option, Some, None, List, [], ◌∷◌, ◌++◌, refl, sym, ap, ◌∙◌, subst, arith, append-nil, is_some}
 use Rattle.std.specs.Option.{option_map}
 use Rattle.std.proofs.lemmas.Bool.{cond-true, cond_both, cases_Bool, true≢false}
-use Rattle.moka_base.specs.History.{Event, Get, ContainsKey, Insert, Invalidate, Maintain, Skip, Measure, TakeNotice, Rules, Write, latest, is_live, is_expired, live_one, after_look, after_write, leaves_in, standing}
+use Rattle.moka_base.specs.History.{Event, Get, ContainsKey, Insert, Invalidate, Maintain, Skip, Measure, TakeNotice, Rules, Write, latest, is_live, is_expired, live_one, hit, after_look, after_write, leaves_in, standing}
 use Rattle.moka_base.specs.Replies.{Answer, Found, Contains, answer}
 use Rattle.moka_base.specs.Laws.{writes, ends, removes, IsUnwritten, IsUnremoved, IsUntouched, LastWrite, FirstEnd, Removal, NothingStands, FirstWrite, up_to_write, hits, greatest, IsAsWritten}
 
@@ -183,11 +183,11 @@ module _ {K V : Type 0} (eq : K → K → Bool) (rules : Rules K V) (k : K) wher
   standing-nothing h (inr gone) =
       ap (standing eq rules k) gone.place ∙ standing_unwritten gone.later (gone.event ∷ gone.before) gone.unwritten (standing-removed gone.event gone.before gone.removes_it)
 
-  module _ (v : V) (written : ℕ) where
-    -- what stands has this value and was written at this moment, and was used at the greatest moment of it and the hits
+  module _ (v : V) (weight written : ℕ) where
+    -- what stands has this value and weight, was written at this moment, and used at the greatest of it and the hits
     abbrev IsFrom : Option (Write K V) → List ℕ → Type 0
     IsFrom None used = ⊥
-    IsFrom (Some w) used = (w.value ≡ v) × (w.written ≡ written) × (w.used ≡ max written (greatest used))
+    IsFrom (Some w) used = (w.value ≡ v) × (w.weight ≡ weight) × (w.written ≡ written) × (w.used ≡ max written (greatest used))
 
     -- a look at the key, or at another
     IsFrom-look : (t : Bool) (at : ℕ) (o : Option (Write K V)) (used : List ℕ) → IsFrom o used → IsFrom (if t then option_map (after_look rules at) o else o) (if t && is_some (live_one rules at o) then at ∷ used else used)
@@ -195,20 +195,20 @@ module _ {K V : Type 0} (eq : K → K → Bool) (rules : Rules K V) (k : K) wher
     IsFrom-look true at None used from = absurd from
     IsFrom-look true at (Some w) used from = go (is_live rules w at)
       where
-        go : (live : Bool) → IsFrom (Some (if live then record w { used = max w.used at } else w)) (if is_some (if live then Some w else None) then at ∷ used else used)
-        go true = (from.0, from.1, let e = from.2 in omega arith)
+        go : (live : Bool) → IsFrom (Some (if live then hit rules at w else w)) (if is_some (if live then Some w else None) then at ∷ used else used)
+        go true = (from.0, from.1, from.2, let e = from.3 in omega arith)
         go false = from
 
   -- what stands for a key from a place where it was written on
   standing_from : (q : K) (v : V) (at : ℕ) (before later : List (Event K V)) → eq q k ≡ true → IsUntouched eq rules k later (Insert q v at ∷ before)
-      → IsFrom v (latest (Insert q v at ∷ before)) (standing eq rules k (later ++ Insert q v at ∷ before)) (hits eq rules k later (Insert q v at ∷ before))
+      → IsFrom v (rules.ways.weight q v) (latest (Insert q v at ∷ before)) (standing eq rules k (later ++ Insert q v at ∷ before)) (hits eq rules k later (Insert q v at ∷ before))
   standing_from q v at before [] same u = rw same (at_write (standing eq rules k before))
     where
-      at_write : (o : Option (Write K V)) → IsFrom v (latest (Insert q v at ∷ before)) (Some (after_write rules q v (latest (Insert q v at ∷ before)) o)) []
-      at_write None = (refl, refl, omega arith)
-      at_write (Some w) = (refl, refl, omega arith)
+      at_write : (o : Option (Write K V)) → IsFrom v (rules.ways.weight q v) (latest (Insert q v at ∷ before)) (Some (after_write rules q v (latest (Insert q v at ∷ before)) o)) []
+      at_write None = (refl, refl, refl, omega arith)
+      at_write (Some w) = (refl, refl, refl, omega arith)
   standing_from q v at before (Get p t ∷ later) same u =
-      IsFrom-look v (latest (Insert q v at ∷ before)) (eq p k) (latest (Get p t ∷ later ++ Insert q v at ∷ before)) (standing eq rules k (later ++ Insert q v at ∷ before)) (hits eq rules k later (Insert q v at ∷ before)) (standing_from q v at before later same u.1)
+      IsFrom-look v (rules.ways.weight q v) (latest (Insert q v at ∷ before)) (eq p k) (latest (Get p t ∷ later ++ Insert q v at ∷ before)) (standing eq rules k (later ++ Insert q v at ∷ before)) (hits eq rules k later (Insert q v at ∷ before)) (standing_from q v at before later same u.1)
   standing_from q v at before (ContainsKey p t ∷ later) same u = standing_from q v at before later same u.1
   standing_from q v at before (Insert p x t ∷ later) same u = rw (u.0) (standing_from q v at before later same u.1)
   standing_from q v at before (Invalidate p t ∷ later) same u = rw (u.0) (standing_from q v at before later same u.1)
@@ -221,9 +221,9 @@ module _ {K V : Type 0} (eq : K → K → Bool) (rules : Rules K V) (k : K) wher
   pub last_write_stands : (h : List (Event K V)) (last : LastWrite eq rules k h) → (w : Write K V) × (standing eq rules k h ≡ Some w) × IsAsWritten last w
   last_write_stands h last = go (standing eq rules k h) refl (rw (last.place) (standing_from last.key last.value last.at last.before last.later last.same_key last.untouched))
     where
-      go : (o : Option (Write K V)) → standing eq rules k h ≡ o → IsFrom last.value (latest (up_to_write last)) o (hits eq rules k last.later (up_to_write last)) → (w : Write K V) × (standing eq rules k h ≡ Some w) × IsAsWritten last w
+      go : (o : Option (Write K V)) → standing eq rules k h ≡ o → IsFrom last.value (rules.ways.weight last.key last.value) (latest (up_to_write last)) o (hits eq rules k last.later (up_to_write last)) → (w : Write K V) × (standing eq rules k h ≡ Some w) × IsAsWritten last w
       go None is from = absurd from
-      go (Some w) is from = (w, is, record { value = from.0; written = from.1; used = from.2 })
+      go (Some w) is from = (w, is, record { value = from.0; weight = from.1; written = from.2; used = from.3 })
 
   -- and nothing else does
   pub only_the_last_write : (h : List (Event K V)) (w : Write K V) → standing eq rules k h ≡ Some w → (last : LastWrite eq rules k h) × IsAsWritten last w
@@ -248,7 +248,7 @@ module _ {K V : Type 0} (eq : K → K → Bool) (rules : Rules K V) (k : K) wher
   IsUnder-look : (key : K) (t : Bool) (at : ℕ) (o : Option (Write K V)) → IsUnder key o → IsUnder key (if t then option_map (after_look rules at) o else o)
   IsUnder-look key false at o under = under
   IsUnder-look key true at None under = absurd under
-  IsUnder-look key true at (Some w) under = cond_both (is_live rules w at) (record w { used = max w.used at }) w (λ (u : Write K V). u.key ≡ key) (λ _. under) (λ _. under)
+  IsUnder-look key true at (Some w) under = cond_both (is_live rules w at) (hit rules at w) w (λ (u : Write K V). u.key ≡ key) (λ _. under) (λ _. under)
 
   -- so does a write
   IsUnder-write : (key : K) (t : Bool) (p : K) (x : V) (at : ℕ) (o : Option (Write K V)) → IsUnder key o → IsUnder key (if t then Some (after_write rules p x at o) else o)

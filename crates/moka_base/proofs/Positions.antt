@@ -4,7 +4,7 @@ use Rattle.std.specs.List.{list_any}
 use Rattle.std.proofs.lemmas.Bool.{and_parts}
 use Rattle.std.specs.Cmp.{IsEquivalence}
 use Rattle.std.proofs.lemmas.List.{map-append}
-use Rattle.moka_base.specs.History.{Event, Get, ContainsKey, Insert, Invalidate, Maintain, Skip, Measure, TakeNotice, Rules, Write, latest, standing, queues}
+use Rattle.moka_base.specs.History.{Event, Get, ContainsKey, Insert, Invalidate, Maintain, Skip, Measure, TakeNotice, Rules, Write, latest, standing, frequency, queues}
 use Rattle.moka_base.specs.Laws.{IsUnremoved, NothingStands, FirstWrite}
 use Rattle.moka_base.specs.OrderLaws.{keys, lasts, openings, waits}
 use Rattle.moka_base.proofs.InOrder.{Each, InOrder, Each-from, Each-filtered, InOrder-filter, InOrder-same, InOrder-push, InOrder-at}
@@ -109,7 +109,7 @@ module _ {K V : Type 0} (eq : K → K → Bool) (rules : Rules K V) where
             (InOrder-push (place (Insert p v at ∷ h)) (keys (queues eq rules h).waiting) p (Each-from (λ k. place (Insert p v at ∷ h) k ≡ place h k) (λ k. place (Insert p v at ∷ h) k ≡ place h k) (λ k. place (Insert p v at ∷ h) k < place (Insert p v at ∷ h) p) below (keys (queues eq rules h).waiting) (places_stay (Insert p v at) h) (places_stay (Insert p v at) h)) o)
         go (Some w) e o = subst (InOrder (place (Insert p v at ∷ h))) (sym (standing-waiting_keys eq rules laws p v at h w e)) o
     waiting_in_places (Invalidate p at ∷ h) = subst (InOrder (place h)) (sym (removed_in-waiting_keys eq rules p (queues eq rules h))) (InOrder-filter (place h) (λ x. not (eq x p)) (keys (queues eq rules h).waiting) (waiting_in_places h))
-    waiting_in_places (Maintain at ∷ h) = subst (InOrder (place h)) (sym (ap keys (maintained-none_waits eq rules (latest (Maintain at ∷ h)) (queues eq rules h)))) tt
+    waiting_in_places (Maintain at ∷ h) = subst (InOrder (place h)) (sym (ap keys (maintained-none_waits eq rules (frequency rules h) (latest (Maintain at ∷ h)) (queues eq rules h)))) tt
     waiting_in_places (Skip at ∷ h) = waiting_in_places h
     waiting_in_places (Measure what ∷ h) = waiting_in_places h
     waiting_in_places (TakeNotice ∷ h) = waiting_in_places h

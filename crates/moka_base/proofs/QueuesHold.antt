@@ -1,11 +1,11 @@
 -- The two orders hold what stands, and nothing else.
-use Rattle.std.proofs.Common.{◌≡◌, ℕ, max, Bool, true, false, not, cond, ◌&&◌, List, [], ◌∷◌, ◌++◌, Option, Some, None, option_map, refl, sym, ap, ◌∙◌, append_assoc}
+use Rattle.std.proofs.Common.{◌≡◌, ℕ, Bool, true, false, not, cond, ◌&&◌, List, [], ◌∷◌, ◌++◌, Option, Some, None, option_map, refl, sym, ap, ◌∙◌, append_assoc}
 use Rattle.std.specs.Option.{option_to_list}
 use Rattle.std.specs.List.{filter, list_any}
 use Rattle.std.specs.Cmp.{IsEquivalence}
 use Rattle.std.proofs.lemmas.List.Elements.{filter-append}
 use Rattle.moka_base.specs.Maintenance.{Queues}
-use Rattle.moka_base.specs.History.{Event, Get, ContainsKey, Insert, Invalidate, Maintain, Skip, Measure, TakeNotice, Rules, Write, latest, is_live, after_look, after_write, standing, changed_where, moved_last, is_of, is_hit, used_where, opened_by, written_in, removed_in, let_go, maintained, queues}
+use Rattle.moka_base.specs.History.{Event, Get, ContainsKey, Insert, Invalidate, Maintain, Skip, Measure, TakeNotice, Rules, Write, latest, is_live, hit, after_look, after_write, standing, changed_where, moved_last, is_of, is_hit, used_where, opened_by, written_in, removed_in, frequency, wins, let_go, maintained, queues}
 use Rattle.moka_base.specs.StandsFor.{writes_of}
 use Rattle.moka_base.specs.OrderLaws.{held}
 use Rattle.moka_base.proofs.Standing.{IsStoredUnder, stored_key, standing_congr}
@@ -59,19 +59,19 @@ module _ {K V : Type 0} (eq : K → K → Bool) (rules : Rules K V) where
   pub after_look-key : (at : ℕ) (w : Write K V) → (after_look rules at w).key ≡ w.key
   after_look-key at w = go (is_live rules w at)
     where
-      go : (t : Bool) → (cond t (record w { used = max w.used at }) w).key ≡ w.key
+      go : (t : Bool) → (cond t (hit rules at w) w).key ≡ w.key
       go true = refl
       go false = refl
 
   -- nothing waits after a maintenance
-  pub maintained-none_waits : (at : ℕ) (q : Queues (Write K V)) → (maintained rules at q).waiting ≡ []
-  maintained-none_waits at q = ap (λ (r : Queues (Write K V)). r.waiting) (after-parts (λ (w : Write K V). 1) rules.max_capacity (λ (w : Write K V). is_live rules w at) (λ (w : Write K V) (victims : List (Write K V)). true) q)
+  pub maintained-none_waits : (frequency_of : ℕ → ℕ) (at : ℕ) (q : Queues (Write K V)) → (maintained rules frequency_of at q).waiting ≡ []
+  maintained-none_waits frequency_of at q = ap (λ (r : Queues (Write K V)). r.waiting) (after-parts (λ (w : Write K V). w.weight) rules.max_capacity (λ (w : Write K V). is_live rules w at) (wins rules frequency_of) q)
 
   -- in a maintenance the write of a key leaves, or it stays as it is
-  pub held-maintained : (k : K) (at : ℕ) (q : Queues (Write K V)) (o : Option (Write K V)) → held eq k q ≡ option_to_list o
-      → (writes_of eq k (let_go rules at q) ≡ option_to_list (cond (list_any (λ (w : Write K V). eq w.key k) (let_go rules at q)) o None))
-      × (held eq k (maintained rules at q) ≡ option_to_list (cond (list_any (λ (w : Write K V). eq w.key k) (let_go rules at q)) None o))
-  held-maintained k at q o here = one_leaves_or_stays (λ (w : Write K V). eq w.key k) (λ (w : Write K V). 1) rules.max_capacity (λ (w : Write K V). is_live rules w at) (λ (w : Write K V) (victims : List (Write K V)). true) None q o here
+  pub held-maintained : (frequency_of : ℕ → ℕ) (k : K) (at : ℕ) (q : Queues (Write K V)) (o : Option (Write K V)) → held eq k q ≡ option_to_list o
+      → (writes_of eq k (let_go rules frequency_of at q) ≡ option_to_list (cond (list_any (λ (w : Write K V). eq w.key k) (let_go rules frequency_of at q)) o None))
+      × (held eq k (maintained rules frequency_of at q) ≡ option_to_list (cond (list_any (λ (w : Write K V). eq w.key k) (let_go rules frequency_of at q)) None o))
+  held-maintained frequency_of k at q o here = one_leaves_or_stays (λ (w : Write K V). eq w.key k) (λ (w : Write K V). w.weight) rules.max_capacity (λ (w : Write K V). is_live rules w at) (wins rules frequency_of) None q o here
 
   module _ (laws : IsEquivalence eq) where
     -- what is stored under a key is of another key where those are equal
@@ -88,7 +88,7 @@ module _ {K V : Type 0} (eq : K → K → Bool) (rules : Rules K V) where
         go false = refl
     held-look k p at (Some w) under = rw (key_test w k p under) (go (eq p k) (is_live rules w at))
       where
-        go : (t live : Bool) → ◌≡◌ {A = Option (Write K V)} (Some (cond (t && live) (cond live (record w { used = max w.used at }) w) w)) (cond t (Some (cond live (record w { used = max w.used at }) w)) (Some w))
+        go : (t live : Bool) → ◌≡◌ {A = Option (Write K V)} (Some (cond (t && live) (cond live (hit rules at w) w) w)) (cond t (Some (cond live (hit rules at w) w)) (Some w))
         go true true = refl
         go true false = refl
         go false live = refl
@@ -162,7 +162,7 @@ module _ {K V : Type 0} (eq : K → K → Bool) (rules : Rules K V) where
         held-written_in k p v (latest (Insert p v at ∷ h)) (queues eq rules h) (standing eq rules k h) (standing eq rules p h) (stored_key eq rules k h) (held-queues k h) (held-queues p h) (λ same. sym (standing_congr eq rules laws p k h same))
     held-queues k (Invalidate p at ∷ h) =
         held-removed_in k p (queues eq rules h) ∙ ap (filter (λ (w : Write K V). not (eq w.key p))) (held-queues k h) ∙ held-removal k p (standing eq rules k h) (stored_key eq rules k h)
-    held-queues k (Maintain at ∷ h) = (held-maintained k (latest (Maintain at ∷ h)) (queues eq rules h) (standing eq rules k h) (held-queues k h)).1
+    held-queues k (Maintain at ∷ h) = (held-maintained (frequency rules h) k (latest (Maintain at ∷ h)) (queues eq rules h) (standing eq rules k h) (held-queues k h)).1
     held-queues k (Skip at ∷ h) = held-queues k h
     held-queues k (Measure what ∷ h) = held-queues k h
     held-queues k (TakeNotice ∷ h) = held-queues k h

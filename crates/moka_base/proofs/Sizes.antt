@@ -1,22 +1,21 @@
--- How many stand, and for which causes they leave, over every list of events.
-use Rattle.std.proofs.Common.{◌≡◌, ◌≢◌, ℕ, ◌+◌, ◌<◌, ◌≤◌, max, Bool, true, false, not, if◌then◌else◌, Option, Some, None, List, [], ◌∷◌, ◌++◌, length, take, drop, map, refl, sym, ap, ◌∙◌, subst, length-append, append-nil, take-append-drop, arith}
+-- How many stand, and how heavy they are, over every list of events.
+use Rattle.std.proofs.Common.{◌≡◌, ℕ, ◌+◌, ◌<◌, ◌≤◌, max, Bool, true, not, if◌then◌else◌, Option, Some, None, List, [], ◌∷◌, ◌++◌, length, map, refl, sym, ap, ◌∙◌, subst, length-append, append-nil, arith}
 use Rattle.std.specs.Option.{option_to_list, option_map}
-use Rattle.std.specs.List.{All, AllByRecursion, filter}
+use Rattle.std.specs.List.{All, filter}
 use Rattle.std.specs.Cmp.{IsEquivalence}
 use Rattle.std.proofs.lemmas.Bool.{cond_both, leb-false}
-use Rattle.std.proofs.lemmas.List.{length-map, map-append}
-use Rattle.std.proofs.lemmas.List.Elements.{All-nil, All-cons, All-head, All-tail, All-append, All-map, All-weaker, All-take, All-filter, filter_passes, recursion_from_All}
+use Rattle.std.proofs.lemmas.List.{length-map}
+use Rattle.std.proofs.lemmas.List.Elements.{All-head, All-append, All-filter}
 use Rattle.std.proofs.lemmas.List.Filters.{length-filter_both}
-use Rattle.moka_base.specs.declared.notification.RemovalCause.{RemovalCause}
-use Rattle.moka_base.specs.declared.notification.RemovalCause.TheVariants.{Expired, Explicit, Replaced, Size}
-use Rattle.moka_base.specs.Maintenance.{Queues, parts, leaving_in, after_parts}
-use Rattle.moka_base.specs.History.{Event, Get, ContainsKey, Insert, Invalidate, Maintain, Skip, Measure, TakeNotice, Rules, Write, Leaving, latest, is_expired, is_live, live_one, after_look, changed_where, moved_last, is_of, is_hit, used_where, opened_by, written_in, maintained, queues, leaves_in, standing, leaving_of, left, leaving, leavings, next_number, entry_count, stores_nothing, flush_point, is_flush_due, after_insert, IsHistory}
+use Rattle.moka_base.specs.Maintenance.{Queues, total, parts, after_parts}
+use Rattle.moka_base.specs.History.{Event, Get, ContainsKey, Insert, Invalidate, Maintain, Skip, Measure, TakeNotice, Rules, Write, frequency, latest, is_live, live_one, after_look, changed_where, moved_last, is_of, is_hit, used_where, opened_by, written_in, wins, maintained, queues, leaves_in, standing, leavings, next_number, entry_count, weighted_size, stores_nothing, flush_point, is_flush_due, after_insert, IsHistory}
 use Rattle.moka_base.specs.StandsFor.{writes_of}
 use Rattle.moka_base.specs.Replies.{Found, answer}
-use Rattle.moka_base.specs.SizeLaws.{dead, living, gone, excess, leaving_as}
-use Rattle.moka_base.proofs.Maintenance.{after-parts, All-live-after, total-after-le}
-use Rattle.moka_base.proofs.MaintenanceOrder.{leaving-room, admitted-room, take-leaving}
-use Rattle.moka_base.proofs.MaintenanceOnes.{total-ones, leaving-ones, admitted-ones}
+use Rattle.moka_base.specs.SizeLaws.{WeighsOnes}
+use Rattle.moka_base.proofs.Maintenance.{total-append, All-live-after, total-after-le}
+use Rattle.moka_base.proofs.MaintenanceAgreeing.{total-agrees}
+use Rattle.moka_base.proofs.MaintenanceOnes.{total-ones}
+use Rattle.moka_base.proofs.EachWrite.{queues-hold}
 use Rattle.moka_base.proofs.QueuesHold.{opening, overwrite, held-append, held-queues, maintained-none_waits}
 
 -- no more pass a test than there are
@@ -33,12 +32,13 @@ length-moved_last {A} p change xs =
     let all : length (others ++ map change moved) ≡ length others + length (map change moved) = length-append others (map change moved) in
     omega arith
 
-module _ {K V : Type 0} (eq : K → K → Bool) (rules : Rules K V) where
-  abbrev weighs_one : Write K V → ℕ
-  weighs_one w = 1
+-- where each weighs one, their weight is their number
+total-each_one : {X : Type 0} (weight : X → ℕ) (xs : List X) → All (λ x. weight x ≡ 1) xs → total weight xs ≡ length xs
+total-each_one weight xs ones = total-agrees weight (λ x. 1) xs ones ∙ total-ones (λ x. 1) (λ x. refl) xs
 
-  abbrev each_wins : Write K V → List (Write K V) → Bool
-  each_wins w victims = true
+module _ {K V : Type 0} (eq : K → K → Bool) (rules : Rules K V) where
+  abbrev pub weight_of : Write K V → ℕ
+  weight_of w = w.weight
 
   -- a write puts one at most behind those that wait, and none among the admitted
   admitted-opened_by : (w : Write K V) (ws : List (Write K V)) (q : Queues (Write K V)) → (opened_by eq rules w ws q).admitted ≡ q.admitted
@@ -49,21 +49,20 @@ module _ {K V : Type 0} (eq : K → K → Bool) (rules : Rules K V) where
   length-opened_by-le w [] q = let all = length-append q.waiting (w ∷ []) in omega arith
   length-opened_by-le w (v ∷ ws) q = omega arith
 
-  -- after a maintenance no more are admitted than the capacity allows
-  maintained-admitted-le : (at : ℕ) (q : Queues (Write K V)) (capacity : ℕ) → rules.max_capacity ≡ Some capacity → length (maintained rules at q).admitted ≤ capacity
-  maintained-admitted-le at q capacity e =
-      let after : Option ℕ → List (Write K V) = λ m. (after_parts q (parts weighs_one m (λ (w : Write K V). is_live rules w at) each_wins q)).admitted in
-      subst (λ m. length (after m) ≤ capacity) (sym e)
-      (let within = total-after-le weighs_one capacity (λ (w : Write K V). is_live rules w at) each_wins q in
-      let ones = total-ones weighs_one (λ w. refl) (after (Some capacity)) in
-      omega arith)
+  -- after a maintenance the weight of the admitted is within the capacity
+  maintained-weight-le : (frequency_of : ℕ → ℕ) (at : ℕ) (q : Queues (Write K V)) (capacity : ℕ) → rules.max_capacity ≡ Some capacity → total weight_of (maintained rules frequency_of at q).admitted ≤ capacity
+  maintained-weight-le frequency_of at q capacity e =
+      let after : Option ℕ → List (Write K V) = λ m. (after_parts q (parts weight_of m (λ (w : Write K V). is_live rules w at) (wins rules frequency_of) q)).admitted in
+      subst (λ m. total weight_of (after m) ≤ capacity) (sym e) (total-after-le weight_of capacity (λ (w : Write K V). is_live rules w at) (wins rules frequency_of) q)
 
-  pub maintained-entry_count-le : (h : List (Event K V)) (at capacity : ℕ) → rules.max_capacity ≡ Some capacity → entry_count eq rules (Maintain at ∷ h) ≤ capacity
-  maintained-entry_count-le h at capacity e =
+  -- so is that of all that stand
+  pub maintained-weighted_size-le : (h : List (Event K V)) (at capacity : ℕ) → rules.max_capacity ≡ Some capacity → weighted_size eq rules (Maintain at ∷ h) ≤ capacity
+  maintained-weighted_size-le h at capacity e =
       let now : ℕ = latest (Maintain at ∷ h) in
-      let admitted = maintained-admitted-le now (queues eq rules h) capacity e in
-      let waiting : length (maintained rules now (queues eq rules h)).waiting ≡ 0 = ap length (maintained-none_waits eq rules now (queues eq rules h)) in
-      let all = length-append (maintained rules now (queues eq rules h)).admitted (maintained rules now (queues eq rules h)).waiting in
+      let after : Queues (Write K V) = queues eq rules (Maintain at ∷ h) in
+      let admitted = maintained-weight-le (frequency rules h) now (queues eq rules h) capacity e in
+      let waiting : total weight_of after.waiting ≡ 0 = ap (total weight_of) (maintained-none_waits eq rules (frequency rules h) now (queues eq rules h)) in
+      let all = total-append weight_of after.admitted after.waiting in
       omega arith
 
   module _ (laws : IsEquivalence eq) where
@@ -72,7 +71,7 @@ module _ {K V : Type 0} (eq : K → K → Bool) (rules : Rules K V) where
     maintained-held h at k =
         let after : Queues (Write K V) = queues eq rules (Maintain at ∷ h) in
         sym (append-nil (writes_of eq k after.admitted))
-        ∙ ap (λ ws. writes_of eq k after.admitted ++ writes_of eq k ws) (sym (maintained-none_waits eq rules (latest (Maintain at ∷ h)) (queues eq rules h)))
+        ∙ ap (λ ws. writes_of eq k after.admitted ++ writes_of eq k ws) (sym (maintained-none_waits eq rules (frequency rules h) (latest (Maintain at ∷ h)) (queues eq rules h)))
         ∙ sym (held-append eq rules k after)
         ∙ held-queues eq rules laws k (Maintain at ∷ h)
 
@@ -82,34 +81,8 @@ module _ {K V : Type 0} (eq : K → K → Bool) (rules : Rules K V) where
         let now : ℕ = latest (Maintain at ∷ h) in
         let live : Write K V → Type 0 = λ u. is_live rules u now ≡ true in
         let admitted : List (Write K V) = (queues eq rules (Maintain at ∷ h)).admitted in
-        let all : All live (writes_of eq k admitted) = All-filter (λ (u : Write K V). eq u.key k) live admitted (All-live-after weighs_one rules.max_capacity (λ (u : Write K V). is_live rules u now) each_wins (queues eq rules h)) in
+        let all : All live (writes_of eq k admitted) = All-filter (λ (u : Write K V). eq u.key k) live admitted (All-live-after weight_of rules.max_capacity (λ (u : Write K V). is_live rules u now) (wins rules (frequency rules h)) (queues eq rules h)) in
         All-head live w [] (subst (All live) (maintained-held h at k ∙ ap option_to_list stands) all)
-
-  -- no more are admitted than the capacity allows
-  pub admitted-le : (h : List (Event K V)) (capacity : ℕ) → rules.max_capacity ≡ Some capacity → length (queues eq rules h).admitted ≤ capacity
-  admitted-le [] capacity e = omega arith
-  admitted-le (Get k at ∷ h) capacity e =
-      let before = admitted-le h capacity e in
-      let same = length-moved_last (is_hit eq rules k (latest (Get k at ∷ h))) (after_look rules (latest (Get k at ∷ h))) (queues eq rules h).admitted in
-      omega arith
-  admitted-le (ContainsKey k at ∷ h) capacity e = admitted-le h capacity e
-  admitted-le (Insert k v at ∷ h) capacity e = admitted-written_in (latest (Insert k v at ∷ h)) (queues eq rules h) (admitted-le h capacity e)
-    where
-      admitted-written_in : (now : ℕ) (q : Queues (Write K V)) → length q.admitted ≤ capacity → length (written_in eq rules k v now q).admitted ≤ capacity
-      admitted-written_in now q before =
-          let change : Write K V → Write K V = overwrite eq rules k v now in
-          let still : (written_in eq rules k v now q).admitted ≡ moved_last (is_of eq rules k) change q.admitted = admitted-opened_by (opening eq rules k v now) (writes_of eq k (q.admitted ++ q.waiting)) (used_where eq rules (is_of eq rules k) change q) in
-          let long = ap length still in
-          let same = length-moved_last (is_of eq rules k) change q.admitted in
-          omega arith
-  admitted-le (Invalidate k at ∷ h) capacity e =
-      let before = admitted-le h capacity e in
-      let fewer = length-filter-le (λ (w : Write K V). not (eq w.key k)) (queues eq rules h).admitted in
-      omega arith
-  admitted-le (Maintain at ∷ h) capacity e = maintained-admitted-le (latest (Maintain at ∷ h)) (queues eq rules h) capacity e
-  admitted-le (Skip at ∷ h) capacity e = admitted-le h capacity e
-  admitted-le (Measure what ∷ h) capacity e = admitted-le h capacity e
-  admitted-le (TakeNotice ∷ h) capacity e = admitted-le h capacity e
 
   -- no more wait than the flush point says
   pub waiting-le : (h : List (Event K V)) → IsHistory eq rules h → length (queues eq rules h).waiting ≤ flush_point
@@ -131,130 +104,63 @@ module _ {K V : Type 0} (eq : K → K → Bool) (rules : Rules K V) where
       let before = waiting-le h g in
       let fewer = length-filter-le (λ (w : Write K V). not (eq w.key k)) (queues eq rules h).waiting in
       omega arith
-  waiting-le (Maintain at ∷ h) g = let none = ap length (maintained-none_waits eq rules (latest (Maintain at ∷ h)) (queues eq rules h)) in omega arith
+  waiting-le (Maintain at ∷ h) g = let none = ap length (maintained-none_waits eq rules (frequency rules h) (latest (Maintain at ∷ h)) (queues eq rules h)) in omega arith
   waiting-le (Skip at ∷ h) g = waiting-le h g
   waiting-le (Measure what ∷ h) g = waiting-le h g
   waiting-le (TakeNotice ∷ h) g = waiting-le h g
 
-  pub entry_count-le : (h : List (Event K V)) (capacity : ℕ) → rules.max_capacity ≡ Some capacity → IsHistory eq rules h → entry_count eq rules h ≤ capacity + flush_point
-  entry_count-le h capacity e g =
-      let admitted = admitted-le h capacity e in
-      let waiting = waiting-le h g in
-      let all = length-append (queues eq rules h).admitted (queues eq rules h).waiting in
-      omega arith
+  module _ (ones : WeighsOnes rules) where
+    -- where each weighs one, so does each that stands
+    pub each_one : (h : List (Event K V)) → All (λ (w : Write K V). w.weight ≡ 1) (queues eq rules h).admitted × All (λ (w : Write K V). w.weight ≡ 1) (queues eq rules h).waiting
+    each_one h = queues-hold eq rules (λ w. w.weight ≡ 1) (λ k v at. ones k v) (λ k v at w _. ones k v) (λ at w one. one) h
 
--- maps agree where what they do to each agrees
-map-agree : {A B : Type 0} (f g : A → B) (xs : List A) → All (λ x. f x ≡ g x) xs → map f xs ≡ map g xs
-map-agree f g [] same = refl
-map-agree f g (x ∷ xs) same = ap (λ y. y ∷ map f xs) (All-head (λ z. f z ≡ g z) x xs same) ∙ ap (λ ys. g x ∷ ys) (map-agree f g xs (All-tail (λ z. f z ≡ g z) x xs same))
+    -- so no more stand after a maintenance than the capacity allows,
+    pub maintained-entry_count-le : (h : List (Event K V)) (at capacity : ℕ) → rules.max_capacity ≡ Some capacity → entry_count eq rules (Maintain at ∷ h) ≤ capacity
+    maintained-entry_count-le h at capacity e =
+        let after : Queues (Write K V) = queues eq rules (Maintain at ∷ h) in
+        let each = each_one (Maintain at ∷ h) in
+        let within = maintained-weighted_size-le h at capacity e in
+        let counted = total-each_one weight_of (after.admitted ++ after.waiting) (All-append (λ (w : Write K V). w.weight ≡ 1) after.admitted after.waiting each.0 each.1) in
+        omega arith
 
-module _ {K V : Type 0} (eq : K → K → Bool) (rules : Rules K V) (at : ℕ) (h : List (Event K V)) where
-  abbrev now : ℕ
-  now = latest (Maintain at ∷ h)
+    -- and no more are admitted
+    pub admitted-le : (h : List (Event K V)) (capacity : ℕ) → rules.max_capacity ≡ Some capacity → length (queues eq rules h).admitted ≤ capacity
+    admitted-le [] capacity e = omega arith
+    admitted-le (Get k at ∷ h) capacity e =
+        let before = admitted-le h capacity e in
+        let same = length-moved_last (is_hit eq rules k (latest (Get k at ∷ h))) (after_look rules (latest (Get k at ∷ h))) (queues eq rules h).admitted in
+        omega arith
+    admitted-le (ContainsKey k at ∷ h) capacity e = admitted-le h capacity e
+    admitted-le (Insert k v at ∷ h) capacity e = admitted-written_in (latest (Insert k v at ∷ h)) (queues eq rules h) (admitted-le h capacity e)
+      where
+        admitted-written_in : (now : ℕ) (q : Queues (Write K V)) → length q.admitted ≤ capacity → length (written_in eq rules k v now q).admitted ≤ capacity
+        admitted-written_in now q before =
+            let change : Write K V → Write K V = overwrite eq rules k v now in
+            let still : (written_in eq rules k v now q).admitted ≡ moved_last (is_of eq rules k) change q.admitted = admitted-opened_by (opening eq rules k v now) (writes_of eq k (q.admitted ++ q.waiting)) (used_where eq rules (is_of eq rules k) change q) in
+            let long = ap length still in
+            let same = length-moved_last (is_of eq rules k) change q.admitted in
+            omega arith
+    admitted-le (Invalidate k at ∷ h) capacity e =
+        let before = admitted-le h capacity e in
+        let fewer = length-filter-le (λ (w : Write K V). not (eq w.key k)) (queues eq rules h).admitted in
+        omega arith
+    admitted-le (Maintain at ∷ h) capacity e =
+        let after : Queues (Write K V) = queues eq rules (Maintain at ∷ h) in
+        let within = maintained-entry_count-le h at capacity e in
+        let all = length-append after.admitted after.waiting in
+        omega arith
+    admitted-le (Skip at ∷ h) capacity e = admitted-le h capacity e
+    admitted-le (Measure what ∷ h) capacity e = admitted-le h capacity e
+    admitted-le (TakeNotice ∷ h) capacity e = admitted-le h capacity e
 
-  abbrev q : Queues (Write K V)
-  q = queues eq rules h
-
-  abbrev is_live_now : Write K V → Bool
-  is_live_now w = is_live rules w now
-
-  -- what leaves and what is admitted at a capacity
-  abbrev gone_at : Option ℕ → List (Write K V)
-  gone_at m = leaving_in (parts (weighs_one eq rules) m is_live_now (each_wins eq rules) q)
-
-  abbrev admitted_at : Option ℕ → List (Write K V)
-  admitted_at m = (after_parts q (parts (weighs_one eq rules) m is_live_now (each_wins eq rules) q)).admitted
-
-  pub gone-within : (capacity : ℕ) → rules.max_capacity ≡ Some capacity → gone eq rules at h ≡ dead eq rules at h ++ take (excess eq rules at h capacity) (living eq rules at h)
-  gone-within capacity e =
-      let all : List (Write K V) = gone_at (Some capacity) in
-      let n : ℕ = length (dead eq rules at h) in
-      ap gone_at e
-      ∙ sym (take-append-drop n all)
-      ∙ ap (λ ws. ws ++ drop n all) (take-leaving (weighs_one eq rules) (Some capacity) is_live_now (each_wins eq rules) q)
-      ∙ ap (λ ws. dead eq rules at h ++ ws) (leaving-ones (weighs_one eq rules) (λ w. refl) is_live_now (each_wins eq rules) (λ w victims. refl) q capacity)
-
-  pub admitted-within : (capacity : ℕ) → rules.max_capacity ≡ Some capacity → (queues eq rules (Maintain at ∷ h)).admitted ≡ drop (excess eq rules at h capacity) (living eq rules at h)
-  admitted-within capacity e = ap admitted_at e ∙ admitted-ones (weighs_one eq rules) (λ w. refl) is_live_now (each_wins eq rules) (λ w victims. refl) q capacity
-
-  -- without a capacity just the dead leave
-  pub gone-without : rules.max_capacity ≡ None → gone eq rules at h ≡ dead eq rules at h
-  gone-without e = ap gone_at e ∙ leaving-room (weighs_one eq rules) None is_live_now (each_wins eq rules) q refl
-
-  pub admitted-without : rules.max_capacity ≡ None → (queues eq rules (Maintain at ∷ h)).admitted ≡ living eq rules at h
-  admitted-without e = ap admitted_at e ∙ admitted-room (weighs_one eq rules) None is_live_now (each_wins eq rules) q refl
-
-  -- what leaves is expired or leaves for size, as it is dead or live
-  leaving-dead : (w : Write K V) → not (is_live_now w) ≡ true → leaving_of rules Size now w ≡ leaving_as Expired w
-  leaving-dead w = go (is_expired rules w now)
-    where
-      go : (t : Bool) → not (not t) ≡ true → ◌≡◌ {A = Leaving K V} (record { key = w.key; value = w.value; cause = if t then Expired else Size }) (leaving_as Expired w)
-      go true d = refl
-      go false d = cc
-
-  leaving-live : (w : Write K V) → is_live_now w ≡ true → leaving_of rules Size now w ≡ leaving_as Size w
-  leaving-live w = go (is_expired rules w now)
-    where
-      go : (t : Bool) → not t ≡ true → ◌≡◌ {A = Leaving K V} (record { key = w.key; value = w.value; cause = if t then Expired else Size }) (leaving_as Size w)
-      go true d = cc
-      go false d = refl
-
-  map-leaving-dead : map (leaving_of rules Size now) (dead eq rules at h) ≡ map (leaving_as Expired) (dead eq rules at h)
-  map-leaving-dead =
-      let is_dead : Write K V → Type 0 = λ w. not (is_live_now w) ≡ true in
-      map-agree (leaving_of rules Size now) (leaving_as Expired) (dead eq rules at h)
-      (All-weaker is_dead (λ w. leaving_of rules Size now w ≡ leaving_as Expired w) leaving-dead (dead eq rules at h)
-      (All-append is_dead (filter (λ w. not (is_live_now w)) q.admitted) (filter (λ w. not (is_live_now w)) q.waiting) (filter_passes (λ w. not (is_live_now w)) q.admitted) (filter_passes (λ w. not (is_live_now w)) q.waiting)))
-
-  map-leaving-live : (n : ℕ) → map (leaving_of rules Size now) (take n (living eq rules at h)) ≡ map (leaving_as Size) (take n (living eq rules at h))
-  map-leaving-live n =
-      let lives_now : Write K V → Type 0 = λ w. is_live_now w ≡ true in
-      map-agree (leaving_of rules Size now) (leaving_as Size) (take n (living eq rules at h))
-      (All-weaker lives_now (λ w. leaving_of rules Size now w ≡ leaving_as Size w) leaving-live (take n (living eq rules at h))
-      (All-take lives_now n (living eq rules at h) (All-append lives_now (filter is_live_now q.admitted) (filter is_live_now q.waiting) (filter_passes is_live_now q.admitted) (filter_passes is_live_now q.waiting))))
-
-  pub leaving-within : (capacity : ℕ) → rules.max_capacity ≡ Some capacity → leaving eq rules (Maintain at) h ≡ map (leaving_as Expired) (dead eq rules at h) ++ map (leaving_as Size) (take (excess eq rules at h capacity) (living eq rules at h))
-  leaving-within capacity e =
-      let n : ℕ = excess eq rules at h capacity in
-      ap (map (leaving_of rules Size now)) (gone-within capacity e)
-      ∙ map-append (leaving_of rules Size now) (dead eq rules at h) (take n (living eq rules at h))
-      ∙ ap (λ ls. ls ++ map (leaving_of rules Size now) (take n (living eq rules at h))) map-leaving-dead
-      ∙ ap (λ ls. map (leaving_as Expired) (dead eq rules at h) ++ ls) (map-leaving-live n)
-
-  pub leaving-without : rules.max_capacity ≡ None → leaving eq rules (Maintain at) h ≡ map (leaving_as Expired) (dead eq rules at h)
-  leaving-without e = ap (map (leaving_of rules Size now)) (gone-without e) ∙ map-leaving-dead
+    pub entry_count-le : (h : List (Event K V)) (capacity : ℕ) → rules.max_capacity ≡ Some capacity → IsHistory eq rules h → entry_count eq rules h ≤ capacity + flush_point
+    entry_count-le h capacity e g =
+        let admitted = admitted-le h capacity e in
+        let waiting = waiting-le h g in
+        let all = length-append (queues eq rules h).admitted (queues eq rules h).waiting in
+        omega arith
 
 module _ {K V : Type 0} (eq : K → K → Bool) (rules : Rules K V) where
-  -- it did not leave for size
-  abbrev NotForSize : Leaving K V → Type 0
-  NotForSize l = l.cause ≢ Size
-
-  NotForSize-left : (own : RemovalCause) (at : ℕ) (o : Option (Write K V)) → own ≢ Size → All NotForSize (left rules own at o)
-  NotForSize-left own at None other = All-nil NotForSize
-  NotForSize-left own at (Some w) other = All-cons NotForSize (leaving_of rules own at w) [] (cond_both (is_expired rules w at) Expired own (λ cause. cause ≢ Size) (λ _ e. cc) (λ _. other)) (All-nil NotForSize)
-
-  none_for_size : (h : List (Event K V)) → rules.max_capacity ≡ None → All NotForSize (leavings eq rules h)
-  none_for_size [] e = All-nil NotForSize
-  none_for_size (a ∷ h) e = All-append NotForSize (leavings eq rules h) (leaving eq rules a h) (none_for_size h e) (at_event a)
-    where
-      at_event : (a : Event K V) → All NotForSize (leaving eq rules a h)
-      at_event (Get k at) = All-nil NotForSize
-      at_event (ContainsKey k at) = All-nil NotForSize
-      at_event (Insert k v at) = NotForSize-left Replaced (latest (Insert k v at ∷ h)) (standing eq rules k h) (λ same. cc)
-      at_event (Invalidate k at) = NotForSize-left Explicit (latest (Invalidate k at ∷ h)) (standing eq rules k h) (λ same. cc)
-      at_event (Maintain at) =
-          subst (All NotForSize) (sym (leaving-without eq rules at h e)) (All-map NotForSize (leaving_as Expired) (dead eq rules at h) (each (dead eq rules at h)))
-        where
-          each : (ws : List (Write K V)) → All (λ w. NotForSize (leaving_as Expired w)) ws
-          each [] = All-nil (λ w. NotForSize (leaving_as Expired w))
-          each (w ∷ ws) = All-cons (λ u. NotForSize (leaving_as Expired u)) w ws (λ same. cc) (each ws)
-      at_event (Skip at) = All-nil NotForSize
-      at_event (Measure what) = All-nil NotForSize
-      at_event TakeNotice = All-nil NotForSize
-
-  pub nothing_leaves_for_size : (h : List (Event K V)) → rules.max_capacity ≡ None → AllByRecursion NotForSize (leavings eq rules h)
-  nothing_leaves_for_size h e = recursion_from_All NotForSize (leavings eq rules h) (none_for_size h e)
-
   module _ (none : stores_nothing rules.max_capacity ≡ true) where
     -- where the capacity is 0 nothing is in either order,
     pub queues-empty : (h : List (Event K V)) → IsHistory eq rules h → queues eq rules h ≡ record { admitted = []; waiting = [] }

@@ -1,10 +1,10 @@
 -- What stands for equal keys is the same, and it is stored under an equal key.
-use Rattle.std.proofs.Common.{◌≡◌, ℕ, max, Bool, true, Option, Some, None, List, [], ◌∷◌, refl, ◌∙◌}
+use Rattle.std.proofs.Common.{◌≡◌, ℕ, Bool, true, Option, Some, None, List, [], ◌∷◌, refl, ◌∙◌}
 use Rattle.std.specs.Cmp.{IsEquivalence}
 use Rattle.std.specs.Option.{option_map}
 use Rattle.std.specs.List.{list_any}
 use Rattle.std.proofs.lemmas.Bool.{cond_both}
-use Rattle.moka_base.specs.History.{Event, Get, ContainsKey, Insert, Invalidate, Maintain, Skip, Measure, TakeNotice, Rules, Write, latest, is_live, after_look, after_write, let_go, queues, leaves_in, standing}
+use Rattle.moka_base.specs.History.{Event, Get, ContainsKey, Insert, Invalidate, Maintain, Skip, Measure, TakeNotice, Rules, Write, latest, is_live, hit, after_look, after_write, frequency, let_go, queues, leaves_in, standing}
 
 -- a key is equal to just what an equal key is equal to
 pub eq_congr_right : {K : Type 0} {eq : K → K → Bool} → IsEquivalence eq → (p q k : K) → eq q k ≡ true → eq p q ≡ eq p k
@@ -19,7 +19,7 @@ module _ {K V : Type 0} (eq : K → K → Bool) (rules : Rules K V) where
   -- a hit keeps the stored key
   IsStoredUnder-after_look : (k : K) (at : ℕ) (o : Option (Write K V)) → IsStoredUnder eq k o → IsStoredUnder eq k (option_map (after_look rules at) o)
   IsStoredUnder-after_look k at None s = tt
-  IsStoredUnder-after_look k at (Some w) s = cond_both (is_live rules w at) (record w { used = max w.used at }) w (λ (u : Write K V). eq u.key k ≡ true) (λ _. s) (λ _. s)
+  IsStoredUnder-after_look k at (Some w) s = cond_both (is_live rules w at) (hit rules at w) w (λ (u : Write K V). eq u.key k ≡ true) (λ _. s) (λ _. s)
 
   -- a write keeps the stored key, and else brings its own
   IsStoredUnder-after_write : (k q : K) (v : V) (at : ℕ) (o : Option (Write K V)) → eq q k ≡ true → IsStoredUnder eq k o → IsStoredUnder eq k (Some (after_write rules q v at o))
@@ -45,7 +45,7 @@ module _ {K V : Type 0} (eq : K → K → Bool) (rules : Rules K V) where
 
   -- equal keys leave together
   pub leaves_in-congr : IsEquivalence eq → (q k : K) (at : ℕ) (h : List (Event K V)) → eq q k ≡ true → leaves_in eq rules q at h ≡ leaves_in eq rules k at h
-  leaves_in-congr e q k at h same = list_any-congr e q k (let_go rules (latest (Maintain at ∷ h)) (queues eq rules h)) same
+  leaves_in-congr e q k at h same = list_any-congr e q k (let_go rules (frequency rules h) (latest (Maintain at ∷ h)) (queues eq rules h)) same
 
   -- the same write stands for equal keys
   pub standing_congr : IsEquivalence eq → (q k : K) (h : List (Event K V)) → eq q k ≡ true → standing eq rules q h ≡ standing eq rules k h

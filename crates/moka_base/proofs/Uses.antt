@@ -1,24 +1,24 @@
 -- What is admitted stands in the order of use.
-use Rattle.std.proofs.Common.{◌≡◌, ⊎_elim, ℕ, ◌+◌, ◌<◌, ◌≤◌, suc, zero, Bool, true, false, not, cond, ◌&&◌, ◌||◌, is_some, Option, Some, None, List, [], ◌∷◌, ◌++◌, length, drop, refl, sym, ap, ◌∙◌, subst, append-nil, append_assoc, arith}
+use Rattle.std.proofs.Common.{◌≡◌, inl, inr, ⊎_elim, ℕ, ◌+◌, ◌<◌, ◌≤◌, Bool, true, false, not, cond, ◌&&◌, ◌||◌, is_some, Option, Some, None, List, [], ◌∷◌, ◌++◌, length, refl, sym, ap, ◌∙◌, subst, append-nil, append_assoc, arith}
 use Rattle.std.specs.Option.{option_to_list}
 use Rattle.std.specs.List.{All, filter, list_any}
 use Rattle.std.specs.Cmp.{IsEquivalence}
 use Rattle.std.proofs.lemmas.Bool.{cond_both, cases_Bool, cond-true, cond-false, or_left, or_right, and_parts, and_from}
 use Rattle.std.proofs.lemmas.List.{map-append}
-use Rattle.std.proofs.lemmas.List.Elements.{All-nil, All-cons, All-head, All-tail, All-weaker, All-drop, All-filter, filter-append, filter_agree}
+use Rattle.std.proofs.lemmas.List.Elements.{All-nil, All-cons, All-head, All-tail, All-weaker, filter-append, filter_agree}
 use Rattle.std.proofs.lemmas.List.Folds.{list_any_none}
 use Rattle.std.proofs.lemmas.Map.Views.{any-filter_same}
 use Rattle.moka_base.specs.Maintenance.{Queues}
-use Rattle.moka_base.specs.History.{Event, Get, ContainsKey, Insert, Invalidate, Maintain, Skip, Measure, TakeNotice, Rules, Write, latest, is_live, live_one, after_look, after_write, moved_last, is_of, is_hit, used_where, queues, standing}
+use Rattle.moka_base.specs.History.{Event, Get, ContainsKey, Insert, Invalidate, Maintain, Skip, Measure, TakeNotice, Rules, Write, frequency, latest, is_live, live_one, after_look, after_write, moved_last, is_of, is_hit, used_where, wins, queues, standing}
 use Rattle.moka_base.specs.StandsFor.{writes_of}
 use Rattle.moka_base.specs.OrderLaws.{keys, held, HasOneEach, lasts, admitted_in, uses, is_admitted, LastUse}
-use Rattle.moka_base.specs.SizeLaws.{living, excess}
 use Rattle.moka_base.proofs.ListLemmas.{and_comm, filter-both, filter-narrower, alone, moved_last-none, map-filter, list_any-filtered}
 use Rattle.moka_base.proofs.Standing.{IsStoredUnder, stored_key, standing_congr}
 use Rattle.moka_base.proofs.QueuesHold.{overwrite, overwritten, held-queues, after_look-key}
 use Rattle.moka_base.proofs.HeldOnes.{in_one_order}
 use Rattle.moka_base.proofs.Moves.{none_held, look-none, written_in-anew, written_in-over, used-admitted, removed-admitted}
-use Rattle.moka_base.proofs.Sizes.{maintained-held, admitted-within, admitted-without}
+use Rattle.moka_base.proofs.Rests.{IsRestOf, All-rest, rest-after}
+use Rattle.moka_base.proofs.Sizes.{maintained-held}
 use Rattle.moka_base.proofs.InOrder.{Each, InOrder, Each-from, Each-filter, InOrder-filter, InOrder-same, InOrder-at, Each-at}
 use Rattle.moka_base.proofs.Arrivals.{or_false, list_any-map, list_any-filter, is_some_of, lasts-push, is_among, KeepsArrival, is_among-congr, KeepsArrival-push, KeepsArrival-filter}
 
@@ -140,49 +140,25 @@ module _ {K V : Type 0} (eq : K → K → Bool) where
     abbrev is_in : List (Write K V) → Write K V → Bool
     is_in ys w = list_any (λ y. eq y.key w.key) ys
 
-    -- a list without its first ones, filtered, is what passes the test of being in it
-    filter-is_in : (t : Write K V → Bool) (n : ℕ) (ws : List (Write K V)) → HasOne ws → filter (is_in (drop n (filter t ws))) ws ≡ drop n (filter t ws)
-    filter-is_in t n [] one = none n
+    -- what is left of a list is what of it passes the test of being there
+    filter-is_in : (rest ws : List (Write K V)) → IsRestOf rest ws → HasOne ws → filter (is_in rest) ws ≡ rest
+    filter-is_in [] ws left one = none ws
       where
-        none : (n : ℕ) → ◌≡◌ {A = List (Write K V)} [] (drop n [])
-        none zero = refl
-        none (suc n) = refl
-    filter-is_in t n (w ∷ ws) one =
-        let rest = λ (m : ℕ). filter-is_in t m ws (HasOne-tail w ws one) in
-        ⊎_elim
-        (λ live. first rest n live)
-        (λ dead. ap (λ l. filter (is_in (drop n l)) (w ∷ ws)) (is_dead dead) ∙ without rest n ∙ ap (drop n) (sym (is_dead dead)))
-        (cases_Bool (t w))
-      where
-        Rest : Type 0
-        Rest = (m : ℕ) → filter (is_in (drop m (filter t ws))) ws ≡ drop m (filter t ws)
-
-        is_live_one : t w ≡ true → filter t (w ∷ ws) ≡ w ∷ filter t ws
-        is_live_one live = ap (λ s. cond s (w ∷ filter t ws) (filter t ws)) live
-
-        is_dead : t w ≡ false → filter t (w ∷ ws) ≡ filter t ws
-        is_dead dead = ap (λ s. cond s (w ∷ filter t ws) (filter t ws)) dead
-
-        others : All (λ u. eq u.key w.key ≡ false) ws
-        others = HasOne-head w ws one
-
-        not_in : (m : ℕ) → is_in (drop m (filter t ws)) w ≡ false
-        not_in m = list_any_none (λ y. eq y.key w.key) (drop m (filter t ws)) (All-drop (λ y. eq y.key w.key ≡ false) m (filter t ws) (All-filter t (λ y. eq y.key w.key ≡ false) ws others))
-
-        without : Rest → (m : ℕ) → filter (is_in (drop m (filter t ws))) (w ∷ ws) ≡ drop m (filter t ws)
-        without rest m = ap (λ s. cond s (w ∷ filter (is_in (drop m (filter t ws))) ws) (filter (is_in (drop m (filter t ws))) ws)) (not_in m) ∙ rest m
-
-        agree : All (λ u. is_in (w ∷ filter t ws) u ≡ is_in (filter t ws) u) ws
-        agree = All-weaker (λ u. eq u.key w.key ≡ false) (λ u. is_in (w ∷ filter t ws) u ≡ is_in (filter t ws) u) (λ u other. ap (λ s. s || is_in (filter t ws) u) (laws.symm w.key u.key ∙ other)) ws others
-
-        with_first : Rest → filter (is_in (w ∷ filter t ws)) (w ∷ ws) ≡ w ∷ filter t ws
-        with_first rest =
-            ap (λ s. cond (s || is_in (filter t ws) w) (w ∷ filter (is_in (w ∷ filter t ws)) ws) (filter (is_in (w ∷ filter t ws)) ws)) (laws.refl w.key)
-            ∙ ap (λ l. w ∷ l) (filter_agree_on (is_in (w ∷ filter t ws)) (is_in (filter t ws)) ws agree ∙ rest 0)
-
-        first : Rest → (m : ℕ) → t w ≡ true → filter (is_in (drop m (filter t (w ∷ ws)))) (w ∷ ws) ≡ drop m (filter t (w ∷ ws))
-        first rest zero live = ap (λ l. filter (is_in l) (w ∷ ws)) (is_live_one live) ∙ with_first rest ∙ sym (is_live_one live)
-        first rest (suc m) live = ap (λ l. filter (is_in (drop (suc m) l)) (w ∷ ws)) (is_live_one live) ∙ without rest m ∙ ap (drop (suc m)) (sym (is_live_one live))
+        none : (us : List (Write K V)) → filter (is_in []) us ≡ []
+        none [] = refl
+        none (u ∷ us) = none us
+    filter-is_in (r ∷ rest) [] left one = absurd left
+    filter-is_in (r ∷ rest) (w ∷ ws) (inl left) one =
+        let agree : All (λ u. is_in (w ∷ rest) u ≡ is_in rest u) ws =
+        All-weaker (λ u. eq u.key w.key ≡ false) (λ u. is_in (w ∷ rest) u ≡ is_in rest u) (λ u other. ap (λ s. s || is_in rest u) (laws.symm w.key u.key ∙ other)) ws (HasOne-head w ws one) in
+        ap (λ u. filter (is_in (u ∷ rest)) (w ∷ ws)) left.0
+        ∙ ap (λ s. cond (s || is_in rest w) (w ∷ filter (is_in (w ∷ rest)) ws) (filter (is_in (w ∷ rest)) ws)) (laws.refl w.key)
+        ∙ ap (λ l. w ∷ l) (filter_agree_on (is_in (w ∷ rest)) (is_in rest) ws agree ∙ filter-is_in rest ws left.1 (HasOne-tail w ws one))
+        ∙ ap (λ u. u ∷ rest) (sym left.0)
+    filter-is_in (r ∷ rest) (w ∷ ws) (inr left) one =
+        let apart : (u : Write K V) → Type 0 = λ u. eq u.key w.key ≡ false in
+        let not_in : is_in (r ∷ rest) w ≡ false = list_any_none (λ y. eq y.key w.key) (r ∷ rest) (All-rest apart (r ∷ rest) ws left (HasOne-head w ws one)) in
+        ap (λ s. cond s (w ∷ filter (is_in (r ∷ rest)) ws) (filter (is_in (r ∷ rest)) ws)) not_in ∙ filter-is_in (r ∷ rest) ws left (HasOne-tail w ws one)
 
 module _ {K V : Type 0} (eq : K → K → Bool) (rules : Rules K V) (laws : IsEquivalence eq) where
   -- a use of a write that stands for a key
@@ -229,30 +205,17 @@ module _ {K V : Type 0} (eq : K → K → Bool) (rules : Rules K V) (laws : IsEq
   is_some_of-option None = refl
   is_some_of-option (Some w) = refl
 
-  -- they are the living without the first ones
-  maintained-dropped : (h : List (Event K V)) (at : ℕ) → (n : ℕ) × ((queues eq rules (Maintain at ∷ h)).admitted ≡ drop n (living eq rules at h))
-  maintained-dropped h at = go rules.max_capacity refl
-    where
-      go : (o : Option ℕ) → rules.max_capacity ≡ o → (n : ℕ) × ((queues eq rules (Maintain at ∷ h)).admitted ≡ drop n (living eq rules at h))
-      go None e = (0, admitted-without eq rules at h e)
-      go (Some capacity) e = (excess eq rules at h capacity, admitted-within eq rules at h capacity e)
-
-  -- so they are those of both orders that stand after it
+  -- the admitted after it are those of both orders that stand after it
   maintained-filtered : (h : List (Event K V)) (at : ℕ)
       → (queues eq rules (Maintain at ∷ h)).admitted ≡ filter (λ w. stands_after at h w.key) (queues eq rules h).admitted ++ filter (λ w. stands_after at h w.key) (queues eq rules h).waiting
   maintained-filtered h at =
       let q : Queues (Write K V) = queues eq rules h in
       let all : List (Write K V) = q.admitted ++ q.waiting in
       let after : List (Write K V) = (queues eq rules (Maintain at ∷ h)).admitted in
-      let lives : Write K V → Bool = λ w. is_live rules w (latest (Maintain at ∷ h)) in
-      let found = maintained-dropped h at in
-      let n : ℕ = found.0 in
-      let is : after ≡ drop n (filter lives all) = found.1 ∙ ap (drop n) (sym (filter-append lives q.admitted q.waiting)) in
+      let left : IsRestOf after all = rest-after (λ w. w.weight) rules.max_capacity (wins rules (frequency rules h)) (λ w. is_live rules w (latest (Maintain at ∷ h))) q in
       let alike : (w : Write K V) → is_in eq laws after w ≡ stands_after at h w.key =
       λ w. list_any-filter (λ (y : Write K V). eq y.key w.key) after ∙ ap is_some_of (maintained-held eq rules laws h at w.key) ∙ is_some_of-option (standing eq rules w.key (Maintain at ∷ h)) in
-      is
-      ∙ sym (filter-is_in eq laws lives n all (λ k. (standing eq rules k h, held-queues eq rules laws k h)))
-      ∙ ap (λ ws. filter (is_in eq laws ws) all) (sym is)
+      sym (filter-is_in eq laws after all left (λ k. (standing eq rules k h, held-queues eq rules laws k h)))
       ∙ filter_agree (is_in eq laws after) (λ w. stands_after at h w.key) alike all
       ∙ filter-append (λ w. stands_after at h w.key) q.admitted q.waiting
 

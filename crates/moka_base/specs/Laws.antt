@@ -2,7 +2,7 @@
 use Rattle.std.specs.Prelude.{◌≡◌, ◌⊎◌, ℕ, ◌+◌, ◌≤◌, ◌++◌, ◌&&◌, max, Bool, true, false, if◌then◌else◌, Option, Some, None, List, [], ◌∷◌, filter, is_some}
 use Rattle.moka_base.specs.declared.notification.RemovalCause.{RemovalCause}
 use Rattle.moka_base.specs.declared.notification.RemovalCause.TheVariants.{Expired}
-use Rattle.moka_base.specs.History.{Event, Get, ContainsKey, Insert, Invalidate, Maintain, Skip, Measure, TakeNotice, Rules, OwnLife, Write, Leaving, latest, has_come, deadline, leaves_in, standing, live}
+use Rattle.moka_base.specs.History.{Event, Get, ContainsKey, Insert, Invalidate, Maintain, Skip, Measure, TakeNotice, Rules, OwnLife, Write, Leaving, latest, has_come, deadline, life_given, leaves_in, standing, live, is_flush_due}
 use Rattle.moka_base.specs.Replies.{Answer, Found, Contains, Done, Counted, Noticed, answer}
 
 -- whether an event writes a key
@@ -138,6 +138,14 @@ pub record IsLeavingOf {K V : Type 0} {eq : K → K → Bool} {rules : Rules K V
   pub same_key : eq l.key k ≡ true
   pub value : l.value ≡ last.value
   pub cause : l.cause ≡ (if has_come (deadline rules stood) at then Expired else own)
+
+-- the life of its own that a write gives to its value, the events before it being h
+abbrev pub life_by_write : {K V : Type 0} → (K → K → Bool) → Rules K V → K → V → ℕ → List (Event K V) → Option ℕ
+life_by_write eq rules k v at h = life_given rules k v (latest (Insert k v at ∷ h)) (standing eq rules k h)
+
+-- the events before an accepted write, where those before it were h: a maintenance comes first where a flush is due
+abbrev pub before_write : {K V : Type 0} → (K → K → Bool) → Rules K V → ℕ → List (Event K V) → List (Event K V)
+before_write eq rules at h = if is_flush_due eq rules h then Maintain at ∷ h else h
 
 -- a life from a moment on has ended at a moment
 abbrev pub HasEnded : Option ℕ → ℕ → ℕ → Type 0

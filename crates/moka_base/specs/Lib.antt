@@ -1,3 +1,4 @@
+pub mod AdmissionLaws
 pub mod Frequency
 pub mod History
 pub mod Laws
@@ -5,10 +6,12 @@ pub mod Maintenance
 pub mod MaintenanceLaws
 pub mod NumberHash
 pub mod OrderLaws
+pub mod OwnLifeLaws
 pub mod Policy
 pub mod Replies
 pub mod SizeLaws
 pub mod StandsFor
 pub mod Worked
+pub mod WorkedAdmission
 pub mod WorkedMaintenance
 pub mod WorkedSize

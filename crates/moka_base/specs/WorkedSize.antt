@@ -1,5 +1,5 @@
 -- The rules and the events of the worked cases of a bounded size. Keys and values are numbers.
-use Rattle.std.specs.Prelude.{ℕ, nat_eq, zero, suc, Some, None, List, [], ◌∷◌, ◌++◌}
+use Rattle.std.specs.Prelude.{ℕ, nat_eq, zero, suc, Some, List, [], ◌∷◌, ◌++◌}
 use Rattle.moka_base.specs.declared.notification.RemovalCause.TheVariants.{Size}
 use Rattle.moka_base.specs.History.{Event, Get, Insert, Maintain, Rules, Leaving, after_insert}
 use Rattle.moka_base.specs.Worked.{seconds, without_lives, left_as}

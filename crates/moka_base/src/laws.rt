@@ -2,31 +2,33 @@
 //! the contract of a function that does nothing, so that the check proves it for every list of events.
 ghost use Rattle.std.specs.Prelude.{◌≡◌, ◌≢◌, ◌⊎◌, ◌↔◌, ℕ, ◌+◌, ◌<◌, ◌≤◌, max, Bool, not, if◌then◌else◌, true, false, List, [], ◌∷◌, ◌++◌, length, filter, slice_get, ◌^◌, fold};
 ghost use Rattle.moka_base.specs.declared.notification.RemovalCause.TheVariants.{Explicit, Replaced, Size};
-ghost use Rattle.moka_base.specs.History.{Event, Get, ContainsKey, Insert, Invalidate, Maintain, TakeNotice, Rules, Write, Leaving, latest, is_expired, leaves_in, standing, leaving, leavings, taken, noticed, next_number, stores_nothing, after_insert, IsHistory};
-ghost use Rattle.moka_base.specs.Laws.{ends, IsUnwritten, IsUntouched, LastWrite, FirstWrite, FirstEnd, NothingStands, up_to_write, IsAsWritten, IsLeavingOf, HasEnded, is_write, values_written, values_left, leavings_of, value_standing, given_out};
+ghost use Rattle.moka_base.specs.History.{Event, Get, ContainsKey, Insert, Invalidate, Maintain, TakeNotice, Rules, Write, Leaving, latest, frequency, is_expired, leaves_in, standing, leaving, leavings, taken, noticed, next_number, stores_nothing, after_insert, IsHistory};
+ghost use Rattle.moka_base.specs.Laws.{ends, IsUnwritten, IsUntouched, LastWrite, FirstWrite, FirstEnd, NothingStands, up_to_write, IsAsWritten, IsLeavingOf, HasEnded, OwnHasEnded, is_write, life_by_write, before_write, values_written, values_left, leavings_of, value_standing, given_out};
 ghost use Rattle.moka_base.specs.NumberHash.{number_hash};
 ghost use Rattle.std.specs.Hash.{u64 as number_writes};
 ghost use Rattle.moka_base.specs.Replies.{Found, Contains, Noticed, answer};
 
 /// After a write a look at the same moment, or at an earlier one, finds its value; with a life of
-/// nothing no look finds it at any moment. The value of an accepted write is found alike, whether a
+/// nothing, be it one of all values or its own, no look finds it at any moment. The value of an accepted write is found alike, whether a
 /// maintenance came before it or not; but where the capacity is 0 no look finds anything.
 pub fn get_after_insert<K: Eq, V>()
     ensures found { (rules : Rules K V) (h : List (Event K V)) (k q : K) (v : V) (at now : ℕ) → K.eq k q ≡ true → now ≤ at
-        → rules.time_to_live ≢ Some 0 → rules.time_to_idle ≢ Some 0
+        → rules.time_to_live ≢ Some 0 → rules.time_to_idle ≢ Some 0 → life_by_write K.eq rules k v at h ≢ Some 0
         → answer K.eq rules (Get q now) (Insert k v at ∷ h) ≡ Found (Some v) }
     ensures expired { (rules : Rules K V) (h : List (Event K V)) (k q : K) (v : V) (at now : ℕ) → K.eq k q ≡ true
-        → (rules.time_to_live ≡ Some 0) ⊎ (rules.time_to_idle ≡ Some 0)
+        → (rules.time_to_live ≡ Some 0) ⊎ (rules.time_to_idle ≡ Some 0) ⊎ (life_by_write K.eq rules k v at h ≡ Some 0)
         → answer K.eq rules (Get q now) (Insert k v at ∷ h) ≡ Found None }
     ensures accepted { (rules : Rules K V) (h : List (Event K V)) (k q : K) (v : V) (at now : ℕ) → K.eq k q ≡ true → now ≤ at
         → stores_nothing rules.max_capacity ≡ false → rules.time_to_live ≢ Some 0 → rules.time_to_idle ≢ Some 0
+        → life_by_write K.eq rules k v at (before_write K.eq rules at h) ≢ Some 0
         → answer K.eq rules (Get q now) (after_insert K.eq rules k v at h) ≡ Found (Some v) }
     ensures not_stored { (rules : Rules K V) (h : List (Event K V)) (k q : K) (v : V) (at now : ℕ)
         → stores_nothing rules.max_capacity ≡ true → IsHistory K.eq rules h
         → answer K.eq rules (Get q now) (after_insert K.eq rules k v at h) ≡ Found None }
 {}
 
-/// A look by `contains_key` changes nothing: every later answer is as if it had not been made.
+/// A look by `contains_key` changes nothing: every later answer is as if it had not been made, and so is how often each
+/// hash was noted.
 pub fn contains_key_changes_no_reply<K: Eq, V>()
     ensures answer { (rules : Rules K V) (later h : List (Event K V)) (q : K) (at : ℕ) (e : Event K V)
         → answer K.eq rules e (later ++ ContainsKey q at ∷ h) ≡ answer K.eq rules e (later ++ h) }
@@ -36,6 +38,8 @@ pub fn contains_key_changes_no_reply<K: Eq, V>()
         → noticed K.eq rules (later ++ ContainsKey q at ∷ h) ≡ noticed K.eq rules (later ++ h) }
     ensures next_number { (rules : Rules K V) (later h : List (Event K V)) (q : K) (at : ℕ)
         → next_number rules (later ++ ContainsKey q at ∷ h) ≡ next_number rules (later ++ h) }
+    ensures frequency { (rules : Rules K V) (later h : List (Event K V)) (q : K) (at hash : ℕ)
+        → frequency rules (later ++ ContainsKey q at ∷ h) hash ≡ frequency rules (later ++ h) hash }
 {}
 
 /// No value is lost or doubled: the values that were written to a key are, in this order, those that
@@ -61,7 +65,7 @@ pub fn each_leaving_is_noticed_once<K: Eq, V>()
 {}
 
 /// What stands for a key is its last write, if nothing later writes or removes the key: with that
-/// value and moment, used at the greatest moment among that one and the hits since, and stored under
+/// value, its weight and that moment, used at the greatest moment among that one and the hits since, and stored under
 /// the key of the write that found it not stored.
 pub fn standing_is_the_last_write<K: Eq, V>()
     ensures stands { (rules : Rules K V) (h : List (Event K V)) (k : K) (last : LastWrite K.eq rules k h)
@@ -89,11 +93,11 @@ pub fn looks_answer_the_last_write<K: Eq, V>()
         → (answer K.eq rules (Get k at) h ≡ Found None) × (answer K.eq rules (ContainsKey k at) h ≡ Contains false) }
 {}
 
-/// A write is expired exactly where its time to live has passed since it was written, or its time to
-/// idle since it was last used.
+/// A write is expired exactly where its time to live has passed since it was written, or its time to idle since it was
+/// last used, or the life of its own since it was given.
 pub fn expired_where_a_life_has_ended<K, V>()
     ensures { (rules : Rules K V) (w : Write K V) (at : ℕ)
-        → (is_expired rules w at ≡ true) ↔ (HasEnded rules.time_to_live w.written at ⊎ HasEnded rules.time_to_idle w.used at) }
+        → (is_expired rules w at ≡ true) ↔ (HasEnded rules.time_to_live w.written at ⊎ HasEnded rules.time_to_idle w.used at ⊎ OwnHasEnded w.own at) }
 {}
 
 /// Equal keys are one key: the same write stands for them, and looks answer the same of them.

@@ -2,11 +2,11 @@
 //! that wait.
 ghost use Rattle.std.specs.Prelude.{nat_eq, ◌≡◌, ◌≢◌, ◌⊎◌, ◌<◌, length, ℕ, not, true, List, [], ◌∷◌, ◌++◌, filter, option_to_list};
 ghost use Rattle.moka_base.specs.Maintenance.{Queues};
-ghost use Rattle.moka_base.specs.History.{Event, Rules, Write, is_live, after_look, is_hit, standing, used_where, written_in, removed_in, queues};
+ghost use Rattle.moka_base.specs.History.{Event, Rules, Write, is_live, hit, after_look, after_write, is_hit, standing, used_where, written_in, removed_in, queues};
 ghost use Rattle.moka_base.specs.Laws.{FirstWrite};
 ghost use Rattle.moka_base.specs.StandsFor.{writes_of};
 ghost use Rattle.moka_base.specs.Worked.{without_lives, five_to_idle, seconds};
-ghost use Rattle.moka_base.specs.OrderLaws.{keys, held, HasOneEach, with_admitted, with_waiting, hit_at, written_over, written_anew, lasts, openings, waits, uses, is_admitted, LastUse, three_come, first_again, second_hit, first_removed, first_anew, three_admitted};
+ghost use Rattle.moka_base.specs.OrderLaws.{keys, held, HasOneEach, with_admitted, with_waiting, lasts, openings, waits, uses, is_admitted, LastUse, three_come, first_again, second_hit, first_removed, first_anew, three_admitted};
 
 /// The two orders hold just what stands: the write that stands for a key is in one of them, once, and
 /// nothing else is in either.
@@ -33,13 +33,13 @@ pub fn a_hit_leaves_the_waiting_order_alone<K: Eq, V>()
     ensures removal { (rules : Rules K V) (q : Queues (Write K V)) (k : K)
         → keys (removed_in K.eq rules k q).waiting ≡ filter (λ p. not (K.eq p k)) (keys q.waiting) }
     ensures opening { (rules : Rules K V) (q : Queues (Write K V)) (k : K) (v : V) (at : ℕ) → held K.eq k q ≡ []
-        → written_in K.eq rules k v at q ≡ with_waiting q (q.waiting ++ written_anew k v at ∷ []) }
+        → written_in K.eq rules k v at q ≡ with_waiting q (q.waiting ++ after_write rules k v at None ∷ []) }
     ensures hit_in_place { (rules : Rules K V) (q : Queues (Write K V)) (k : K) (at : ℕ) (before after : List (Write K V)) (w : Write K V)
         → HasOneEach K.eq q → K.eq w.key k ≡ true → q.waiting ≡ before ++ w ∷ after → is_live rules w at ≡ true
-        → used_where K.eq rules (is_hit K.eq rules k at) (after_look rules at) q ≡ with_waiting q (before ++ hit_at at w ∷ after) }
+        → used_where K.eq rules (is_hit K.eq rules k at) (after_look rules at) q ≡ with_waiting q (before ++ hit rules at w ∷ after) }
     ensures overwrite_in_place { (rules : Rules K V) (q : Queues (Write K V)) (k : K) (v : V) (at : ℕ) (before after : List (Write K V)) (w : Write K V)
         → HasOneEach K.eq q → K.eq w.key k ≡ true → q.waiting ≡ before ++ w ∷ after
-        → written_in K.eq rules k v at q ≡ with_waiting q (before ++ written_over v at w ∷ after) }
+        → written_in K.eq rules k v at q ≡ with_waiting q (before ++ after_write rules k v at (Some w) ∷ after) }
     ensures removal_alone { (rules : Rules K V) (q : Queues (Write K V)) (k : K) (before after : List (Write K V)) (w : Write K V)
         → HasOneEach K.eq q → K.eq w.key k ≡ true → q.waiting ≡ before ++ w ∷ after
         → removed_in K.eq rules k q ≡ with_waiting q (before ++ after) }
@@ -51,10 +51,10 @@ pub fn a_hit_leaves_the_waiting_order_alone<K: Eq, V>()
 pub fn a_use_moves_an_admitted_key_behind_all_others<K: Eq, V>()
     ensures hit { (rules : Rules K V) (q : Queues (Write K V)) (k : K) (at : ℕ) (before after : List (Write K V)) (w : Write K V)
         → HasOneEach K.eq q → K.eq w.key k ≡ true → q.admitted ≡ before ++ w ∷ after → is_live rules w at ≡ true
-        → used_where K.eq rules (is_hit K.eq rules k at) (after_look rules at) q ≡ with_admitted q ((before ++ after) ++ hit_at at w ∷ []) }
+        → used_where K.eq rules (is_hit K.eq rules k at) (after_look rules at) q ≡ with_admitted q ((before ++ after) ++ hit rules at w ∷ []) }
     ensures overwrite { (rules : Rules K V) (q : Queues (Write K V)) (k : K) (v : V) (at : ℕ) (before after : List (Write K V)) (w : Write K V)
         → HasOneEach K.eq q → K.eq w.key k ≡ true → q.admitted ≡ before ++ w ∷ after
-        → written_in K.eq rules k v at q ≡ with_admitted q ((before ++ after) ++ written_over v at w ∷ []) }
+        → written_in K.eq rules k v at q ≡ with_admitted q ((before ++ after) ++ after_write rules k v at (Some w) ∷ []) }
     ensures no_hit { (rules : Rules K V) (q : Queues (Write K V)) (k : K) (at : ℕ) → filter (λ w. is_live rules w at) (held K.eq k q) ≡ []
         → used_where K.eq rules (is_hit K.eq rules k at) (after_look rules at) q ≡ q }
     ensures removal { (rules : Rules K V) (q : Queues (Write K V)) (k : K) (before after : List (Write K V)) (w : Write K V)

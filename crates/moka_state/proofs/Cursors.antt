@@ -94,3 +94,7 @@ module _ {R : Type 0} where
   -- the numbers differ in the first of two lists
   pub differ-front : (front back : List (ℕ × R)) → NumbersDiffer (front ++ back) → NumbersDiffer front
   differ-front front back apart m = let once = apart m in let parts = count_under-append m front back in omega (arith, once, parts)
+
+  -- and in the second
+  pub differ-back : (front back : List (ℕ × R)) → NumbersDiffer (front ++ back) → NumbersDiffer back
+  differ-back front back apart m = let once = apart m in let parts = count_under-append m front back in omega (arith, once, parts)

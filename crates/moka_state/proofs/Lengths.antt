@@ -46,3 +46,9 @@ module _ {R : Type 0} where
       go None e h same = cc
       go (Some row) e h same =
           rw (same, rest) (omega (arith, length-append (admitted ++ (n, row) ∷ []) (without_row n waiting), length-append admitted ((n, row) ∷ []), length-append admitted waiting, length-without_row n waiting row e))
+
+  -- an addition makes one more
+  pub length-added : (n : ℕ) (row : R) (admitted waiting admitted' waiting' : List (ℕ × R)) → admitted' ≡ admitted → waiting' ≡ waiting ++ (n, row) ∷ []
+      → length (admitted' ++ waiting') ≡ length (admitted ++ waiting) + 1
+  length-added n row admitted waiting admitted' waiting' a w =
+      rw (a, w) (omega (arith, length-append admitted (waiting ++ (n, row) ∷ []), length-append waiting ((n, row) ∷ []), length-append admitted waiting))

@@ -3,11 +3,14 @@ pub mod Changes
 pub mod Counts
 pub mod Cursors
 pub mod Deadlines
+pub mod Elements
 pub mod Found
+pub mod Judging
 pub mod Lengths
 pub mod Maintained
 pub mod Maintaining
 pub mod NumberLemmas
+pub mod Phases
 pub mod Places
 pub mod Queues
 pub mod RowLemmas
@@ -16,3 +19,7 @@ pub mod Slots
 pub mod Sound
 pub mod Stands
 pub mod Steps
+pub mod Sweeping
+pub mod Verdicts
+pub mod Walks
+pub mod Weights

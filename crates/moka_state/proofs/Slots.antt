@@ -8,7 +8,7 @@ use Rattle.std.specs.Cmp.{IsEquivalence}
 use Rattle.std.proofs.lemmas.Bool.{true≢false, le-leb, lt-leb}
 use Rattle.std.proofs.lemmas.List.{length-map}
 use Rattle.moka_base.specs.declared.notification.Notice.{Notice}
-use Rattle.moka_base.specs.History.{Event, Insert, Maintain, Rules, Write, latest, standing, queues, leaves_in, stores_nothing, is_flush_due, after_insert}
+use Rattle.moka_base.specs.History.{Event, Ways, frequency as notes_frequency, Insert, Maintain, Rules, Write, latest, standing, queues, leaves_in, stores_nothing, is_flush_due, after_insert}
 use Rattle.moka_base.specs.StandsFor.{StandsFor}
 use Rattle.moka_base.proofs.QueuesHold.{maintained-none_waits}
 use Rattle.moka_state.specs.declared.lives.Lives.{Lives}
@@ -21,7 +21,7 @@ use Rattle.moka_state.specs.declared.slot.Slot.TheVariants.{Over, New}
 use Rattle.moka_state.specs.Rows.{row_under, NoneIsRowOf}
 use Rattle.moka_state.specs.Lives.{deadline_of}
 use Rattle.moka_state.specs.Place.{IsPlaceOf}
-use Rattle.moka_state.specs.Slot.{IsSlotFor, IsSlotNow, Puts}
+use Rattle.moka_state.specs.Slot.{IsSlotFor, IsSlotNow, IsInfoOf, Puts}
 use Rattle.moka_state.specs.Table.{Contents, entries, stored_write, stored_writes}
 use Rattle.moka_state.specs.State.{holdings, IsSound}
 use Rattle.moka_state.proofs.Cases.{stands-after-overwrite, stands-after-open}
@@ -70,7 +70,7 @@ module _ {K V : Type 0} (eq : K → K → Bool) (laws : IsEquivalence eq) (key :
   IsSound-put keeps hash_of lives earliest new hash v info (New shared) alike hashed kept sound goes put =
       IsSound-added keeps hash_of lives earliest contents new sound put.0 _ (hashed ∙ ap hash_of (sym goes)) (subst (λ k. keeps k v) (sym goes) kept) put.1 put.2 put.3
 
-module _ {K V : Type 0} (eq : K → K → Bool) (laws : IsEquivalence eq) (rules : Rules K V) (lives : Lives) (capacity : Option ℕ) (contents : Contents K V) (moment number : ℕ) (h : List (Event K V)) (stands : StandsFor eq rules (holdings lives capacity contents moment number) h) (key : K) where
+module _ {K V : Type 0} (eq : K → K → Bool) (laws : IsEquivalence eq) (rules : Rules K V) (ways : Ways K V) (lives : Lives) (capacity : Option ℕ) (contents : Contents K V) (frequency : List ℕ → ℕ → ℕ) (moment number : ℕ) (h : List (Event K V)) (stands : StandsFor eq rules (holdings ways lives capacity contents frequency moment number) h) (key : K) where
   -- A slot is where the definition writes: over the write that stands for the key, whose stored key it has, or anew
   -- where none stands.
   abbrev pub IsWhere : Slot K → Type 0
@@ -84,47 +84,50 @@ module _ {K V : Type 0} (eq : K → K → Bool) (laws : IsEquivalence eq) (rules
       (is.0, ap (λ i. row_under i (entries contents)) for_it.0 ∙ is.1, same-key eq key hash is.0 is.2, ap arc_value for_it.1 ∙ is.3)
   where-place sound respects hash (Stored n stored) (New shared) hashed is for_it = absurd for_it
   where-place sound respects hash Absent (Over m shared) hashed is for_it = absurd for_it
-  where-place sound respects hash Absent (New shared) hashed is for_it = (standing-absent eq laws rules lives capacity contents moment number h stands sound respects key hash hashed is, for_it)
+  where-place sound respects hash Absent (New shared) hashed is for_it = (standing-absent eq laws rules ways lives capacity contents frequency moment number h stands sound respects key hash hashed is, for_it)
 
   -- once a value was put there, the state stands for the list and the write
-  pub stands-after-put : (new : Contents K V) (v : V) (at hash : ℕ) (info : EntryInfo) (slot : Slot K) → IsWhere slot → info.last_modified ≡ max moment at → info.last_accessed ≡ max moment at → Puts lives slot hash v info contents new
+  pub stands-after-put : (new : Contents K V) (v : V) (at hash weight : ℕ) (info : EntryInfo) (slot : Slot K) → IsWhere slot → hash ≡ ways.hash key → weight ≡ ways.weight key v → IsInfoOf ways lives slot v weight (max moment at) contents info → Puts lives slot hash v info contents new
       → stores_nothing rules.max_capacity ≡ false → is_flush_due eq rules h ≡ false
-      → StandsFor eq rules (holdings lives capacity new (max moment at) (number + 1)) (Insert key v at ∷ h)
-  stands-after-put new v at hash info (Over n shared) is modified accessed put stores room =
+      → StandsFor eq rules (holdings ways lives capacity new frequency (max moment at) (number + 1)) (Insert key v at ∷ h)
+  stands-after-put new v at hash weight info (Over n shared) is hashed weighed kept put stores room =
       let row = is.0 in
       let done = rw is.1 at put in
-      stands-after-overwrite eq laws rules lives capacity contents moment number h stands new key v at n row info _ is.1 is.2 modified accessed is.3 refl (rw modified refl) done.0 done.1 stores room
-  stands-after-put new v at hash info (New shared) is modified accessed put stores room =
-      stands-after-open eq laws rules lives capacity contents moment number h stands new key v at put.0 _ is.0 (laws.refl key) is.1 refl modified accessed put.1 put.2 put.3 stores room
+      let modified = kept.modified in
+      let own = rw (is.1, is.3) at kept.own in
+      stands-after-overwrite eq laws rules ways lives capacity contents frequency moment number h stands new key v at n row info _ is.1 is.2 modified kept.accessed (kept.weight_is ∙ weighed) own is.3 refl (rw modified refl) done.0 done.1 stores room
+  stands-after-put new v at hash weight info (New shared) is hashed weighed kept put stores room =
+      let own = rw is.1 at kept.own in
+      stands-after-open eq laws rules ways lives capacity contents frequency moment number h stands new key v at put.0 _ is.0 (laws.refl key) is.1 hashed refl kept.modified kept.accessed (kept.weight_is ∙ weighed) own put.1 put.2 put.3 stores room
 
 -- what stands after a maintenance stood before it
 stood : {A : Type 0} (t : Bool) (o : Option A) (x y : A) → o ≡ Some x → cond t None o ≡ Some y → y ≡ x
 stood true o x y was is = cc
 stood false o x y was is = cc
 
-module _ {K V : Type 0} (eq : K → K → Bool) (laws : IsEquivalence eq) (rules : Rules K V) (lives : Lives) (capacity : Option ℕ) (contents : Contents K V) (moment number : ℕ) (h : List (Event K V)) (stands : StandsFor eq rules (holdings lives capacity contents moment number) h)
-    (at : ℕ) (kept : Contents K V) (now : ℕ) (stands_then : StandsFor eq rules (holdings lives capacity kept now number) (Maintain at ∷ h)) (key : K) where
+module _ {K V : Type 0} (eq : K → K → Bool) (laws : IsEquivalence eq) (rules : Rules K V) (ways : Ways K V) (lives : Lives) (capacity : Option ℕ) (contents : Contents K V) (frequency : List ℕ → ℕ → ℕ) (moment number : ℕ) (h : List (Event K V)) (stands : StandsFor eq rules (holdings ways lives capacity contents frequency moment number) h)
+    (at : ℕ) (kept : Contents K V) (now : ℕ) (stands_then : StandsFor eq rules (holdings ways lives capacity kept frequency now number) (Maintain at ∷ h)) (key : K) where
   -- the slot at the key's place once some of the rows have left
   pub where-now : {keeps : K → V → Type 0} {hash_of : K → ℕ} {earliest due : Option ℕ} → IsSound keeps hash_of lives earliest contents → IsSound keeps hash_of lives due kept → ((a b : K) → eq a b ≡ true → hash_of a ≡ hash_of b)
       → (hash : ℕ) (place : Place K) (own : Arc K Global) (slot : Slot K) → hash ≡ hash_of key → arc_value own ≡ key → IsPlaceOf eq key hash (entries contents) place → IsSlotNow eq hash place own (entries kept) slot
-      → IsWhere eq laws rules lives capacity kept now number (Maintain at ∷ h) stands_then key slot
+      → IsWhere eq laws rules ways lives capacity kept frequency now number (Maintain at ∷ h) stands_then key slot
   where-now sound sound_then respects hash (Stored n stored) own (Over m shared) hashed owned is still =
       let same : eq (arc_value (still.1).key) key ≡ true = same-key eq key hash still.1 (rw owned at still.3) in
-      let before = standing-found eq laws rules lives capacity contents moment number h stands key n is.0 is.1 (same-key eq key hash is.0 is.2) in
-      let after = standing-found eq laws rules lives capacity kept now number (Maintain at ∷ h) stands_then key m still.1 still.2 same in
+      let before = standing-found eq laws rules ways lives capacity contents frequency moment number h stands key n is.0 is.1 (same-key eq key hash is.0 is.2) in
+      let after = standing-found eq laws rules ways lives capacity kept frequency now number (Maintain at ∷ h) stands_then key m still.1 still.2 same in
       let it : stored_write still.1 ≡ stored_write is.0 = stood (leaves_in eq rules key at h) (standing eq rules key h) (stored_write is.0) (stored_write still.1) before after in
       (still.1, still.2, same, ap arc_value still.0 ∙ is.3 ∙ ap (λ (w : Write K V). w.key) (sym it))
   where-now sound sound_then respects hash (Stored n stored) own (New shared) hashed owned is still =
-      (standing-absent eq laws rules lives capacity kept now number (Maintain at ∷ h) stands_then sound_then respects key hash hashed (rw owned at still.1), ap arc_value still.0 ∙ owned)
+      (standing-absent eq laws rules ways lives capacity kept frequency now number (Maintain at ∷ h) stands_then sound_then respects key hash hashed (rw owned at still.1), ap arc_value still.0 ∙ owned)
   where-now sound sound_then respects hash Absent own (Over m shared) hashed owned is still = absurd still
   where-now sound sound_then respects hash Absent own (New shared) hashed owned is still =
-      (nothing (leaves_in eq rules key at h) ∙ standing-absent eq laws rules lives capacity contents moment number h stands sound respects key hash hashed is, ap arc_value still ∙ owned)
+      (nothing (leaves_in eq rules key at h) ∙ standing-absent eq laws rules ways lives capacity contents frequency moment number h stands sound respects key hash hashed is, ap arc_value still ∙ owned)
     where
       nothing : (t : Bool) → cond t None (standing eq rules key h) ≡ standing eq rules key h
-      nothing true = sym (standing-absent eq laws rules lives capacity contents moment number h stands sound respects key hash hashed is)
+      nothing true = sym (standing-absent eq laws rules ways lives capacity contents frequency moment number h stands sound respects key hash hashed is)
       nothing false = refl
 
-module _ {K V : Type 0} (eq : K → K → Bool) (rules : Rules K V) (lives : Lives) (capacity : Option ℕ) (contents : Contents K V) (moment number : ℕ) (h : List (Event K V)) (stands : StandsFor eq rules (holdings lives capacity contents moment number) h) where
+module _ {K V : Type 0} (eq : K → K → Bool) (rules : Rules K V) (ways : Ways K V) (lives : Lives) (capacity : Option ℕ) (contents : Contents K V) (frequency : List ℕ → ℕ → ℕ) (moment number : ℕ) (h : List (Event K V)) (stands : StandsFor eq rules (holdings ways lives capacity contents frequency moment number) h) where
   -- as many rows wait as the definition counts
   waiting-counted : length contents.waiting ≡ length (queues eq rules h).waiting
   waiting-counted = sym (length-map contents.waiting (λ (p : ℕ × Row K V). stored_write p.1)) ∙ ap length stands.waiting
@@ -138,7 +141,7 @@ module _ {K V : Type 0} (eq : K → K → Bool) (rules : Rules K V) (lives : Liv
 
   -- after a maintenance none is due
   pub flush-done : (at : ℕ) → is_flush_due eq rules (Maintain at ∷ h) ≡ false
-  flush-done at = ap (λ ws. nat_le 64 (length ws)) (maintained-none_waits eq rules (latest (Maintain at ∷ h)) (queues eq rules h))
+  flush-done at = ap (λ ws. nat_le 64 (length ws)) (maintained-none_waits eq rules (notes_frequency rules h) (latest (Maintain at ∷ h)) (queues eq rules h))
 
   -- the events of a write, in each of the two cases
   pub after-unflushed : (k : K) (v : V) (at : ℕ) → stores_nothing rules.max_capacity ≡ false → is_flush_due eq rules h ≡ false → after_insert eq rules k v at h ≡ Insert k v at ∷ h

@@ -1,50 +1,22 @@
 -- A change of one row keeps what holds of each row.
-use Rattle.std.proofs.Common.{◌≡◌, ◌≤◌, ◌+◌, ℕ, zero, suc, min, Bool, true, false, not, List, [], ◌∷◌, ◌++◌, length, filter, take, drop, Option, Some, None, option_map, MatchOption, refl, sym, ap, ◌∙◌, append_assoc, arith}
+use Rattle.std.proofs.Common.{◌≡◌, ℕ, Bool, true, List, [], ◌∷◌, ◌++◌, map, Option, Some, None, MatchOption, refl, sym, ap, ◌∙◌, append_assoc}
 use Rattle.std.specs.Arc.{arc_value}
 use Rattle.moka_base.specs.declared.notification.Notice.{Notice}
 use Rattle.moka_state.specs.declared.rows.EntryInfo.{EntryInfo}
 use Rattle.moka_state.specs.State.{IsSound}
 use Rattle.std.specs.List.{AllByRecursion}
 use Rattle.moka_state.specs.declared.rows.Row.{Row}
-use Rattle.std.specs.Duration.{as_nanos}
-use Rattle.std.proofs.lemmas.Bool.{cond_both, true≢false, leb-true, le-leb}
 use Rattle.moka_base.specs.declared.notification.RemovalCause.{RemovalCause}
-use Rattle.moka_base.specs.declared.notification.RemovalCause.TheVariants.{Expired, Size}
-use Rattle.moka_base.specs.History.{ends_at, earlier, has_come}
+use Rattle.moka_base.specs.History.{earlier, has_come}
+use Rattle.moka_base.specs.Maintenance.{leaving_in, after_parts}
 use Rattle.moka_state.specs.declared.lives.Lives.{Lives}
 use Rattle.moka_state.specs.Lives.{deadline_of}
-use Rattle.moka_state.specs.Maintain.{is_alive, living, dead, notices_for, excess, IsDueFrom, IsMaintained}
+use Rattle.moka_state.specs.Maintain.{is_alive, notice_at, rows_of, row_wins, row_parts, IsDueFrom, IsMaintained}
 use Rattle.moka_state.specs.Rows.{row_under, with_row, without_row, touched, overwritten}
-use Rattle.moka_state.specs.Table.{Contents, entries, SameRows, UsesRow, TakesRow}
+use Rattle.moka_state.specs.Table.{Contents, weight_of, entries, SameRows, UsesRow, TakesRow}
 use Rattle.moka_state.proofs.Deadlines.{has_come-earlier_left, has_come-earlier_right}
+use Rattle.moka_state.proofs.Elements.{all-append, all-front, all-back, all-kept, all-leaving}
 use Rattle.moka_state.proofs.RowLemmas.{row_under-append_left, row_under-append_right, split_at_row}
-
-module _ {A : Type 0} (P : A → Type 0) where
-  pub all-append : (xs ys : List A) → AllByRecursion P xs → AllByRecursion P ys → AllByRecursion P (xs ++ ys)
-  all-append [] ys a b = b
-  all-append (x ∷ xs) ys a b = (a.0, all-append xs ys a.1 b)
-
-  pub all-front : (xs ys : List A) → AllByRecursion P (xs ++ ys) → AllByRecursion P xs
-  all-front [] ys a = tt
-  all-front (x ∷ xs) ys a = (a.0, all-front xs ys a.1)
-
-  pub all-back : (xs ys : List A) → AllByRecursion P (xs ++ ys) → AllByRecursion P ys
-  all-back [] ys a = a
-  all-back (x ∷ xs) ys a = all-back xs ys a.1
-
-  pub all-filter : (t : A → Bool) (xs : List A) → AllByRecursion P xs → AllByRecursion P (filter t xs)
-  all-filter t [] a = tt
-  all-filter t (x ∷ xs) a = cond_both (t x) (x ∷ filter t xs) (filter t xs) (AllByRecursion P) (λ _. (a.0, all-filter t xs a.1)) (λ _. all-filter t xs a.1)
-
-  pub all-take : (n : ℕ) (xs : List A) → AllByRecursion P xs → AllByRecursion P (take n xs)
-  all-take zero xs a = tt
-  all-take (suc n) [] a = tt
-  all-take (suc n) (x ∷ xs) a = (a.0, all-take n xs a.1)
-
-  pub all-drop : (n : ℕ) (xs : List A) → AllByRecursion P xs → AllByRecursion P (drop n xs)
-  all-drop zero xs a = a
-  all-drop (suc n) [] a = tt
-  all-drop (suc n) (x ∷ xs) a = all-drop n xs a.1
 
 module _ {K V : Type 0} (P : Row K V → Type 0) where
   -- of each row, whatever its number
@@ -109,17 +81,6 @@ module _ {K V : Type 0} (P : Row K V → Type 0) where
           let Q : ℕ × Row K V → Type 0 = λ p. P p.1 in
           let found : Some r ≡ Some row = sym (row_under-append_left n old.admitted old.waiting r e) ∙ there in
           rw (h.0, h.1) (all-append Q (without_row n old.admitted) old.waiting (of-rest n old.admitted row (all-front Q old.admitted old.waiting all) (e ∙ found)) (all-back Q old.admitted old.waiting all))
-
--- the moments of a use come no earlier, so the deadline of the row comes no earlier
-pub due-touched : (lives : Lives) (was is : EntryInfo) (at : ℕ) → is.last_modified ≡ was.last_modified → was.last_accessed ≤ is.last_accessed → has_come (deadline_of lives is) at ≡ true → has_come (deadline_of lives was) at ≡ true
-due-touched lives was is at modified accessed come =
-    ends (option_map as_nanos lives.time_to_live) (option_map as_nanos lives.time_to_idle) (rw modified at come)
-  where
-    ends : (live idle : Option ℕ) → has_come (earlier (ends_at live was.last_modified) (ends_at idle is.last_accessed)) at ≡ true → has_come (earlier (ends_at live was.last_modified) (ends_at idle was.last_accessed)) at ≡ true
-    ends None None c = c
-    ends (Some m) None c = c
-    ends None (Some n) c = le-leb (was.last_accessed + n) at (let late = leb-true (is.last_accessed + n) at c in omega arith)
-    ends (Some m) (Some n) c = le-leb (min (was.last_modified + m) (was.last_accessed + n)) at (let late = leb-true (min (was.last_modified + m) (is.last_accessed + n)) at c in omega arith)
 
 module _ {K V : Type 0} where
   -- the admitted, after a use of a row
@@ -192,15 +153,17 @@ module _ {K V : Type 0} (keeps : K → V → Type 0) (hash_of : K → ℕ) (live
       grown : entries new ≡ entries old ++ (n, row) ∷ []
       grown = ap (λ a. a ++ new.waiting) admitted ∙ ap (λ w. old.admitted ++ w) waiting ∙ sym (append_assoc old.admitted old.waiting ((n, row) ∷ []))
 
-  -- a use at moments that come no earlier
-  pub IsSound-touched : (n : ℕ) (row : Row K V) (info : EntryInfo) → row_under n (entries old) ≡ Some row → info.last_modified ≡ row.info.last_modified → row.info.last_accessed ≤ info.last_accessed
-      → UsesRow n (touched info) old new → new.notices ≡ old.notices → IsSound keeps hash_of lives earliest new
-  IsSound-touched n row info there modified accessed used notices = record {
-    due = of-used-admitted (λ (r : Row K V). (at : ℕ) → has_come (deadline_of lives r.info) at ≡ true → has_come earliest at ≡ true) n (touched info) row old new sound.due there (λ was at c. was at (due-touched lives row.info info at modified accessed c)) used;
-    hashed = of-used (λ (r : Row K V). r.hash ≡ hash_of (arc_value r.key)) n (touched info) row old new sound.hashed there (of-row (λ (r : Row K V). r.hash ≡ hash_of (arc_value r.key)) n (entries old) row sound.hashed there) used;
-    kept = of-used (λ (r : Row K V). keeps (arc_value r.key) r.value) n (touched info) row old new sound.kept there (of-row (λ (r : Row K V). keeps (arc_value r.key) r.value) n (entries old) row sound.kept there) used;
-    notices_kept = rw notices sound.notices_kept;
-  }
+  -- a use of a row, whose new deadline counts too
+  pub IsSound-touched : (n : ℕ) (row : Row K V) (info : EntryInfo) → row_under n (entries old) ≡ Some row
+      → UsesRow n (touched info) old new → new.notices ≡ old.notices → IsSound keeps hash_of lives (earlier earliest (deadline_of lives info)) new
+  IsSound-touched n row info there used notices =
+      let Due : Row K V → Type 0 = λ r. (at : ℕ) → has_come (deadline_of lives r.info) at ≡ true → has_come (earlier earliest (deadline_of lives info)) at ≡ true in
+      record {
+        due = of-used-admitted Due n (touched info) row old new (IsDueFrom-left earliest (deadline_of lives info) lives old.admitted sound.due) there (λ _ at c. has_come-earlier_right earliest (deadline_of lives info) at c) used;
+        hashed = of-used (λ (r : Row K V). r.hash ≡ hash_of (arc_value r.key)) n (touched info) row old new sound.hashed there (of-row (λ (r : Row K V). r.hash ≡ hash_of (arc_value r.key)) n (entries old) row sound.hashed there) used;
+        kept = of-used (λ (r : Row K V). keeps (arc_value r.key) r.value) n (touched info) row old new sound.kept there (of-row (λ (r : Row K V). keeps (arc_value r.key) r.value) n (entries old) row sound.kept there) used;
+        notices_kept = rw notices sound.notices_kept;
+      }
 
   -- a row leaves, and is noticed
   pub IsSound-taken : (n : ℕ) (row : Row K V) (cause : RemovalCause) → row_under n (entries old) ≡ Some row → TakesRow n old new
@@ -213,22 +176,21 @@ module _ {K V : Type 0} (keeps : K → V → Type 0) (hash_of : K → ℕ) (live
   }
 
   -- after a maintenance
-  pub IsSound-maintained : (capacity due : Option ℕ) (at : ℕ) → IsMaintained lives capacity at old new → IsDueFrom due lives (entries new) → IsSound keeps hash_of lives due new
-  IsSound-maintained capacity due at is bound =
-      let alive : ℕ × Row K V → Bool = is_alive lives at in
-      let n : ℕ = excess capacity (length (living lives at (entries old))) in
+  pub IsSound-maintained : (is_lru : Bool) (frequency_of : ℕ → ℕ) (capacity due : Option ℕ) (at : ℕ) → IsMaintained lives is_lru frequency_of capacity at old new → IsDueFrom due lives (entries new) → IsSound keeps hash_of lives due new
+  IsSound-maintained is_lru frequency_of capacity due at is bound =
       let Hashed : ℕ × Row K V → Type 0 = λ p. p.1.hash ≡ hash_of (arc_value p.1.key) in
       let Keeps : ℕ × Row K V → Type 0 = λ p. keeps (arc_value p.1.key) p.1.value in
       let Noticed : Notice K V → Type 0 = λ m. keeps (arc_value m.key) m.value in
-      let gone = all-filter Keeps (λ p. not (alive p)) (entries old) sound.kept in
-      let over = all-take Keeps n (living lives at (entries old)) (all-filter Keeps alive (entries old) sound.kept) in
+      let wins : ℕ × Row K V → List (ℕ × Row K V) → Bool = row_wins is_lru frequency_of in
+      let left : List (ℕ × Row K V) = (after_parts (rows_of old) (row_parts lives is_lru frequency_of capacity at old)).admitted in
+      let gone : List (ℕ × Row K V) = leaving_in (row_parts lives is_lru frequency_of capacity at old) in
       record {
         due = all-front (λ (p : ℕ × Row K V). (t : ℕ) → has_come (deadline_of lives p.1.info) t ≡ true → has_come due t ≡ true) new.admitted new.waiting bound;
-        hashed = rw (is.waiting, is.admitted) (all-append Hashed (drop n (living lives at (entries old))) [] (all-drop Hashed n (living lives at (entries old)) (all-filter Hashed alive (entries old) sound.hashed)) tt);
-        kept = rw (is.waiting, is.admitted) (all-append Keeps (drop n (living lives at (entries old))) [] (all-drop Keeps n (living lives at (entries old)) (all-filter Keeps alive (entries old) sound.kept)) tt);
-        notices_kept = rw is.notices (all-append Noticed old.notices _ sound.notices_kept (all-append Noticed (notices_for Expired (dead lives at (entries old))) (notices_for Size (take n (living lives at (entries old)))) (kept-noticed Expired (dead lives at (entries old)) gone) (kept-noticed Size (take n (living lives at (entries old))) over)));
+        hashed = rw (is.waiting, is.admitted) (all-append Hashed left [] (all-kept Hashed weight_of capacity wins (is_alive lives at) (rows_of old) sound.hashed) tt);
+        kept = rw (is.waiting, is.admitted) (all-append Keeps left [] (all-kept Keeps weight_of capacity wins (is_alive lives at) (rows_of old) sound.kept) tt);
+        notices_kept = rw is.notices (all-append Noticed old.notices _ sound.notices_kept (kept-noticed gone (all-leaving Keeps weight_of capacity wins (is_alive lives at) (rows_of old) sound.kept)));
       }
     where
-      kept-noticed : (cause : RemovalCause) (rows : List (ℕ × Row K V)) → AllByRecursion (λ (p : ℕ × Row K V). keeps (arc_value p.1.key) p.1.value) rows → AllByRecursion (λ (m : Notice K V). keeps (arc_value m.key) m.value) (notices_for cause rows)
-      kept-noticed cause [] all = tt
-      kept-noticed cause (p ∷ ps) all = (all.0, kept-noticed cause ps all.1)
+      kept-noticed : (rows : List (ℕ × Row K V)) → AllByRecursion (λ (p : ℕ × Row K V). keeps (arc_value p.1.key) p.1.value) rows → AllByRecursion (λ (m : Notice K V). keeps (arc_value m.key) m.value) (map (notice_at lives at) rows)
+      kept-noticed [] all = tt
+      kept-noticed (p ∷ ps) all = (all.0, kept-noticed ps all.1)

@@ -4,18 +4,18 @@ use Rattle.std.specs.Option.{option_to_list}
 use Rattle.std.specs.Arc.{arc_value}
 use Rattle.std.specs.Duration.{as_nanos}
 use Rattle.std.specs.Cmp.{IsEquivalence}
-use Rattle.moka_base.specs.History.{Event, Rules, Write, latest, standing, live, live_one, deadline, earlier, ends_at, has_come}
+use Rattle.moka_base.specs.History.{Event, Ways, Rules, Write, latest, standing, live, live_one, deadline, earlier, ends_at, own_end, has_come}
 use Rattle.moka_base.specs.StandsFor.{StandsFor, writes_of}
 use Rattle.moka_state.specs.declared.rows.Row.{Row}
 use Rattle.moka_state.specs.declared.lives.Lives.{Lives}
 use Rattle.moka_state.specs.Rows.{row_under, NoneIsRowOf}
-use Rattle.moka_state.specs.Lives.{deadline_of}
+use Rattle.moka_state.specs.Lives.{deadline_of, own_of}
 use Rattle.moka_state.specs.Table.{Contents, entries, stored_write, stored_writes}
 use Rattle.moka_state.specs.State.{holdings, IsSound}
 use Rattle.moka_state.proofs.Changes.{ChangesAt, OneEach, option_to_list-same, writes_of-equal}
 use Rattle.moka_state.proofs.Found.{writes_of-row, writes_of-absent, stored-append}
 
-module _ {K V : Type 0} (eq : K → K → Bool) (laws : IsEquivalence eq) (rules : Rules K V) (lives : Lives) (capacity : Option ℕ) (contents : Contents K V) (moment number : ℕ) (h : List (Event K V)) (stands : StandsFor eq rules (holdings lives capacity contents moment number) h) where
+module _ {K V : Type 0} (eq : K → K → Bool) (laws : IsEquivalence eq) (rules : Rules K V) (ways : Ways K V) (lives : Lives) (capacity : Option ℕ) (contents : Contents K V) (frequency : List ℕ → ℕ → ℕ) (moment number : ℕ) (h : List (Event K V)) (stands : StandsFor eq rules (holdings ways lives capacity contents frequency moment number) h) where
   -- for each key the rows store the write that stands and no other
   pub stored-standing : (k : K) → writes_of eq k (stored_writes (entries contents)) ≡ option_to_list (standing eq rules k h)
   stored-standing k = ap (writes_of eq k) (stored-append eq laws contents.admitted contents.waiting) ∙ stands.writes k
@@ -36,8 +36,8 @@ module _ {K V : Type 0} (eq : K → K → Bool) (laws : IsEquivalence eq) (rules
   -- the write of a row is expired where its deadline has come
   expired-same : (row : Row K V) (at : ℕ) → has_come (deadline rules (stored_write row)) (max (latest h) at) ≡ has_come (deadline_of lives row.info) (max moment at)
   expired-same row at =
-      ap (λ life. has_come (earlier (ends_at life row.info.last_modified) (ends_at rules.time_to_idle row.info.last_accessed)) (max (latest h) at)) (sym stands.time_to_live)
-      ∙ ap (λ life. has_come (earlier (ends_at (option_map as_nanos lives.time_to_live) row.info.last_modified) (ends_at life row.info.last_accessed)) (max (latest h) at)) (sym stands.time_to_idle)
+      ap (λ life. has_come (earlier (earlier (ends_at life row.info.last_modified) (ends_at rules.time_to_idle row.info.last_accessed)) (own_end (own_of row.info))) (max (latest h) at)) (sym stands.time_to_live)
+      ∙ ap (λ life. has_come (earlier (earlier (ends_at (option_map as_nanos lives.time_to_live) row.info.last_modified) (ends_at life row.info.last_accessed)) (own_end (own_of row.info))) (max (latest h) at)) (sym stands.time_to_idle)
       ∙ ap (λ m. has_come (deadline_of lives row.info) (max m at)) (sym stands.latest)
 
   -- the same, at the state's own moment

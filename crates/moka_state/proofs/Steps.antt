@@ -1,11 +1,11 @@
 -- From what a state stands for, to what it stands for after one more event.
-use Rattle.std.proofs.Common.{◌≡◌, ℕ, ◌+◌, ◌<◌, ◌≤◌, nat_le, max, min, Bool, true, false, cond, List, [], ◌∷◌, ◌++◌, length, drop, Option, Some, None, option_map, refl, sym, ap, ◌∙◌, arith, length-append, add-zero}
+use Rattle.std.proofs.Common.{◌≡◌, ℕ, ◌+◌, ◌<◌, ◌≤◌, nat_le, max, min, Bool, true, false, cond, List, [], ◌∷◌, ◌++◌, length, drop, Option, Some, None, option_map, refl, sym, ap, ◌∙◌, arith, length-append, add-zero, append_assoc}
 use Rattle.std.specs.Option.{option_to_list}
 use Rattle.std.specs.Cmp.{IsEquivalence}
 use Rattle.std.proofs.lemmas.List.{append-nil, drop-append-le, drop-drop, drop_all}
 use Rattle.std.proofs.lemmas.Bool.{leb-true, leb-false}
 use Rattle.moka_base.specs.declared.notification.RemovalCause.TheVariants.{Explicit, Replaced}
-use Rattle.moka_base.specs.History.{Event, Get, ContainsKey, Insert, Invalidate, Maintain, Skip, Measure, TakeNotice, Rules, Write, Leaving, latest, standing, queues, used_where, is_hit, written_in, removed_in, after_look, after_write, left, leaving, leavings, taken, noticed, drawn, next_number, stores_nothing, is_flush_due, IsHistory}
+use Rattle.moka_base.specs.History.{Event, Ways, notes, Get, ContainsKey, Insert, Invalidate, Maintain, Skip, Measure, TakeNotice, Rules, Write, Leaving, latest, standing, queues, used_where, is_hit, written_in, removed_in, after_look, after_write, left, leaving, leavings, taken, noticed, drawn, next_number, stores_nothing, is_flush_due, IsHistory}
 use Rattle.moka_base.specs.Maintenance.{Queues}
 use Rattle.moka_base.specs.StandsFor.{Holdings, StandsFor, writes, writes_of}
 use Rattle.moka_state.proofs.Changes.{ChangesAt, OneEach, writes_of-equal, option_to_list-same}
@@ -67,15 +67,19 @@ module _ {K V : Type 0} (eq : K → K → Bool) (laws : IsEquivalence eq) (rules
       → new.time_to_live ≡ state.time_to_live
       → new.time_to_idle ≡ state.time_to_idle
       → new.max_capacity ≡ state.max_capacity
+      → new.ways ≡ state.ways
+      → ((more : List ℕ) (hash : ℕ) → new.frequency more hash ≡ rules.frequency (notes rules (e ∷ h) ++ more) hash)
       → new.notices ≡ noticed eq rules (e ∷ h)
       → new.latest ≡ latest (e ∷ h)
       → new.next_number ≡ next_number rules h + drawn e
       → StandsFor eq rules new (e ∷ h)
-  stands-after new e k o changes defined history orders live idle room notices moment number = record {
+  stands-after new e k o changes defined history orders live idle room ways frequency notices moment number = record {
     history = history;
     time_to_live = live ∙ stands.time_to_live;
     time_to_idle = idle ∙ stands.time_to_idle;
     max_capacity = room ∙ stands.max_capacity;
+    ways = ways ∙ stands.ways;
+    frequency = frequency;
     writes = λ q. changes q ∙ go q (eq k q) ∙ ap option_to_list (sym (defined q));
     admitted = ap (λ (q : Queues (Write K V)). q.admitted) orders;
     waiting = ap (λ (q : Queues (Write K V)). q.waiting) orders;
@@ -92,16 +96,18 @@ module _ {K V : Type 0} (eq : K → K → Bool) (laws : IsEquivalence eq) (rules
   pub stands-after-get : (new : Holdings K V) (k : K) (at : ℕ)
       → ChangesAt eq laws k (writes state) (writes new) (option_map (after_look rules (max state.latest at)) (standing eq rules k h))
       → held new ≡ used_where eq rules (is_hit eq rules k (max state.latest at)) (after_look rules (max state.latest at)) (held state)
-      → new.time_to_live ≡ state.time_to_live → new.time_to_idle ≡ state.time_to_idle → new.max_capacity ≡ state.max_capacity → new.notices ≡ state.notices
+      → new.time_to_live ≡ state.time_to_live → new.time_to_idle ≡ state.time_to_idle → new.max_capacity ≡ state.max_capacity → new.ways ≡ state.ways
+      → ((more : List ℕ) (hash : ℕ) → new.frequency more hash ≡ state.frequency (state.ways.hash k ∷ more) hash) → new.notices ≡ state.notices
       → new.latest ≡ max state.latest at → new.next_number ≡ state.next_number
       → StandsFor eq rules new (Get k at ∷ h)
-  stands-after-get new k at changes orders live idle room notices moment number =
+  stands-after-get new k at changes orders live idle room ways noted notices moment number =
       stands-after new (Get k at) k (option_map (after_look rules (max (latest h) at)) (standing eq rules k h))
       (rw stands.latest at changes)
       (λ q. go q (eq k q) refl)
       stands.history
       (orders ∙ ap (λ m. used_where eq rules (is_hit eq rules k (max m at)) (after_look rules (max m at)) (held state)) stands.latest ∙ ap (used_where eq rules (is_hit eq rules k (max (latest h) at)) (after_look rules (max (latest h) at))) held-is)
-      live idle room
+      live idle room ways
+      (λ more hash. noted more hash ∙ stands.frequency (state.ways.hash k ∷ more) hash ∙ ap (λ (w : Ways K V). rules.frequency (notes rules h ++ w.hash k ∷ more) hash) stands.ways ∙ ap (λ l. rules.frequency l hash) (sym (append_assoc (notes rules h) (rules.ways.hash k ∷ []) more)))
       (notices ∙ stands.notices ∙ sym (ap (drop (taken eq rules h)) (append-nil (leavings eq rules h))))
       (moment ∙ ap (λ m. max m at) stands.latest)
       (number ∙ stands.next_number ∙ sym (add-zero (next_number rules h)))
@@ -116,16 +122,17 @@ module _ {K V : Type 0} (eq : K → K → Bool) (laws : IsEquivalence eq) (rules
       → ChangesAt eq laws k (writes state) (writes new) (Some (after_write rules k v (max state.latest at) (standing eq rules k h)))
       → held new ≡ written_in eq rules k v (max state.latest at) (held state)
       → new.time_to_live ≡ state.time_to_live → new.time_to_idle ≡ state.time_to_idle → new.max_capacity ≡ state.max_capacity
+      → new.ways ≡ state.ways → new.frequency ≡ state.frequency
       → new.notices ≡ state.notices ++ left rules Replaced (max state.latest at) (standing eq rules k h)
       → new.latest ≡ max state.latest at → new.next_number ≡ state.next_number + 1
       → StandsFor eq rules new (Insert k v at ∷ h)
-  stands-after-insert new k v at stores room_left changes orders live idle room notices moment number =
+  stands-after-insert new k v at stores room_left changes orders live idle room ways frequency notices moment number =
       stands-after new (Insert k v at) k (Some (after_write rules k v (max (latest h) at) (standing eq rules k h)))
       (rw stands.latest at changes)
       (λ q. go q (eq k q) refl)
       (stores, room_left, stands.history)
       (orders ∙ ap (λ m. written_in eq rules k v (max m at) (held state)) stands.latest ∙ ap (written_in eq rules k v (max (latest h) at)) held-is)
-      live idle room
+      live idle room ways (λ more hash. ap (λ (f : List ℕ → ℕ → ℕ). f more hash) frequency ∙ stands.frequency more hash)
       (notices ∙ ap (λ m. state.notices ++ left rules Replaced (max m at) (standing eq rules k h)) stands.latest ∙ ap (λ l. l ++ left rules Replaced (max (latest h) at) (standing eq rules k h)) stands.notices ∙ sym (noticed-more eq rules h (left rules Replaced (max (latest h) at) (standing eq rules k h))))
       (moment ∙ ap (λ m. max m at) stands.latest)
       (number ∙ ap (λ n. n + 1) stands.next_number)
@@ -139,11 +146,13 @@ module _ {K V : Type 0} (eq : K → K → Bool) (laws : IsEquivalence eq) (rules
       → ChangesAt eq laws k (writes state) (writes new) None
       → held new ≡ removed_in eq rules k (held state)
       → new.time_to_live ≡ state.time_to_live → new.time_to_idle ≡ state.time_to_idle → new.max_capacity ≡ state.max_capacity
+      → new.ways ≡ state.ways → new.frequency ≡ state.frequency
       → new.notices ≡ state.notices ++ left rules Explicit (max state.latest at) (standing eq rules k h)
       → new.latest ≡ max state.latest at → new.next_number ≡ state.next_number
       → StandsFor eq rules new (Invalidate k at ∷ h)
-  stands-after-invalidate new k at changes orders live idle room notices moment number =
-      stands-after new (Invalidate k at) k None changes (λ q. refl) stands.history (orders ∙ ap (removed_in eq rules k) held-is) live idle room
+  stands-after-invalidate new k at changes orders live idle room ways frequency notices moment number =
+      stands-after new (Invalidate k at) k None changes (λ q. refl) stands.history (orders ∙ ap (removed_in eq rules k) held-is) live idle room ways
+      (λ more hash. ap (λ (f : List ℕ → ℕ → ℕ). f more hash) frequency ∙ stands.frequency more hash)
       (notices ∙ ap (λ m. state.notices ++ left rules Explicit (max m at) (standing eq rules k h)) stands.latest ∙ ap (λ l. l ++ left rules Explicit (max (latest h) at) (standing eq rules k h)) stands.notices ∙ sym (noticed-more eq rules h (left rules Explicit (max (latest h) at) (standing eq rules k h))))
       (moment ∙ ap (λ m. max m at) stands.latest)
       (number ∙ stands.next_number ∙ sym (add-zero (next_number rules h)))
@@ -155,6 +164,8 @@ module _ {K V : Type 0} (eq : K → K → Bool) (laws : IsEquivalence eq) (rules
     time_to_live = stands.time_to_live;
     time_to_idle = stands.time_to_idle;
     max_capacity = stands.max_capacity;
+    ways = stands.ways;
+    frequency = stands.frequency;
     writes = stands.writes;
     admitted = stands.admitted;
     waiting = stands.waiting;
@@ -166,13 +177,16 @@ module _ {K V : Type 0} (eq : K → K → Bool) (laws : IsEquivalence eq) (rules
   -- the first notice is taken
   pub stands-after-take_notice : (new : Holdings K V)
       → new.admitted ≡ state.admitted → new.waiting ≡ state.waiting → new.time_to_live ≡ state.time_to_live → new.time_to_idle ≡ state.time_to_idle → new.max_capacity ≡ state.max_capacity
+      → new.ways ≡ state.ways → new.frequency ≡ state.frequency
       → new.notices ≡ drop 1 state.notices → new.latest ≡ state.latest → new.next_number ≡ state.next_number
       → StandsFor eq rules new (TakeNotice ∷ h)
-  stands-after-take_notice new front back live idle room notices moment number = record {
+  stands-after-take_notice new front back live idle room ways frequency notices moment number = record {
     history = stands.history;
     time_to_live = live ∙ stands.time_to_live;
     time_to_idle = idle ∙ stands.time_to_idle;
     max_capacity = room ∙ stands.max_capacity;
+    ways = ways ∙ stands.ways;
+    frequency = λ more hash. ap (λ (f : List ℕ → ℕ → ℕ). f more hash) frequency ∙ stands.frequency more hash;
     writes = λ q. ap (λ a. writes_of eq q (a ++ new.waiting)) front ∙ ap (λ w. writes_of eq q (state.admitted ++ w)) back ∙ stands.writes q;
     admitted = front ∙ stands.admitted;
     waiting = back ∙ stands.waiting;

@@ -7,9 +7,13 @@ use Rattle.moka_state.specs.declared.lives.Lives.{Lives}
 use Rattle.moka_state.specs.declared.rows.EntryInfo.{EntryInfo}
 use Rattle.moka_state.specs.declared.rows.OwnLife.{OwnLife}
 
+-- a life of its own, as the definitions have it
+abbrev pub own_life : OwnLife → history.OwnLife
+own_life it = record { from = it.from; life = as_nanos it.life }
+
 -- the life of its own that a value has
 abbrev pub own_of : EntryInfo → Option history.OwnLife
-own_of info = option_map (λ (it : OwnLife). record { from = it.from; life = as_nanos it.life }) info.own_life
+own_of info = option_map own_life info.own_life
 
 -- a value's deadline under these lives, by its moments and the life of its own
 abbrev pub deadline_of : Lives → EntryInfo → Option ℕ

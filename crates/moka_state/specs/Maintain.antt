@@ -1,15 +1,20 @@
 -- What a maintenance does with the rows.
-use Rattle.std.specs.Prelude.{◌≡◌, ℕ, ◌+◌, Bool, true, not, ◌||◌, if◌then◌else◌, nat_le, Option, List, [], ◌++◌, filter, map}
+use Rattle.std.specs.Prelude.{◌≡◌, ℕ, ◌+◌, Bool, true, not, ◌||◌, if◌then◌else◌, nat_le, Option, List, [], ◌∷◌, ◌++◌, filter, map, None, Some}
 use Rattle.std.specs.List.{AllByRecursion}
 use Rattle.moka_base.specs.declared.notification.Notice.{Notice}
 use Rattle.moka_base.specs.declared.notification.RemovalCause.{RemovalCause}
 use Rattle.moka_base.specs.declared.notification.RemovalCause.TheVariants.{Expired, Size}
 use Rattle.moka_base.specs.History.{has_come}
-use Rattle.moka_base.specs.Maintenance.{Queues, Part, total, parts, leaving_in, after_parts}
+use Rattle.moka_base.specs.Maintenance.{Queues, Part, total, judge, judged, parts, leaving_in, after_parts}
 use Rattle.moka_state.specs.declared.lives.Lives.{Lives}
 use Rattle.moka_state.specs.declared.rows.Row.{Row}
 use Rattle.moka_state.specs.Lives.{deadline_of}
 use Rattle.moka_state.specs.Table.{Contents, weight_of}
+
+-- a weight is within the capacity, if there is one
+abbrev pub is_within : Option ℕ → ℕ → Bool
+is_within None weight = true
+is_within (Some capacity) weight = nat_le weight capacity
 
 module _ {K V : Type 0} where
   -- the row's value is not expired at a moment
@@ -48,10 +53,24 @@ module _ {K V : Type 0} where
   abbrev pub frequencies : (ℕ → ℕ) → List (ℕ × Row K V) → ℕ
   frequencies frequency_of rows = total (λ p. frequency_of p.1.hash) rows
 
-  -- A row that waits wins against its victims under least recently used, and else where its hash was noted more often
-  -- than theirs together.
+  -- A row of a hash that waits wins against its victims under least recently used, and else where its hash was noted
+  -- more often than theirs together.
+  abbrev pub hash_wins : Bool → (ℕ → ℕ) → ℕ → List (ℕ × Row K V) → Bool
+  hash_wins is_lru frequency_of hash victims = is_lru || nat_le (frequencies frequency_of victims + 1) (frequency_of hash)
+
   abbrev pub row_wins : Bool → (ℕ → ℕ) → ℕ × Row K V → List (ℕ × Row K V) → Bool
-  row_wins is_lru frequency_of p victims = is_lru || nat_le (frequencies frequency_of victims + 1) (frequency_of p.1.hash)
+  row_wins is_lru frequency_of p victims = hash_wins is_lru frequency_of p.1.hash victims
+
+  -- how the waiting rows are judged, in order
+  abbrev pub judgements : Bool → (ℕ → ℕ) → Option ℕ → Contents K V → List (Part (ℕ × Row K V))
+  judgements is_lru frequency_of capacity c = judged weight_of capacity (row_wins is_lru frequency_of) c.admitted c.waiting
+
+  -- The first row that waits was judged: what the judgement says leaves is noticed, in order, and the rest still wait.
+  pub record JudgesFirst (is_lru : Bool) (frequency_of : ℕ → ℕ) (capacity : Option ℕ) (first : ℕ × Row K V) (rest : List (ℕ × Row K V)) (old new : Contents K V) : Type 0 where
+    pub waited : old.waiting ≡ first ∷ rest
+    pub waiting : new.waiting ≡ rest
+    pub admitted : new.admitted ≡ (judge weight_of capacity (row_wins is_lru frequency_of) old.admitted first rest).after.admitted
+    pub notices : new.notices ≡ old.notices ++ notices_for Size (judge weight_of capacity (row_wins is_lru frequency_of) old.admitted first rest).leaves
 
   -- the parts of a maintenance of rows
   abbrev pub row_parts : Lives → Bool → (ℕ → ℕ) → Option ℕ → ℕ → Contents K V → List (Part (ℕ × Row K V))

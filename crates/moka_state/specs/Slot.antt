@@ -1,10 +1,10 @@
 -- Where a write goes, and what it does there.
-use Rattle.std.specs.Prelude.{⊤, ◌≡◌, ℕ, Bool, if◌then◌else◌, IsSome, IfSome, Some, List, [], ◌∷◌, ◌++◌}
+use Rattle.std.specs.Prelude.{⊤, ◌≡◌, ℕ, Bool, not, if◌then◌else◌, Option, IsSome, IfSome, Some, List, [], ◌∷◌, ◌++◌}
 use Rattle.std.specs.Arc.{arc_value}
 use Rattle.std.specs.declared.sync.Arc.{Arc}
 use Rattle.std.specs.declared.alloc.Global.{Global}
 use Rattle.moka_base.specs.declared.notification.RemovalCause.TheVariants.{Expired, Replaced}
-use Rattle.moka_base.specs.History.{has_come}
+use Rattle.moka_base.specs.History.{Ways, OwnLife, has_come, rest, given}
 use Rattle.moka_state.specs.declared.lives.Lives.{Lives}
 use Rattle.moka_state.specs.declared.rows.EntryInfo.{EntryInfo}
 use Rattle.moka_state.specs.declared.rows.Row.{Row}
@@ -13,7 +13,7 @@ use Rattle.moka_state.specs.declared.table.Place.TheVariants.{Stored, Absent}
 use Rattle.moka_state.specs.declared.slot.Slot.{Slot}
 use Rattle.moka_state.specs.declared.slot.Slot.TheVariants.{Over, New}
 use Rattle.moka_state.specs.Rows.{row_under, overwritten, IsRowOf, NoneIsRowOf}
-use Rattle.moka_state.specs.Lives.{deadline_of}
+use Rattle.moka_state.specs.Lives.{deadline_of, own_of}
 use Rattle.moka_state.specs.Table.{Contents, entries, UsesRow}
 
 -- the slot at a place, for a write of a key
@@ -35,6 +35,19 @@ module _ {K V : Type 0} where
   abbrev pub HasSlot : Slot K → Contents K V → Type 0
   HasSlot (Over number key) c = IsSome (row_under number (entries c))
   HasSlot (New key) c = ⊤
+
+  -- The life of its own that a value gets in a slot: over a live value that of an update, and else that of a creation.
+  abbrev pub IsOwnIn : Ways K V → Lives → Slot K → V → ℕ → Contents K V → Option OwnLife → Type 0
+  IsOwnIn ways lives (Over number key) value at c own = IfSome (row_under number (entries c)) (λ row.
+      own ≡ given (if not (has_come (deadline_of lives row.info) at) then ways.lifetimes.updated (arc_value key) value at (rest (own_of row.info) at) else ways.lifetimes.created (arc_value key) value at) at)
+  IsOwnIn ways lives (New key) value at c own = own ≡ given (ways.lifetimes.created (arc_value key) value at) at
+
+  -- what is kept of a value that is written into a slot at a moment
+  pub record IsInfoOf (ways : Ways K V) (lives : Lives) (slot : Slot K) (value : V) (weight at : ℕ) (c : Contents K V) (info : EntryInfo) : Type 0 where
+    pub modified : info.last_modified ≡ at
+    pub accessed : info.last_accessed ≡ at
+    pub weight_is : info.policy_weight ≡ weight
+    pub own : IsOwnIn ways lives slot value at c (own_of info)
 
   -- A value is put into a slot. Over the value of a row it is a use of the row, and the value before is noticed under
   -- the stored key; a new row waits behind all others.

@@ -1,37 +1,75 @@
 -- What a state holds, and what its fields keep.
-use Rattle.std.specs.Prelude.{◌≡◌, ℕ, Bool, if◌then◌else◌, List, map, option_map, Option}
+use Rattle.std.specs.Prelude.{◌≡◌, ℕ, List, ◌++◌, map, option_map, Option}
 use Rattle.std.specs.Arc.{arc_value}
 use Rattle.std.specs.List.{AllByRecursion}
 use Rattle.std.specs.Duration.{as_nanos}
 use Rattle.std.specs.declared.time.Duration.{Duration}
-use Rattle.moka_base.specs.declared.policy.EvictionPolicy.{EvictionPolicy}
 use Rattle.moka_base.specs.Frequency.{after_notes}
-use Rattle.moka_base.specs.History.{Rules, Ways, Lifetimes, no_lifetimes}
-use Rattle.moka_base.specs.Policy.{is_lru}
+use Rattle.moka_base.specs.History.{Rules, Ways, Write, Leaving}
 use Rattle.moka_base.specs.StandsFor.{Holdings}
 use Rattle.moka_state.specs.declared.lives.Lives.{Lives}
 use Rattle.moka_state.specs.Maintain.{IsDueFrom}
 use Rattle.moka_state.specs.Table.{Contents, entries, stored_writes, leaving_of}
+use Rattle.moka_state.specs.Ways.{WaysData}
 
 -- the rules of a cache that is built with these settings
 abbrev pub rules_of : {K V : Type 0} → Option ℕ → Option Duration → Option Duration → ℕ → Ways K V → (List ℕ → ℕ → ℕ) → Rules K V
 rules_of max_capacity time_to_live time_to_idle first_number ways frequency = record { time_to_live = option_map as_nanos time_to_live; time_to_idle = option_map as_nanos time_to_idle; max_capacity = max_capacity; first_number = first_number; ways = ways; frequency = frequency }
 
--- the ways of a cache with this policy and these hashes, where a weigher and an expiry are there or not
-abbrev pub ways_of : {K V : Type 0} → EvictionPolicy → (K → ℕ) → Bool → (K → V → ℕ) → Bool → Lifetimes K V → Ways K V
-ways_of policy hash is_weighed weight may_expire lifetimes = record {
-  is_lru = is_lru policy;
-  hash = hash;
-  weight = if is_weighed then weight else (λ k v. 1);
-  lifetimes = if may_expire then lifetimes else no_lifetimes;
-}
-
 -- what a source estimates of a hash, once it has noted these hashes more
 abbrev pub estimates : {F : Type 0} → (F → ℕ → F) → (F → ℕ → ℕ) → F → List ℕ → ℕ → ℕ
 estimates noted count source more hash = count (after_notes source noted more) hash
 
+-- What a state keeps, as data. What it holds is what the types of the cache mean by it.
+pub record Kept (K V H F : Type 0) : Type 0 where
+  pub ways : WaysData H
+  pub source : F
+  pub time_to_live : Option ℕ
+  pub time_to_idle : Option ℕ
+  pub max_capacity : Option ℕ
+  pub admitted : List (Write K V)
+  pub waiting : List (Write K V)
+  pub notices : List (Leaving K V)
+  pub latest : ℕ
+  pub next_number : ℕ
+
+module _ {K V H F : Type 0} where
+  -- what a state holds, by what it keeps, and by the ways and the frequencies that this means
+  abbrev pub held_by : (WaysData H → Ways K V) → (F → List ℕ → ℕ → ℕ) → Kept K V H F → Holdings K V
+  held_by ways_in frequency_by state = record {
+    time_to_live = state.time_to_live;
+    time_to_idle = state.time_to_idle;
+    max_capacity = state.max_capacity;
+    ways = ways_in state.ways;
+    frequency = frequency_by state.source;
+    admitted = state.admitted;
+    waiting = state.waiting;
+    notices = state.notices;
+    latest = state.latest;
+    next_number = state.next_number;
+  }
+
+  -- what a state keeps, by its fields
+  abbrev pub kept_by : WaysData H → Lives → Option ℕ → Contents K V → F → ℕ → ℕ → Kept K V H F
+  kept_by ways lives max_capacity contents source latest next_number = record {
+    ways = ways;
+    source = source;
+    time_to_live = option_map as_nanos lives.time_to_live;
+    time_to_idle = option_map as_nanos lives.time_to_idle;
+    max_capacity = max_capacity;
+    admitted = stored_writes contents.admitted;
+    waiting = stored_writes contents.waiting;
+    notices = map leaving_of contents.notices;
+    latest = latest;
+    next_number = next_number;
+  }
+
+  -- all stored writes
+  abbrev pub all_writes : Kept K V H F → List (Write K V)
+  all_writes state = state.admitted ++ state.waiting
+
 module _ {K V : Type 0} where
-  -- what a state holds, by its fields
+  -- what a state holds, by its fields and what they mean
   abbrev pub holdings : Ways K V → Lives → Option ℕ → Contents K V → (List ℕ → ℕ → ℕ) → ℕ → ℕ → Holdings K V
   holdings ways lives max_capacity contents frequency latest next_number = record {
     time_to_live = option_map as_nanos lives.time_to_live;

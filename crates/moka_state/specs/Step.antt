@@ -2,10 +2,10 @@
 use Rattle.std.specs.Prelude.{⊤, Bool, if◌then◌else◌, List, [], ◌∷◌, Some, option_map}
 use Rattle.std.specs.Arc.{arc_value}
 use Rattle.moka_base.specs.declared.policy.Refused.TheVariants.{OutOfMemory, NumbersUsedUp}
-use Rattle.moka_base.specs.History.{Event, Rules, stores_nothing, after_insert}
+use Rattle.moka_base.specs.History.{Event, Quantity, Rules, stores_nothing, after_insert}
 use Rattle.moka_base.specs.Replies.{Answer, answer, IsAnswer, MayTakeMemory, IsOutOfNumbers}
 use Rattle.moka_state.specs.declared.step.Step.{Step}
-use Rattle.moka_state.specs.declared.step.Step.TheVariants.{Get, ContainsKey, Insert, Invalidate, RunPendingTasks, EntryCount, TakeNotice}
+use Rattle.moka_state.specs.declared.step.Step.TheVariants.{Get, ContainsKey, Insert, Invalidate, RunPendingTasks, EntryCount, WeightedSize, TakeNotice}
 use Rattle.moka_state.specs.declared.step.Reply.{Reply}
 use Rattle.moka_state.specs.declared.step.Reply.TheVariants.{Found, Contains, Done, Counted, Noticed, Refused}
 use Rattle.moka_state.specs.Table.{leaving_of}
@@ -18,7 +18,8 @@ event_of rules (ContainsKey key now) = Event.ContainsKey (arc_value key) now
 event_of rules (Insert key value now) = if stores_nothing rules.max_capacity then Event.Skip now else Event.Insert (arc_value key) value now
 event_of rules (Invalidate key now) = Event.Invalidate (arc_value key) now
 event_of rules (RunPendingTasks now) = Event.Maintain now
-event_of rules EntryCount = Event.EntryCount
+event_of rules EntryCount = Event.Measure Quantity.EntryCount
+event_of rules WeightedSize = Event.Measure Quantity.WeightedSize
 event_of rules TakeNotice = Event.TakeNotice
 
 -- An accepted step answers what the definition gives, and a step that draws a number is accepted only where one is
@@ -39,7 +40,8 @@ accepted eq rules (Get key now) h = Event.Get (arc_value key) now ∷ h
 accepted eq rules (ContainsKey key now) h = Event.ContainsKey (arc_value key) now ∷ h
 accepted eq rules (Invalidate key now) h = Event.Invalidate (arc_value key) now ∷ h
 accepted eq rules (RunPendingTasks now) h = Event.Maintain now ∷ h
-accepted eq rules EntryCount h = Event.EntryCount ∷ h
+accepted eq rules EntryCount h = Event.Measure Quantity.EntryCount ∷ h
+accepted eq rules WeightedSize h = Event.Measure Quantity.WeightedSize ∷ h
 accepted eq rules TakeNotice h = Event.TakeNotice ∷ h
 
 -- The events after a step: a refused one leaves them as they are.
@@ -72,6 +74,7 @@ StepKeeps keeps (ContainsKey key now) = ⊤
 StepKeeps keeps (Invalidate key now) = ⊤
 StepKeeps keeps (RunPendingTasks now) = ⊤
 StepKeeps keeps EntryCount = ⊤
+StepKeeps keeps WeightedSize = ⊤
 StepKeeps keeps TakeNotice = ⊤
 
 -- what a reader gets

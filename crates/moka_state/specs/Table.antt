@@ -1,9 +1,12 @@
 -- What a table holds: the rows in their two orders, the notices not taken, and for how many more rows it has room.
-use Rattle.std.specs.Prelude.{◌≡◌, ℕ, List, [], ◌∷◌, ◌++◌, map, MatchOption}
+use Rattle.std.specs.Prelude.{◌≡◌, ℕ, ◌+◌, ◌<◌, ◌≤◌, ◌^◌, List, [], ◌∷◌, ◌++◌, length, map, IfSome, MatchOption}
 use Rattle.std.specs.Arc.{arc_value}
+use Rattle.std.specs.List.{AllByRecursion}
 use Rattle.moka_base.specs.declared.notification.Notice.{Notice}
 use Rattle.moka_base.specs.History.{Write, Leaving}
+use Rattle.moka_base.specs.Maintenance.{total}
 use Rattle.moka_state.specs.declared.rows.Row.{Row}
+use Rattle.moka_state.specs.declared.table.Weights.{Weights}
 use Rattle.moka_state.specs.Lives.{own_of}
 use Rattle.moka_state.specs.Rows.{with_row, without_row, row_under}
 
@@ -50,3 +53,17 @@ module _ {K V : Type 0} where
   TakesRow n old new = MatchOption (row_under n old.admitted)
       ((new.admitted ≡ old.admitted) × (new.waiting ≡ without_row n old.waiting))
       (λ _. (new.admitted ≡ without_row n old.admitted) × (new.waiting ≡ old.waiting))
+
+  -- The weights of both orders once the row under a number has another weight.
+  abbrev pub AreWeightsWith : ℕ → ℕ → List (ℕ × Row K V) → List (ℕ × Row K V) → Weights → Type 0
+  AreWeightsWith n weight admitted waiting weights = MatchOption (row_under n admitted)
+      ((weights.admitted ≡ total weight_of admitted) × IfSome (row_under n waiting) (λ row. weights.waiting + row.info.policy_weight ≡ total weight_of waiting + weight))
+      (λ row. (weights.admitted + row.info.policy_weight ≡ total weight_of admitted + weight) × (weights.waiting ≡ total weight_of waiting))
+
+  -- What a table keeps to: it has a place for a notice of each row, each weight is one of 32 bits, and the weights of
+  -- both orders are those of their rows.
+  pub record IsKept (admitted waiting : List (ℕ × Row K V)) (weights : Weights) (notices places : ℕ) : Type 0 where
+    pub few : length (admitted ++ waiting) + notices ≤ places
+    pub light : AllByRecursion (λ p. weight_of p < 2 ^ 32) (admitted ++ waiting)
+    pub admitted_weight : weights.admitted ≡ total weight_of admitted
+    pub waiting_weight : weights.waiting ≡ total weight_of waiting

@@ -4,9 +4,11 @@
 pub mod list_rows;
 mod lives;
 mod maintain;
+pub mod means;
 pub mod rows;
 mod shared_key;
 mod slot;
 pub mod state;
 pub mod step;
 mod table;
+mod ways;

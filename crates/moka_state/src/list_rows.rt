@@ -122,6 +122,13 @@ impl<K: Eq + Drop, V: Drop> RowStore<K, V> for ListRows<K, V> {
         }
     }
 
+    fn is_admitted(&self, number: usize) -> bool {
+        match self.place(number) {
+            Place::Admitted(_) => true,
+            Place::Waiting(_) => false,
+        }
+    }
+
     /// The numbers that were given out are never given out again: once they are used up, which would take 2^64 rows,
     /// this is refused.
     fn reserve(&mut self) -> Result<(), AllocError> {

@@ -1,10 +1,10 @@
 //! How long a value lives.
 ghost use Rattle.std.specs.Prelude.{◌≡◌, option_map, if◌then◌else◌};
 ghost use Rattle.std.specs.Duration.{as_nanos};
-ghost use Rattle.moka_base.specs.History.{ends_at, earlier, has_come};
-ghost use Rattle.moka_state.specs.Lives.{deadline_of};
+ghost use Rattle.moka_base.specs.History.{ends_at, earlier, has_come, own_end, rest, given};
+ghost use Rattle.moka_state.specs.Lives.{deadline_of, own_life};
 
-use crate::rows::EntryInfo;
+use crate::rows::{EntryInfo, OwnLife};
 use moka_base::notification::RemovalCause;
 use std::time::Duration;
 
@@ -18,24 +18,25 @@ pub struct Lives {
 }
 
 impl Lives {
-    /// The moment from which a value with these moments is expired, in nanoseconds.
+    /// The moment from which a value with these moments and this life of its own is expired, in nanoseconds.
     pub fn deadline(&self, info: EntryInfo) -> Option<u128>
         ensures { result ≡ deadline_of self.now info }
     {
-        earlier(
+        let shared = earlier(
             ends_at(self.time_to_live, info.last_modified),
             ends_at(self.time_to_idle, info.last_accessed),
-        )
+        );
+        earlier(shared, own_end(info.own_life))
     }
 
-    /// Whether a value with these moments is expired at a moment.
+    /// Whether a value with these moments and this life is expired at a moment.
     pub fn is_expired(&self, info: EntryInfo, now: u64) -> bool
         ensures { result ≡ has_come (deadline_of self.now info) now }
     {
         has_come(self.deadline(info), now)
     }
 
-    /// The cause under which a value with these moments leaves: expired, where its deadline has come, and else the
+    /// The cause under which such a value leaves: expired, where its deadline has come, and else the
     /// caller's own.
     pub fn cause(&self, info: EntryInfo, now: u64, own: RemovalCause) -> RemovalCause
         ensures { result ≡ (if has_come (deadline_of self.now info) now then RemovalCause.Expired else own) }
@@ -55,6 +56,39 @@ fn ends_at(life: Option<Duration>, from: u64) -> Option<u128>
     match life {
         None => None,
         Some(life) => Some(u128::from(from) + life.as_nanos()),
+    }
+}
+
+// The end of a life of its own.
+fn own_end(own: Option<OwnLife>) -> Option<u128>
+    ensures { result ≡ own_end (option_map own_life own) }
+{
+    match own {
+        None => None,
+        Some(own) => ends_at(Some(own.life), own.from),
+    }
+}
+
+/// What is left of a life of its own at a moment.
+pub fn rest(own: Option<OwnLife>, now: u64) -> Option<Duration>
+    ensures { option_map as_nanos result ≡ rest (option_map own_life own) now }
+{
+    match own {
+        None => None,
+        Some(own) => {
+            let lived = Duration::from_nanos(now.saturating_sub(own.from));
+            Some(own.life.saturating_sub(lived))
+        }
+    }
+}
+
+/// A life of its own that is given at a moment, and counts from it.
+pub fn given(life: Option<Duration>, now: u64) -> Option<OwnLife>
+    ensures { option_map own_life result ≡ given (option_map as_nanos life) now }
+{
+    match life {
+        None => None,
+        Some(life) => Some(OwnLife { from: now, life }),
     }
 }
 

@@ -1,8 +1,13 @@
-//! The maintenance of a cache: the expired leave, the waiting are admitted, and what is over the capacity leaves.
-ghost use Rattle.std.specs.Prelude.{◌≡◌, ◌-◌, ◌≤◌, [], ◌++◌, length, take, drop};
+//! The maintenance of a cache: the expired leave, then what is over the capacity, and then each key that waits is
+//! admitted or leaves.
+ghost use Rattle.std.specs.Prelude.{◌≡◌, ℕ, ◌+◌, ◌-◌, ◌≤◌, Some, List, [], ◌++◌, length, take, drop};
 ghost use Rattle.moka_base.specs.declared.notification.RemovalCause.TheVariants.{Expired, Size};
-ghost use Rattle.moka_state.specs.Table.{entries};
-ghost use Rattle.moka_state.specs.Maintain.{living, dead, notices_for, IsDueFrom, IsMaintained};
+ghost use Rattle.moka_base.specs.Maintenance.{front, leaving_in, after_parts};
+ghost use Rattle.moka_base.specs.Policy.{is_lru};
+ghost use Rattle.moka_state.specs.declared.rows.Row.{Row};
+ghost use Rattle.moka_state.specs.Rows.{first_number, NumbersDiffer};
+ghost use Rattle.moka_state.specs.Table.{entries, weight_of};
+ghost use Rattle.moka_state.specs.Maintain.{living, dead, notices_for, is_within, rows_of, frequencies, hash_wins, judgements, JudgesFirst, IsDueFrom, IsMaintained};
 
 #[cfg(test)]
 mod tests;
@@ -10,31 +15,35 @@ mod tests;
 use crate::lives::{Lives, earlier, has_come};
 use crate::rows::RowStore;
 use crate::table::Table;
+use moka_base::frequency::FrequencySource;
 use moka_base::notification::RemovalCause;
+use moka_base::policy::EvictionPolicy;
 
-/// Runs a whole maintenance: every expired row leaves, every waiting row is admitted, and then the least recently
-/// used rows leave until no more are admitted than the capacity allows. Takes the earliest deadline of the admitted
-/// rows, or an earlier moment, and answers the earliest of those that stay. It takes no memory.
+/// Runs a whole maintenance. Every expired row leaves, then the least recently used rows until those that stay admitted
+/// are within the capacity, and then each waiting row is admitted or leaves, as the policy says. Takes the earliest
+/// deadline of the admitted rows, or an earlier moment, and answers the earliest of those that stay, or an earlier one.
+/// It takes no memory.
 ///
-/// It visits the waiting rows and those that leave over the capacity, and the admitted rows only once the earliest
-/// deadline has come.
-pub fn maintain<K: Eq + Drop, V: Drop, R: RowStore<K, V>>(
+/// It visits the waiting rows, for each of them the rows that would have to leave for it, and those that leave. It visits
+/// the admitted rows only once the earliest deadline has come.
+pub fn maintain<K: Eq + Drop, V: Drop, R: RowStore<K, V>, F: FrequencySource>(
     table: &mut Table<K, V, R>,
     lives: &Lives,
     capacity: Option<u64>,
+    policy: EvictionPolicy,
+    source: &F,
     earliest: Option<u128>,
     now: u64,
 ) -> Option<u128>
     requires { IsDueFrom earliest lives.now table.old.admitted }
-    ensures maintained { IsMaintained lives.now capacity now table.old table.new }
+    ensures maintained { IsMaintained lives.now (is_lru policy) (F.count source.now) capacity now table.old table.new }
     ensures due { IsDueFrom result lives.now (entries table.new) }
     ensures room { table.old.room ≤ table.new.room }
 {
     let earliest = sweep_if_due(table, lives, earliest, now);
-    let earliest = admit_waiting(table, lives, earliest, now);
-    if let Some(capacity) = capacity {
-        shrink(table, capacity);
-    }
+    let earliest = sweep_waiting(table, lives, earliest, now);
+    shrink(table, capacity);
+    judge_all(table, capacity, policy, source);
     earliest
 }
 
@@ -86,45 +95,184 @@ fn sweep<K: Eq + Drop, V: Drop, R: RowStore<K, V>>(
     earliest
 }
 
-/// Lets the expired waiting rows go, and admits the others in their order. Takes the earliest deadline of the
-/// admitted rows, and answers that of all. Visits each waiting row.
-fn admit_waiting<K: Eq + Drop, V: Drop, R: RowStore<K, V>>(
+/// Lets the expired waiting rows go. Takes the earliest deadline of the admitted rows, and answers that of all that
+/// stay. Visits each waiting row.
+fn sweep_waiting<K: Eq + Drop, V: Drop, R: RowStore<K, V>>(
     table: &mut Table<K, V, R>,
     lives: &Lives,
     earliest: Option<u128>,
     now: u64,
 ) -> Option<u128>
     requires { IsDueFrom earliest lives.now table.old.admitted }
-    ensures admitted { table.new.admitted ≡ table.old.admitted ++ living lives.now now table.old.waiting }
-    ensures waiting { table.new.waiting ≡ [] }
+    ensures admitted { table.new.admitted ≡ table.old.admitted }
+    ensures waiting { table.new.waiting ≡ living lives.now now table.old.waiting }
     ensures notices { table.new.notices ≡ table.old.notices ++ notices_for Expired (dead lives.now now table.old.waiting) }
-    ensures due { IsDueFrom result lives.now table.new.admitted }
+    ensures due { IsDueFrom result lives.now (entries table.new) }
     ensures room { table.old.room ≤ table.new.room }
 {
     let mut earliest = earliest;
-    while let Some(first) = table.first_waiting() {
-        let deadline = lives.deadline(table.row(first).info);
-        if !has_come(deadline, now) {
-            table.admit(first);
-            earliest = earlier(earliest, deadline);
+    let mut cursor = table.first_waiting();
+    while let Some(number) = cursor {
+        cursor = table.next(number);
+        let deadline = lives.deadline(table.row(number).info);
+        if has_come(deadline, now) {
+            table.let_go(number, RemovalCause::Expired);
         } else {
-            table.let_go(first, RemovalCause::Expired);
+            earliest = earlier(earliest, deadline);
         }
     }
     earliest
 }
 
-/// Lets the least recently used rows go that are admitted over the capacity. Visits those that leave.
-fn shrink<K: Eq + Drop, V: Drop, R: RowStore<K, V>>(table: &mut Table<K, V, R>, capacity: u64)
-    ensures admitted { table.new.admitted ≡ drop (length table.old.admitted - capacity) table.old.admitted }
+/// Lets the least recently used rows go until those that stay admitted are within the capacity. Visits those that
+/// leave.
+fn shrink<K: Eq + Drop, V: Drop, R: RowStore<K, V>>(
+    table: &mut Table<K, V, R>,
+    capacity: Option<u64>,
+)
+    ensures admitted { table.new.admitted ≡ drop (front weight_of capacity 0 table.old.admitted) table.old.admitted }
     ensures waiting { table.new.waiting ≡ table.old.waiting }
-    ensures notices { table.new.notices ≡ table.old.notices ++ notices_for Size (take (length table.old.admitted - capacity) table.old.admitted) }
+    ensures notices { table.new.notices ≡ table.old.notices ++ notices_for Size (take (front weight_of capacity 0 table.old.admitted) table.old.admitted) }
     ensures room { table.old.room ≤ table.new.room }
 {
-    while table.admitted_len() as u64 > capacity {
+    let count = victims(table, capacity, 0);
+    let_first_go(table, count);
+}
+
+/// Judges each waiting row, in order. Visits the waiting rows, and for each the victims that it would take.
+fn judge_all<K: Eq + Drop, V: Drop, R: RowStore<K, V>, F: FrequencySource>(
+    table: &mut Table<K, V, R>,
+    capacity: Option<u64>,
+    policy: EvictionPolicy,
+    source: &F,
+)
+    ensures admitted { table.new.admitted ≡ (after_parts (rows_of table.old) (judgements (is_lru policy) (F.count source.now) capacity table.old)).admitted }
+    ensures waiting { table.new.waiting ≡ [] }
+    ensures notices { table.new.notices ≡ table.old.notices ++ notices_for Size (leaving_in (judgements (is_lru policy) (F.count source.now) capacity table.old)) }
+    ensures room { table.old.room ≤ table.new.room }
+{
+    while let Some(number) = table.first_waiting() {
+        judge(table, capacity, policy, source, number);
+    }
+}
+
+/// Judges the first row that waits. One that is heavier than the capacity is let go. Else its victims, the least
+/// recently used rows that have to leave to make room for it, leave and it is admitted, if it needs none or wins against
+/// them; if it does not win, it is let go itself.
+fn judge<K: Eq + Drop, V: Drop, R: RowStore<K, V>, F: FrequencySource>(
+    table: &mut Table<K, V, R>,
+    capacity: Option<u64>,
+    policy: EvictionPolicy,
+    source: &F,
+    number: usize,
+)
+    requires first { Some number ≡ first_number table.old.waiting }
+    requires apart { NumbersDiffer (entries table.old) }
+    ensures judged { (first : ℕ × Row K V) × (rest : List (ℕ × Row K V)) × JudgesFirst (is_lru policy) (F.count source.now) capacity first rest table.old table.new }
+    ensures room { table.old.room ≤ table.new.room }
+{
+    let row = table.row(number);
+    let (hash, weight) = (row.hash, row.info.policy_weight);
+    if !fits(capacity, weight, 0) {
+        table.let_go(number, RemovalCause::Size);
+        return;
+    }
+    let count = victims(table, capacity, weight);
+    if count == 0 || wins(table, policy, source, hash, count) {
+        let_first_go(table, count);
+        table.admit(number);
+    } else {
+        table.let_go(number, RemovalCause::Size);
+    }
+}
+
+/// How many of the least recently used rows have to leave to make room for this much more weight. Visits them.
+fn victims<K: Eq + Drop, V: Drop, R: RowStore<K, V>>(
+    table: &Table<K, V, R>,
+    capacity: Option<u64>,
+    more: u32,
+) -> usize
+    ensures { result ≡ front weight_of capacity more table.now.admitted }
+{
+    let admitted = table.admitted_len();
+    let mut weight = table.admitted_weight();
+    let mut cursor = table.first_admitted();
+    for count in 0..admitted {
+        if fits(capacity, more, weight) {
+            return count;
+        }
+        match cursor {
+            Some(number) => {
+                cursor = table.next(number);
+                weight -= u128::from(table.row(number).info.policy_weight);
+            }
+            None => unreachable!(),
+        }
+    }
+    admitted
+}
+
+/// Whether a row of this hash wins against this many of the least recently used rows: it does under
+/// [`EvictionPolicy::lru`], and else where its hash was noted more often than theirs together.
+fn wins<K: Eq + Drop, V: Drop, R: RowStore<K, V>, F: FrequencySource>(
+    table: &Table<K, V, R>,
+    policy: EvictionPolicy,
+    source: &F,
+    hash: u64,
+    count: usize,
+) -> bool
+    requires { count ≤ length table.now.admitted }
+    ensures { result ≡ hash_wins (is_lru policy) (F.count source.now) hash (take count table.now.admitted) }
+{
+    !policy.is_tiny_lfu()
+        || frequency_of_first(table, source, count) < u128::from(source.estimate(hash))
+}
+
+/// How often the hashes of this many of the least recently used rows were noted together. Visits them.
+fn frequency_of_first<K: Eq + Drop, V: Drop, R: RowStore<K, V>, F: FrequencySource>(
+    table: &Table<K, V, R>,
+    source: &F,
+    count: usize,
+) -> u128
+    requires { count ≤ length table.now.admitted }
+    ensures { result ≡ frequencies (F.count source.now) (take count table.now.admitted) }
+{
+    let mut frequency = 0;
+    let mut cursor = table.first_admitted();
+    for _ in 0..count {
+        match cursor {
+            Some(number) => {
+                cursor = table.next(number);
+                frequency += u128::from(source.estimate(table.row(number).hash));
+            }
+            None => unreachable!(),
+        }
+    }
+    frequency
+}
+
+/// Lets this many of the least recently used rows go.
+fn let_first_go<K: Eq + Drop, V: Drop, R: RowStore<K, V>>(table: &mut Table<K, V, R>, count: usize)
+    requires { count ≤ length table.old.admitted }
+    ensures admitted { table.new.admitted ≡ drop count table.old.admitted }
+    ensures waiting { table.new.waiting ≡ table.old.waiting }
+    ensures notices { table.new.notices ≡ table.old.notices ++ notices_for Size (take count table.old.admitted) }
+    ensures room { table.old.room ≤ table.new.room }
+{
+    for _ in 0..count {
         match table.first_admitted() {
             Some(number) => table.let_go(number, RemovalCause::Size),
             None => unreachable!(),
         }
+    }
+}
+
+/// Whether this much more weight beside another is within the capacity, if there is one.
+fn fits(capacity: Option<u64>, more: u32, weight: u128) -> bool
+    ensures { result ≡ is_within capacity (more + weight) }
+{
+    match capacity {
+        None => true,
+        Some(capacity) => weight.saturating_add(u128::from(more)) <= u128::from(capacity),
     }
 }

@@ -2,7 +2,7 @@
 //!
 //! A row has a number, which stays its own as long as it is stored. The store keeps two orders of rows: those that
 //! wait for admission, in the order in which their keys came, and those that are admitted, in the order of use.
-ghost use Rattle.std.specs.Prelude.{◌≡◌, ℕ, ◌+◌, ◌<◌, ◌≤◌, List, [], ◌∷◌, ◌++◌, length, IsSome, IfSome, IfNone, OnOk, OnErr, OnSome, Some, None, MatchOption};
+ghost use Rattle.std.specs.Prelude.{◌≡◌, true, false, ℕ, ◌+◌, ◌<◌, ◌≤◌, List, [], ◌∷◌, ◌++◌, length, IsSome, IfSome, IfNone, OnOk, OnErr, OnSome, Some, None, MatchOption};
 ghost use Rattle.moka_state.specs.Rows.{row_under, with_row, without_row, touched, overwritten, first_number, number_after, IsRowOf, NoneIsRowOf, NumbersDiffer};
 
 use std::alloc::{AllocError, Global};
@@ -88,10 +88,16 @@ pub trait RowStore<K: Eq, V>: Drop {
         ensures counted { reads.new ≤ length (admitted self.now ++ waiting self.now) }
         ensures read { OnSome result (0 < reads.new) };
 
-    /// The row under a number.
+    /// The row under a number. No two rows have one number.
     fn row(&self, number: usize) -> &Row<K, V>
         requires { IsSome (row_under number (admitted self.now ++ waiting self.now)) }
-        ensures { row_under number (admitted self.now ++ waiting self.now) ≡ Some result.now };
+        ensures row { row_under number (admitted self.now ++ waiting self.now) ≡ Some result.now }
+        ensures apart { NumbersDiffer (admitted self.now ++ waiting self.now) };
+
+    /// Whether the row under a number is admitted.
+    fn is_admitted(&self, number: usize) -> bool
+        requires { IsSome (row_under number (admitted self.now ++ waiting self.now)) }
+        ensures { MatchOption (row_under number (admitted self.now)) (result ≡ false) (λ _. result ≡ true) };
 
     /// Makes room for one more row. Where memory is refused, every row stays as it was.
     fn reserve(&mut self) -> Result<(), AllocError>

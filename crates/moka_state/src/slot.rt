@@ -1,14 +1,18 @@
 //! Where a write goes, once all memory for it is taken.
 ghost use Rattle.std.specs.Prelude.{◌≡◌, ◌<◌, IfOk, IfErr};
-ghost use Rattle.moka_state.specs.Slot.{IsSlotFor, IsSlotNow, HasSlot, Puts};
+ghost use Rattle.moka_state.specs.Slot.{IsSlotFor, IsSlotNow, HasSlot, IsInfoOf, Puts};
 ghost use Rattle.moka_state.specs.Table.{entries};
 
 use crate::lives::Lives;
+use crate::means::Means;
 use crate::rows::{EntryInfo, Row, RowStore};
 use crate::shared_key::IntoShared;
 use crate::table::{Place, Table};
+use crate::ways::Ways;
 use moka_base::notification::RemovalCause;
+use moka_base::policy::CacheTypes;
 use std::alloc::Global;
+use std::hash::Hash;
 use std::sync::Arc;
 
 /// Where the value of a write goes.
@@ -73,6 +77,37 @@ impl<K: Eq + Drop, V: Drop, R: RowStore<K, V>> Table<K, V, R> {
                 value,
                 info,
             }),
+        }
+    }
+}
+
+impl<K: Hash + Drop, V: Clone, R: RowStore<K, V>> Table<K, V, R> {
+    /// What is to be kept of a value of this weight that a write puts into a slot at a moment. The expiry is asked here
+    /// for the life of its own.
+    pub fn info_of<C: CacheTypes<K, V>>(
+        &self,
+        slot: &Slot<K>,
+        value: &V,
+        weight: u32,
+        now: u64,
+        ways: &Ways<K, V, C>,
+        lives: &Lives,
+    ) -> EntryInfo
+        requires { HasSlot slot.now self.now }
+        ensures { IsInfoOf (⟦<C as Means<K, V>>⟧.ways ways.now) lives.now slot.now value.now weight now self.now result }
+    {
+        let own_life = match slot {
+            Slot::Over { number, key } => {
+                let was = self.row(*number).info;
+                ways.life_over(key, value, was, lives.is_expired(was, now), now)
+            }
+            Slot::New { key } => ways.life_of_new(key, value, now),
+        };
+        EntryInfo {
+            last_modified: now,
+            last_accessed: now,
+            own_life,
+            policy_weight: weight,
         }
     }
 }

@@ -1,12 +1,16 @@
 //! The cache as a plain value, lent with `&mut`, with every moment handed in.
-ghost use Rattle.std.specs.Prelude.{◌≡◌, ◌+◌, ◌≤◌, ℕ, true, false, ◌↔◌, ◌∷◌, [], length, map, option_map, fold, IsOk, IfOk, IfErr, IfSome, OnOk, OnErr, None, Some, IsErrAnd};
+ghost use Rattle.std.specs.Prelude.{◌≡◌, ◌≢◌, ◌+◌, ◌≤◌, ℕ, true, false, ◌↔◌, ◌∷◌, [], length, min, map, option_map, is_some, IsOk, IfOk, IfErr, IfSome, OnOk, OnErr, None, Some, IsErrAnd};
 ghost use Rattle.std.specs.Arc.{arc_value};
 ghost use Rattle.std.specs.List.{AllByRecursion};
-ghost use Rattle.moka_base.specs.History.{Event, Get, ContainsKey, Invalidate, Maintain, EntryCount, TakeNotice, latest, is_live, live, noticed, greatest_number, flush_point, stores_nothing, after_insert};
+ghost use Rattle.moka_base.specs.History.{Event, Get, ContainsKey, Invalidate, Maintain, Measure, EntryCount, WeightedSize, TakeNotice, latest, is_live, live, noticed, greatest_number, flush_point, stores_nothing, after_insert};
+ghost use Rattle.moka_base.specs.Maintenance.{total};
 ghost use Rattle.moka_base.specs.Replies.{answer, Found, Contains, Done, Counted, Noticed, IsAnswer};
-ghost use Rattle.moka_base.specs.StandsFor.{Holdings, writes, StandsFor, Follows, AtEachHistory};
+ghost use Rattle.moka_base.specs.SizeLaws.{WeighsOnes};
+ghost use Rattle.moka_base.specs.StandsFor.{StandsFor, Follows, AtEachHistory};
+ghost use Rattle.moka_base.specs.Policy.{is_lru};
 ghost use Rattle.moka_state.specs.Table.{leaving_of};
-ghost use Rattle.moka_state.specs.State.{holdings, rules_of, IsSound};
+ghost use Rattle.moka_state.specs.State.{Kept, kept_by, all_writes, rules_of, IsSound};
+ghost use Rattle.moka_state.specs.Ways.{hash_by};
 
 #[cfg(test)]
 pub(crate) mod tests;
@@ -14,13 +18,15 @@ pub(crate) mod tests;
 use crate::list_rows::ListRows;
 use crate::lives::{Lives, earlier};
 use crate::maintain::maintain;
-use crate::rows::{EntryInfo, Row, RowStore};
+use crate::means::Means;
+use crate::rows::{EntryInfo, RowStore};
 use crate::shared_key::{IntoShared, Owned};
 use crate::table::Table;
+use crate::ways::Ways;
 use moka_base::notification::{Notice, RemovalCause};
-use moka_base::policy::{CacheTypes, EvictionPolicy, Refused};
+use moka_base::policy::{CacheTypes, EvictionPolicy, FrequencySource, Refused};
 use std::alloc::Global;
-use std::hash::{BuildHasher, Hash, Hasher};
+use std::hash::Hash;
 use std::marker::Model;
 use std::sync::Arc;
 use std::time::Duration;
@@ -32,11 +38,16 @@ pub struct Settings<K: Eq, V: Clone, C: CacheTypes<K, V>> {
     pub time_to_live: Option<Duration>,
     /// How long a value lives after its last use: its write, or a recorded look that found it live.
     pub time_to_idle: Option<Duration>,
-    /// How many keys may stay stored; none is no bound. A cache may pass it by the 64 keys that may wait for a
-    /// maintenance. With 0 nothing is stored.
+    /// How much may stay stored, by the weights of the values; none is no bound. A cache may pass it by the 64 keys that
+    /// may wait for a maintenance. With 0 nothing is stored.
     pub max_capacity: Option<u64>,
-    /// Which keys leave where the cache has passed its capacity.
+    /// Which keys leave where the cache has passed its capacity, and which new ones are admitted.
     pub eviction_policy: EvictionPolicy,
+    /// Weighs each value when it is written; without one each weighs 1, so that the capacity is a number of keys.
+    pub weigher: Option<Arc<C::Weigher>>,
+    /// Gives values lives of their own, beside the two lives above: the earliest end counts. Without one no value has
+    /// one.
+    pub expiry: Option<Arc<C::Expiry>>,
     /// The number that the first write draws.
     pub first_number: u64,
     /// Makes the hashers of keys.
@@ -67,7 +78,9 @@ pub struct State<K: Hash + Drop, V: Clone, C: CacheTypes<K, V>, R: RowStore<K, V
     earliest: Option<u128>,
     latest: u64,
     next_number: u64,
-    hasher: Arc<C::Hasher>,
+    ways: Ways<K, V, C>,
+    // It has noted the hash of each key that `get` looked for.
+    source: C::Frequency,
     alloc: Global,
 }
 
@@ -75,21 +88,32 @@ pub struct State<K: Hash + Drop, V: Clone, C: CacheTypes<K, V>, R: RowStore<K, V
 pub type CacheState<K, V, C> = State<K, V, C, ListRows<K, V>>;
 
 impl<K: Hash + Drop, V: Clone, C: CacheTypes<K, V>, R: RowStore<K, V>> Model for State<K, V, C, R> {
-    ghost Value = { Holdings K V };
+    ghost Value = { Kept K V C.Hasher C.Frequency };
 
-    ghost view = { λ state. holdings state.lives state.max_capacity state.table state.latest state.next_number };
+    ghost view = { λ state. kept_by state.ways state.lives state.max_capacity state.table state.source state.latest state.next_number };
 
     ghost invariant = { λ state. IsSound C.keeps
-        (λ key. C.Hasher.Hasher.finish (fold C.Hasher.Hasher.write (C.Hasher.build_hasher (arc_value state.hasher)) (K.hash_input key)))
+        (hash_by C.Hasher.build_hasher C.Hasher.Hasher.write C.Hasher.Hasher.finish K.hash_input state.ways.hasher)
         state.lives state.earliest state.table };
 }
 
 impl<K: Hash + Drop, V: Clone, C: CacheTypes<K, V>, R: RowStore<K, V>> State<K, V, C, R> {
-    /// A cache without values. It takes no memory.
+    /// A cache without values. The weigher and the expiry, where they are given, do what the cache's types say of them.
+    /// It takes the memory of the source of frequencies, and no other.
     pub fn new(alloc: Global, settings: Settings<K, V, C>) -> Result<Self, Refused>
-        ensures empty { IfOk result (λ state. StandsFor K.eq (rules_of settings.max_capacity settings.time_to_live settings.time_to_idle settings.first_number) state []) }
-        ensures succeeds { IsOk result }
+        requires weighs { IfSome settings.weigher (λ weigher. C.Weigher.weighs (arc_value weigher) C.weight) }
+        requires gives { IfSome settings.expiry (λ expiry. C.Expiry.gives (arc_value expiry) C.lifetimes) }
+        ensures empty { IfOk result (λ state. StandsFor K.eq (rules_of settings.max_capacity settings.time_to_live settings.time_to_idle settings.first_number
+            (⟦<C as Means<K, V>>⟧.ways (record {
+              is_lru = is_lru settings.eviction_policy;
+              hasher = arc_value settings.hasher;
+              is_weighed = is_some settings.weigher;
+              may_expire = is_some settings.expiry;
+            }))
+            (⟦<C as Means<K, V>>⟧.frequency C.Frequency.opened)) (⟦<C as Means<K, V>>⟧.held state) []) }
+        ensures cause { IfErr result (λ cause. cause ≡ Refused.OutOfMemory) }
     {
+        let source = C::Frequency::opening(alloc)?;
         Ok(State {
             table: Table::new(alloc),
             lives: Lives {
@@ -100,49 +124,60 @@ impl<K: Hash + Drop, V: Clone, C: CacheTypes<K, V>, R: RowStore<K, V>> State<K, 
             earliest: None,
             latest: 0,
             next_number: settings.first_number,
-            hasher: settings.hasher,
+            ways: Ways::new(
+                settings.eviction_policy,
+                settings.hasher,
+                settings.weigher,
+                settings.expiry,
+            ),
+            source,
             alloc,
         })
     }
 
-    /// The live value of a key, which is then used at this moment: a recorded look.
+    /// The live value of a key, which is then used at this moment: a recorded look. The key's hash is noted, whether there
+    /// is a value or not. A value that is found may get another life of its own.
     ///
     /// Refused for want of memory for the value's copy alone: a look that finds no live value takes none and succeeds.
     /// Reads the rows that have the key's hash.
     pub fn get(&mut self, key: &K, now: u64) -> Result<Option<V>, Refused>
-        ensures reply { IfOk result (λ found. AtEachHistory K.eq self.old (λ rules h.
+        ensures reply { IfOk result (λ found. AtEachHistory K.eq (⟦<C as Means<K, V>>⟧.held self.old) (λ rules h.
             IsAnswer V.is_clone (answer K.eq rules (Get key.now now) h) (Found found))) }
-        ensures stands { OnOk result (Follows K.eq self.old (Get key.now now) self.new) }
+        ensures stands { OnOk result (Follows K.eq (⟦<C as Means<K, V>>⟧.held self.old) (Get key.now now) (⟦<C as Means<K, V>>⟧.held self.new)) }
         ensures kept { IfOk result (λ found. IfSome found (C.keeps key.now)) }
 
         // Only the copy can be refused, and then nothing has changed.
         ensures refused { OnErr result (self.new ≡ self.old) }
         ensures cause { IfErr result (λ cause. cause ≡ Refused.OutOfMemory) }
-        ensures miss { AtEachHistory K.eq self.old (λ rules h.
+        ensures miss { AtEachHistory K.eq (⟦<C as Means<K, V>>⟧.held self.old) (λ rules h.
             answer K.eq rules (Get key.now now) h ≡ Found None → IsOk result) }
     {
         let now = self.latest.max(now);
-        let hash = hash_of(&self.hasher, key);
+        let hash = self.ways.hash(key);
         let Some(number) = self.table.find(key, hash) else {
+            self.source.note(hash);
             self.latest = now;
             return Ok(None);
         };
         let row = self.table.row(number);
         let info = row.info;
         if self.lives.is_expired(info, now) {
+            self.source.note(hash);
             self.latest = now;
             return Ok(None);
         }
         let Ok(value) = row.value.clone() else {
             return Err(Refused::OutOfMemory);
         };
-        self.table.touch(
-            number,
-            EntryInfo {
-                last_modified: info.last_modified,
-                last_accessed: info.last_accessed.max(now),
-            },
-        );
+        let info = EntryInfo {
+            last_accessed: info.last_accessed.max(now),
+            own_life: self.ways.life_of_hit(&row.key, &row.value, info, now),
+            ..info
+        };
+        self.table.touch(number, info);
+        // The life of its own may end earlier than before.
+        self.earliest = earlier(self.earliest, self.lives.deadline(info));
+        self.source.note(hash);
         self.latest = now;
         Ok(Some(value))
     }
@@ -155,7 +190,7 @@ impl<K: Hash + Drop, V: Clone, C: CacheTypes<K, V>, R: RowStore<K, V>> State<K, 
     /// without memory. Reads the rows that have the key's hash, beside a maintenance.
     pub fn insert(&mut self, key: K, value: V, now: u64) -> Result<(), InsertRefused<K, V>>
         requires { C.keeps key value }
-        ensures stands { OnOk result (AtEachHistory K.eq self.old (λ rules h. StandsFor K.eq rules self.new (after_insert K.eq rules key value now h))) }
+        ensures stands { OnOk result (AtEachHistory K.eq (⟦<C as Means<K, V>>⟧.held self.old) (λ rules h. StandsFor K.eq rules (⟦<C as Means<K, V>>⟧.held self.new) (after_insert K.eq rules key value now h))) }
 
         // Whatever refuses it, nothing has changed, and what was given comes back.
         ensures refused { OnErr result (self.new ≡ self.old) }
@@ -183,7 +218,7 @@ impl<K: Hash + Drop, V: Clone, C: CacheTypes<K, V>, R: RowStore<K, V>> State<K, 
         now: u64,
     ) -> Result<(), InsertRefused<S, V>>
         requires { C.keeps (S.key_of key) value }
-        ensures stands { OnOk result (AtEachHistory K.eq self.old (λ rules h. StandsFor K.eq rules self.new (after_insert K.eq rules (S.key_of key) value now h))) }
+        ensures stands { OnOk result (AtEachHistory K.eq (⟦<C as Means<K, V>>⟧.held self.old) (λ rules h. StandsFor K.eq rules (⟦<C as Means<K, V>>⟧.held self.new) (after_insert K.eq rules (S.key_of key) value now h))) }
         ensures refused { OnErr result (self.new ≡ self.old) }
         ensures key_back { IfErr result (λ refused. refused.key ≡ key) }
         ensures value_back { IfErr result (λ refused. refused.value ≡ value) }
@@ -191,17 +226,37 @@ impl<K: Hash + Drop, V: Clone, C: CacheTypes<K, V>, R: RowStore<K, V>> State<K, 
             ↔ ((stores_nothing self.old.max_capacity ≡ false) × (self.old.next_number ≡ greatest_number)) }
         ensures nothing { stores_nothing self.old.max_capacity ≡ true → IsOk result }
     {
-        let now = self.latest.max(now);
         if self.max_capacity == Some(0) {
-            self.latest = now;
+            self.latest = self.latest.max(now);
             return Ok(());
         }
         if self.next_number == u64::MAX {
             let cause = Refused::NumbersUsedUp;
             return Err(InsertRefused { key, value, cause });
         }
+        self.write_anew(key, value, now)
+    }
+
+    // A write that draws a number. The weight is asked for the call's key, before anything changes.
+    fn write_anew<S: IntoShared<K>>(
+        &mut self,
+        key: S,
+        value: V,
+        now: u64,
+    ) -> Result<(), InsertRefused<S, V>>
+        requires kept { C.keeps (S.key_of key) value }
+        requires stores { stores_nothing self.old.max_capacity ≡ false }
+        requires number { self.old.next_number ≢ greatest_number }
+        ensures stands { OnOk result (AtEachHistory K.eq (⟦<C as Means<K, V>>⟧.held self.old) (λ rules h. StandsFor K.eq rules (⟦<C as Means<K, V>>⟧.held self.new) (after_insert K.eq rules (S.key_of key) value now h))) }
+        ensures refused { OnErr result (self.new ≡ self.old) }
+        ensures key_back { IfErr result (λ refused. refused.key ≡ key) }
+        ensures value_back { IfErr result (λ refused. refused.value ≡ value) }
+        ensures cause { IfErr result (λ refused. refused.cause ≡ Refused.OutOfMemory) }
+    {
+        let now = self.latest.max(now);
         let cause = Refused::OutOfMemory;
-        let hash = hash_of(&self.hasher, key.key());
+        let hash = self.ways.hash(key.key());
+        let weight = self.ways.weight(key.key(), &value);
         let Ok(place) = self.table.place(key.key(), hash) else {
             return Err(InsertRefused { key, value, cause });
         };
@@ -217,6 +272,8 @@ impl<K: Hash + Drop, V: Clone, C: CacheTypes<K, V>, R: RowStore<K, V>> State<K, 
                         &mut self.table,
                         &self.lives,
                         self.max_capacity,
+                        self.ways.policy(),
+                        &self.source,
                         self.earliest,
                         now,
                     );
@@ -225,10 +282,7 @@ impl<K: Hash + Drop, V: Clone, C: CacheTypes<K, V>, R: RowStore<K, V>> State<K, 
                 Err(key) => return Err(InsertRefused { key, value, cause }),
             }
         };
-        let info = EntryInfo {
-            last_modified: now,
-            last_accessed: now,
-        };
+        let info = self.table.info_of(&slot, &value, weight, now, &self.ways, &self.lives);
         self.table.put(slot, hash, value, info, &self.lives);
         self.earliest = earlier(self.earliest, self.lives.deadline(info));
         self.latest = now;
@@ -238,12 +292,12 @@ impl<K: Hash + Drop, V: Clone, C: CacheTypes<K, V>, R: RowStore<K, V>> State<K, 
 
     /// Whether a key has a live value at a moment. It is no use of the value, and records nothing.
     pub fn contains_key(&self, key: &K, now: u64) -> bool
-        ensures reply { AtEachHistory K.eq self.now (λ rules h.
+        ensures reply { AtEachHistory K.eq (⟦<C as Means<K, V>>⟧.held self.now) (λ rules h.
             answer K.eq rules (ContainsKey key.now now) h ≡ Contains result) }
-        ensures stands { Follows K.eq self.now (ContainsKey key.now now) self.now }
+        ensures stands { Follows K.eq (⟦<C as Means<K, V>>⟧.held self.now) (ContainsKey key.now now) (⟦<C as Means<K, V>>⟧.held self.now) }
     {
         let now = self.latest.max(now);
-        let hash = hash_of(&self.hasher, key);
+        let hash = self.ways.hash(key);
         match self.table.find(key, hash) {
             None => false,
             Some(number) => !self.lives.is_expired(self.table.row(number).info, now),
@@ -252,11 +306,11 @@ impl<K: Hash + Drop, V: Clone, C: CacheTypes<K, V>, R: RowStore<K, V>> State<K, 
 
     /// Removes a key. Its value, live or expired, is noticed. It takes no memory.
     pub fn invalidate(&mut self, key: &K, now: u64)
-        ensures { Follows K.eq self.old (Invalidate key.now now) self.new }
+        ensures { Follows K.eq (⟦<C as Means<K, V>>⟧.held self.old) (Invalidate key.now now) (⟦<C as Means<K, V>>⟧.held self.new) }
     {
         let now = self.latest.max(now);
         self.latest = now;
-        let hash = hash_of(&self.hasher, key);
+        let hash = self.ways.hash(key);
         if let Some(number) = self.table.find(key, hash) {
             let info = self.table.row(number).info;
             let cause = self.lives.cause(info, now, RemovalCause::Explicit);
@@ -266,47 +320,61 @@ impl<K: Hash + Drop, V: Clone, C: CacheTypes<K, V>, R: RowStore<K, V>> State<K, 
 
     /// The first notice that has not been taken, in the order of leaving. It takes no memory.
     pub fn take_notice(&mut self) -> Option<Notice<K, V>>
-        ensures reply { AtEachHistory K.eq self.old (λ rules h.
+        ensures reply { AtEachHistory K.eq (⟦<C as Means<K, V>>⟧.held self.old) (λ rules h.
             answer K.eq rules TakeNotice h ≡ Noticed (option_map leaving_of result)) }
-        ensures stands { Follows K.eq self.old TakeNotice self.new }
+        ensures stands { Follows K.eq (⟦<C as Means<K, V>>⟧.held self.old) TakeNotice (⟦<C as Means<K, V>>⟧.held self.new) }
         ensures kept { IfSome result (λ notice. C.keeps (arc_value notice.key) notice.value) }
     {
         self.table.take_notice()
     }
 
-    /// Runs a maintenance: the expired values leave, those that wait are admitted in their order, and where the keys
-    /// then pass the capacity the least recently used leave. Each is noticed. It takes no memory.
+    /// Runs a maintenance: the expired values leave, and where the admitted pass the capacity the least recently used leave.
+    /// Then each that waits, in their order, is admitted, where need be in place of the least recently used, or it
+    /// leaves, as the policy wants it. Each that leaves is noticed. It takes no memory.
     ///
     /// Visits the waiting rows and those that leave, and the admitted ones only where one may have expired.
     pub fn run_pending_tasks(&mut self, now: u64)
-        ensures stands { Follows K.eq self.old (Maintain now) self.new }
+        ensures stands { Follows K.eq (⟦<C as Means<K, V>>⟧.held self.old) (Maintain now) (⟦<C as Means<K, V>>⟧.held self.new) }
 
         // Nothing waits then, what is stored is live, and it is within the capacity.
         ensures none_waits { self.new.waiting ≡ [] }
-        ensures all_live { AtEachHistory K.eq self.old (λ rules h.
-            AllByRecursion (λ w. is_live rules w (latest (Maintain now ∷ h)) ≡ true) (writes self.new)) }
-        ensures within { IfSome self.new.max_capacity (λ capacity. length (writes self.new) ≤ capacity) }
+        ensures all_live { AtEachHistory K.eq (⟦<C as Means<K, V>>⟧.held self.old) (λ rules h.
+            AllByRecursion (λ w. is_live rules w (latest (Maintain now ∷ h)) ≡ true) (all_writes self.new)) }
+        ensures within { IfSome self.new.max_capacity (λ capacity. total (λ w. w.weight) (all_writes self.new) ≤ capacity) }
     {
         let now = self.latest.max(now);
         self.earliest = maintain(
             &mut self.table,
             &self.lives,
             self.max_capacity,
+            self.ways.policy(),
+            &self.source,
             self.earliest,
             now,
         );
         self.latest = now;
     }
 
-    /// How many keys are stored, with those that wait and those whose values are expired. With a capacity it is at most
-    /// the capacity and 64 more.
+    /// How many keys are stored, with those that wait and those whose values are expired. With a capacity, and where each
+    /// value weighs 1, it is at most the capacity and 64 more.
     pub fn entry_count(&self) -> u64
-        ensures counted { result ≡ length (writes self.now) }
-        ensures reply { AtEachHistory K.eq self.now (λ rules h. answer K.eq rules EntryCount h ≡ Counted result) }
-        ensures stands { Follows K.eq self.now EntryCount self.now }
-        ensures bounded { AtEachHistory K.eq self.now (λ rules h. IfSome self.now.max_capacity (λ capacity. result ≤ capacity + flush_point)) }
+        ensures counted { result ≡ length (all_writes self.now) }
+        ensures reply { AtEachHistory K.eq (⟦<C as Means<K, V>>⟧.held self.now) (λ rules h. answer K.eq rules (Measure EntryCount) h ≡ Counted result) }
+        ensures stands { Follows K.eq (⟦<C as Means<K, V>>⟧.held self.now) (Measure EntryCount) (⟦<C as Means<K, V>>⟧.held self.now) }
+        ensures bounded { AtEachHistory K.eq (⟦<C as Means<K, V>>⟧.held self.now) (λ rules h. WeighsOnes rules →
+            IfSome self.now.max_capacity (λ capacity. result ≤ capacity + flush_point)) }
     {
         self.table.len() as u64
+    }
+
+    /// How heavy all that is stored is, with what waits and what is expired; where that is more than `u64::MAX`, this is
+    /// `u64::MAX`.
+    pub fn weighted_size(&self) -> u64
+        ensures counted { result ≡ min (total (λ w. w.weight) (all_writes self.now)) greatest_number }
+        ensures reply { AtEachHistory K.eq (⟦<C as Means<K, V>>⟧.held self.now) (λ rules h. answer K.eq rules (Measure WeightedSize) h ≡ Counted result) }
+        ensures stands { Follows K.eq (⟦<C as Means<K, V>>⟧.held self.now) (Measure WeightedSize) (⟦<C as Means<K, V>>⟧.held self.now) }
+    {
+        self.table.weight().min(u128::from(u64::MAX)) as u64
     }
 
     // The allocator that it keeps.
@@ -320,15 +388,4 @@ impl<K: Hash + Drop, V: Clone, C: CacheTypes<K, V>, R: RowStore<K, V>> State<K, 
     {
         self.table.notice_count()
     }
-}
-
-// The hash of a key.
-fn hash_of<K: Hash, S: BuildHasher>(hasher: &Arc<S>, key: &K) -> u64
-where
-    S::Hasher: Drop,
-    ensures { result ≡ S.Hasher.finish (fold S.Hasher.write (S.build_hasher (arc_value hasher.now)) (K.hash_input key.now)) }
-{
-    let mut state = hasher.build_hasher();
-    key.hash(&mut state);
-    state.finish()
 }

@@ -2,12 +2,15 @@
 ghost use Rattle.std.specs.Prelude.{◌≡◌, ◌+◌, ◌≤◌, length, IfOk, IfErr, IfSome, OnErr};
 ghost use Rattle.std.specs.List.{AllByRecursion};
 ghost use Rattle.moka_base.specs.History.{flush_point};
-ghost use Rattle.moka_base.specs.StandsFor.{StandsFor, AtEachHistory, writes};
+ghost use Rattle.moka_base.specs.SizeLaws.{WeighsOnes};
+ghost use Rattle.moka_base.specs.StandsFor.{StandsFor, AtEachHistory};
+ghost use Rattle.moka_state.specs.State.{all_writes};
 ghost use Rattle.moka_state.specs.Step.{IsReplyTo, StepKeeps, ReplyKeeps, after, IsRun, after_all};
 
 #[cfg(test)]
 mod tests;
 
+use crate::means::Means;
 use crate::rows::RowStore;
 use crate::state::{InsertRefused, State};
 use moka_base::notification::Notice;
@@ -31,6 +34,8 @@ pub enum Step<K, V> {
     RunPendingTasks { now: u64 },
     /// A count of the stored keys.
     EntryCount,
+    /// The weight of all that is stored.
+    WeightedSize,
     /// The first notice is taken.
     TakeNotice,
 }
@@ -44,7 +49,7 @@ pub enum Reply<K, V> {
     Contains(bool),
     /// The call was done, and answers nothing.
     Done,
-    /// How many keys `EntryCount` found stored.
+    /// How many keys `EntryCount` found stored, or what `WeightedSize` found.
     Counted(u64),
     /// The notice that was taken, if there was one.
     Noticed(Option<Notice<K, V>>),
@@ -57,8 +62,8 @@ impl<K: Hash + Drop, V: Clone, C: CacheTypes<K, V>, R: RowStore<K, V>> State<K, 
     /// what it carried is dropped.
     pub fn step(&mut self, step: Step<K, V>) -> Reply<K, V>
         requires { StepKeeps C.keeps step }
-        ensures reply { AtEachHistory K.eq self.old (λ rules h. IsReplyTo K.eq V.is_clone rules h step result) }
-        ensures stands { AtEachHistory K.eq self.old (λ rules h. StandsFor K.eq rules self.new (after K.eq rules step result h)) }
+        ensures reply { AtEachHistory K.eq (⟦<C as Means<K, V>>⟧.held self.old) (λ rules h. IsReplyTo K.eq V.is_clone rules h step result) }
+        ensures stands { AtEachHistory K.eq (⟦<C as Means<K, V>>⟧.held self.old) (λ rules h. StandsFor K.eq rules (⟦<C as Means<K, V>>⟧.held self.new) (after K.eq rules step result h)) }
         ensures kept { ReplyKeeps C.keeps step result }
     {
         match step {
@@ -80,17 +85,19 @@ impl<K: Hash + Drop, V: Clone, C: CacheTypes<K, V>, R: RowStore<K, V>> State<K, 
                 Reply::Done
             }
             Step::EntryCount => Reply::Counted(self.entry_count()),
+            Step::WeightedSize => Reply::Counted(self.weighted_size()),
             Step::TakeNotice => Reply::Noticed(self.take_notice()),
         }
     }
 
-    /// Does steps in order, and answers their replies. With a capacity no more keys are stored then than it allows, and
-    /// 64. Where the list of replies finds no room, no step was done.
+    /// Does steps in order, and answers their replies. With a capacity, and where each value weighs 1, no more keys are
+    /// stored then than it allows, and 64. Where the list of replies finds no room, no step was done.
     pub fn run(&mut self, steps: Vec<Step<K, V>>) -> Result<Vec<Reply<K, V>>, Refused>
         requires { AllByRecursion (StepKeeps C.keeps) steps.items }
-        ensures replies { IfOk result (λ replies. AtEachHistory K.eq self.old (λ rules h. IsRun K.eq V.is_clone rules h steps.items replies.items)) }
-        ensures stands { IfOk result (λ replies. AtEachHistory K.eq self.old (λ rules h. StandsFor K.eq rules self.new (after_all K.eq rules steps.items replies.items h))) }
-        ensures bounded { IfOk result (λ _. AtEachHistory K.eq self.old (λ rules h. IfSome self.new.max_capacity (λ capacity. length (writes self.new) ≤ capacity + flush_point))) }
+        ensures replies { IfOk result (λ replies. AtEachHistory K.eq (⟦<C as Means<K, V>>⟧.held self.old) (λ rules h. IsRun K.eq V.is_clone rules h steps.items replies.items)) }
+        ensures stands { IfOk result (λ replies. AtEachHistory K.eq (⟦<C as Means<K, V>>⟧.held self.old) (λ rules h. StandsFor K.eq rules (⟦<C as Means<K, V>>⟧.held self.new) (after_all K.eq rules steps.items replies.items h))) }
+        ensures bounded { IfOk result (λ _. AtEachHistory K.eq (⟦<C as Means<K, V>>⟧.held self.old) (λ rules h. WeighsOnes rules →
+            IfSome self.new.max_capacity (λ capacity. length (all_writes self.new) ≤ capacity + flush_point))) }
         ensures refused { OnErr result (self.new ≡ self.old) }
         ensures cause { IfErr result (λ cause. cause ≡ Refused.OutOfMemory) }
     {

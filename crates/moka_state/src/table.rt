@@ -2,9 +2,10 @@
 ghost use Rattle.std.specs.Prelude.{◌≡◌, ℕ, ◌+◌, ◌-◌, ◌<◌, ◌≤◌, List, [], ◌∷◌, ◌++◌, length, min, IsSome, IfSome, IfNone, IfOk, OnOk, OnErr, Some, None, MatchOption};
 ghost use Rattle.std.specs.Option.{option_to_list};
 ghost use Rattle.std.specs.VecDeque.{deque_len, deque_capacity};
+ghost use Rattle.moka_base.specs.Maintenance.{total};
 ghost use Rattle.moka_state.specs.Rows.{row_under, with_row, without_row, touched, overwritten, first_number, number_after, IsRowOf, NoneIsRowOf, NumbersDiffer};
 ghost use Rattle.moka_state.specs.Place.{IsPlaceOf};
-ghost use Rattle.moka_state.specs.Table.{Contents, entries, SameRows, UsesRow, TakesRow};
+ghost use Rattle.moka_state.specs.Table.{Contents, entries, weight_of, SameRows, UsesRow, TakesRow, AreWeightsWith, IsKept};
 
 use crate::rows::{EntryInfo, Row, RowStore};
 use moka_base::notification::{Notice, RemovalCause};
@@ -22,11 +23,19 @@ pub enum Place<K> {
     Absent,
 }
 
+/// How heavy the rows of each order are together.
+#[derive(Clone, Copy)]
+struct Weights {
+    admitted: u128,
+    waiting: u128,
+}
+
 /// A store of rows, and the notices of the values that left it, in the order of leaving.
 #[derive(Drop)]
 pub struct Table<K: Eq + Drop, V: Drop, R: RowStore<K, V>> {
     rows: R,
     notices: VecDeque<Notice<K, V>>,
+    weights: Weights,
 }
 
 impl<K: Eq + Drop, V: Drop, R: RowStore<K, V>> Model for Table<K, V, R> {
@@ -39,7 +48,7 @@ impl<K: Eq + Drop, V: Drop, R: RowStore<K, V>> Model for Table<K, V, R> {
       room = min (R.room table.rows) (deque_capacity table.notices - (length (R.admitted table.rows ++ R.waiting table.rows) + deque_len table.notices));
     } };
 
-    ghost invariant = { λ table. length (R.admitted table.rows ++ R.waiting table.rows) + deque_len table.notices ≤ deque_capacity table.notices };
+    ghost invariant = { λ table. IsKept (R.admitted table.rows) (R.waiting table.rows) table.weights (deque_len table.notices) (deque_capacity table.notices) };
 }
 
 impl<K: Eq + Drop, V: Drop, R: RowStore<K, V>> Table<K, V, R> {
@@ -51,6 +60,10 @@ impl<K: Eq + Drop, V: Drop, R: RowStore<K, V>> Table<K, V, R> {
         Table {
             rows: R::new(alloc),
             notices: VecDeque::new(alloc),
+            weights: Weights {
+                admitted: 0,
+                waiting: 0,
+            },
         }
     }
 
@@ -98,6 +111,40 @@ impl<K: Eq + Drop, V: Drop, R: RowStore<K, V>> Table<K, V, R> {
         ensures { result ≡ length self.now.waiting }
     {
         self.rows.waiting_len()
+    }
+
+    /// How heavy the admitted rows are together. It takes constant time.
+    pub fn admitted_weight(&self) -> u128
+        ensures { result ≡ total weight_of self.now.admitted }
+    {
+        self.weights.admitted
+    }
+
+    /// How heavy all rows are together. It takes constant time.
+    pub fn weight(&self) -> u128
+        ensures { result ≡ total weight_of (entries self.now) }
+    {
+        self.weights.admitted + self.weights.waiting
+    }
+
+    /// The weights of both orders once the row under this number has another weight.
+    fn weights_with(&self, number: usize, weight: u32) -> Weights
+        requires { IsSome (row_under number (entries self.now)) }
+        ensures { AreWeightsWith number weight self.now.admitted self.now.waiting result }
+    {
+        let before = u128::from(self.rows.row(number).info.policy_weight);
+        let Weights { admitted, waiting } = self.weights;
+        if self.rows.is_admitted(number) {
+            Weights {
+                admitted: admitted - before + u128::from(weight),
+                waiting,
+            }
+        } else {
+            Weights {
+                admitted,
+                waiting: waiting - before + u128::from(weight),
+            }
+        }
     }
 
     /// The number of the least recently used admitted row.
@@ -159,6 +206,7 @@ impl<K: Eq + Drop, V: Drop, R: RowStore<K, V>> Table<K, V, R> {
         ensures waiting { (number : ℕ) × (self.new.waiting ≡ self.old.waiting ++ (number, row) ∷ []) }
         ensures notices { self.new.notices ≡ self.old.notices }
     {
+        self.weights.waiting += u128::from(row.info.policy_weight);
         self.rows.add(row);
     }
 
@@ -168,7 +216,9 @@ impl<K: Eq + Drop, V: Drop, R: RowStore<K, V>> Table<K, V, R> {
         ensures rows { UsesRow number (touched info) self.old self.new }
         ensures notices { self.new.notices ≡ self.old.notices }
     {
+        let weights = self.weights_with(number, info.policy_weight);
         self.rows.touch(number, info);
+        self.weights = weights;
     }
 
     /// Gives the row another value, and notices the one before, with its cause, under this key.
@@ -186,7 +236,9 @@ impl<K: Eq + Drop, V: Drop, R: RowStore<K, V>> Table<K, V, R> {
         ensures notices { IfSome (row_under number (entries self.old)) (λ row.
             self.new.notices ≡ self.old.notices ++ record { key = key; value = row.value; cause = cause } ∷ []) }
     {
+        let weights = self.weights_with(number, info.policy_weight);
         let value = self.rows.overwrite(number, value, info);
+        self.weights = weights;
         match self.notices.push_back(Notice { key, value, cause }) {
             Ok(()) => {}
             Err(_) => unreachable!(),
@@ -201,7 +253,10 @@ impl<K: Eq + Drop, V: Drop, R: RowStore<K, V>> Table<K, V, R> {
         ensures notices { self.new.notices ≡ self.old.notices }
         ensures room { self.old.room ≤ self.new.room }
     {
+        let weight = u128::from(self.rows.row(number).info.policy_weight);
         self.rows.admit(number);
+        self.weights.waiting -= weight;
+        self.weights.admitted += weight;
     }
 
     /// Lets a row leave, and notices it with this cause. It takes no memory, and none of the room.
@@ -212,7 +267,9 @@ impl<K: Eq + Drop, V: Drop, R: RowStore<K, V>> Table<K, V, R> {
             self.new.notices ≡ self.old.notices ++ record { key = row.key; value = row.value; cause = cause } ∷ []) }
         ensures room { self.old.room ≤ self.new.room }
     {
+        let weights = self.weights_with(number, 0);
         let Row { key, value, .. } = self.rows.remove(number);
+        self.weights = weights;
         match self.notices.push_back(Notice { key, value, cause }) {
             Ok(()) => {}
             Err(_) => unreachable!(),

@@ -1,4 +1,5 @@
-use Rattle.moka_base.proofs.Looks.{answer_without_look, standing_without_look, noticed_without_look, next_number_without_look}
+use Rattle.moka_base.proofs.Looks.{answer_without_look, standing_without_look, noticed_without_look, next_number_without_look, frequency_without_look}
+use Rattle.std.proofs.Common.{ap}
 use Rattle.moka_base.proofs.laws.contains_key_changes_no_reply.Goals as goal
 
 pub returns-clause-answer : goal.returns-clause-answer
@@ -12,3 +13,6 @@ returns-clause-noticed g c rules later h q at = noticed_without_look g.K.Partial
 
 pub returns-clause-next_number : goal.returns-clause-next_number
 returns-clause-next_number g c rules later h q at = next_number_without_look q at h rules later
+
+pub returns-clause-frequency : goal.returns-clause-frequency
+returns-clause-frequency g c rules later h q at hash = ap (λ f. f hash) (frequency_without_look q at h rules later)

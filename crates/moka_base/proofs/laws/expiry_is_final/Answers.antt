@@ -1,5 +1,5 @@
 use Rattle.moka_base.specs.History.{deadline}
-use Rattle.moka_base.proofs.Expiry.{latest-more, has_come-later, expired_stays, get-missed, contains_key-missed}
+use Rattle.moka_base.proofs.Deadlines.{latest-more, has_come-later, expired_stays, get-missed, contains_key-missed}
 use Rattle.moka_base.proofs.laws.expiry_is_final.Goals as goal
 
 pub returns-clause-latest : goal.returns-clause-latest

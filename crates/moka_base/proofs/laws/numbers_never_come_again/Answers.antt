@@ -2,7 +2,7 @@ use Rattle.moka_base.specs.History.{Insert}
 use Rattle.std.proofs.Common.{◌∷◌, ◌+◌, ◌≤◌, arith}
 use Rattle.moka_base.specs.History.{next_number}
 use Rattle.std.proofs.Common.{◌++◌}
-use Rattle.moka_base.proofs.Expiry.{next_number-more, next_number-counted}
+use Rattle.moka_base.proofs.Deadlines.{next_number-more, next_number-counted}
 use Rattle.moka_base.proofs.laws.numbers_never_come_again.Goals as goal
 
 pub returns-clause-never_falls : goal.returns-clause-never_falls

@@ -1,4 +1,4 @@
-use Rattle.moka_base.proofs.Sizes.{nothing_leaves_for_size, leaving-without}
+use Rattle.moka_base.proofs.Departures.{nothing_leaves_for_size, leaving-without}
 use Rattle.moka_base.proofs.size_laws.without_a_capacity_nothing_leaves_for_size.Goals as goal
 
 pub returns-clause-never : goal.returns-clause-never

@@ -10,8 +10,8 @@ pub returns-in-None-clause-reply : goal.returns-in-None-clause-reply
 returns-in-None-clause-reply g c rules h stands =
     let s = c.self.inside in
     let same = rw (← c.self.view_is) at stands in
-    let none = live-absent g.K.PartialEq.eq g.met.K.Eq.laws rules s.lives s.max_capacity s.table s.latest s.next_number h same c.self.invariant (λ a b e. cc (g.met.K.Hash.respects_eq a b e))
-    c.args.key.now c.args.now c.hash_of-hash.result c.hash_of-hash.ensures c.in-None.ensures.absent in
+    let none = live-absent g.K.PartialEq.eq g.met.K.Eq.laws rules _ s.lives s.max_capacity s.table _ s.latest s.next_number h same c.self.invariant c.hash-hash.ensures.alike
+    c.args.key.now c.args.now c.hash-hash.result c.hash-hash.ensures.hash c.in-None.ensures.absent in
     ap (λ o. Contains (is_some o)) none
 
 -- a value that is there unless a test holds is there where it does not
@@ -24,8 +24,8 @@ returns-in-Some-clause-reply g c rules h stands =
     let s = c.self.inside in
     let same = rw (← c.self.view_is) at stands in
     let row = c.row.result.now in
-    let key = same-key g.K.PartialEq.eq c.args.key.now c.hash_of-hash.result row (rw c.row.ensures at c.in-Some.ensures.found) in
-    let it = live-found g.K.PartialEq.eq g.met.K.Eq.laws rules s.lives s.max_capacity s.table s.latest s.next_number h same c.args.key.now c.args.now c.in-Some.number row c.row.ensures key in
+    let key = same-key g.K.PartialEq.eq c.args.key.now c.hash-hash.result row (rw c.row.ensures at c.in-Some.ensures.found) in
+    let it = live-found g.K.PartialEq.eq g.met.K.Eq.laws rules _ s.lives s.max_capacity s.table _ s.latest s.next_number h same c.args.key.now c.args.now c.in-Some.number row c.row.ensures key in
     ap (λ o. Contains (is_some o)) it
     ∙ ap Contains (is_some-cond (has_come (deadline_of s.lives row.info) (max s.latest c.args.now)) _)
     ∙ ap (λ t. Contains (not t)) (sym (c.is_expired.ensures ∙ ap (has_come (deadline_of s.lives row.info)) c.max-now.ensures))

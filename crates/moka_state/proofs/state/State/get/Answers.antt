@@ -5,32 +5,33 @@ use Rattle.moka_state.specs.Lives.{deadline_of}
 use Rattle.moka_state.proofs.Found.{same-key}
 use Rattle.moka_state.proofs.Sound.{of-row, IsSound-touched}
 use Rattle.moka_state.proofs.Stands.{standing-absent, live-found, live-absent}
-use Rattle.moka_state.proofs.Cases.{stands-after-miss, stands-after-expired, stands-after-hit}
+use Rattle.moka_state.proofs.Cases.{estimates-noted, stands-after-miss, stands-after-expired, stands-after-hit}
 use Rattle.moka_state.proofs.state.State.get.Goals as goal
 
 pub returns-in_default-clause-reply : goal.returns-in_default-clause-reply
 returns-in_default-clause-reply g c rules h stands =
     let s = c.self.inside in
     let same = rw (← c.self.view_is) at stands in
-    let none = live-absent g.K.PartialEq.eq g.met.K.Eq.laws rules s.lives s.max_capacity s.table s.latest s.next_number h same c.self.invariant (λ a b e. cc (g.met.K.Hash.respects_eq a b e))
-    c.args.key.now c.args.now c.hash_of-hash.result c.hash_of-hash.ensures c.in_default.ensures.absent in
+    let none = live-absent g.K.PartialEq.eq g.met.K.Eq.laws rules _ s.lives s.max_capacity s.table _ s.latest s.next_number h same c.self.invariant c.hash-hash.ensures.alike
+    c.args.key.now c.args.now c.hash-hash.result c.hash-hash.ensures.hash c.in_default.ensures.absent in
     rw none tt
 
 pub returns-in_default-clause-stands : goal.returns-in_default-clause-stands
 returns-in_default-clause-stands g c rules h stands =
     let s = c.self.inside in
     let same = rw (← c.self.view_is) at stands in
-    let none = standing-absent g.K.PartialEq.eq g.met.K.Eq.laws rules s.lives s.max_capacity s.table s.latest s.next_number h same c.self.invariant (λ a b e. cc (g.met.K.Hash.respects_eq a b e))
-    c.args.key.now c.hash_of-hash.result c.hash_of-hash.ensures c.in_default.ensures.absent in
-    rw c.max-now.ensures (stands-after-miss g.K.PartialEq.eq g.met.K.Eq.laws rules s.lives s.max_capacity s.table s.latest s.next_number h same c.args.key.now c.args.now none)
+    let none = standing-absent g.K.PartialEq.eq g.met.K.Eq.laws rules _ s.lives s.max_capacity s.table _ s.latest s.next_number h same c.self.invariant c.hash-hash.ensures.alike
+    c.args.key.now c.hash-hash.result c.hash-hash.ensures.hash c.in_default.ensures.absent in
+    rw c.max-now.ensures (stands-after-miss g.K.PartialEq.eq g.met.K.Eq.laws rules _ s.lives s.max_capacity s.table _ s.latest s.next_number h same _ c.args.key.now c.args.now
+    (estimates-noted g.C.Frequency.FrequencySource.noted g.C.Frequency.FrequencySource.count s.source c.note.new.self c.hash-hash.result _ c.note.ensures c.hash-hash.ensures.hash) none)
 
 pub returns-then-is_expired-clause-reply : goal.returns-then-is_expired-clause-reply
 returns-then-is_expired-clause-reply g c rules h stands =
     let s = c.self.inside in
     let same = rw (← c.self.view_is) at stands in
     let row = c.row-row.result.now in
-    let key = same-key g.K.PartialEq.eq c.args.key.now c.hash_of-hash.result row (rw c.row-row.ensures at c.in-Some.ensures.found) in
-    let it = live-found g.K.PartialEq.eq g.met.K.Eq.laws rules s.lives s.max_capacity s.table s.latest s.next_number h same c.args.key.now c.args.now c.in-Some.number row c.row-row.ensures key in
+    let key = same-key g.K.PartialEq.eq c.args.key.now c.hash-hash.result row (rw c.row-row.ensures at c.in-Some.ensures.found) in
+    let it = live-found g.K.PartialEq.eq g.met.K.Eq.laws rules _ s.lives s.max_capacity s.table _ s.latest s.next_number h same c.args.key.now c.args.now c.in-Some.number row c.row-row.ensures key in
     let late = sym (ap (has_come (deadline_of s.lives row.info)) c.max-now.ensures) ∙ sym c.is_expired.ensures ∙ c.if-is_expired.true in
     rw (it, late) tt
 
@@ -39,17 +40,18 @@ returns-then-is_expired-clause-stands g c rules h stands =
     let s = c.self.inside in
     let same = rw (← c.self.view_is) at stands in
     let row = c.row-row.result.now in
-    let key = same-key g.K.PartialEq.eq c.args.key.now c.hash_of-hash.result row (rw c.row-row.ensures at c.in-Some.ensures.found) in
+    let key = same-key g.K.PartialEq.eq c.args.key.now c.hash-hash.result row (rw c.row-row.ensures at c.in-Some.ensures.found) in
     let late = sym (ap (has_come (deadline_of s.lives row.info)) c.max-now.ensures) ∙ sym c.is_expired.ensures ∙ c.if-is_expired.true in
-    rw c.max-now.ensures (stands-after-expired g.K.PartialEq.eq g.met.K.Eq.laws rules s.lives s.max_capacity s.table s.latest s.next_number h same c.args.key.now c.args.now c.in-Some.number row c.row-row.ensures key late)
+    rw c.max-now.ensures (stands-after-expired g.K.PartialEq.eq g.met.K.Eq.laws rules _ s.lives s.max_capacity s.table _ s.latest s.next_number h same _ c.args.key.now c.args.now c.in-Some.number row
+    (estimates-noted g.C.Frequency.FrequencySource.noted g.C.Frequency.FrequencySource.count s.source c.note-then-is_expired.new.self c.hash-hash.result _ c.note-then-is_expired.ensures c.hash-hash.ensures.hash) c.row-row.ensures key late)
 
 pub returns-in_default-clone-clause-miss : goal.returns-in_default-clone-clause-miss
 returns-in_default-clone-clause-miss g c rules h stands nothing =
     let s = c.self.inside in
     let same = rw (← c.self.view_is) at stands in
     let row = c.row-row.result.now in
-    let key = same-key g.K.PartialEq.eq c.args.key.now c.hash_of-hash.result row (rw c.row-row.ensures at c.in-Some.ensures.found) in
-    let it = live-found g.K.PartialEq.eq g.met.K.Eq.laws rules s.lives s.max_capacity s.table s.latest s.next_number h same c.args.key.now c.args.now c.in-Some.number row c.row-row.ensures key in
+    let key = same-key g.K.PartialEq.eq c.args.key.now c.hash-hash.result row (rw c.row-row.ensures at c.in-Some.ensures.found) in
+    let it = live-found g.K.PartialEq.eq g.met.K.Eq.laws rules _ s.lives s.max_capacity s.table _ s.latest s.next_number h same c.args.key.now c.args.now c.in-Some.number row c.row-row.ensures key in
     let late = sym (ap (has_come (deadline_of s.lives row.info)) c.max-now.ensures) ∙ sym c.is_expired.ensures ∙ c.if-is_expired.false in
     let found = rw (it, late) at nothing in
     cc
@@ -57,16 +59,16 @@ returns-in_default-clone-clause-miss g c rules h stands nothing =
 pub invariant_of-self-2 : goal.invariant_of-self-2
 invariant_of-self-2 g c =
     let s = c.self.inside in
-    let row = c.row-row.result.now in
-    IsSound-touched _ _ s.lives s.earliest s.table c.touch.new.self c.self.invariant c.in-Some.number row _ c.row-row.ensures refl (omega (arith, c.max.ensures)) c.touch.ensures.rows c.touch.ensures.notices
+    rw (c.earlier-self-inside.ensures, c.deadline.ensures)
+    (IsSound-touched _ _ s.lives s.earliest s.table c.touch.new.self c.self.invariant c.in-Some.number c.row-row.result.now _ c.row-row.ensures c.touch.ensures.rows c.touch.ensures.notices)
 
 pub returns-clause-reply : goal.returns-clause-reply
 returns-clause-reply g c rules h stands =
     let s = c.self.inside in
     let same = rw (← c.self.view_is) at stands in
     let row = c.row-row.result.now in
-    let key = same-key g.K.PartialEq.eq c.args.key.now c.hash_of-hash.result row (rw c.row-row.ensures at c.in-Some.ensures.found) in
-    let it = live-found g.K.PartialEq.eq g.met.K.Eq.laws rules s.lives s.max_capacity s.table s.latest s.next_number h same c.args.key.now c.args.now c.in-Some.number row c.row-row.ensures key in
+    let key = same-key g.K.PartialEq.eq c.args.key.now c.hash-hash.result row (rw c.row-row.ensures at c.in-Some.ensures.found) in
+    let it = live-found g.K.PartialEq.eq g.met.K.Eq.laws rules _ s.lives s.max_capacity s.table _ s.latest s.next_number h same c.args.key.now c.args.now c.in-Some.number row c.row-row.ensures key in
     let late = sym (ap (has_come (deadline_of s.lives row.info)) c.max-now.ensures) ∙ sym c.is_expired.ensures ∙ c.if-is_expired.false in
     rw (it, late) c.in-Ok.ensures.cases
 
@@ -75,13 +77,15 @@ returns-clause-stands g c rules h stands =
     let s = c.self.inside in
     let same = rw (← c.self.view_is) at stands in
     let row = c.row-row.result.now in
-    let key = same-key g.K.PartialEq.eq c.args.key.now c.hash_of-hash.result row (rw c.row-row.ensures at c.in-Some.ensures.found) in
+    let key = same-key g.K.PartialEq.eq c.args.key.now c.hash-hash.result row (rw c.row-row.ensures at c.in-Some.ensures.found) in
     let late = sym (ap (has_come (deadline_of s.lives row.info)) c.max-now.ensures) ∙ sym c.is_expired.ensures ∙ c.if-is_expired.false in
-    rw c.max-now.ensures (stands-after-hit g.K.PartialEq.eq g.met.K.Eq.laws rules s.lives s.max_capacity s.table s.latest s.next_number h same c.touch.new.self c.args.key.now c.args.now c.in-Some.number row _ c.row-row.ensures key late refl (c.max.ensures ∙ ap (max row.info.last_accessed) c.max-now.ensures) c.touch.ensures.rows c.touch.ensures.notices)
+    let life = rw (c.deref.ensures, c.max-now.ensures) at c.life_of_hit.ensures in
+    rw c.max-now.ensures (stands-after-hit g.K.PartialEq.eq g.met.K.Eq.laws rules _ s.lives s.max_capacity s.table _ s.latest s.next_number h same c.touch.new.self _ c.args.key.now c.args.now c.in-Some.number row _
+    (estimates-noted g.C.Frequency.FrequencySource.noted g.C.Frequency.FrequencySource.count s.source c.note-2.new.self c.hash-hash.result _ c.note-2.ensures c.hash-hash.ensures.hash) c.row-row.ensures key late refl (c.max.ensures ∙ ap (max row.info.last_accessed) c.max-now.ensures) refl life c.touch.ensures.rows c.touch.ensures.notices)
 
 pub returns-clause-kept : goal.returns-clause-kept
 returns-clause-kept g c =
     let row = c.row-row.result.now in
-    let key = same-key g.K.PartialEq.eq c.args.key.now c.hash_of-hash.result row (rw c.row-row.ensures at c.in-Some.ensures.found) in
+    let key = same-key g.K.PartialEq.eq c.args.key.now c.hash-hash.result row (rw c.row-row.ensures at c.in-Some.ensures.found) in
     let kept = of-row (λ r. g.C.CacheTypes.keeps (arc_value r.key) r.value) c.in-Some.number _ row c.self.invariant.kept c.row-row.ensures in
     g.met.C.CacheTypes.copies_keep c.args.key.now row.value c.in-Ok.value c.in-Ok.ensures.cases (g.met.C.CacheTypes.equal_keys_keep (arc_value row.key) c.args.key.now row.value key kept)

@@ -23,7 +23,7 @@ loop-step-preserved g c =
             was.0 ++ c.in-Some.step ∷ [],
             was.1 ∙ ap (λ l. was.0 ++ l) c.in-Some.ensures.items ∙ sym (append_assoc was.0 (c.in-Some.step ∷ []) c.pop_front.new.self.items),
             rw c.push_reserved.ensures.items (IsRun-more g.K.PartialEq.eq g.V.Clone.is_clone rules h was.0 c.loop-step.replies.items c.in-Some.step c.step-reply.result was.2 reply),
-            rw c.push_reserved.ensures.items (stands-more g.K.PartialEq.eq g.V.Clone.is_clone rules c.step-reply.new.self h was.0 c.loop-step.replies.items c.in-Some.step c.step-reply.result was.2 (c.step-reply.ensures.stands rules _ was.3)),
+            rw c.push_reserved.ensures.items (stands-more g.K.PartialEq.eq g.V.Clone.is_clone rules _ h was.0 c.loop-step.replies.items c.in-Some.step c.step-reply.result was.2 (c.step-reply.ensures.stands rules _ was.3)),
           );
     }
 
@@ -42,6 +42,6 @@ returns-clause-stands g c rules h stands =
     rw whole was.3
 
 pub returns-clause-bounded : goal.returns-clause-bounded
-returns-clause-bounded g c rules h stands =
+returns-clause-bounded g c rules h stands ones =
     let was = c.loop-step.invariant.so_far rules h stands in
-    writes-bounded g.K.PartialEq.eq rules _ _ was.3
+    writes-bounded g.K.PartialEq.eq rules _ _ ones was.3

@@ -15,6 +15,6 @@ returns-clause-stands g c rules h stands =
     let same = rw (← c.self.view_is) at stands in
     stands-after-take_notice g.K.PartialEq.eq g.met.K.Eq.laws rules _ h same _
     (ap stored_writes c.take_notice.ensures.admitted) (ap stored_writes c.take_notice.ensures.waiting)
-    refl refl refl
+    refl refl refl refl refl
     (drop-first leaving_of c.take_notice.result s.table.notices c.take_notice.new.self.notices c.take_notice.ensures.notices (λ e. rw e at c.take_notice.ensures.none))
     refl refl

@@ -1,10 +1,10 @@
 -- No life's end is undone, and no number comes again.
-use Rattle.std.proofs.Common.{◌≡◌, ◌↔◌, ◌⊎◌, inl, inr, ⊎_elim, ℕ, max, min, ◌+◌, ◌≤◌, length, filter, Bool, true, false, not, if◌then◌else◌, Option, Some, None, List, [], ◌∷◌, ◌++◌, refl, ap, subst, arith}
+use Rattle.std.proofs.Common.{◌≡◌, ◌↔◌, ◌⊎◌, inl, inr, ⊎_elim, ℕ, max, min, ◌+◌, ◌≤◌, length, filter, Bool, true, false, not, if◌then◌else◌, Option, Some, None, List, [], ◌∷◌, ◌++◌, refl, sym, ap, subst, arith}
 use Rattle.std.specs.Option.{option_map}
 use Rattle.std.proofs.lemmas.Bool.{leb-true, le-leb}
-use Rattle.moka_base.specs.History.{Event, Get, ContainsKey, Insert, Invalidate, Maintain, Skip, Measure, TakeNotice, Rules, Write, latest, ends_at, earlier, has_come, deadline, is_expired, live, live_one, after_look, leaves_in, standing, next_number}
+use Rattle.moka_base.specs.History.{Event, Get, ContainsKey, Insert, Invalidate, Maintain, Skip, Measure, TakeNotice, Rules, Write, latest, OwnLife, ends_at, earlier, has_come, own_end, deadline, is_expired, live, live_one, after_look, leaves_in, standing, next_number}
 use Rattle.moka_base.specs.Replies.{Found, Contains, answer}
-use Rattle.moka_base.specs.Laws.{IsUnwritten, IsUntouched, HasEnded, is_write}
+use Rattle.moka_base.specs.Laws.{IsUnwritten, IsUntouched, HasEnded, OwnHasEnded, is_write}
 
 -- the latest moment never falls
 pub latest-more : {K V : Type 0} (later h : List (Event K V)) → latest h ≤ latest (later ++ h)
@@ -33,34 +33,39 @@ next_number-counted rules (Skip at ∷ h) = let ih = next_number-counted rules h
 next_number-counted rules (Measure what ∷ h) = let ih = next_number-counted rules h in omega arith
 next_number-counted rules (TakeNotice ∷ h) = let ih = next_number-counted rules h in omega arith
 
--- of the lives of two moments the earlier end is the deadline
-pub has_come-ended : (a b : Option ℕ) (written used at : ℕ) → (has_come (earlier (ends_at a written) (ends_at b used)) at ≡ true) ↔ (HasEnded a written at ⊎ HasEnded b used at)
-has_come-ended a b written used at = (to a b, from a b)
-  where
-    to : (a b : Option ℕ) → has_come (earlier (ends_at a written) (ends_at b used)) at ≡ true → HasEnded a written at ⊎ HasEnded b used at
-    to None None come = absurd (cc)
-    to (Some m) None come = inl (m, refl, leb-true (written + m) at come)
-    to None (Some n) come = inr (n, refl, leb-true (used + n) at come)
-    to (Some m) (Some n) come =
-        let le = leb-true (min (written + m) (used + n)) at come in
-        let either : (written + m ≤ at) ⊎ (used + n ≤ at) = grind arith in
-        ⊎_elim (λ h. inl (m, refl, h)) (λ h. inr (n, refl, h)) either
+-- of two deadlines the earlier has come where one of them has
+pub has_come-earlier : (a b : Option ℕ) (at : ℕ) → (has_come (earlier a b) at ≡ true) ↔ ((has_come a at ≡ true) ⊎ (has_come b at ≡ true))
+has_come-earlier None b at = (λ come. inr come, λ either. ⊎_elim (λ none. absurd (cc)) (λ come. come) either)
+has_come-earlier (Some m) None at = (λ come. inl come, λ either. ⊎_elim (λ come. come) (λ none. absurd (cc)) either)
+has_come-earlier (Some m) (Some n) at = (
+  λ come. let le = leb-true (min m n) at come in let either : (m ≤ at) ⊎ (n ≤ at) = grind arith in ⊎_elim (λ h. inl (le-leb m at h)) (λ h. inr (le-leb n at h)) either,
+  λ either. ⊎_elim (λ h. le-leb (min m n) at (let le = leb-true m at h in omega arith)) (λ h. le-leb (min m n) at (let le = leb-true n at h in omega arith)) either,
+)
 
-    never : (from : ℕ) → HasEnded None from at → ⊥
-    never from h = let none = h.1 in cc
+-- the end of a life has come where it has ended
+has_come-life : (life : Option ℕ) (from at : ℕ) → (has_come (ends_at life from) at ≡ true) ↔ HasEnded life from at
+has_come-life None from at = (λ come. absurd (cc), λ h. let none = h.1 in absurd (cc))
+has_come-life (Some m) from at = (λ come. (m, refl, leb-true (from + m) at come), λ h. let same = h.1 in let it : m ≡ h.0 = cc in let le = h.2 in le-leb (from + m) at (omega arith))
 
-    by : (m from : ℕ) → HasEnded (Some m) from at → from + m ≤ at
-    by m from h = let same = h.1 in let it : m ≡ h.0 = cc in let le = h.2 in omega arith
+-- and so has that of a life of its own
+has_come-own : (own : Option OwnLife) (at : ℕ) → (has_come (own_end own) at ≡ true) ↔ OwnHasEnded own at
+has_come-own None at = (λ come. absurd (cc), λ h. let none = h.1 in absurd (cc))
+has_come-own (Some it) at = (λ come. (it, refl, leb-true (it.from + it.life) at come), λ h. let is = h.1 in let same : it ≡ h.0 = cc in le-leb (it.from + it.life) at (subst (λ (o : OwnLife). o.from + o.life ≤ at) (sym same) h.2))
 
-    from : (a b : Option ℕ) → HasEnded a written at ⊎ HasEnded b used at → has_come (earlier (ends_at a written) (ends_at b used)) at ≡ true
-    from None None (inl h) = absurd (never written h)
-    from None None (inr h) = absurd (never used h)
-    from (Some m) None (inl h) = le-leb (written + m) at (by m written h)
-    from (Some m) None (inr h) = absurd (never used h)
-    from None (Some n) (inl h) = absurd (never written h)
-    from None (Some n) (inr h) = le-leb (used + n) at (by n used h)
-    from (Some m) (Some n) (inl h) = le-leb (min (written + m) (used + n)) at (let le = by m written h in omega arith)
-    from (Some m) (Some n) (inr h) = le-leb (min (written + m) (used + n)) at (let le = by n used h in omega arith)
+-- a write is expired where one of its lives has ended
+pub is_expired-ended : {K V : Type 0} (rules : Rules K V) (w : Write K V) (at : ℕ)
+    → (is_expired rules w at ≡ true) ↔ (HasEnded rules.time_to_live w.written at ⊎ HasEnded rules.time_to_idle w.used at ⊎ OwnHasEnded w.own at)
+is_expired-ended rules w at =
+    let live = ends_at rules.time_to_live w.written in
+    let idle = ends_at rules.time_to_idle w.used in
+    let whole = has_come-earlier (earlier live idle) (own_end w.own) at in
+    let shared = has_come-earlier live idle at in
+    let by_live = has_come-life rules.time_to_live w.written at in
+    let by_idle = has_come-life rules.time_to_idle w.used at in
+    let by_own = has_come-own w.own at in (
+      λ come. ⊎_elim (λ s. ⊎_elim (λ c. inl (by_live.0 c)) (λ c. inr (inl (by_idle.0 c))) (shared.0 s)) (λ c. inr (inr (by_own.0 c))) (whole.0 come),
+      λ ended. whole.1 (⊎_elim (λ e. inl (shared.1 (inl (by_live.1 e)))) (λ more. ⊎_elim (λ e. inl (shared.1 (inr (by_idle.1 e)))) (λ e. inr (by_own.1 e)) more) ended),
+    )
 
 module _ {K V : Type 0} (eq : K → K → Bool) (rules : Rules K V) (k : K) where
   -- an expired write stays as it is until its key is written or removed
