@@ -12,11 +12,15 @@ use std::test::Fail;
 const FIRST: EntryInfo = EntryInfo {
     last_modified: 5,
     last_accessed: 5,
+    own_life: None,
+    policy_weight: 1,
 };
 
 const LATER: EntryInfo = EntryInfo {
     last_modified: 8,
     last_accessed: 8,
+    own_life: None,
+    policy_weight: 2,
 };
 
 /// Adds a row for a key of this hash.
@@ -102,6 +106,7 @@ fn admits_rows<R: RowStore<u64, String>>(rt: &impl Abort, alloc: Global) -> Resu
     assert_eq!(rt; rows.first_admitted(), None);
     let number = number_of(&rows, 2, 7).expect(rt, "the second row");
     assert_eq!(rt; rows.next(number), Some(three));
+    assert!(rt; !rows.is_admitted(number));
 
     let number = first_waiting(&rows).expect(rt, "the first row that waits");
     rows.admit(number);
@@ -115,6 +120,7 @@ fn admits_rows<R: RowStore<u64, String>>(rt: &impl Abort, alloc: Global) -> Resu
     assert_eq!(rt; rows.next(number), Some(two));
     let number = number_of(&rows, 2, 7).expect(rt, "the second row");
     assert_eq!(rt; rows.next(number), None);
+    assert!(rt; rows.is_admitted(number));
     Ok(())
 }
 
