@@ -20,7 +20,7 @@ const LATER: EntryInfo = EntryInfo {
     last_modified: 8,
     last_accessed: 8,
     own_life: None,
-    policy_weight: 2,
+    policy_weight: 1,
 };
 
 /// Adds a row for a key of this hash.
