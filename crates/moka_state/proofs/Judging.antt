@@ -103,10 +103,7 @@ module _ {K V : Type 0} where
       pub sum_is : sum ≡ frequencies frequency_of passed
       pub small : sum ≤ count * 255
 
-
     module _ (rows : List (ℕ × Row K V)) (sum count : ℕ) (passed rest : List (ℕ × Row K V)) where
-
-
       pub adds-on : (n : ℕ) → Adds rows (Some n) sum count passed rest → (row : Row K V) (next : Option ℕ) (back : List (ℕ × Row K V)) → AtCursor rows passed rest n row next back
           → (more : ℕ) → more ≡ frequency_of row.hash → more ≤ 255 → Adds rows next (sum + more) (count + 1) (passed ++ (n, row) ∷ []) back
       adds-on n adds row next back here more is few =

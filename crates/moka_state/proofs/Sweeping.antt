@@ -38,7 +38,6 @@ module _ {K V : Type 0} (lives : Lives) (at : ℕ) (settled first : List (ℕ ×
     pub noticed : notices ≡ noted ++ notices_for Expired (dead lives at first)
     pub due : IsDueFrom earliest lives (settled ++ rows)
 
-
   module _ (rows : List (ℕ × Row K V)) (notices : List (Notice K V)) (n : ℕ) (earliest : Option ℕ) (kept rest : List (ℕ × Row K V)) (swept : Sweeps rows notices (Some n) earliest kept rest)
       (row : Row K V) (cursor : Option ℕ) (back : List (ℕ × Row K V)) (here : AtCursor rows kept rest n row cursor back) (deadline : Option ℕ) (deadline_is : deadline ≡ deadline_of lives row.info) where
     -- the rest is one row shorter behind the cursor

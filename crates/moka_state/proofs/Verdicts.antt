@@ -96,8 +96,7 @@ module _ {K V : Type 0} where
           let begins = first-waits old n row apart first_is there in
           let waits : row_under n old.waiting ≡ Some row = ap (row_under n) begins.1 ∙ row_under-at n row [] begins.0 refl in
           let gone = left-waiting n row Size old new takes noticed begins.2 waits in
-          let is : judge weight_of capacity wins old.admitted (n, row) begins.0 ≡ dropping old.admitted (n, row) begins.0 = verdict begins.0 in
-          (
+          let is : judge weight_of capacity wins old.admitted (n, row) begins.0 ≡ dropping old.admitted (n, row) begins.0 = verdict begins.0 in (
             (n, row),
             begins.0,
             record {
@@ -119,8 +118,7 @@ module _ {K V : Type 0} where
           let waiting : between.waiting ≡ (n, row) ∷ begins.0 = same ∙ begins.1 in
           let waits : row_under n between.waiting ≡ Some row = ap (row_under n) waiting ∙ row_under-at n row [] begins.0 refl in
           let is : judge weight_of capacity wins old.admitted (n, row) begins.0 ≡ admitting (count_of old.admitted row) old.admitted (n, row) begins.0 = verdict begins.0 in
-          let last : new.admitted ≡ between.admitted ++ (n, row) ∷ [] = rw waits at behind in
-          (
+          let last : new.admitted ≡ between.admitted ++ (n, row) ∷ [] = rw waits at behind in (
             (n, row),
             begins.0,
             record {

@@ -112,11 +112,11 @@ fn sweep_waiting<K: Eq + Drop, V: Drop, R: RowStore<K, V>>(
 {
     let mut earliest = earliest;
     let mut cursor = table.first_waiting();
-    while let Some(number) = cursor {
-        cursor = table.next(number);
-        let deadline = lives.deadline(table.row(number).info);
+    while let Some(waiting) = cursor {
+        cursor = table.next(waiting);
+        let deadline = lives.deadline(table.row(waiting).info);
         if has_come(deadline, now) {
-            table.let_go(number, RemovalCause::Expired);
+            table.let_go(waiting, RemovalCause::Expired);
         } else {
             earliest = earlier(earliest, deadline);
         }

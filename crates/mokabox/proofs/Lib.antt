@@ -2,6 +2,7 @@ pub mod CommandLaws
 pub mod EventsBy
 pub mod FieldLaws
 pub mod FieldTexts
+pub mod FirstCache
 pub mod LineLaws
 pub mod NoticeLaws
 pub mod NumberLaws

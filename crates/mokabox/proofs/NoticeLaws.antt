@@ -18,7 +18,7 @@ use Rattle.mokabox.specs.declared.answer.Answer.TheVariants as answers
 use Rattle.mokabox.specs.Events.{leaving_by, answer_by}
 use Rattle.mokabox.specs.declared.command.Command.TheVariants as commands
 use Rattle.mokabox.specs.Script.{ScriptEvent, ScriptRules, Course, notice_text, events_taking}
-use Rattle.mokabox.specs.Session.{ScriptHoldings, text_rules, IsAt, Prints}
+use Rattle.mokabox.specs.Session.{ScriptCache, held, text_rules, IsAt, Prints}
 
 drop_suc : {A : Type 0} (n : ℕ) (xs : List A) → drop (suc n) xs ≡ drop 1 (drop n xs)
 drop_suc zero xs = refl
@@ -49,15 +49,15 @@ abbrev pub after_taking : ScriptRules → Course → ℕ → Course
 after_taking rules before count = record before { events = events_taking (take count (noticed nat_eq rules before.events)) before.events }
 
 -- So many notices were taken, and these lines say them.
-pub record HasTaken (cache : ScriptHoldings) (moment : ℕ) (rules : ScriptRules) (before : Course) (count : ℕ) (printed : List (List ℕ)) : Type 0 where
+pub record HasTaken (cache : ScriptCache) (moment : ℕ) (rules : ScriptRules) (before : Course) (count : ℕ) (printed : List (List ℕ)) : Type 0 where
   pub is_at : IsAt cache moment rules (after_taking rules before count)
   pub lines : printed ≡ map notice_text (take count (noticed nat_eq rules before.events))
 
-pub none_taken : (cache : ScriptHoldings) (moment : ℕ) (rules : ScriptRules) (before : Course) → IsAt cache moment rules before → HasTaken cache moment rules before 0 []
+pub none_taken : (cache : ScriptCache) (moment : ℕ) (rules : ScriptRules) (before : Course) → IsAt cache moment rules before → HasTaken cache moment rules before 0 []
 none_taken cache moment rules before is = record { is_at = is; lines = refl }
 
 -- the next notice, in the definitions' words
-next_notice : (cache : ScriptHoldings) (moment : ℕ) (rules : ScriptRules) (before : Course) (count : ℕ) (printed : List (List ℕ)) (notice : Option (Leaving ℕ Text)) → HasTaken cache moment rules before count printed → AtEachHistory nat_eq cache (λ rules h. answer nat_eq rules history.TakeNotice h ≡ replies.Noticed notice) → count < length (noticed nat_eq rules before.events) → slice_get (drop count (noticed nat_eq rules before.events)) 0 ≡ option_map (leaving_by string_bytes) notice
+next_notice : (cache : ScriptCache) (moment : ℕ) (rules : ScriptRules) (before : Course) (count : ℕ) (printed : List (List ℕ)) (notice : Option (Leaving ℕ Text)) → HasTaken cache moment rules before count printed → AtEachHistory nat_eq (held cache) (λ rules h. answer nat_eq rules history.TakeNotice h ≡ replies.Noticed notice) → count < length (noticed nat_eq rules before.events) → slice_get (drop count (noticed nat_eq rules before.events)) 0 ≡ option_map (leaving_by string_bytes) notice
 next_notice cache moment rules before count printed notice has reply within =
     let course = after_taking rules before count in
     let is = has.is_at in
@@ -69,7 +69,7 @@ next_notice cache moment rules before count printed notice has reply within =
     ap (λ left. slice_get left 0) (sym so_far) ∙ first
 
 -- one more notice
-pub one_taken : (cache after : ScriptHoldings) (moment : ℕ) (rules : ScriptRules) (before : Course) (count : ℕ) (printed : List (List ℕ)) (left : Leaving ℕ Text) → HasTaken cache moment rules before count printed → AtEachHistory nat_eq cache (λ rules h. answer nat_eq rules history.TakeNotice h ≡ replies.Noticed (Some left)) → Follows nat_eq cache history.TakeNotice after → count < length (noticed nat_eq rules before.events) → HasTaken after moment rules before (count + 1) (printed ++ notice_text (leaving_by string_bytes left) ∷ [])
+pub one_taken : (cache after : ScriptCache) (moment : ℕ) (rules : ScriptRules) (before : Course) (count : ℕ) (printed : List (List ℕ)) (left : Leaving ℕ Text) → HasTaken cache moment rules before count printed → AtEachHistory nat_eq (held cache) (λ rules h. answer nat_eq rules history.TakeNotice h ≡ replies.Noticed (Some left)) → Follows nat_eq (held cache) history.TakeNotice (held after) → count < length (noticed nat_eq rules before.events) → HasTaken after moment rules before (count + 1) (printed ++ notice_text (leaving_by string_bytes left) ∷ [])
 one_taken cache after moment rules before count printed left has reply follows within =
     let all = noticed nat_eq rules before.events in
     let one = leaving_by string_bytes left in
@@ -89,27 +89,27 @@ left_over (x ∷ xs) zero within h = cc
 left_over (x ∷ xs) (suc n) within h = left_over xs n (omega arith) h
 
 -- where notices are left, one is taken
-pub some_left : (cache : ScriptHoldings) (moment : ℕ) (rules : ScriptRules) (before : Course) (count : ℕ) (printed : List (List ℕ)) → HasTaken cache moment rules before count printed → AtEachHistory nat_eq cache (λ rules h. answer nat_eq rules history.TakeNotice h ≡ replies.Noticed None) → count < length (noticed nat_eq rules before.events) → ⊥
+pub some_left : (cache : ScriptCache) (moment : ℕ) (rules : ScriptRules) (before : Course) (count : ℕ) (printed : List (List ℕ)) → HasTaken cache moment rules before count printed → AtEachHistory nat_eq (held cache) (λ rules h. answer nat_eq rules history.TakeNotice h ≡ replies.Noticed None) → count < length (noticed nat_eq rules before.events) → ⊥
 some_left cache moment rules before count printed has reply within =
     left_over (noticed nat_eq rules before.events) count within (next_notice cache moment rules before count printed None has reply within)
 
 -- the notices of the cache are those of the definitions
-pub notice_length : (cache : ScriptHoldings) (moment : ℕ) (rules : ScriptRules) (before : Course) → IsAt cache moment rules before → length cache.notices ≡ length (noticed nat_eq rules before.events)
+pub notice_length : (cache : ScriptCache) (moment : ℕ) (rules : ScriptRules) (before : Course) → IsAt cache moment rules before → length cache.notices ≡ length (noticed nat_eq rules before.events)
 notice_length cache moment rules before is =
     let events = is.events in
     let bytes : noticed nat_eq rules before.events ≡ map (leaving_by string_bytes) (noticed nat_eq (text_rules rules) events) = ap (noticed nat_eq rules) (sym is.same) ∙ noticed-by string_bytes rules nat_eq events in
     ap length is.stands.notices ∙ sym (length-map (noticed nat_eq (text_rules rules) events) (leaving_by string_bytes)) ∙ ap length (sym bytes)
 
 -- before as many were taken as there are, some are left
-pub within : (cache : ScriptHoldings) (moment : ℕ) (rules : ScriptRules) (before : Course) (count total : ℕ) → IsAt cache moment rules before → total ≡ length cache.notices → count < total → count < length (noticed nat_eq rules before.events)
+pub within : (cache : ScriptCache) (moment : ℕ) (rules : ScriptRules) (before : Course) (count total : ℕ) → IsAt cache moment rules before → total ≡ length cache.notices → count < total → count < length (noticed nat_eq rules before.events)
 within cache moment rules before count total is counted below = subst (λ n. count < n) (counted ∙ notice_length cache moment rules before is) below
 
 -- the step of a loop that takes a notice
-pub notice_step : (old cache after : ScriptHoldings) (at moment : ℕ) (count total : ℕ) (printed : List (List ℕ)) (left : Leaving ℕ Text) → total ≡ length old.notices → count < total → ((rules : ScriptRules) (before : Course) → IsAt old at rules before → HasTaken cache moment rules before count printed) → AtEachHistory nat_eq cache (λ rules h. answer nat_eq rules history.TakeNotice h ≡ replies.Noticed (Some left)) → Follows nat_eq cache history.TakeNotice after → (rules : ScriptRules) (before : Course) → IsAt old at rules before → HasTaken after moment rules before (count + 1) (printed ++ notice_text (leaving_by string_bytes left) ∷ [])
+pub notice_step : (old cache after : ScriptCache) (at moment : ℕ) (count total : ℕ) (printed : List (List ℕ)) (left : Leaving ℕ Text) → total ≡ length old.notices → count < total → ((rules : ScriptRules) (before : Course) → IsAt old at rules before → HasTaken cache moment rules before count printed) → AtEachHistory nat_eq (held cache) (λ rules h. answer nat_eq rules history.TakeNotice h ≡ replies.Noticed (Some left)) → Follows nat_eq (held cache) history.TakeNotice (held after) → (rules : ScriptRules) (before : Course) → IsAt old at rules before → HasTaken after moment rules before (count + 1) (printed ++ notice_text (leaving_by string_bytes left) ∷ [])
 notice_step old cache after at moment count total printed left counted below has reply follows rules before is =
     one_taken cache after moment rules before count printed left (has rules before is) reply follows (within old at rules before count total is counted below)
 
-pub no_step : (old cache : ScriptHoldings) (at moment : ℕ) (count total : ℕ) (printed : List (List ℕ)) → total ≡ length old.notices → count < total → ((rules : ScriptRules) (before : Course) → IsAt old at rules before → HasTaken cache moment rules before count printed) → AtEachHistory nat_eq cache (λ rules h. answer nat_eq rules history.TakeNotice h ≡ replies.Noticed None) → (rules : ScriptRules) (before : Course) → IsAt old at rules before → ⊥
+pub no_step : (old cache : ScriptCache) (at moment : ℕ) (count total : ℕ) (printed : List (List ℕ)) → total ≡ length old.notices → count < total → ((rules : ScriptRules) (before : Course) → IsAt old at rules before → HasTaken cache moment rules before count printed) → AtEachHistory nat_eq (held cache) (λ rules h. answer nat_eq rules history.TakeNotice h ≡ replies.Noticed None) → (rules : ScriptRules) (before : Course) → IsAt old at rules before → ⊥
 no_step old cache at moment count total printed counted below has reply rules before is =
     some_left cache moment rules before count printed (has rules before is) reply (within old at rules before count total is counted below)
 
@@ -121,7 +121,7 @@ pub one_more_left : (items more : List answers.the_data) (key stored : ℕ) (val
 one_more_left items more key stored value cause e same = one_more items more (answers.Left key value cause) e ∙ ap (λ k. map answer_text items ++ answer_text (answers.Left k value cause) ∷ []) same
 
 -- all notices, and the end
-pub all_taken : (old cache : ScriptHoldings) (at moment : ℕ) (count : ℕ) (printed : List (List ℕ)) → count ≡ length old.notices → ((rules : ScriptRules) (before : Course) → IsAt old at rules before → HasTaken cache moment rules before count printed) → Prints old at commands.Notices (printed ++ codes "end" ∷ []) cache moment
+pub all_taken : (old cache : ScriptCache) (at moment : ℕ) (count : ℕ) (printed : List (List ℕ)) → count ≡ length old.notices → ((rules : ScriptRules) (before : Course) → IsAt old at rules before → HasTaken cache moment rules before count printed) → Prints old at commands.Notices (printed ++ codes "end" ∷ []) cache moment
 all_taken old cache at moment count printed counted has rules before is =
     let all = noticed nat_eq rules before.events in
     let taken = has rules before is in

@@ -17,9 +17,9 @@ use Rattle.mokabox.specs.Answer.{answer_text, refusal_number}
 use Rattle.mokabox.specs.declared.answer.Answer.TheVariants as answers
 use Rattle.mokabox.specs.Command.{PlainCommand}
 use Rattle.mokabox.specs.declared.command.Command.TheVariants as commands
-use Rattle.mokabox.specs.Events.{event_by, write_by, answer_by, rules_before}
+use Rattle.mokabox.specs.Events.{event_by, write_by, answer_by}
 use Rattle.mokabox.specs.Script.{ScriptEvent, ScriptRules, Course, course_with, reply_text, write_event, Accepts, AcceptsWrite, Refuses, CommandPrints}
-use Rattle.mokabox.specs.Session.{ScriptHoldings, text_rules, IsAt, Prints}
+use Rattle.mokabox.specs.Session.{ScriptCache, held, text_rules, IsAt, Prints}
 use Rattle.mokabox.proofs.Truth.{untrue, ne_true-false}
 
 abbrev pub Text : Type 0
@@ -30,7 +30,7 @@ abbrev pub is_copy : Text → Text → Type 0
 is_copy s t = string_bytes t ≡ string_bytes s
 
 -- the script goes on by an event that the cache follows
-pub accepted : (cache after : ScriptHoldings) (moment : ℕ) (rules : ScriptRules) (before : Course) (event : Event ℕ Text) → IsAt cache moment rules before → Follows nat_eq cache event after → IsAt after moment rules (course_with before (event_by string_bytes event))
+pub accepted : (cache after : ScriptCache) (moment : ℕ) (rules : ScriptRules) (before : Course) (event : Event ℕ Text) → IsAt cache moment rules before → Follows nat_eq (held cache) event (held after) → IsAt after moment rules (course_with before (event_by string_bytes event))
 accepted cache after moment rules before event is follows = record {
   events = event ∷ is.events;
   stands = follows (text_rules rules) is.events is.stands;
@@ -39,18 +39,18 @@ accepted cache after moment rules before event is follows = record {
 }
 
 -- the answer of the definitions, its values being bytes
-pub answered : (cache : ScriptHoldings) (moment : ℕ) (rules : ScriptRules) (before : Course) (event : Event ℕ Text) (is : IsAt cache moment rules before) → answer nat_eq rules (event_by string_bytes event) before.events ≡ answer_by string_bytes (answer nat_eq (text_rules rules) event is.events)
+pub answered : (cache : ScriptCache) (moment : ℕ) (rules : ScriptRules) (before : Course) (event : Event ℕ Text) (is : IsAt cache moment rules before) → answer nat_eq rules (event_by string_bytes event) before.events ≡ answer_by string_bytes (answer nat_eq (text_rules rules) event is.events)
 answered cache moment rules before event is = ap (answer nat_eq rules (event_by string_bytes event)) (sym is.same) ∙ answer-by string_bytes rules nat_eq event is.events
 
 -- an event is accepted with the text of its answer
-accepts : (cache : ScriptHoldings) (moment : ℕ) (rules : ScriptRules) (before : Course) (event : Event ℕ Text) (text : List ℕ) (is : IsAt cache moment rules before) → text ≡ reply_text (answer_by string_bytes (answer nat_eq (text_rules rules) event is.events)) → Accepts rules before (event_by string_bytes event) (text ∷ []) (course_with before (event_by string_bytes event))
+accepts : (cache : ScriptCache) (moment : ℕ) (rules : ScriptRules) (before : Course) (event : Event ℕ Text) (text : List ℕ) (is : IsAt cache moment rules before) → text ≡ reply_text (answer_by string_bytes (answer nat_eq (text_rules rules) event is.events)) → Accepts rules before (event_by string_bytes event) (text ∷ []) (course_with before (event_by string_bytes event))
 accepts cache moment rules before event text is same = record {
   printed = ap (λ line. line ∷ []) (same ∙ ap reply_text (sym (answered cache moment rules before event is)));
   after = refl;
 }
 
 -- the next number is that of the events
-numbers : (cache : ScriptHoldings) (moment : ℕ) (rules : ScriptRules) (before : Course) (is : IsAt cache moment rules before) → next_number rules before.events ≡ cache.next_number
+numbers : (cache : ScriptCache) (moment : ℕ) (rules : ScriptRules) (before : Course) (is : IsAt cache moment rules before) → next_number rules before.events ≡ cache.next_number
 numbers cache moment rules before is = ap (next_number rules) (sym is.same) ∙ next_number-by string_bytes rules is.events ∙ sym is.stands.next_number
 
 -- a step that is refused for want of memory changes nothing
@@ -61,7 +61,7 @@ refuses_numbers : (before : Course) → Refuses before (codes "2") ((codes "refu
 refuses_numbers before = record { printed = ap (λ digits. (codes "refused " ++ digits) ∷ []) (decimal_digit 2 (lit< tt)); after = refl }
 
 -- a moment sets the moment of what follows
-pub moved : (cache : ScriptHoldings) (moment to : ℕ) → Prints cache moment (commands.At to) [] cache to
+pub moved : (cache : ScriptCache) (moment to : ℕ) → Prints cache moment (commands.At to) [] cache to
 moved cache moment to rules before is = (record before { moment = to }, (refl, refl), record { events = is.events; stands = is.stands; same = is.same; now = refl })
 
 -- the line of a look's answer
@@ -76,7 +76,7 @@ copied_text (Some v) None h = absurd h
 copied_text (Some v) (Some w) h = ap (λ bytes. codes "some " ++ bytes) h
 
 -- a look that is accepted
-pub looked : (cache after : ScriptHoldings) (moment key : ℕ) (given found : Option Text) → given ≡ found → AtEachHistory nat_eq cache (λ rules h. IsAnswer is_copy (answer nat_eq rules (history.Get key moment) h) (replies.Found given)) → Follows nat_eq cache (history.Get key moment) after → Prints cache moment (commands.Get key) (found_text found ∷ []) after moment
+pub looked : (cache after : ScriptCache) (moment key : ℕ) (given found : Option Text) → given ≡ found → AtEachHistory nat_eq (held cache) (λ rules h. IsAnswer is_copy (answer nat_eq rules (history.Get key moment) h) (replies.Found given)) → Follows nat_eq (held cache) (history.Get key moment) (held after) → Prints cache moment (commands.Get key) (found_text found ∷ []) after moment
 looked cache after moment key given found same reply follows rules before is =
     let event : Event ℕ Text = history.Get key moment in
     let course = course_with before (history.Get key moment) in
@@ -92,21 +92,21 @@ there None h = absurd (h refl)
 there (Some w) h = refl
 
 -- a look that is refused found a live value
-pub look_refused : (cache after : ScriptHoldings) (moment key : ℕ) (cause : moka_refused.Refused) → after ≡ cache → cause ≡ refusals.OutOfMemory → AtEachHistory nat_eq cache (λ rules h. answer nat_eq rules (history.Get key moment) h ≡ replies.Found None → ⊥) → Prints cache moment (commands.Get key) ((codes "refused " ++ decimal (refusal_number cause)) ∷ []) after moment
+pub look_refused : (cache after : ScriptCache) (moment key : ℕ) (cause : moka_refused.Refused) → after ≡ cache → cause ≡ refusals.OutOfMemory → AtEachHistory nat_eq (held cache) (λ rules h. answer nat_eq rules (history.Get key moment) h ≡ replies.Found None → ⊥) → Prints cache moment (commands.Get key) ((codes "refused " ++ decimal (refusal_number cause)) ∷ []) after moment
 look_refused cache after moment key cause same memory hit rules before is =
     let found : answer nat_eq (text_rules rules) (history.Get key before.moment) is.events ≡ replies.Found None → ⊥ = subst (λ at. answer nat_eq (text_rules rules) (history.Get key at) is.events ≡ replies.Found None → ⊥) is.now (hit (text_rules rules) is.events is.stands) in
     let is_there = there (live nat_eq (text_rules rules) key (max (latest is.events) before.moment) is.events) found in
     let P : List ScriptEvent → Type 0 = λ events. IsSome (live nat_eq rules key (max (latest events) before.moment) events) in
     let mapped : P (map (event_by string_bytes) is.events) = rw (latest-by string_bytes is.events, live-by string_bytes rules nat_eq key (max (latest is.events) before.moment) is.events) is_there in
     let refuse = subst (λ c. Refuses before (codes "1") ((codes "refused " ++ decimal (refusal_number c)) ∷ []) before) (sym memory) (refuses before) in
-    (before, inr (subst P is.same mapped, refuse), subst (λ held. IsAt held moment rules before) (sym same) is)
+    (before, inr (subst P is.same mapped, refuse), subst (λ now. IsAt now moment rules before) (sym same) is)
 
 -- A write finds no number left: the next one is the greatest. With a capacity of 0 it wants none.
-abbrev AreUsedUp : ScriptHoldings → Type 0
+abbrev AreUsedUp : ScriptCache → Type 0
 AreUsedUp cache = (stores_nothing cache.max_capacity ≡ false) × (cache.next_number ≡ greatest_number)
 
 -- a write wants a number exactly where the cache has used all up
-out_of_numbers : (cache : ScriptHoldings) (moment key : ℕ) (value : List ℕ) (rules : ScriptRules) (before : Course) (is : IsAt cache moment rules before) → IsOutOfNumbers rules (write_event rules key value before.moment) before.events ↔ AreUsedUp cache
+out_of_numbers : (cache : ScriptCache) (moment key : ℕ) (value : List ℕ) (rules : ScriptRules) (before : Course) (is : IsAt cache moment rules before) → IsOutOfNumbers rules (write_event rules key value before.moment) before.events ↔ AreUsedUp cache
 out_of_numbers cache moment key value rules before is = either (stores_nothing rules.max_capacity) refl where
   nothing : stores_nothing cache.max_capacity ≡ stores_nothing rules.max_capacity
   nothing = ap stores_nothing is.stands.max_capacity
@@ -130,7 +130,7 @@ write_takes_memory : (key : ℕ) (value : List ℕ) (rules : ScriptRules) (befor
 write_takes_memory key value rules before some = rw some tt
 
 -- a write that is accepted
-pub written : (cache after : ScriptHoldings) (moment key : ℕ) (text : Text) (value : List ℕ) → string_bytes text ≡ value → AtEachHistory nat_eq cache (λ rules h. StandsFor nat_eq rules after (after_insert nat_eq rules key text moment h)) → (AreUsedUp cache → ⊥) → Prints cache moment (commands.Insert key value) (codes "ok" ∷ []) after moment
+pub written : (cache after : ScriptCache) (moment key : ℕ) (text : Text) (value : List ℕ) → string_bytes text ≡ value → AtEachHistory nat_eq (held cache) (λ rules h. StandsFor nat_eq rules (held after) (after_insert nat_eq rules key text moment h)) → (AreUsedUp cache → ⊥) → Prints cache moment (commands.Insert key value) (codes "ok" ∷ []) after moment
 written cache after moment key text value spelled follows room rules before is =
     let course : Course = record before { events = after_insert nat_eq rules key value before.moment before.events } in
     let out : IsOutOfNumbers rules (write_event rules key value before.moment) before.events → ⊥ = λ e. room ((out_of_numbers cache moment key value rules before is).0 e) in
@@ -143,20 +143,20 @@ written cache after moment key text value spelled follows room rules before is =
     (course, inl (out, accept), record { events = after_insert nat_eq (text_rules rules) key text moment is.events; stands = follows (text_rules rules) is.events is.stands; same = same; now = is.now })
 
 -- a write that is refused
-pub write_refused : (cache after : ScriptHoldings) (moment key : ℕ) (value : List ℕ) (cause : moka_refused.Refused) → after ≡ cache → (cause ≡ refusals.NumbersUsedUp) ↔ AreUsedUp cache → (stores_nothing cache.max_capacity ≡ true → ⊥) → Prints cache moment (commands.Insert key value) ((codes "refused " ++ decimal (refusal_number cause)) ∷ []) after moment
+pub write_refused : (cache after : ScriptCache) (moment key : ℕ) (value : List ℕ) (cause : moka_refused.Refused) → after ≡ cache → (cause ≡ refusals.NumbersUsedUp) ↔ AreUsedUp cache → (stores_nothing cache.max_capacity ≡ true → ⊥) → Prints cache moment (commands.Insert key value) ((codes "refused " ++ decimal (refusal_number cause)) ∷ []) after moment
 write_refused cache after moment key value refusals.OutOfMemory same used_up some rules before is =
     let room : IsOutOfNumbers rules (write_event rules key value before.moment) before.events → ⊥ = λ e. (let both : refusals.OutOfMemory ≡ refusals.NumbersUsedUp = used_up.1 ((out_of_numbers cache moment key value rules before is).0 e) in cc) in
     let memory = write_takes_memory key value rules before (ne_true-false (stores_nothing rules.max_capacity) (λ e. some (ap stores_nothing is.stands.max_capacity ∙ e))) in
-    (before, inr (inr (memory, room, refuses before)), subst (λ held. IsAt held moment rules before) (sym same) is)
+    (before, inr (inr (memory, room, refuses before)), subst (λ now. IsAt now moment rules before) (sym same) is)
 write_refused cache after moment key value refusals.NumbersUsedUp same used_up some rules before is =
-    (before, inr (inl ((out_of_numbers cache moment key value rules before is).1 (used_up.0 refl), refuses_numbers before)), subst (λ held. IsAt held moment rules before) (sym same) is)
+    (before, inr (inl ((out_of_numbers cache moment key value rules before is).1 (used_up.0 refl), refuses_numbers before)), subst (λ now. IsAt now moment rules before) (sym same) is)
 
 whether_text : (b : Bool) → answer_text (answers.Whether b) ≡ reply_text (replies.Contains b)
 whether_text true = refl
 whether_text false = refl
 
 -- whether a key is there
-pub contained : (cache : ScriptHoldings) (moment key : ℕ) (b : Bool) → AtEachHistory nat_eq cache (λ rules h. answer nat_eq rules (history.ContainsKey key moment) h ≡ replies.Contains b) → Follows nat_eq cache (history.ContainsKey key moment) cache → Prints cache moment (commands.Has key) (answer_text (answers.Whether b) ∷ []) cache moment
+pub contained : (cache : ScriptCache) (moment key : ℕ) (b : Bool) → AtEachHistory nat_eq (held cache) (λ rules h. answer nat_eq rules (history.ContainsKey key moment) h ≡ replies.Contains b) → Follows nat_eq (held cache) (history.ContainsKey key moment) (held cache) → Prints cache moment (commands.Has key) (answer_text (answers.Whether b) ∷ []) cache moment
 contained cache moment key b reply follows rules before is =
     let event : Event ℕ Text = history.ContainsKey key moment in
     let course = course_with before (history.ContainsKey key moment) in
@@ -165,7 +165,7 @@ contained cache moment key b reply follows rules before is =
     (course, subst (λ at. Accepts rules before (history.ContainsKey key at) (answer_text (answers.Whether b) ∷ []) course) is.now accept, accepted cache cache moment rules before event is follows)
 
 -- a key that is removed
-pub invalidated : (cache after : ScriptHoldings) (moment key : ℕ) → Follows nat_eq cache (history.Invalidate key moment) after → Prints cache moment (commands.Invalidate key) (codes "ok" ∷ []) after moment
+pub invalidated : (cache after : ScriptCache) (moment key : ℕ) → Follows nat_eq (held cache) (history.Invalidate key moment) (held after) → Prints cache moment (commands.Invalidate key) (codes "ok" ∷ []) after moment
 invalidated cache after moment key follows rules before is =
     let event : Event ℕ Text = history.Invalidate key moment in
     let course = course_with before (history.Invalidate key moment) in
@@ -173,7 +173,7 @@ invalidated cache after moment key follows rules before is =
     (course, subst (λ at. Accepts rules before (history.Invalidate key at) (codes "ok" ∷ []) course) is.now accept, accepted cache after moment rules before event is follows)
 
 -- the pending tasks are run
-pub maintained : (cache after : ScriptHoldings) (moment : ℕ) → Follows nat_eq cache (history.Maintain moment) after → Prints cache moment commands.Tasks (codes "ok" ∷ []) after moment
+pub maintained : (cache after : ScriptCache) (moment : ℕ) → Follows nat_eq (held cache) (history.Maintain moment) (held after) → Prints cache moment commands.Tasks (codes "ok" ∷ []) after moment
 maintained cache after moment follows rules before is =
     let event : Event ℕ Text = history.Maintain moment in
     let course = course_with before (history.Maintain moment) in
@@ -181,20 +181,20 @@ maintained cache after moment follows rules before is =
     (course, subst (λ at. Accepts rules before (history.Maintain at) (codes "ok" ∷ []) course) is.now accept, accepted cache after moment rules before event is follows)
 
 -- how many are stored, and how heavy they are
-module _ (cache : ScriptHoldings) (moment count : ℕ) where
-  measured : (what : Quantity) (command : PlainCommand) → ((rules : ScriptRules) (before after : Course) → Accepts rules before (history.Measure what) (decimal count ∷ []) after → CommandPrints rules before command (decimal count ∷ []) after) → AtEachHistory nat_eq cache (λ rules h. answer nat_eq rules (history.Measure what) h ≡ replies.Counted count) → Follows nat_eq cache (history.Measure what) cache → Prints cache moment command (decimal count ∷ []) cache moment
+module _ (cache : ScriptCache) (moment count : ℕ) where
+  measured : (what : Quantity) (command : PlainCommand) → ((rules : ScriptRules) (before after : Course) → Accepts rules before (history.Measure what) (decimal count ∷ []) after → CommandPrints rules before command (decimal count ∷ []) after) → AtEachHistory nat_eq (held cache) (λ rules h. answer nat_eq rules (history.Measure what) h ≡ replies.Counted count) → Follows nat_eq (held cache) (history.Measure what) (held cache) → Prints cache moment command (decimal count ∷ []) cache moment
   measured what command prints reply follows rules before is =
       let text = ap (λ a. reply_text (answer_by string_bytes a)) (sym (reply (text_rules rules) is.events is.stands)) in
       let after = course_with before (history.Measure what) in
       (after, prints rules before after (accepts cache moment rules before (history.Measure what) (decimal count) is text), accepted cache cache moment rules before (history.Measure what) is follows)
 
-  pub counted : AtEachHistory nat_eq cache (λ rules h. answer nat_eq rules (history.Measure history.EntryCount) h ≡ replies.Counted count) → Follows nat_eq cache (history.Measure history.EntryCount) cache → Prints cache moment commands.Count (decimal count ∷ []) cache moment
+  pub counted : AtEachHistory nat_eq (held cache) (λ rules h. answer nat_eq rules (history.Measure history.EntryCount) h ≡ replies.Counted count) → Follows nat_eq (held cache) (history.Measure history.EntryCount) (held cache) → Prints cache moment commands.Count (decimal count ∷ []) cache moment
   counted = measured history.EntryCount commands.Count (λ rules before after accept. accept)
 
-  pub weighed : AtEachHistory nat_eq cache (λ rules h. answer nat_eq rules (history.Measure history.WeightedSize) h ≡ replies.Counted count) → Follows nat_eq cache (history.Measure history.WeightedSize) cache → Prints cache moment commands.Weight (decimal count ∷ []) cache moment
+  pub weighed : AtEachHistory nat_eq (held cache) (λ rules h. answer nat_eq rules (history.Measure history.WeightedSize) h ≡ replies.Counted count) → Follows nat_eq (held cache) (history.Measure history.WeightedSize) (held cache) → Prints cache moment commands.Weight (decimal count ∷ []) cache moment
   weighed = measured history.WeightedSize commands.Weight (λ rules before after accept. accept)
 
 -- the lines of one answer
-pub one_line : {E : Type 0} (r : Result (Vec answers.the_data Global) E) (old new : ScriptHoldings) (moment moment_after : ℕ) (command : PlainCommand) (answer : answers.the_data) → IfOk r (λ given. given.items ≡ answer ∷ []) → Prints old moment command (answer_text answer ∷ []) new moment_after → IfOk r (λ given. Prints old moment command (map answer_text given.items) new moment_after)
+pub one_line : {E : Type 0} (r : Result (Vec answers.the_data Global) E) (old new : ScriptCache) (moment moment_after : ℕ) (command : PlainCommand) (answer : answers.the_data) → IfOk r (λ given. given.items ≡ answer ∷ []) → Prints old moment command (answer_text answer ∷ []) new moment_after → IfOk r (λ given. Prints old moment command (map answer_text given.items) new moment_after)
 one_line (Ok given) old new moment moment_after command answer items prints = subst (λ lines. Prints old moment command lines new moment_after) (ap (map answer_text) (sym items)) prints
 one_line (Err e) old new moment moment_after command answer items prints = tt

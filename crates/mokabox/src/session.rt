@@ -1,5 +1,5 @@
 //! The cache that a script drives.
-ghost use Rattle.std.specs.Prelude.{◌≡◌, [], ◌∷◌, map, is_some, IfOk, IfErr};
+ghost use Rattle.std.specs.Prelude.{◌≡◌, refl, [], ◌∷◌, map, is_some, IfOk, IfErr};
 ghost use Rattle.std.specs.String.{string_bytes};
 ghost use Rattle.moka_base.specs.History.{no_lifetimes};
 ghost use Rattle.moka_base.specs.Policy.{is_lru};
@@ -178,10 +178,7 @@ impl Session {
 }
 
 // What weighs the values of a cache, where its settings say how.
-fn weigher_of(
-    alloc: Global,
-    weighing: Option<Weighing>,
-) -> Result<Option<Arc<Bytes>>, AllocError>
+fn weigher_of(alloc: Global, weighing: Option<Weighing>) -> Result<Option<Arc<Bytes>>, AllocError>
     ensures { IfOk result (λ weigher. is_some weigher ≡ is_some weighing) }
 {
     match weighing {

@@ -106,6 +106,7 @@ fn admits_rows<R: RowStore<u64, String>>(rt: &impl Abort, alloc: Global) -> Resu
     assert_eq!(rt; rows.first_admitted(), None);
     let number = number_of(&rows, 2, 7).expect(rt, "the second row");
     assert_eq!(rt; rows.next(number), Some(three));
+    assert!(rt; !rows.is_admitted(number));
 
     let number = first_waiting(&rows).expect(rt, "the first row that waits");
     rows.admit(number);
@@ -119,6 +120,7 @@ fn admits_rows<R: RowStore<u64, String>>(rt: &impl Abort, alloc: Global) -> Resu
     assert_eq!(rt; rows.next(number), Some(two));
     let number = number_of(&rows, 2, 7).expect(rt, "the second row");
     assert_eq!(rt; rows.next(number), None);
+    assert!(rt; rows.is_admitted(number));
     Ok(())
 }
 

@@ -1,6 +1,7 @@
 //! Whole scripts over memory, and readers and writers that fail.
 use super::*;
 use std::io::{Error, ErrorKind, Read};
+use std::process::Abort;
 use std::test::Fail;
 
 // What a script prints, and the status at its end.
@@ -49,9 +50,17 @@ fn scripts_print(rt: HostRuntime) -> Result<(), Fail> {
             Status::Done,
         ),
         ("new policy=lru\ncount\n", "ok\n0\n", Status::Done),
-        ("new capacity=10\ncount\n", "bad line\n", Status::Bad),
-        ("new capacity=1 policy=tinylfu\n", "bad line\n", Status::Bad),
+        ("new capacity=10\ncount\n", "ok\n0\n", Status::Done),
+        ("new policy=tinylfu\nweight\n", "ok\n0\n", Status::Done),
         ("new policy=lru policy=lru\n", "bad line\n", Status::Bad),
+        ("new policy=lru policy=tinylfu\n", "bad line\n", Status::Bad),
+        ("new policy=TinyLfu\n", "bad line\n", Status::Bad),
+        ("new weigher=entries\n", "bad line\n", Status::Bad),
+        (
+            "new weigher=bytes weigher=bytes\n",
+            "bad line\n",
+            Status::Bad,
+        ),
         ("", "", Status::Done),
         ("\n", "bad line\n", Status::Bad),
         ("insert 1 a\nnew\n", "bad line\n", Status::Bad),
@@ -63,6 +72,41 @@ fn scripts_print(rt: HostRuntime) -> Result<(), Fail> {
         assert_eq!(rt; printed.as_slice(), wanted.as_bytes(), "of {script:?}");
         assert_eq!(rt; ended, status, "of {script:?}");
     }
+    Ok(())
+}
+
+// A script and what it prints, where each line is good.
+fn printed_by(rt: &impl Abort, alloc: Global, script: &str, wanted: &str) {
+    let (printed, ended) = ran(alloc, script.as_bytes());
+    assert_eq!(rt; printed.as_slice(), wanted.as_bytes(), "of {script:?}");
+    assert_eq!(rt; ended, Status::Done, "of {script:?}");
+}
+
+#[test]
+fn values_are_weighed_by_their_bytes(rt: HostRuntime) -> Result<(), Fail> {
+    printed_by(
+        &rt,
+        rt.alloc(),
+        "new capacity=5 weigher=bytes\ninsert 1 abc\ninsert 2 de\nget 1\nget 2\ntasks\ninsert 3 fghi\nget 3\nget 3\ntasks\nnotices\nweight\n",
+        "ok\nok\nok\nsome abc\nsome de\nok\nok\nsome fghi\nsome fghi\nok\nnotice 3 fghi Size\nend\n5\n",
+    );
+    printed_by(
+        &rt,
+        rt.alloc(),
+        "new capacity=5 weigher=bytes\ninsert 1 abc\ninsert 2 de\nget 1\nget 2\ntasks\ninsert 3 fghi\nget 3\nget 3\nget 3\ntasks\nnotices\nweight\n",
+        "ok\nok\nok\nsome abc\nsome de\nok\nok\nsome fghi\nsome fghi\nsome fghi\nok\nnotice 1 abc Size\nnotice 2 de Size\nend\n4\n",
+    );
+    Ok(())
+}
+
+#[test]
+fn a_value_is_admitted_once_it_was_looked_for_more(rt: HostRuntime) -> Result<(), Fail> {
+    printed_by(
+        &rt,
+        rt.alloc(),
+        "new capacity=3\ninsert 1 alice\ninsert 2 bob\nget 1\nget 2\ntasks\ninsert 3 cindy\nget 3\ntasks\nget 1\nget 2\ntasks\ninsert 4 david\ntasks\nnotices\nget 4\ninsert 4 david\ntasks\nnotices\nget 4\ninsert 4 dennis\ntasks\nnotices\nget 4\ninvalidate 2\nnotices\n",
+        "ok\nok\nok\nsome alice\nsome bob\nok\nok\nsome cindy\nok\nsome alice\nsome bob\nok\nok\nok\nnotice 4 david Size\nend\nnone\nok\nok\nnotice 4 david Size\nend\nnone\nok\nok\nnotice 3 cindy Size\nend\nsome dennis\nok\nnotice 2 bob Explicit\nend\n",
+    );
     Ok(())
 }
 
@@ -113,6 +157,7 @@ fn bad_lines_are_said(rt: HostRuntime) -> Result<(), Fail> {
         b"notices 1",
         b"tasks 1",
         b"count 1",
+        b"weight 1",
         b"at",
         b"insert 1 \xff\xfe",
         b"insert 1 \xed\xa0\x80",

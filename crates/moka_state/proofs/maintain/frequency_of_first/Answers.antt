@@ -23,6 +23,6 @@ loop-preserved g c =
         on.0 ++ (c.in-Some.number, c.row.result.now) ∷ [],
         here.0,
         adds-on (g.F.FrequencySource.count c.args.source.now) c.args.table.now.admitted c.loop.frequency c.loop.counter on.0 on.1 c.in-Some.number on.2 c.row.result.now c.next-cursor.result here.0 here.1
-        c.from-frequency.result (c.from-frequency.ensures ∙ c.estimate.ensures) (omega (arith, c.from-frequency.ensures)),
+            c.from-frequency.result (c.from-frequency.ensures ∙ c.estimate.ensures) (omega (arith, c.from-frequency.ensures)),
       );
     }

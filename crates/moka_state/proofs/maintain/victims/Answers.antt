@@ -38,12 +38,11 @@ pub loop-count-preserved : goal.loop-count-preserved
 loop-count-preserved g c =
     let on = rw c.in-Some.is at c.loop-count.invariant in
     let here = at-admitted c.args.table.now.admitted c.args.table.now.waiting c.in-Some.number on.0 on.1 c.row.result.now c.next-cursor.result c.next-cursor.ensures.apart c.row.ensures c.next-cursor.ensures.behind on.2.walks in
-    let le = frees-le c.args.capacity c.args.more c.args.table.now.admitted c.loop-count.weight c.loop-count.count on.0 on.1 c.in-Some.number on.2 c.row.result.now c.next-cursor.result here.0 here.1 in
-    (
+    let le = frees-le c.args.capacity c.args.more c.args.table.now.admitted c.loop-count.weight c.loop-count.count on.0 on.1 c.in-Some.number on.2 c.row.result.now c.next-cursor.result here.0 here.1 in (
       on.0 ++ (c.in-Some.number, c.row.result.now) ∷ [],
       here.0,
       frees-on c.args.capacity c.args.more c.args.table.now.admitted c.loop-count.weight c.loop-count.count on.0 on.1 c.in-Some.number on.2 c.row.result.now c.next-cursor.result here.0 here.1
-      _ (omega (arith, le, c.from-weight.ensures)) (sym c.fits.ensures ∙ c.if-fits.false),
+          _ (omega (arith, le, c.from-weight.ensures)) (sym c.fits.ensures ∙ c.if-fits.false),
     )
 
 pub returns : goal.returns
