@@ -5,7 +5,6 @@ use crate::state::tests::{ByNumber, Call, Rules, WITHOUT_LIVES, answers_by};
 use crate::state::{CacheState, Settings, State};
 use moka_base::policy::{CacheTypes, CountTable, EvictionPolicy, Expiry, Refused, Weigher};
 use std::alloc::Global;
-use std::process::Abort;
 use std::sync::Arc;
 use std::test::Fail;
 use std::time::Duration;
@@ -117,13 +116,14 @@ fn built(alloc: Global) -> Result<NumberCache, Refused> {
     )
 }
 
-/// A look for a key at a second finds this.
-fn finds(rt: &impl Abort, cache: &mut NumberCache, key: u64, second: u64, expected: Option<u32>) -> Result<(), Fail>
-    requires { second < 10 }
-{
-    assert_eq!(rt; cache.get(&key, second * 1_000_000_000)?, expected, "{key} at {second}");
-    Ok(())
-}
+/// What looks for keys find that were written at 0.
+const LOOKS: [(u64, u64, Option<u32>); 5] = [
+    (1, 4_000_000_000, Some(7)),
+    (2, 4_000_000_000, Some(7)),
+    (2, 5_000_000_000, None),
+    (1, 6_000_000_000, Some(7)),
+    (1, 9_000_000_000, None),
+];
 
 #[test]
 fn gives_values_lives_of_their_own(rt: HostRuntime) -> Result<(), Fail> {
@@ -131,14 +131,8 @@ fn gives_values_lives_of_their_own(rt: HostRuntime) -> Result<(), Fail> {
     for key in [1, 2] {
         assert!(rt; cache.insert(key, 7, 0).is_ok());
     }
-    for (key, second, expected) in [
-        (1, 4, Some(7)),
-        (2, 4, Some(7)),
-        (2, 5, None),
-        (1, 6, Some(7)),
-        (1, 9, None),
-    ] {
-        finds(&rt, &mut cache, key, second, expected)?;
+    for (key, now, expected) in LOOKS {
+        assert_eq!(rt; cache.get(&key, now)?, expected, "{key} at {now}");
     }
     Ok(())
 }
