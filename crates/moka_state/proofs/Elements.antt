@@ -1,5 +1,5 @@
 -- What holds of each element of a list, and of each that a maintenance finds.
-use Rattle.std.proofs.Common.{◌≡◌, ℕ, zero, suc, Bool, not, Option, List, [], ◌∷◌, ◌++◌, filter, take, drop, ap, sym, subst}
+use Rattle.std.proofs.Common.{ℕ, zero, suc, Bool, not, Option, List, [], ◌∷◌, ◌++◌, filter, take, drop, sym, subst}
 use Rattle.std.specs.List.{AllByRecursion}
 use Rattle.std.proofs.lemmas.Bool.{cond_both}
 use Rattle.moka_base.specs.Maintenance.{Queues, Part, front, judge, judged, parts, leaving_in, after_parts}

@@ -1,25 +1,24 @@
 -- From what a state stands for, to what it stands for after a maintenance of its rows.
-use Rattle.std.proofs.Common.{◌≡◌, ℕ, ◌+◌, ◌≤◌, ◌||◌, max, nat_le, Bool, true, false, not, cond, List, [], ◌∷◌, ◌++◌, map, Option, Some, None, option_map, refl, sym, ap, ◌∙◌, add-zero}
+use Rattle.std.proofs.Common.{◌≡◌, ℕ, ◌+◌, ◌≤◌, ◌||◌, max, nat_le, Bool, true, not, cond, List, [], ◌∷◌, ◌++◌, map, Option, Some, None, option_map, refl, sym, ap, ◌∙◌, add-zero}
 use Rattle.std.specs.List.{All, AllByRecursion, list_any}
 use Rattle.std.specs.Option.{option_to_list, IfSome}
 use Rattle.std.specs.Cmp.{IsEquivalence}
 use Rattle.std.specs.Duration.{as_nanos}
 use Rattle.std.proofs.lemmas.List.{append-nil, map-append}
 use Rattle.std.proofs.lemmas.List.Elements.{All-same, recursion_from_All}
-use Rattle.moka_base.specs.declared.notification.RemovalCause.{RemovalCause}
 use Rattle.moka_base.specs.declared.notification.RemovalCause.TheVariants.{Expired, Size}
 use Rattle.moka_base.specs.History.{Event, Maintain, Rules, Ways, Write, Leaving, notes, frequency, wins, latest, ends_at, earlier, own_end, has_come, is_live, leaving_of as write_leaving, queues, maintained, let_go, standing, next_number}
 use Rattle.moka_base.specs.Maintenance.{Queues, Part, total, parts, leaving_in, after_parts}
 use Rattle.moka_base.specs.StandsFor.{StandsFor, writes_of}
 use Rattle.moka_base.proofs.Maintenance.{All-live-after, total-after-le, after-parts}
-use Rattle.moka_base.proofs.MaintenanceBy.{queues_by, part_by, leaving_in-by, after_parts-by, parts-by}
+use Rattle.moka_base.proofs.MaintenanceBy.{part_by, leaving_in-by, after_parts-by, parts-by}
 use Rattle.moka_base.proofs.MaintenanceWins.{parts-same}
 use Rattle.moka_base.proofs.QueuesHold.{held-maintained}
 use Rattle.moka_state.specs.declared.lives.Lives.{Lives}
 use Rattle.moka_state.specs.declared.rows.Row.{Row}
-use Rattle.moka_state.specs.Lives.{deadline_of, own_of}
+use Rattle.moka_state.specs.Lives.{own_of}
 use Rattle.moka_state.specs.Maintain.{is_alive, notice_at, rows_of, row_wins, row_parts, IsMaintained}
-use Rattle.moka_state.specs.Table.{Contents, entries, weight_of, stored_write, stored_writes, leaving_of}
+use Rattle.moka_state.specs.Table.{Contents, weight_of, stored_write, stored_writes, leaving_of}
 use Rattle.moka_state.specs.State.{holdings}
 use Rattle.moka_state.proofs.Cases.{both-of}
 use Rattle.moka_state.proofs.Stands.{expired-now}

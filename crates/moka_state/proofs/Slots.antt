@@ -1,13 +1,12 @@
 -- Where a write goes, and what the state stands for once its value was put there.
-use Rattle.std.proofs.Common.{◌≡◌, ℕ, ◌+◌, ◌<◌, ◌≤◌, max, nat_le, ◌==◌, Bool, true, false, cond, List, [], ◌∷◌, ◌++◌, length, Option, Some, None, IsSome, refl, sym, ap, ◌∙◌, subst, arith}
-use Rattle.std.specs.Option.{IfSome, option_eq}
+use Rattle.std.proofs.Common.{◌≡◌, ℕ, ◌+◌, ◌<◌, ◌≤◌, max, nat_le, Bool, true, false, cond, List, ◌∷◌, length, Option, Some, None, IsSome, refl, sym, ap, ◌∙◌, subst, arith}
+use Rattle.std.specs.Option.{IfSome}
 use Rattle.std.specs.Arc.{arc_value}
 use Rattle.std.specs.declared.sync.Arc.{Arc}
 use Rattle.std.specs.declared.alloc.Global.{Global}
 use Rattle.std.specs.Cmp.{IsEquivalence}
-use Rattle.std.proofs.lemmas.Bool.{true≢false, le-leb, lt-leb}
+use Rattle.std.proofs.lemmas.Bool.{le-leb, lt-leb}
 use Rattle.std.proofs.lemmas.List.{length-map}
-use Rattle.moka_base.specs.declared.notification.Notice.{Notice}
 use Rattle.moka_base.specs.History.{Event, Ways, frequency as notes_frequency, Insert, Maintain, Rules, Write, latest, standing, queues, leaves_in, stores_nothing, is_flush_due, after_insert}
 use Rattle.moka_base.specs.StandsFor.{StandsFor}
 use Rattle.moka_base.proofs.QueuesHold.{maintained-none_waits}
@@ -18,11 +17,11 @@ use Rattle.moka_state.specs.declared.table.Place.{Place}
 use Rattle.moka_state.specs.declared.table.Place.TheVariants.{Stored, Absent}
 use Rattle.moka_state.specs.declared.slot.Slot.{Slot}
 use Rattle.moka_state.specs.declared.slot.Slot.TheVariants.{Over, New}
-use Rattle.moka_state.specs.Rows.{row_under, NoneIsRowOf}
+use Rattle.moka_state.specs.Rows.{row_under}
 use Rattle.moka_state.specs.Lives.{deadline_of}
 use Rattle.moka_state.specs.Place.{IsPlaceOf}
 use Rattle.moka_state.specs.Slot.{IsSlotFor, IsSlotNow, IsInfoOf, Puts}
-use Rattle.moka_state.specs.Table.{Contents, entries, stored_write, stored_writes}
+use Rattle.moka_state.specs.Table.{Contents, entries, stored_write}
 use Rattle.moka_state.specs.State.{holdings, IsSound}
 use Rattle.moka_state.proofs.Cases.{stands-after-overwrite, stands-after-open}
 use Rattle.moka_state.proofs.Found.{same-key}
@@ -149,8 +148,3 @@ module _ {K V : Type 0} (eq : K → K → Bool) (rules : Rules K V) (ways : Ways
 
   pub after-flushed : (k : K) (v : V) (at : ℕ) → stores_nothing rules.max_capacity ≡ false → is_flush_due eq rules h ≡ true → after_insert eq rules k v at h ≡ Insert k v at ∷ Maintain at ∷ h
   after-flushed k v at stores due = rw (stores, due) refl
-
--- a capacity that is not 0 stores something
-pub stores-something : (capacity o : Option ℕ) → capacity ≡ o → (b : Bool) → b ≡ option_eq ◌==◌ capacity (Some 0) → b ≡ false → stores_nothing o ≡ false
-stores-something capacity None same b is differs = refl
-stores-something capacity (Some c) same b is differs = ap (λ o. option_eq ◌==◌ o (Some 0)) (sym same) ∙ sym is ∙ differs

@@ -282,7 +282,9 @@ impl<K: Hash + Drop, V: Clone, C: CacheTypes<K, V>, R: RowStore<K, V>> State<K, 
                 Err(key) => return Err(InsertRefused { key, value, cause }),
             }
         };
-        let info = self.table.info_of(&slot, &value, weight, now, &self.ways, &self.lives);
+        let info = self
+            .table
+            .info_of(&slot, &value, weight, now, &self.ways, &self.lives);
         self.table.put(slot, hash, value, info, &self.lives);
         self.earliest = earlier(self.earliest, self.lives.deadline(info));
         self.latest = now;

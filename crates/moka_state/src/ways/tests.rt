@@ -1,5 +1,5 @@
 //! Caches with a weigher, with an expiry, and with the policy that looks at frequencies, by their calls.
-ghost use Rattle.std.specs.Prelude.{◌≡◌, ◌<◌, Some, refl, nat_eq, if◌then◌else◌};
+ghost use Rattle.std.specs.Prelude.{◌≡◌, Some, refl, nat_eq, if◌then◌else◌};
 
 use crate::state::tests::{ByNumber, Call, Rules, WITHOUT_LIVES, answers_by};
 use crate::state::{CacheState, Settings, State};

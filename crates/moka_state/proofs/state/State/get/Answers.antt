@@ -1,4 +1,4 @@
-use Rattle.std.proofs.Common.{max, ◌∙◌, ap, sym, refl, arith}
+use Rattle.std.proofs.Common.{max, ◌∙◌, ap, sym, refl}
 use Rattle.std.specs.Arc.{arc_value}
 use Rattle.moka_base.specs.History.{has_come}
 use Rattle.moka_state.specs.Lives.{deadline_of}

@@ -1,5 +1,4 @@
 use Rattle.std.proofs.Common.{cond, ◌∙◌, ap}
-use Rattle.std.specs.Arc.{arc_value}
 use Rattle.moka_base.specs.declared.notification.RemovalCause.TheVariants.{Expired, Explicit}
 use Rattle.moka_base.specs.History.{has_come}
 use Rattle.moka_state.specs.Lives.{deadline_of}

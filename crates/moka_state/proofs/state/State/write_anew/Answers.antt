@@ -1,6 +1,5 @@
-use Rattle.std.proofs.Common.{◌≡◌, ◌∙◌, ◌∷◌, max, ap, sym, refl, arith}
+use Rattle.std.proofs.Common.{◌≡◌, ◌∷◌, max, sym, arith}
 use Rattle.moka_base.specs.History.{Maintain}
-use Rattle.std.specs.Arc.{arc_value}
 use Rattle.moka_state.specs.Table.{entries}
 use Rattle.moka_state.proofs.Cases.{stands-same}
 use Rattle.moka_state.proofs.Maintained.{stands-after-maintain}
