@@ -1,10 +1,14 @@
 //! Maintenances of caches over lists of rows, by the calls of the caches.
+ghost use Rattle.std.specs.Prelude.{◌≡◌, refl};
+ghost use Rattle.moka_base.specs.History.{no_lifetimes};
+
 use crate::state::tests::{ByNumber, Call, Rules, Types, WITHOUT_LIVES, answers, built};
-use crate::state::{CacheState, InsertRefused};
+use crate::state::{CacheState, InsertRefused, Settings, State};
 use moka_base::notification::RemovalCause;
-use moka_base::policy::Refused;
+use moka_base::policy::{CacheTypes, CountTable, EvictionPolicy, NoExpiry, Refused, Weigher};
 use std::alloc::Global;
 use std::process::Abort;
+use std::sync::Arc;
 use std::test::Fail;
 
 const IN_ORDER_OF_USE: [(Call, u64, &str); 17] = [
@@ -180,5 +184,93 @@ fn does_not_flush_before_a_refused_write(rt: HostRuntime) -> Result<(), Fail> {
     assert_eq!(rt; cause, Refused::NumbersUsedUp);
     assert_eq!(rt; cache.entry_count(), 64);
     assert_eq!(rt; cache.notice_count(), 0);
+    Ok(())
+}
+
+/// Each number weighs itself.
+#[derive(Clone, Copy)]
+struct Itself;
+
+impl Weigher<u64, u32> for Itself {
+    ghost weighs = { λ _ weight. weight ≡ (λ _ value. value) };
+
+    fn weigh(&self, _key: &u64, value: &u32) -> u32 {
+        *value
+    }
+}
+
+/// The types of a cache of numbers that weigh themselves.
+struct Weighed;
+
+impl CacheTypes<u64, u32> for Weighed {
+    type Hasher = ByNumber;
+
+    type Weigher = Itself;
+
+    type Expiry = NoExpiry;
+
+    type Frequency = CountTable<6>;
+
+    ghost weight = { λ _ value. value };
+
+    ghost equal_keys_weigh = { λ _ _ _ _. refl };
+
+    ghost lifetimes = { no_lifetimes };
+
+    ghost keeps = { λ _ _. Unit {0} };
+
+    ghost equal_keys_keep = { λ _ _ _ _ _. tt };
+
+    ghost copies_keep = { λ _ _ _ _ _. tt };
+}
+
+fn by_weight(alloc: Global) -> Result<CacheState<u64, u32, Weighed>, Refused> {
+    let (Ok(hasher), Ok(weigher)) = (Arc::new(alloc, ByNumber::new()), Arc::new(alloc, Itself))
+    else {
+        return Err(Refused::OutOfMemory);
+    };
+    State::new(
+        alloc,
+        Settings {
+            max_capacity: Some(10),
+            eviction_policy: EvictionPolicy::lru(),
+            weigher: Some(weigher),
+            expiry: None,
+            time_to_live: None,
+            time_to_idle: None,
+            first_number: 0,
+            hasher,
+        },
+    )
+}
+
+/// Writes, each with a maintenance behind it: the key, its weight, the keys that then left, and the weight of all.
+const WEIGHED: [(u64, u32, &[u64], u64); 7] = [
+    (1, 4, &[], 4),
+    (2, 4, &[], 8),
+    // It has room beside neither of them.
+    (3, 7, &[1, 2], 7),
+    // It is heavier than the capacity.
+    (4, 11, &[4], 7),
+    // A lighter value for the same key leaves room for another.
+    (3, 2, &[3], 2),
+    (5, 8, &[], 10),
+    // A heavier one takes the room of the least recently used.
+    (5, 9, &[5, 3], 9),
+];
+
+#[test]
+fn keeps_the_weight_within_the_capacity(rt: HostRuntime) -> Result<(), Fail> {
+    let mut cache = by_weight(rt.alloc())?;
+    for (key, weight, left, total) in WEIGHED {
+        assert!(rt; cache.insert(key, weight, 0).is_ok());
+        cache.run_pending_tasks(0);
+        for key in left {
+            let notice = cache.take_notice().ok_or("a notice")?;
+            assert_eq!(rt; *notice.key, *key);
+        }
+        assert_eq!(rt; cache.notice_count(), 0);
+        assert_eq!(rt; cache.weighted_size(), total);
+    }
     Ok(())
 }
