@@ -220,7 +220,12 @@ fn own_types(
     weighed(alloc, ByLength, OneMinute)
 }
 
-fn weighed_for_a_minute<W, E>(alloc: Global, weigher: W, expiry: E, name: String) -> Result<(u64, u64), Refused>
+fn weighed_for_a_minute<W, E>(
+    alloc: Global,
+    weigher: W,
+    expiry: E,
+    name: String,
+) -> Result<(u64, u64), Refused>
 where
     W: Weigher<u64, String> + Drop,
     E: Expiry<u64, String> + Drop,

@@ -3,6 +3,7 @@
 //! Every public name stands here under the module path that moka gives it.
 #![tactic(auto)]
 
+pub use moka_base::policy::Expiry;
 pub use moka_base::{notification, policy};
 
 /// The cache as a plain value.

@@ -75,8 +75,8 @@ fn scripts_print(rt: HostRuntime) -> Result<(), Fail> {
     Ok(())
 }
 
-// A script and what it prints, where each line is good.
-fn printed_by(rt: &impl Abort, alloc: Global, script: &str, wanted: &str) {
+// Asserts what a script prints whose lines are all good.
+fn assert_prints(rt: &impl Abort, alloc: Global, script: &str, wanted: &str) {
     let (printed, ended) = ran(alloc, script.as_bytes());
     assert_eq!(rt; printed.as_slice(), wanted.as_bytes(), "of {script:?}");
     assert_eq!(rt; ended, Status::Done, "of {script:?}");
@@ -84,13 +84,13 @@ fn printed_by(rt: &impl Abort, alloc: Global, script: &str, wanted: &str) {
 
 #[test]
 fn values_are_weighed_by_their_bytes(rt: HostRuntime) -> Result<(), Fail> {
-    printed_by(
+    assert_prints(
         &rt,
         rt.alloc(),
         "new capacity=5 weigher=bytes\ninsert 1 abc\ninsert 2 de\nget 1\nget 2\ntasks\ninsert 3 fghi\nget 3\nget 3\ntasks\nnotices\nweight\n",
         "ok\nok\nok\nsome abc\nsome de\nok\nok\nsome fghi\nsome fghi\nok\nnotice 3 fghi Size\nend\n5\n",
     );
-    printed_by(
+    assert_prints(
         &rt,
         rt.alloc(),
         "new capacity=5 weigher=bytes\ninsert 1 abc\ninsert 2 de\nget 1\nget 2\ntasks\ninsert 3 fghi\nget 3\nget 3\nget 3\ntasks\nnotices\nweight\n",
@@ -101,7 +101,7 @@ fn values_are_weighed_by_their_bytes(rt: HostRuntime) -> Result<(), Fail> {
 
 #[test]
 fn a_value_is_admitted_once_it_was_looked_for_more(rt: HostRuntime) -> Result<(), Fail> {
-    printed_by(
+    assert_prints(
         &rt,
         rt.alloc(),
         "new capacity=3\ninsert 1 alice\ninsert 2 bob\nget 1\nget 2\ntasks\ninsert 3 cindy\nget 3\ntasks\nget 1\nget 2\ntasks\ninsert 4 david\ntasks\nnotices\nget 4\ninsert 4 david\ntasks\nnotices\nget 4\ninsert 4 dennis\ntasks\nnotices\nget 4\ninvalidate 2\nnotices\n",
