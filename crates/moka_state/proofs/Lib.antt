@@ -11,7 +11,6 @@ pub mod Maintained
 pub mod Maintaining
 pub mod NumberLemmas
 pub mod Phases
-pub mod Places
 pub mod Queues
 pub mod RowLemmas
 pub mod Runs
