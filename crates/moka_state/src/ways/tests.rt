@@ -145,6 +145,8 @@ fn adds_the_greatest_weights(rt: HostRuntime) -> Result<(), Fail> {
     }
     assert_eq!(rt; cache.entry_count(), 2);
     assert_eq!(rt; cache.weighted_size(), 8_589_934_590);
+    cache.run_pending_tasks(0);
+    assert_eq!(rt; cache.notice_count(), 0);
     Ok(())
 }
 

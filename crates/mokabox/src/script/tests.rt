@@ -111,6 +111,17 @@ fn a_value_is_admitted_once_it_was_looked_for_more(rt: HostRuntime) -> Result<()
 }
 
 #[test]
+fn a_heavy_value_needs_more_looks_than_its_victims(rt: HostRuntime) -> Result<(), Fail> {
+    assert_prints(
+        &rt,
+        rt.alloc(),
+        "new capacity=31 weigher=bytes\ninsert 1 alicealice\ninsert 2 bobbobbobbobbob\nget 1\nget 2\ntasks\ninsert 3 cindy\nget 3\ntasks\nget 1\nget 2\ntasks\ninsert 4 daviddaviddavid\ntasks\nget 4\ninsert 4 daviddaviddavid\ntasks\nget 4\ninsert 4 daviddaviddavid\ntasks\nget 4\ninsert 4 daviddaviddavid\ntasks\nget 4\nnotices\ninsert 4 dennis-dennis-d\ntasks\nnotices\nget 1\nget 2\nget 3\nget 4\ninsert 2 billbillbillbillbill\ntasks\nnotices\ninsert 1 alicealice\ninsert 2 bobbobbobbobbob\ntasks\nnotices\ncount\nweight\n",
+        "ok\nok\nok\nsome alicealice\nsome bobbobbobbobbob\nok\nok\nsome cindy\nok\nsome alicealice\nsome bobbobbobbobbob\nok\nok\nok\nnone\nok\nok\nnone\nok\nok\nnone\nok\nok\nnone\nnotice 4 daviddaviddavid Size\nnotice 4 daviddaviddavid Size\nnotice 4 daviddaviddavid Size\nnotice 4 daviddaviddavid Size\nend\nok\nok\nnotice 3 cindy Size\nnotice 1 alicealice Size\nend\nnone\nsome bobbobbobbobbob\nnone\nsome dennis-dennis-d\nok\nok\nnotice 2 bobbobbobbobbob Replaced\nnotice 4 dennis-dennis-d Size\nend\nok\nok\nok\nnotice 2 billbillbillbillbill Replaced\nend\n2\n25\n",
+    );
+    Ok(())
+}
+
+#[test]
 fn the_65th_write_finds_64_waiting(rt: HostRuntime) -> Result<(), Fail> {
     let mut script = Vec::new(rt.alloc());
     script.extend_from_slice(b"new capacity=10 policy=lru\n")?;
