@@ -11,11 +11,11 @@ use Rattle.moka_base.proofs.MaintenanceCounted.{count-maintenance}
 
 module _ {X : Type 0} (P : X → Type 0) where
   -- what is true of all that a part has
-  abbrev InPart : Part X → Type 0
+  abbrev pub InPart : Part X → Type 0
   InPart p = All P p.leaves × All P p.after.admitted × All P p.after.waiting
 
   -- and of all that some parts have
-  abbrev InParts : List (Part X) → Type 0
+  abbrev pub InParts : List (Part X) → Type 0
   InParts [] = Unit {0}
   InParts (p ∷ ps) = InPart p × InParts ps
 
@@ -67,7 +67,7 @@ module _ {X : Type 0} (P : X → Type 0) where
           let first = InPart-judge admitted x xs a (All-head P x xs w) (All-tail P x xs w) in
           (first, InParts-judged (judge weight capacity wins admitted x xs).after.admitted xs first.1 (All-tail P x xs w))
 
-      InParts-parts : (is_live : X → Bool) (q : Queues X) → All P q.admitted → All P q.waiting → InParts (parts weight capacity is_live wins q)
+      pub InParts-parts : (is_live : X → Bool) (q : Queues X) → All P q.admitted → All P q.waiting → InParts (parts weight capacity is_live wins q)
       InParts-parts is_live q a w =
           let admitted : List X = filter is_live q.admitted in
           let waiting : List X = filter is_live q.waiting in
@@ -86,11 +86,11 @@ module _ {X : Type 0} (P : X → Type 0) where
   InParts-done (Some limit) [] a = tt
   InParts-done (Some limit) (p ∷ ps) a = cond_both (nat_le (length p.leaves) limit) (p ∷ done (Some (limit - length p.leaves)) ps) [] InParts (λ _. (a.0, InParts-done (Some (limit - length p.leaves)) ps a.1)) (λ _. tt)
 
-  All-leaving_in : (ps : List (Part X)) → InParts ps → All P (leaving_in ps)
+  pub All-leaving_in : (ps : List (Part X)) → InParts ps → All P (leaving_in ps)
   All-leaving_in [] a = All-nil P
   All-leaving_in (p ∷ ps) a = All-append P p.leaves (leaving_in ps) (a.0).0 (All-leaving_in ps a.1)
 
-  All-after_parts : (q : Queues X) (ps : List (Part X)) → All P q.admitted → All P q.waiting → InParts ps → All P (everything (after_parts q ps))
+  pub All-after_parts : (q : Queues X) (ps : List (Part X)) → All P q.admitted → All P q.waiting → InParts ps → All P (everything (after_parts q ps))
   All-after_parts q [] a w all = All-append P q.admitted q.waiting a w
   All-after_parts q (p ∷ ps) a w all = All-after_parts p.after ps (all.0).1 (all.0).2 all.1
 

@@ -85,7 +85,7 @@ module _ {X : Type 0} (weight : X → ℕ) (capacity : Option ℕ) (is_live : X 
 
 module _ {X : Type 0} (weight : X → ℕ) (capacity : Option ℕ) (wins : X → List X → Bool) where
   -- what is true of all that was admitted or waited is true of all that leaves
-  All-leaving-judged : (P : X → Type 0) (admitted waiting : List X) → All P admitted → All P waiting → All P (leaving_in (judged weight capacity wins admitted waiting))
+  pub All-leaving-judged : (P : X → Type 0) (admitted waiting : List X) → All P admitted → All P waiting → All P (leaving_in (judged weight capacity wins admitted waiting))
   All-leaving-judged P admitted [] a w = All-nil P
   All-leaving-judged P admitted (x ∷ xs) a w =
       let victims : ℕ = front weight capacity (weight x) admitted in

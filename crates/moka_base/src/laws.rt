@@ -9,8 +9,9 @@ ghost use Rattle.std.specs.Hash.{u64 as number_writes};
 ghost use Rattle.moka_base.specs.Replies.{Found, Contains, Noticed, answer};
 
 /// After a write a look at the same moment, or at an earlier one, finds its value; with a life of
-/// nothing, be it one of all values or its own, no look finds it at any moment. The value of an accepted write is found alike, whether a
-/// maintenance came before it or not; but where the capacity is 0 no look finds anything.
+/// nothing, be it one of all values or its own, no look finds it at any moment. The value of an
+/// accepted write is found alike, whether a maintenance came before it or not; but where the capacity
+/// is 0 no look finds anything.
 pub fn get_after_insert<K: Eq, V>()
     ensures found { (rules : Rules K V) (h : List (Event K V)) (k q : K) (v : V) (at now : ℕ) → K.eq k q ≡ true → now ≤ at
         → rules.time_to_live ≢ Some 0 → rules.time_to_idle ≢ Some 0 → life_by_write K.eq rules k v at h ≢ Some 0

@@ -1,24 +1,39 @@
 -- How many rows a state may hold, and what they weigh.
-use Rattle.std.proofs.Common.{◌≡◌, ℕ, ◌+◌, ◌≤◌, Bool, List, ◌++◌, length, Option, Some, None, refl, sym, ap, ◌∙◌, arith, length-append}
+use Rattle.std.proofs.Common.{◌≡◌, ℕ, ◌+◌, ◌≤◌, Bool, List, ◌∷◌, ◌++◌, length, Option, Some, None, refl, sym, ap, ◌∙◌, arith, length-append}
 use Rattle.std.specs.Option.{IfSome}
 use Rattle.std.proofs.lemmas.List.{length-map, map-append}
-use Rattle.moka_base.specs.History.{Event, Rules, Ways, Write, queues, flush_point, entry_count, weighted_size}
+use Rattle.moka_base.specs.History.{Event, Maintain, Rules, Ways, Write, queues, flush_point, entry_count, weighted_size}
 use Rattle.moka_base.specs.Maintenance.{total}
 use Rattle.moka_base.specs.SizeLaws.{WeighsOnes}
 use Rattle.moka_base.specs.StandsFor.{Holdings, StandsFor, writes}
-use Rattle.moka_base.proofs.Sizes.{entry_count-le}
+use Rattle.moka_base.proofs.Sizes.{entry_count-le, maintained-entry_count-le}
 use Rattle.moka_state.specs.declared.lives.Lives.{Lives}
 use Rattle.moka_state.specs.declared.rows.Row.{Row}
 use Rattle.moka_state.specs.Table.{Contents, entries, weight_of, stored_write, stored_writes}
 use Rattle.moka_state.specs.State.{holdings}
 use Rattle.moka_state.proofs.Maintained.{total-stored}
 
+-- a state stores as many writes as stand
+writes-counted : {K V : Type 0} (eq : K → K → Bool) (rules : Rules K V) (state : Holdings K V) (h : List (Event K V)) → StandsFor eq rules state h → length (writes state) ≡ entry_count eq rules h
+writes-counted eq rules state h stands = ap (λ a. length (a ++ state.waiting)) stands.admitted ∙ ap (λ w. length ((queues eq rules h).admitted ++ w)) stands.waiting
+
+-- where each weighs one, with a capacity, no more after a maintenance than it says
+pub writes-within : {K V : Type 0} (eq : K → K → Bool) (rules : Rules K V) (state : Holdings K V) (at : ℕ) (h : List (Event K V)) → WeighsOnes rules → StandsFor eq rules state (Maintain at ∷ h) → IfSome state.max_capacity (λ capacity. length (writes state) ≤ capacity)
+writes-within eq rules state at h ones stands = go state.max_capacity refl
+  where
+    counted : length (writes state) ≡ entry_count eq rules (Maintain at ∷ h)
+    counted = writes-counted eq rules state (Maintain at ∷ h) stands
+
+    go : (o : Option ℕ) → state.max_capacity ≡ o → IfSome o (λ capacity. length (writes state) ≤ capacity)
+    go None none = tt
+    go (Some capacity) some = let few = maintained-entry_count-le eq rules ones h at capacity (sym stands.max_capacity ∙ some) in omega (arith, counted)
+
 -- where each weighs one, with a capacity, as many as it says and the flush point together
 pub writes-bounded : {K V : Type 0} (eq : K → K → Bool) (rules : Rules K V) (state : Holdings K V) (h : List (Event K V)) → WeighsOnes rules → StandsFor eq rules state h → IfSome state.max_capacity (λ capacity. length (writes state) ≤ capacity + flush_point)
 writes-bounded eq rules state h ones stands = go state.max_capacity refl
   where
     counted : length (writes state) ≡ entry_count eq rules h
-    counted = ap (λ a. length (a ++ state.waiting)) stands.admitted ∙ ap (λ w. length ((queues eq rules h).admitted ++ w)) stands.waiting
+    counted = writes-counted eq rules state h stands
 
     go : (o : Option ℕ) → state.max_capacity ≡ o → IfSome o (λ capacity. length (writes state) ≤ capacity + flush_point)
     go None none = tt

@@ -11,7 +11,7 @@ use Rattle.moka_base.specs.History.{Event, Maintain, Rules, Ways, Write, Leaving
 use Rattle.moka_base.specs.Maintenance.{Queues, Part, total, parts, leaving_in, after_parts}
 use Rattle.moka_base.specs.StandsFor.{StandsFor, writes_of}
 use Rattle.moka_base.proofs.Maintenance.{All-live-after, total-after-le, after-parts}
-use Rattle.moka_base.proofs.MaintenanceBy.{part_by, leaving_in-by, after_parts-by, parts-by}
+use Rattle.moka_base.proofs.MaintenanceBy.{total-by, part_by, leaving_in-by, after_parts-by, parts-by}
 use Rattle.moka_base.proofs.MaintenanceWins.{parts-same}
 use Rattle.moka_base.proofs.QueuesHold.{held-maintained}
 use Rattle.moka_state.specs.declared.lives.Lives.{Lives}
@@ -30,13 +30,7 @@ write-of p = stored_write p.1
 
 -- rows weigh what their writes weigh
 pub total-stored : {K V : Type 0} (ps : List (ℕ × Row K V)) → total (λ w. w.weight) (stored_writes ps) ≡ total weight_of ps
-total-stored [] = refl
-total-stored (p ∷ ps) = ap (λ n. weight_of p + n) (total-stored ps)
-
--- so do sums of other numbers that are read of them
-total-read : {A B : Type 0} (read : A → B) (count : B → ℕ) (xs : List A) → total count (map read xs) ≡ total (λ x. count (read x)) xs
-total-read read count [] = refl
-total-read read count (x ∷ xs) = ap (λ n. count (read x) + n) (total-read read count xs)
+total-stored = total-by write-of (λ w. w.weight) None
 
 -- sums of numbers that are the same
 total-same : {A : Type 0} (a b : A → ℕ) → ((x : A) → a x ≡ b x) → (xs : List A) → total a xs ≡ total b xs
@@ -67,7 +61,7 @@ module _ {K V : Type 0} (eq : K → K → Bool) (laws : IsEquivalence eq) (rules
   wins-same : (p : ℕ × Row K V) (victims : List (ℕ × Row K V)) → wins rules (frequency rules h) (write-of p) (map write-of victims) ≡ row_wins ways.is_lru (said []) p victims
   wins-same p victims =
       ap (λ (w : Ways K V). w.is_lru || nat_le (total (λ (v : Write K V). frequency rules h v.hash) (map write-of victims) + 1) (frequency rules h p.1.hash)) (sym stands.ways)
-      ∙ ap (λ n. ways.is_lru || nat_le (n + 1) (frequency rules h p.1.hash)) (total-read write-of (λ (v : Write K V). frequency rules h v.hash) victims ∙ total-same (λ (q : ℕ × Row K V). frequency rules h q.1.hash) (λ (q : ℕ × Row K V). said [] q.1.hash) (λ q. frequency-now q.1.hash) victims)
+      ∙ ap (λ n. ways.is_lru || nat_le (n + 1) (frequency rules h p.1.hash)) (total-by write-of (λ (v : Write K V). frequency rules h v.hash) None victims ∙ total-same (λ (q : ℕ × Row K V). frequency rules h q.1.hash) (λ (q : ℕ × Row K V). said [] q.1.hash) (λ q. frequency-now q.1.hash) victims)
       ∙ ap (λ n. ways.is_lru || nat_le (total (λ (q : ℕ × Row K V). said [] q.1.hash) victims + 1) n) (frequency-now p.1.hash)
 
   -- the maintenance of the rows, and that of the writes

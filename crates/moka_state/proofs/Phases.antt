@@ -3,29 +3,19 @@ use Rattle.std.proofs.Common.{◌≡◌, ℕ, Bool, true, false, not, cond, Opti
 use Rattle.std.specs.List.{All}
 use Rattle.std.proofs.lemmas.Bool.{true≢false}
 use Rattle.std.proofs.lemmas.List.{append-nil, map-append}
-use Rattle.std.proofs.lemmas.List.Elements.{All-nil, All-cons, All-head, All-tail, All-append, All-push, All-take, All-drop, filter_passes, recursion_from_All, All-from_recursion}
+use Rattle.std.proofs.lemmas.List.Elements.{All-head, All-tail, All-take, All-drop, filter_passes, recursion_from_All, All-from_recursion}
 use Rattle.moka_base.specs.declared.notification.Notice.{Notice}
 use Rattle.moka_base.specs.declared.notification.RemovalCause.TheVariants.{Expired, Size}
 use Rattle.moka_base.specs.History.{has_come}
-use Rattle.moka_base.specs.Maintenance.{Queues, Part, front, judge, judged, leaving_in, after_parts}
-use Rattle.moka_base.proofs.Maintenance.{judge_both, admitted_after, after-judged, All-admitted_after, within, too_much, leaving-parts, after-parts}
+use Rattle.moka_base.specs.Maintenance.{Queues, front, judged, leaving_in, after_parts}
+use Rattle.moka_base.proofs.Maintenance.{admitted_after, after-judged, All-admitted_after, within, too_much, leaving-parts, after-parts}
+use Rattle.moka_base.proofs.MaintenanceOrder.{All-leaving-judged}
 use Rattle.moka_state.specs.declared.lives.Lives.{Lives}
 use Rattle.moka_state.specs.declared.rows.Row.{Row}
 use Rattle.moka_state.specs.Lives.{deadline_of}
 use Rattle.moka_state.specs.Table.{Contents, entries, weight_of}
 use Rattle.moka_state.specs.Maintain.{is_alive, living, dead, notices_for, notice_for, notice_at, row_wins, rows_of, row_parts, judgements, IsDueFrom, IsMaintained}
 use Rattle.moka_state.proofs.Elements.{all-front, all-back}
-
--- what leaves as those that wait are judged was admitted or waited
-pub All-leaving_judged : {X : Type 0} (P : X → Type 0) (weight : X → ℕ) (capacity : Option ℕ) (wins : X → List X → Bool) (admitted waiting : List X) → All P admitted → All P waiting → All P (leaving_in (judged weight capacity wins admitted waiting))
-All-leaving_judged P weight capacity wins admitted [] a w = All-nil P
-All-leaving_judged {X} P weight capacity wins admitted (x ∷ xs) a w =
-    let here = All-head P x xs w in
-    let victims : ℕ = front weight capacity (weight x) admitted in
-    let part : Part X = judge weight capacity wins admitted x xs in
-    let leaves : All P part.leaves = judge_both weight capacity wins admitted x xs (λ p. All P p.leaves) (λ _. All-take P victims admitted a) (All-cons P x [] here (All-nil P)) in
-    let stays : All P part.after.admitted = judge_both weight capacity wins admitted x xs (λ p. All P p.after.admitted) (λ _. All-push P (drop victims admitted) x (All-drop P victims admitted a) here) a in
-    All-append P part.leaves (leaving_in (judged weight capacity wins part.after.admitted xs)) leaves (All-leaving_judged P weight capacity wins part.after.admitted xs stays (All-tail P x xs w))
 
 module _ {K V : Type 0} (lives : Lives) (at : ℕ) where
   -- the dead are noticed as expired
@@ -72,7 +62,7 @@ module _ {K V : Type 0} (lives : Lives) (at : ℕ) where
         let admitted_live = filter_passes alive old.admitted in
         let much_lives : All Lives_on much = All-take Lives_on (front weight_of capacity 0 (living lives at old.admitted)) (living lives at old.admitted) admitted_live in
         let stay_live : All Lives_on (within weight_of capacity alive wins (rows_of old)) = All-drop Lives_on (front weight_of capacity 0 (living lives at old.admitted)) (living lives at old.admitted) admitted_live in
-        let judged_live : All Lives_on judges = All-leaving_judged Lives_on weight_of capacity wins (within weight_of capacity alive wins (rows_of old)) (living lives at old.waiting) stay_live (filter_passes alive old.waiting) in
+        let judged_live : All Lives_on judges = All-leaving-judged weight_of capacity wins Lives_on (within weight_of capacity alive wins (rows_of old)) (living lives at old.waiting) stay_live (filter_passes alive old.waiting) in
         ap (map notice) (leaving-parts weight_of capacity alive wins (rows_of old))
         ∙ map-append notice (dead lives at old.admitted) (dead lives at old.waiting ++ (much ++ judges))
         ∙ ap (λ l. map notice (dead lives at old.admitted) ++ l) (map-append notice (dead lives at old.waiting) (much ++ judges))

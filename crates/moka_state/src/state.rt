@@ -330,19 +330,23 @@ impl<K: Hash + Drop, V: Clone, C: CacheTypes<K, V>, R: RowStore<K, V>> State<K, 
         self.table.take_notice()
     }
 
-    /// Runs a maintenance: the expired values leave, and where the admitted pass the capacity the least recently used leave.
-    /// Then each that waits, in their order, is admitted, where need be in place of the least recently used, or it
+    /// Runs a maintenance: the expired values leave, and where the admitted pass the capacity the least recently used
+    /// leave. Then each that waits, in their order, is admitted, where need be in place of the least recently used, or it
     /// leaves, as the policy wants it. Each that leaves is noticed. It takes no memory.
     ///
-    /// Visits the waiting rows and those that leave, and the admitted ones only where one may have expired.
+    /// Visits the waiting rows, for each the admitted ones that would have to leave for it, and the others only where one
+    /// may have expired.
     pub fn run_pending_tasks(&mut self, now: u64)
         ensures stands { Follows K.eq (⟦<C as Means<K, V>>⟧.held self.old) (Maintain now) (⟦<C as Means<K, V>>⟧.held self.new) }
 
-        // Nothing waits then, what is stored is live, and it is within the capacity.
+        // Nothing waits then, what is stored is live, and it is within the capacity, by its weight and so by its number where
+        // each value weighs 1.
         ensures none_waits { self.new.waiting ≡ [] }
         ensures all_live { AtEachHistory K.eq (⟦<C as Means<K, V>>⟧.held self.old) (λ rules h.
             AllByRecursion (λ w. is_live rules w (latest (Maintain now ∷ h)) ≡ true) (all_writes self.new)) }
         ensures within { IfSome self.new.max_capacity (λ capacity. total (λ w. w.weight) (all_writes self.new) ≤ capacity) }
+        ensures count { AtEachHistory K.eq (⟦<C as Means<K, V>>⟧.held self.old) (λ rules h. WeighsOnes rules →
+            IfSome self.new.max_capacity (λ capacity. length (all_writes self.new) ≤ capacity)) }
     {
         let now = self.latest.max(now);
         self.earliest = maintain(

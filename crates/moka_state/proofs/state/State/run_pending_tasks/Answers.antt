@@ -1,6 +1,7 @@
 use Rattle.std.proofs.Common.{ap}
 use Rattle.moka_state.specs.Table.{stored_writes}
 use Rattle.moka_state.proofs.Maintained.{stands-after-maintain, all-live, stored-within}
+use Rattle.moka_state.proofs.Counts.{writes-within}
 use Rattle.moka_state.proofs.Sound.{IsSound-maintained}
 use Rattle.moka_state.proofs.state.State.run_pending_tasks.Goals as goal
 
@@ -26,3 +27,7 @@ returns-clause-all_live g c rules h stands =
 
 pub returns-clause-within : goal.returns-clause-within
 returns-clause-within g c = stored-within c.self.inside.lives c.self.inside.max_capacity c.max-now.result c.self.inside.table c.maintain-self-inside.new.table c.maintain-self-inside.ensures.maintained
+
+pub returns-clause-count : goal.returns-clause-count
+returns-clause-count g c rules h stands ones =
+    writes-within g.K.PartialEq.eq rules _ c.args.now h ones (returns-clause-stands g c rules h stands)
