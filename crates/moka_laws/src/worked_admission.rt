@@ -1,0 +1,76 @@
+//! Worked cases of admission by frequency and by weight, and of lives of single values, at numbers: each computes.
+ghost use Rattle.std.specs.Prelude.{◌≡◌, true, false, nat_eq, Some, None, [], ◌∷◌};
+ghost use Rattle.moka_model.specs.declared.notification.RemovalCause.TheVariants.{Expired, Explicit, Replaced, Size};
+ghost use Rattle.moka_model.specs.History.{Get, ContainsKey, Insert, Invalidate, Maintain, Measure, EntryCount, WeightedSize, frequency, queues, leaving, leavings};
+ghost use Rattle.moka_model.specs.OrderLaws.{keys};
+ghost use Rattle.moka_model.specs.Replies.{Found, Contains, Counted, answer};
+ghost use Rattle.moka_laws.specs.Worked.{seconds, written, left_as};
+ghost use Rattle.moka_laws.specs.WorkedSize.{three_used, fourth_comes};
+ghost use Rattle.moka_laws.specs.WorkedAdmission.{by_frequency, by_weight, weighed, five_and_three, five_alone, from_a_hit, until_a_hit, with_lives, asked_once, asked_twice, fourth_tries, fourth_again, second_heavier, second_lighter, third_of_four, two_heaviest, hit_twice};
+
+/// Three keys were looked for twice, twice and once, and the third is the least recently used. A fourth is not
+/// admitted before it was looked for, nor after one look, since one is not greater than one; after two it is, and
+/// the third leaves.
+pub fn a_key_enters_that_is_asked_for_more_often()
+    ensures first { frequency (by_frequency 3) three_used 1 ≡ 2 }
+    ensures second { frequency (by_frequency 3) three_used 2 ≡ 2 }
+    ensures third { frequency (by_frequency 3) three_used 3 ≡ 1 }
+    ensures order { keys (queues nat_eq (by_frequency 3) three_used).admitted ≡ 3 ∷ 1 ∷ 2 ∷ [] }
+    ensures never_asked { leaving nat_eq (by_frequency 3) (Maintain 12) fourth_comes ≡ left_as 4 40 Size ∷ [] }
+    ensures missed { answer nat_eq (by_frequency 3) (Get 4 13) (Maintain 12 ∷ fourth_comes) ≡ Found None }
+    ensures asked_once { leaving nat_eq (by_frequency 3) (Maintain 15) asked_once ≡ left_as 4 41 Size ∷ [] }
+    ensures asked_twice { leaving nat_eq (by_frequency 3) (Maintain 18) asked_twice ≡ left_as 3 30 Size ∷ [] }
+    ensures found { answer nat_eq (by_frequency 3) (Get 4 19) (Maintain 18 ∷ asked_twice) ≡ Found (Some 42) }
+    ensures invalidated { leaving nat_eq (by_frequency 3) (Invalidate 2 20) (Maintain 18 ∷ asked_twice) ≡ left_as 2 20 Explicit ∷ [] }
+{}
+
+/// Weights of 10, 15 and 5 at a capacity of 31. A fourth of 15 needs the room of the third and the first, and is not
+/// admitted until it was looked for more often than both together. An overwrite that is heavier, or lighter, changes
+/// what fits.
+pub fn a_key_enters_by_its_weight()
+    ensures four_times { leavings nat_eq (by_weight 31) (fourth_tries 4) ≡ left_as 4 15 Size ∷ left_as 4 15 Size ∷ left_as 4 15 Size ∷ left_as 4 15 Size ∷ [] }
+    ensures misses { answer nat_eq (by_weight 31) (Get 4 11) (fourth_tries 4) ≡ Found None }
+    ensures enters { leaving nat_eq (by_weight 31) (Maintain 13) fourth_again ≡ left_as 3 5 Size ∷ left_as 1 10 Size ∷ [] }
+    ensures first { answer nat_eq (by_weight 31) (Get 1 13) (Maintain 13 ∷ fourth_again) ≡ Found None }
+    ensures second { answer nat_eq (by_weight 31) (Get 2 13) (Maintain 13 ∷ fourth_again) ≡ Found (Some 15) }
+    ensures third { answer nat_eq (by_weight 31) (Get 3 13) (Maintain 13 ∷ fourth_again) ≡ Found None }
+    ensures fourth { answer nat_eq (by_weight 31) (Get 4 13) (Maintain 13 ∷ fourth_again) ≡ Found (Some 115) }
+    ensures replaced { leaving nat_eq (by_weight 31) (Insert 2 20 14) (Maintain 13 ∷ fourth_again) ≡ left_as 2 15 Replaced ∷ [] }
+    ensures heavier { leaving nat_eq (by_weight 31) (Maintain 15) second_heavier ≡ left_as 4 115 Size ∷ [] }
+    ensures lighter { leaving nat_eq (by_weight 31) (Maintain 17) second_lighter ≡ [] }
+    ensures counted { answer nat_eq (by_weight 31) (Measure EntryCount) (Maintain 17 ∷ second_lighter) ≡ Counted 2 }
+    ensures weight { answer nat_eq (by_weight 31) (Measure WeightedSize) (Maintain 17 ∷ second_lighter) ≡ Counted 25 }
+{}
+
+/// A third key of weight four needs the room of both others, which were looked for once each: two looks for it are not
+/// enough, and three are.
+pub fn more_often_than_both_together()
+    ensures twice { leaving nat_eq (by_weight 5) (Maintain 8) third_of_four ≡ left_as 3 4 Size ∷ [] }
+    ensures weight_then { answer nat_eq (by_weight 5) (Measure WeightedSize) (Maintain 8 ∷ third_of_four) ≡ Counted 5 }
+    ensures three_times { leaving nat_eq (by_weight 5) (Maintain 9) (Get 3 8 ∷ third_of_four) ≡ left_as 1 3 Size ∷ left_as 2 2 Size ∷ [] }
+    ensures weight { answer nat_eq (by_weight 5) (Measure WeightedSize) (Maintain 9 ∷ Get 3 8 ∷ third_of_four) ≡ Counted 4 }
+{}
+
+/// Sums of weights do not wrap at the greatest weight.
+pub fn two_of_the_greatest_weight()
+    ensures weight { answer nat_eq weighed (Measure WeightedSize) (Maintain 0 ∷ two_heaviest) ≡ Counted 8_589_934_590 }
+    ensures left { leavings nat_eq weighed (Maintain 0 ∷ two_heaviest) ≡ [] }
+{}
+
+/// Five seconds from the creation on, and three from each hit on; or no hit changes it; or a hit takes it away. An
+/// update asks for itself over a live value alone: over an expired one the value is created.
+pub fn own_lives()
+    ensures at_four { answer nat_eq (with_lives five_and_three) (Get 1 (seconds 4)) written ≡ Found (Some 7) }
+    ensures at_six { answer nat_eq (with_lives five_and_three) (Get 1 (seconds 6)) (Get 1 (seconds 4) ∷ written) ≡ Found (Some 7) }
+    ensures at_nine { answer nat_eq (with_lives five_and_three) (Get 1 (seconds 9)) hit_twice ≡ Found None }
+    ensures not_by_a_look { answer nat_eq (with_lives five_and_three) (Get 1 (seconds 5)) (ContainsKey 1 (seconds 4) ∷ written) ≡ Found None }
+    ensures kept { answer nat_eq (with_lives five_alone) (Get 1 (seconds 4)) written ≡ Found (Some 7) }
+    ensures kept_to_the_end { answer nat_eq (with_lives five_alone) (Get 1 (seconds 5)) (Get 1 (seconds 4) ∷ written) ≡ Found None }
+    ensures taken_away { answer nat_eq (with_lives until_a_hit) (Get 1 (seconds 9)) (Get 1 (seconds 4) ∷ written) ≡ Found (Some 7) }
+    ensures after_a_hit { answer nat_eq (with_lives from_a_hit) (Get 1 (seconds 7)) (Get 1 (seconds 4) ∷ written) ≡ Found None }
+    ensures after_an_update { answer nat_eq (with_lives from_a_hit) (Get 1 (seconds 7)) (Insert 1 8 (seconds 1) ∷ written) ≡ Found (Some 8) }
+    ensures updated_at_its_end { answer nat_eq (with_lives from_a_hit) (Get 1 (seconds 8)) (Insert 1 8 (seconds 1) ∷ written) ≡ Found None }
+    ensures over_an_expired_one { answer nat_eq (with_lives from_a_hit) (Get 1 (seconds 99)) (Insert 1 8 (seconds 7) ∷ Get 1 (seconds 4) ∷ written) ≡ Found (Some 8) }
+    ensures update_keeps { answer nat_eq (with_lives five_alone) (Get 1 (seconds 5)) (Insert 1 8 (seconds 4) ∷ written) ≡ Found None }
+    ensures as_expired { leaving nat_eq (with_lives five_alone) (Maintain (seconds 5)) written ≡ left_as 1 7 Expired ∷ [] }
+{}

@@ -1,0 +1,15 @@
+pub mod Callers
+pub mod EachWrite
+pub mod ListLemmas
+pub mod Maintenance
+pub mod MaintenanceAgreeing
+pub mod MaintenanceBy
+pub mod MaintenanceCounted
+pub mod MaintenanceKept
+pub mod MaintenanceOnes
+pub mod MaintenanceOrder
+pub mod MaintenanceWins
+pub mod NumberHashes
+pub mod QueuesHold
+pub mod Sizes
+pub mod Standing
