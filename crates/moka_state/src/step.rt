@@ -7,11 +7,8 @@ ghost use Rattle.moka_base.specs.StandsFor.{StandsFor, AtEachHistory};
 ghost use Rattle.moka_state.specs.State.{all_writes};
 ghost use Rattle.moka_state.specs.Step.{IsReplyTo, StepKeeps, ReplyKeeps, after, IsRun, after_all};
 
-#[cfg(test)]
-mod tests;
-
-use crate::means::Means;
-use crate::rows::RowStore;
+use moka_ways::means::Means;
+use moka_rows::rows::RowStore;
 use crate::state::{InsertRefused, State};
 use moka_base::notification::Notice;
 use moka_base::policy::{CacheTypes, Refused};
