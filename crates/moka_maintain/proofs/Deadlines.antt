@@ -14,10 +14,19 @@ module _ {K V : Type 0} (lives : Lives) where
   due-push earliest [] n row due = (λ at come. has_come-earlier_right earliest (deadline_of lives row.info) at come, tt)
   due-push earliest (p ∷ ps) n row due = (λ at come. has_come-earlier_left earliest (deadline_of lives row.info) at (due.0 at come), due-push earliest ps n row due.1)
 
-  -- the first of two lists
-  pub due-front : (earliest : Option ℕ) (front back : List (ℕ × Row K V)) → IsDueFrom earliest lives (front ++ back) → IsDueFrom earliest lives front
-  due-front earliest [] back due = tt
-  due-front earliest (p ∷ ps) back due = (due.0, due-front earliest ps back due.1)
+  -- an earlier bound bounds all the more
+  pub due-left : (a b : Option ℕ) (rows : List (ℕ × Row K V)) → IsDueFrom a lives rows → IsDueFrom (earlier a b) lives rows
+  due-left a b [] due = tt
+  due-left a b (p ∷ ps) due = (λ at c. has_come-earlier_left a b at (due.0 at c), due-left a b ps due.1)
+
+  pub due-right : (a b : Option ℕ) (rows : List (ℕ × Row K V)) → IsDueFrom b lives rows → IsDueFrom (earlier a b) lives rows
+  due-right a b [] due = tt
+  due-right a b (p ∷ ps) due = (λ at c. has_come-earlier_right a b at (due.0 at c), due-right a b ps due.1)
+
+  -- the earlier of two bounds bounds the rows of both
+  pub due-both : (a b : Option ℕ) (front back : List (ℕ × Row K V)) → IsDueFrom a lives front → IsDueFrom b lives back → IsDueFrom (earlier a b) lives (front ++ back)
+  due-both a b [] back first second = due-right a b back second
+  due-both a b (p ∷ ps) back first second = (λ at c. has_come-earlier_left a b at (first.0 at c), due-both a b ps back first.1 second)
 
   module _ (at : ℕ) where
     -- a row's share of the living and of the dead

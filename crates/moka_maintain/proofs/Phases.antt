@@ -15,7 +15,7 @@ use Rattle.moka_rows.specs.declared.rows.Row.{Row}
 use Rattle.moka_ways.specs.Lives.{deadline_of}
 use Rattle.moka_table.specs.Table.{Contents, entries, weight_of}
 use Rattle.moka_maintain.specs.Maintain.{is_alive, living, dead, notices_for, notice_for, notice_at, row_wins, rows_of, row_parts, judgements, IsDueFrom, IsMaintained}
-use Rattle.moka_state.proofs.Callers.{all-front, all-back}
+use Rattle.moka_rows.proofs.Callers.{all-front, all-back}
 
 module _ {K V : Type 0} (lives : Lives) (at : ℕ) where
   -- the dead are noticed as expired

@@ -10,11 +10,18 @@ use Rattle.moka_ways.specs.declared.lives.Lives.{Lives}
 use Rattle.moka_rows.specs.declared.rows.Row.{Row}
 use Rattle.moka_ways.specs.Lives.{deadline_of}
 use Rattle.moka_table.specs.Table.{Contents, weight_of}
+use Rattle.moka_maintain.specs.declared.maintain.Order.{Order}
+use Rattle.moka_maintain.specs.declared.maintain.Order.TheVariants.{Admitted, Waiting}
 
 -- a weight is within the capacity, if there is one
 abbrev pub is_within : Option ℕ → ℕ → Bool
 is_within None weight = true
 is_within (Some capacity) weight = nat_le weight capacity
+
+-- the order that an order is not
+abbrev pub other : Order → Order
+other Admitted = Waiting
+other Waiting = Admitted
 
 module _ {K V : Type 0} where
   -- the row's value is not expired at a moment
@@ -44,6 +51,11 @@ module _ {K V : Type 0} where
   -- no deadline of these rows comes before the earliest, and where there is no earliest none comes at all
   abbrev pub IsDueFrom : Option ℕ → Lives → List (ℕ × Row K V) → Type 0
   IsDueFrom earliest lives rows = AllByRecursion (λ p. (at : ℕ) → has_come (deadline_of lives p.1.info) at ≡ true → has_come earliest at ≡ true) rows
+
+  -- the rows of one order
+  abbrev pub rows_in : Order → Contents K V → List (ℕ × Row K V)
+  rows_in Admitted c = c.admitted
+  rows_in Waiting c = c.waiting
 
   -- the rows in their two orders
   abbrev pub rows_of : Contents K V → Queues (ℕ × Row K V)

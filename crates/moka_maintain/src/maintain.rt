@@ -7,14 +7,23 @@ ghost use Rattle.moka_base.specs.Policy.{is_lru};
 ghost use Rattle.moka_rows.specs.declared.rows.Row.{Row};
 ghost use Rattle.moka_rows.specs.Rows.{first_number, NumbersDiffer};
 ghost use Rattle.moka_table.specs.Table.{entries, weight_of};
-ghost use Rattle.moka_maintain.specs.Maintain.{living, dead, notices_for, is_within, rows_of, frequencies, hash_wins, judgements, JudgesFirst, IsDueFrom, IsMaintained};
+ghost use Rattle.moka_maintain.specs.Maintain.{rows_in, other, living, dead, notices_for, is_within, rows_of, frequencies, hash_wins, judgements, JudgesFirst, IsDueFrom, IsMaintained};
 
-use moka_ways::lives::{Lives, earlier, has_come};
-use moka_rows::rows::RowStore;
-use moka_table::table::Table;
 use moka_base::frequency::FrequencySource;
 use moka_base::notification::RemovalCause;
 use moka_base::policy::EvictionPolicy;
+use moka_rows::rows::RowStore;
+use moka_table::table::Table;
+use moka_ways::lives::{Lives, earlier, has_come};
+
+/// One of the two orders of rows.
+#[derive(Clone, Copy)]
+enum Order {
+    /// The admitted rows, in the order of use.
+    Admitted,
+    /// Those that wait, in the order in which they came.
+    Waiting,
+}
 
 /// Runs a whole maintenance. Every expired row leaves, then the least recently used rows until those that stay admitted
 /// are within the capacity, and then each waiting row is admitted or leaves, as the policy says. Takes the earliest
@@ -38,7 +47,7 @@ pub fn maintain<K: Eq + Drop, V: Drop, R: RowStore<K, V>, F: FrequencySource>(
     ensures room { table.old.room ≤ table.new.room }
 {
     let earliest = sweep_if_due(table, lives, earliest, now);
-    let earliest = sweep_waiting(table, lives, earliest, now);
+    let earliest = earlier(earliest, sweep(table, lives, Order::Waiting, now));
     shrink(table, capacity);
     judge_all(table, capacity, policy, source);
     earliest
@@ -59,26 +68,28 @@ fn sweep_if_due<K: Eq + Drop, V: Drop, R: RowStore<K, V>>(
     ensures room { table.old.room ≤ table.new.room }
 {
     if has_come(earliest, now) {
-        sweep(table, lives, now)
+        sweep(table, lives, Order::Admitted, now)
     } else {
         earliest
     }
 }
 
-/// Lets the expired admitted rows go, and answers the earliest deadline of those that stay. Visits each admitted row.
+/// Lets the expired rows of an order go, and answers the earliest deadline of those that stay in it. Visits each row of
+/// the order.
 fn sweep<K: Eq + Drop, V: Drop, R: RowStore<K, V>>(
     table: &mut Table<K, V, R>,
     lives: &Lives,
+    order: Order,
     now: u64,
 ) -> Option<u128>
-    ensures admitted { table.new.admitted ≡ living lives.now now table.old.admitted }
-    ensures waiting { table.new.waiting ≡ table.old.waiting }
-    ensures notices { table.new.notices ≡ table.old.notices ++ notices_for Expired (dead lives.now now table.old.admitted) }
-    ensures due { IsDueFrom result lives.now table.new.admitted }
+    ensures swept { rows_in order table.new ≡ living lives.now now (rows_in order table.old) }
+    ensures others { rows_in (other order) table.new ≡ rows_in (other order) table.old }
+    ensures notices { table.new.notices ≡ table.old.notices ++ notices_for Expired (dead lives.now now (rows_in order table.old)) }
+    ensures due { IsDueFrom result lives.now (rows_in order table.new) }
     ensures room { table.old.room ≤ table.new.room }
 {
     let mut earliest = None;
-    let mut cursor = table.first_admitted();
+    let mut cursor = first_in(table, order);
     while let Some(number) = cursor {
         // The row behind is asked for while this one still stands in the order.
         cursor = table.next(number);
@@ -92,33 +103,17 @@ fn sweep<K: Eq + Drop, V: Drop, R: RowStore<K, V>>(
     earliest
 }
 
-/// Lets the expired waiting rows go. Takes the earliest deadline of the admitted rows, and answers that of all that
-/// stay. Visits each waiting row.
-fn sweep_waiting<K: Eq + Drop, V: Drop, R: RowStore<K, V>>(
-    table: &mut Table<K, V, R>,
-    lives: &Lives,
-    earliest: Option<u128>,
-    now: u64,
-) -> Option<u128>
-    requires { IsDueFrom earliest lives.now table.old.admitted }
-    ensures admitted { table.new.admitted ≡ table.old.admitted }
-    ensures waiting { table.new.waiting ≡ living lives.now now table.old.waiting }
-    ensures notices { table.new.notices ≡ table.old.notices ++ notices_for Expired (dead lives.now now table.old.waiting) }
-    ensures due { IsDueFrom result lives.now (entries table.new) }
-    ensures room { table.old.room ≤ table.new.room }
+/// The number of the first row of an order.
+fn first_in<K: Eq + Drop, V: Drop, R: RowStore<K, V>>(
+    table: &Table<K, V, R>,
+    order: Order,
+) -> Option<usize>
+    ensures { result ≡ first_number (rows_in order table.now) }
 {
-    let mut earliest = earliest;
-    let mut cursor = table.first_waiting();
-    while let Some(waiting) = cursor {
-        cursor = table.next(waiting);
-        let deadline = lives.deadline(table.row(waiting).info);
-        if has_come(deadline, now) {
-            table.let_go(waiting, RemovalCause::Expired);
-        } else {
-            earliest = earlier(earliest, deadline);
-        }
+    match order {
+        Order::Admitted => table.first_admitted(),
+        Order::Waiting => table.first_waiting(),
     }
-    earliest
 }
 
 /// Lets the least recently used rows go until those that stay admitted are within the capacity. Visits those that

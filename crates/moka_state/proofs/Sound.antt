@@ -12,11 +12,13 @@ use Rattle.moka_base.specs.Maintenance.{leaving_in, after_parts}
 use Rattle.moka_ways.specs.declared.lives.Lives.{Lives}
 use Rattle.moka_ways.specs.Lives.{deadline_of}
 use Rattle.moka_maintain.specs.Maintain.{is_alive, notice_at, rows_of, row_wins, row_parts, IsDueFrom, IsMaintained}
-use Rattle.moka_rows.specs.Rows.{row_under, with_row, without_row, touched, overwritten}
+use Rattle.moka_rows.specs.Rows.{row_under, touched, overwritten}
 use Rattle.moka_table.specs.Table.{Contents, weight_of, entries, SameRows, UsesRow, TakesRow}
-use Rattle.moka_maintain.proofs.Callers.{has_come-earlier_left, has_come-earlier_right}
-use Rattle.moka_state.proofs.Elements.{all-append, all-front, all-back, all-kept, all-leaving}
-use Rattle.moka_rows.proofs.Callers.{row_under-append_left, row_under-append_right, split_at_row}
+use Rattle.moka_ways.proofs.Callers.{has_come-earlier_right}
+use Rattle.moka_rows.proofs.Callers.{all-append, all-front}
+use Rattle.moka_table.proofs.Callers.{of-row, of-used, of-taken, of-used-admitted, of-taken-admitted}
+use Rattle.moka_maintain.proofs.Callers.{due-left}
+use Rattle.moka_state.proofs.Elements.{all-kept, all-leaving}
 
 -- the same rows keep all
 pub IsSound-same : {K V : Type 0} (keeps : K → V → Type 0) (hash_of : K → ℕ) (lives : Lives) (earliest : Option ℕ) (old new : Contents K V) → SameRows old new → IsSound keeps hash_of lives earliest old → IsSound keeps hash_of lives earliest new
@@ -36,7 +38,7 @@ module _ {K V : Type 0} (keeps : K → V → Type 0) (hash_of : K → ℕ) (live
   IsSound-overwritten n row v info notice there kept left used notices =
       let Due : Row K V → Type 0 = λ r. (at : ℕ) → has_come (deadline_of lives r.info) at ≡ true → has_come (earlier earliest (deadline_of lives info)) at ≡ true in
       record {
-        due = of-used-admitted Due n (overwritten v info) row old new (IsDueFrom-left earliest (deadline_of lives info) lives old.admitted sound.due) there (λ _ at c. has_come-earlier_right earliest (deadline_of lives info) at c) used;
+        due = of-used-admitted Due n (overwritten v info) row old new (due-left lives earliest (deadline_of lives info) old.admitted sound.due) there (λ _ at c. has_come-earlier_right earliest (deadline_of lives info) at c) used;
         hashed = of-used (λ (r : Row K V). r.hash ≡ hash_of (arc_value r.key)) n (overwritten v info) row old new sound.hashed there (of-row (λ (r : Row K V). r.hash ≡ hash_of (arc_value r.key)) n (entries old) row sound.hashed there) used;
         kept = of-used (λ (r : Row K V). keeps (arc_value r.key) r.value) n (overwritten v info) row old new sound.kept there kept used;
         notices_kept = rw notices (all-append (λ (m : Notice K V). keeps (arc_value m.key) m.value) old.notices (notice ∷ []) sound.notices_kept (left (of-row (λ (r : Row K V). keeps (arc_value r.key) r.value) n (entries old) row sound.kept there), tt));
@@ -46,7 +48,7 @@ module _ {K V : Type 0} (keeps : K → V → Type 0) (hash_of : K → ℕ) (live
   pub IsSound-added : (n : ℕ) (row : Row K V) → row.hash ≡ hash_of (arc_value row.key) → keeps (arc_value row.key) row.value
       → new.admitted ≡ old.admitted → new.waiting ≡ old.waiting ++ (n, row) ∷ [] → new.notices ≡ old.notices → IsSound keeps hash_of lives (earlier earliest (deadline_of lives row.info)) new
   IsSound-added n row hash kept admitted waiting notices = record {
-    due = rw admitted (IsDueFrom-left earliest (deadline_of lives row.info) lives old.admitted sound.due);
+    due = rw admitted (due-left lives earliest (deadline_of lives row.info) old.admitted sound.due);
     hashed = rw grown (all-append (λ (p : ℕ × Row K V). p.1.hash ≡ hash_of (arc_value p.1.key)) (entries old) ((n, row) ∷ []) sound.hashed (hash, tt));
     kept = rw grown (all-append (λ (p : ℕ × Row K V). keeps (arc_value p.1.key) p.1.value) (entries old) ((n, row) ∷ []) sound.kept (kept, tt));
     notices_kept = rw notices sound.notices_kept;
@@ -61,7 +63,7 @@ module _ {K V : Type 0} (keeps : K → V → Type 0) (hash_of : K → ℕ) (live
   IsSound-touched n row info there used notices =
       let Due : Row K V → Type 0 = λ r. (at : ℕ) → has_come (deadline_of lives r.info) at ≡ true → has_come (earlier earliest (deadline_of lives info)) at ≡ true in
       record {
-        due = of-used-admitted Due n (touched info) row old new (IsDueFrom-left earliest (deadline_of lives info) lives old.admitted sound.due) there (λ _ at c. has_come-earlier_right earliest (deadline_of lives info) at c) used;
+        due = of-used-admitted Due n (touched info) row old new (due-left lives earliest (deadline_of lives info) old.admitted sound.due) there (λ _ at c. has_come-earlier_right earliest (deadline_of lives info) at c) used;
         hashed = of-used (λ (r : Row K V). r.hash ≡ hash_of (arc_value r.key)) n (touched info) row old new sound.hashed there (of-row (λ (r : Row K V). r.hash ≡ hash_of (arc_value r.key)) n (entries old) row sound.hashed there) used;
         kept = of-used (λ (r : Row K V). keeps (arc_value r.key) r.value) n (touched info) row old new sound.kept there (of-row (λ (r : Row K V). keeps (arc_value r.key) r.value) n (entries old) row sound.kept there) used;
         notices_kept = rw notices sound.notices_kept;
