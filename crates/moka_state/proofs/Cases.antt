@@ -12,12 +12,12 @@ use Rattle.moka_base.specs.declared.notification.RemovalCause.TheVariants.{Expir
 use Rattle.moka_base.specs.History.{Event, Ways, Get, Insert, Invalidate, Rules, Write, Leaving, standing, deadline, hit, rest, given, after_look, after_write, left, used_where, is_hit, is_of, is_live, has_come, stores_nothing, is_flush_due}
 use Rattle.moka_base.specs.Maintenance.{Queues}
 use Rattle.moka_base.specs.StandsFor.{StandsFor, writes, writes_of}
-use Rattle.moka_state.specs.declared.rows.Row.{Row}
-use Rattle.moka_state.specs.declared.rows.EntryInfo.{EntryInfo}
-use Rattle.moka_state.specs.declared.lives.Lives.{Lives}
-use Rattle.moka_state.specs.Rows.{row_under, touched, overwritten}
-use Rattle.moka_state.specs.Lives.{deadline_of, own_of}
-use Rattle.moka_state.specs.Table.{Contents, entries, stored_write, stored_writes, leaving_of, SameRows, UsesRow, TakesRow}
+use Rattle.moka_rows.specs.declared.rows.Row.{Row}
+use Rattle.moka_rows.specs.declared.rows.EntryInfo.{EntryInfo}
+use Rattle.moka_ways.specs.declared.lives.Lives.{Lives}
+use Rattle.moka_rows.specs.Rows.{row_under, touched, overwritten}
+use Rattle.moka_ways.specs.Lives.{deadline_of, own_of}
+use Rattle.moka_table.specs.Table.{Contents, entries, stored_write, stored_writes, leaving_of, SameRows, UsesRow, TakesRow}
 use Rattle.moka_state.specs.State.{holdings, estimates}
 use Rattle.moka_state.proofs.Changes.{ChangesAt, added}
 use Rattle.moka_state.proofs.Found.{changes-used, changes-taken, changes-along, stored-append}

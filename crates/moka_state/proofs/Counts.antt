@@ -7,9 +7,9 @@ use Rattle.moka_base.specs.Maintenance.{total}
 use Rattle.moka_base.specs.SizeLaws.{WeighsOnes}
 use Rattle.moka_base.specs.StandsFor.{Holdings, StandsFor, writes}
 use Rattle.moka_base.proofs.Sizes.{entry_count-le, maintained-entry_count-le}
-use Rattle.moka_state.specs.declared.lives.Lives.{Lives}
-use Rattle.moka_state.specs.declared.rows.Row.{Row}
-use Rattle.moka_state.specs.Table.{Contents, entries, weight_of, stored_write, stored_writes}
+use Rattle.moka_ways.specs.declared.lives.Lives.{Lives}
+use Rattle.moka_rows.specs.declared.rows.Row.{Row}
+use Rattle.moka_table.specs.Table.{Contents, entries, weight_of, stored_write, stored_writes}
 use Rattle.moka_state.specs.State.{holdings}
 use Rattle.moka_state.proofs.Maintained.{total-stored}
 

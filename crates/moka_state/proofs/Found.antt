@@ -6,10 +6,10 @@ use Rattle.std.specs.Cmp.{IsEquivalence}
 use Rattle.std.proofs.lemmas.List.{map-append}
 use Rattle.moka_base.specs.History.{Write}
 use Rattle.moka_base.specs.StandsFor.{writes_of}
-use Rattle.moka_state.specs.declared.rows.Row.{Row}
-use Rattle.moka_state.specs.Rows.{row_under, with_row, without_row, is_row_of, IsRowOf, NoneIsRowOf}
-use Rattle.moka_state.specs.Table.{Contents, entries, stored_write, stored_writes, UsesRow, TakesRow}
-use Rattle.moka_state.proofs.RowLemmas.{row_under-append_left, row_under-append_right, split_at_row}
+use Rattle.moka_rows.specs.declared.rows.Row.{Row}
+use Rattle.moka_rows.specs.Rows.{row_under, with_row, without_row, is_row_of, IsRowOf, NoneIsRowOf}
+use Rattle.moka_table.specs.Table.{Contents, entries, stored_write, stored_writes, UsesRow, TakesRow}
+use Rattle.moka_rows.proofs.Callers.{row_under-append_left, row_under-append_right, split_at_row}
 use Rattle.moka_state.proofs.Changes.{ChangesAt, OneEach, writes_of-found, changed, removed}
 
 -- both of two tests that hold together

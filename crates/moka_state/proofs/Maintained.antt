@@ -14,11 +14,11 @@ use Rattle.moka_base.proofs.Maintenance.{All-live-after, total-after-le, after-p
 use Rattle.moka_base.proofs.MaintenanceBy.{total-by, part_by, leaving_in-by, after_parts-by, parts-by}
 use Rattle.moka_base.proofs.MaintenanceWins.{parts-same}
 use Rattle.moka_base.proofs.QueuesHold.{held-maintained}
-use Rattle.moka_state.specs.declared.lives.Lives.{Lives}
-use Rattle.moka_state.specs.declared.rows.Row.{Row}
-use Rattle.moka_state.specs.Lives.{own_of}
-use Rattle.moka_state.specs.Maintain.{is_alive, notice_at, rows_of, row_wins, row_parts, IsMaintained}
-use Rattle.moka_state.specs.Table.{Contents, weight_of, stored_write, stored_writes, leaving_of}
+use Rattle.moka_ways.specs.declared.lives.Lives.{Lives}
+use Rattle.moka_rows.specs.declared.rows.Row.{Row}
+use Rattle.moka_ways.specs.Lives.{own_of}
+use Rattle.moka_maintain.specs.Maintain.{is_alive, notice_at, rows_of, row_wins, row_parts, IsMaintained}
+use Rattle.moka_table.specs.Table.{Contents, weight_of, stored_write, stored_writes, leaving_of}
 use Rattle.moka_state.specs.State.{holdings}
 use Rattle.moka_state.proofs.Cases.{both-of}
 use Rattle.moka_state.proofs.Stands.{expired-now}

@@ -8,10 +8,10 @@ use Rattle.std.proofs.lemmas.List.Elements.{filter-append}
 use Rattle.moka_base.specs.History.{Rules, Write, changed_where, moved_last, is_of, used_where, opened_by, written_in, removed_in, after_write}
 use Rattle.moka_base.specs.Maintenance.{Queues}
 use Rattle.moka_base.specs.StandsFor.{writes_of}
-use Rattle.moka_state.specs.declared.rows.Row.{Row}
-use Rattle.moka_state.specs.Rows.{row_under, with_row, without_row}
-use Rattle.moka_state.specs.Table.{Contents, entries, stored_write, stored_writes, UsesRow, TakesRow}
-use Rattle.moka_state.proofs.RowLemmas.{row_under-append_left, row_under-append_right, split_at_row}
+use Rattle.moka_rows.specs.declared.rows.Row.{Row}
+use Rattle.moka_rows.specs.Rows.{row_under, with_row, without_row}
+use Rattle.moka_table.specs.Table.{Contents, entries, stored_write, stored_writes, UsesRow, TakesRow}
+use Rattle.moka_rows.proofs.Callers.{row_under-append_left, row_under-append_right, split_at_row}
 use Rattle.moka_state.proofs.Changes.{OneEach, empty-before, empty-after, rest-empty}
 use Rattle.moka_state.proofs.Found.{stored-append, stored-around}
 

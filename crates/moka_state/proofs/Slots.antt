@@ -1,6 +1,5 @@
 -- Where a write goes, and what the state stands for once its value was put there.
-use Rattle.std.proofs.Common.{◌≡◌, ℕ, ◌+◌, ◌<◌, ◌≤◌, max, nat_le, Bool, true, false, cond, List, ◌∷◌, length, Option, Some, None, IsSome, refl, sym, ap, ◌∙◌, subst, arith}
-use Rattle.std.specs.Option.{IfSome}
+use Rattle.std.proofs.Common.{◌≡◌, ℕ, ◌+◌, ◌<◌, ◌≤◌, max, nat_le, Bool, true, false, cond, List, ◌∷◌, length, Option, Some, None, refl, sym, ap, ◌∙◌, subst, arith}
 use Rattle.std.specs.Arc.{arc_value}
 use Rattle.std.specs.declared.sync.Arc.{Arc}
 use Rattle.std.specs.declared.alloc.Global.{Global}
@@ -10,29 +9,24 @@ use Rattle.std.proofs.lemmas.List.{length-map}
 use Rattle.moka_base.specs.History.{Event, Ways, frequency as notes_frequency, Insert, Maintain, Rules, Write, latest, standing, queues, leaves_in, stores_nothing, is_flush_due, after_insert}
 use Rattle.moka_base.specs.StandsFor.{StandsFor}
 use Rattle.moka_base.proofs.QueuesHold.{maintained-none_waits}
-use Rattle.moka_state.specs.declared.lives.Lives.{Lives}
-use Rattle.moka_state.specs.declared.rows.Row.{Row}
-use Rattle.moka_state.specs.declared.rows.EntryInfo.{EntryInfo}
-use Rattle.moka_state.specs.declared.table.Place.{Place}
-use Rattle.moka_state.specs.declared.table.Place.TheVariants.{Stored, Absent}
-use Rattle.moka_state.specs.declared.slot.Slot.{Slot}
-use Rattle.moka_state.specs.declared.slot.Slot.TheVariants.{Over, New}
-use Rattle.moka_state.specs.Rows.{row_under}
-use Rattle.moka_state.specs.Lives.{deadline_of}
-use Rattle.moka_state.specs.Place.{IsPlaceOf}
-use Rattle.moka_state.specs.Slot.{IsSlotFor, IsSlotNow, IsInfoOf, Puts}
-use Rattle.moka_state.specs.Table.{Contents, entries, stored_write}
+use Rattle.moka_ways.specs.declared.lives.Lives.{Lives}
+use Rattle.moka_rows.specs.declared.rows.Row.{Row}
+use Rattle.moka_rows.specs.declared.rows.EntryInfo.{EntryInfo}
+use Rattle.moka_table.specs.declared.table.Place.{Place}
+use Rattle.moka_table.specs.declared.table.Place.TheVariants.{Stored, Absent}
+use Rattle.moka_table.specs.declared.slot.Slot.{Slot}
+use Rattle.moka_table.specs.declared.slot.Slot.TheVariants.{Over, New}
+use Rattle.moka_rows.specs.Rows.{row_under}
+use Rattle.moka_ways.specs.Lives.{deadline_of}
+use Rattle.moka_table.specs.Place.{IsPlaceOf}
+use Rattle.moka_table.specs.Slot.{IsSlotFor, IsSlotNow, IsInfoOf, Puts}
+use Rattle.moka_table.specs.Table.{Contents, entries, stored_write}
 use Rattle.moka_state.specs.State.{holdings, IsSound}
 use Rattle.moka_state.proofs.Cases.{stands-after-overwrite, stands-after-open}
 use Rattle.moka_state.proofs.Found.{same-key}
 use Rattle.moka_state.proofs.Sound.{IsSound-overwritten, IsSound-added}
 use Rattle.moka_state.proofs.Stands.{standing-found, standing-absent}
 use Rattle.moka_base.specs.History.{earlier}
-
--- what is known of a value that is there
-pub found-row : {A : Type 0} (P : A → Type 0) (o : Option A) → IsSome o → IfSome o P → (x : A) × (o ≡ Some x) × P x
-found-row P None some known = absurd (cc)
-found-row P (Some x) some known = (x, refl, known)
 
 module _ {K V : Type 0} (eq : K → K → Bool) (laws : IsEquivalence eq) (key : K) (contents : Contents K V) where
   -- a slot that goes with a key among some rows

@@ -6,11 +6,11 @@ use Rattle.std.specs.Duration.{as_nanos}
 use Rattle.std.specs.Cmp.{IsEquivalence}
 use Rattle.moka_base.specs.History.{Event, Ways, Rules, Write, latest, standing, live, live_one, deadline, earlier, ends_at, own_end, has_come}
 use Rattle.moka_base.specs.StandsFor.{StandsFor, writes_of}
-use Rattle.moka_state.specs.declared.rows.Row.{Row}
-use Rattle.moka_state.specs.declared.lives.Lives.{Lives}
-use Rattle.moka_state.specs.Rows.{row_under, NoneIsRowOf}
-use Rattle.moka_state.specs.Lives.{deadline_of, own_of}
-use Rattle.moka_state.specs.Table.{Contents, entries, stored_write, stored_writes}
+use Rattle.moka_rows.specs.declared.rows.Row.{Row}
+use Rattle.moka_ways.specs.declared.lives.Lives.{Lives}
+use Rattle.moka_rows.specs.Rows.{row_under, NoneIsRowOf}
+use Rattle.moka_ways.specs.Lives.{deadline_of, own_of}
+use Rattle.moka_table.specs.Table.{Contents, entries, stored_write, stored_writes}
 use Rattle.moka_state.specs.State.{holdings, IsSound}
 use Rattle.moka_state.proofs.Changes.{ChangesAt, OneEach, option_to_list-same, writes_of-equal}
 use Rattle.moka_state.proofs.Found.{writes_of-row, writes_of-absent, stored-append}

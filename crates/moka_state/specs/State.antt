@@ -4,51 +4,19 @@ use Rattle.std.specs.Arc.{arc_value}
 use Rattle.std.specs.List.{AllByRecursion}
 use Rattle.std.specs.Duration.{as_nanos}
 use Rattle.std.specs.declared.time.Duration.{Duration}
-use Rattle.moka_base.specs.Frequency.{after_notes}
-use Rattle.moka_base.specs.History.{Rules, Ways, Write, Leaving}
+use Rattle.moka_base.specs.History.{Rules, Ways, Write}
 use Rattle.moka_base.specs.StandsFor.{Holdings}
-use Rattle.moka_state.specs.declared.lives.Lives.{Lives}
-use Rattle.moka_state.specs.Maintain.{IsDueFrom}
-use Rattle.moka_state.specs.Table.{Contents, entries, stored_writes, leaving_of}
-use Rattle.moka_state.specs.Ways.{WaysData}
+use Rattle.moka_ways.specs.declared.lives.Lives.{Lives}
+use Rattle.moka_maintain.specs.Maintain.{IsDueFrom}
+use Rattle.moka_table.specs.Table.{Contents, entries, stored_writes, leaving_of}
+use Rattle.moka_ways.specs.Ways.{WaysData}
+pub use Rattle.moka_ways.specs.Means.{Kept, held_by, estimates}
 
 -- the rules of a cache that is built with these settings
 abbrev pub rules_of : {K V : Type 0} → Option ℕ → Option Duration → Option Duration → ℕ → Ways K V → (List ℕ → ℕ → ℕ) → Rules K V
 rules_of max_capacity time_to_live time_to_idle first_number ways frequency = record { time_to_live = option_map as_nanos time_to_live; time_to_idle = option_map as_nanos time_to_idle; max_capacity = max_capacity; first_number = first_number; ways = ways; frequency = frequency }
 
--- what a source estimates of a hash, once it has noted these hashes more
-abbrev pub estimates : {F : Type 0} → (F → ℕ → F) → (F → ℕ → ℕ) → F → List ℕ → ℕ → ℕ
-estimates noted count source more hash = count (after_notes source noted more) hash
-
--- What a state keeps, as data. What it holds is what the types of the cache mean by it.
-pub record Kept (K V H F : Type 0) : Type 0 where
-  pub ways : WaysData H
-  pub source : F
-  pub time_to_live : Option ℕ
-  pub time_to_idle : Option ℕ
-  pub max_capacity : Option ℕ
-  pub admitted : List (Write K V)
-  pub waiting : List (Write K V)
-  pub notices : List (Leaving K V)
-  pub latest : ℕ
-  pub next_number : ℕ
-
 module _ {K V H F : Type 0} where
-  -- what a state holds, by what it keeps, and by the ways and the frequencies that this means
-  abbrev pub held_by : (WaysData H → Ways K V) → (F → List ℕ → ℕ → ℕ) → Kept K V H F → Holdings K V
-  held_by ways_in frequency_by state = record {
-    time_to_live = state.time_to_live;
-    time_to_idle = state.time_to_idle;
-    max_capacity = state.max_capacity;
-    ways = ways_in state.ways;
-    frequency = frequency_by state.source;
-    admitted = state.admitted;
-    waiting = state.waiting;
-    notices = state.notices;
-    latest = state.latest;
-    next_number = state.next_number;
-  }
-
   -- what a state keeps, by its fields
   abbrev pub kept_by : WaysData H → Lives → Option ℕ → Contents K V → F → ℕ → ℕ → Kept K V H F
   kept_by ways lives max_capacity contents source latest next_number = record {

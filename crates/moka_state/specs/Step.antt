@@ -8,7 +8,7 @@ use Rattle.moka_state.specs.declared.step.Step.{Step}
 use Rattle.moka_state.specs.declared.step.Step.TheVariants.{Get, ContainsKey, Insert, Invalidate, RunPendingTasks, EntryCount, WeightedSize, TakeNotice}
 use Rattle.moka_state.specs.declared.step.Reply.{Reply}
 use Rattle.moka_state.specs.declared.step.Reply.TheVariants.{Found, Contains, Done, Counted, Noticed, Refused}
-use Rattle.moka_state.specs.Table.{leaving_of}
+use Rattle.moka_table.specs.Table.{leaving_of}
 
 -- The event that a step is, where it is accepted, and the last of them where it is more than one. Where the capacity
 -- is 0 an insert writes nothing.

@@ -8,23 +8,20 @@ ghost use Rattle.moka_base.specs.Replies.{answer, Found, Contains, Done, Counted
 ghost use Rattle.moka_base.specs.SizeLaws.{WeighsOnes};
 ghost use Rattle.moka_base.specs.StandsFor.{StandsFor, Follows, AtEachHistory};
 ghost use Rattle.moka_base.specs.Policy.{is_lru};
-ghost use Rattle.moka_state.specs.Table.{leaving_of};
+ghost use Rattle.moka_table.specs.Table.{leaving_of};
 ghost use Rattle.moka_state.specs.State.{Kept, kept_by, all_writes, rules_of, IsSound};
-ghost use Rattle.moka_state.specs.Ways.{hash_by};
+ghost use Rattle.moka_ways.specs.Ways.{hash_by};
 
-#[cfg(test)]
-pub(crate) mod tests;
-
-use crate::list_rows::ListRows;
-use crate::lives::{Lives, earlier};
-use crate::maintain::maintain;
-use crate::means::Means;
-use crate::rows::{EntryInfo, RowStore};
-use crate::shared_key::{IntoShared, Owned};
-use crate::table::Table;
-use crate::ways::Ways;
 use moka_base::notification::{Notice, RemovalCause};
 use moka_base::policy::{CacheTypes, EvictionPolicy, FrequencySource, Refused};
+use moka_maintain::maintain::maintain;
+use moka_rows::list_rows::ListRows;
+use moka_rows::rows::{EntryInfo, RowStore};
+use moka_table::shared_key::{IntoShared, Owned};
+use moka_table::table::Table;
+use moka_ways::lives::{Lives, earlier};
+use moka_ways::means::Means;
+use moka_ways::ways::Ways;
 use std::alloc::Global;
 use std::hash::Hash;
 use std::marker::Model;

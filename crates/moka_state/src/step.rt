@@ -7,14 +7,11 @@ ghost use Rattle.moka_base.specs.StandsFor.{StandsFor, AtEachHistory};
 ghost use Rattle.moka_state.specs.State.{all_writes};
 ghost use Rattle.moka_state.specs.Step.{IsReplyTo, StepKeeps, ReplyKeeps, after, IsRun, after_all};
 
-#[cfg(test)]
-mod tests;
-
-use crate::means::Means;
-use crate::rows::RowStore;
 use crate::state::{InsertRefused, State};
 use moka_base::notification::Notice;
 use moka_base::policy::{CacheTypes, Refused};
+use moka_rows::rows::RowStore;
+use moka_ways::means::Means;
 use std::collections::VecDeque;
 use std::hash::Hash;
 use std::sync::Arc;

@@ -1,9 +1,10 @@
 use Rattle.std.proofs.Common.{max, ◌∙◌, ap, sym, refl}
 use Rattle.std.specs.Arc.{arc_value}
 use Rattle.moka_base.specs.History.{has_come}
-use Rattle.moka_state.specs.Lives.{deadline_of}
+use Rattle.moka_ways.specs.Lives.{deadline_of}
 use Rattle.moka_state.proofs.Found.{same-key}
-use Rattle.moka_state.proofs.Sound.{of-row, IsSound-touched}
+use Rattle.moka_table.proofs.Callers.{of-row}
+use Rattle.moka_state.proofs.Sound.{IsSound-touched}
 use Rattle.moka_state.proofs.Stands.{standing-absent, live-found, live-absent}
 use Rattle.moka_state.proofs.Cases.{estimates-noted, stands-after-miss, stands-after-expired, stands-after-hit}
 use Rattle.moka_state.proofs.state.State.get.Goals as goal

@@ -1,7 +1,7 @@
 use Rattle.std.proofs.Common.{cond, ◌∙◌, ap}
 use Rattle.moka_base.specs.declared.notification.RemovalCause.TheVariants.{Expired, Explicit}
 use Rattle.moka_base.specs.History.{has_come}
-use Rattle.moka_state.specs.Lives.{deadline_of}
+use Rattle.moka_ways.specs.Lives.{deadline_of}
 use Rattle.moka_state.proofs.Found.{same-key}
 use Rattle.moka_state.proofs.Sound.{IsSound-taken}
 use Rattle.moka_state.proofs.Stands.{standing-absent}

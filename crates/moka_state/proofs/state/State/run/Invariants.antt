@@ -7,7 +7,7 @@ use Rattle.moka_base.specs.StandsFor.{StandsFor}
 use Rattle.moka_state.specs.declared.step.Step.{Step}
 use Rattle.moka_state.specs.State.{held_by, estimates}
 use Rattle.moka_state.specs.Step.{StepKeeps, IsRun, after_all}
-use Rattle.moka_state.specs.Ways.{hash_by, ways_by}
+use Rattle.moka_ways.specs.Ways.{hash_by, ways_by}
 use Rattle.moka_state.proofs.state.State.run.Given as goal
 
 -- The steps done so far and their replies are a run, and the state stands for what it leaves; there is room for a

@@ -1,5 +1,5 @@
 use Rattle.std.proofs.Common.{ap}
-use Rattle.moka_state.specs.Table.{stored_writes}
+use Rattle.moka_table.specs.Table.{stored_writes}
 use Rattle.moka_state.proofs.Maintained.{stands-after-maintain, all-live, stored-within}
 use Rattle.moka_state.proofs.Counts.{writes-within}
 use Rattle.moka_state.proofs.Sound.{IsSound-maintained}

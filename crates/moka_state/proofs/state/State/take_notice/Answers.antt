@@ -1,6 +1,6 @@
 use Rattle.std.proofs.Common.{◌≡◌, ◌++◌, List, [], drop, map, Option, Some, None, ◌∙◌, ap, sym, refl}
 use Rattle.std.specs.Option.{option_to_list}
-use Rattle.moka_state.specs.Table.{leaving_of, stored_writes}
+use Rattle.moka_table.specs.Table.{leaving_of, stored_writes}
 use Rattle.moka_state.proofs.Steps.{stands-after-take_notice}
 use Rattle.moka_state.proofs.state.State.take_notice.Goals as goal
 

@@ -1,6 +1,6 @@
 use Rattle.std.proofs.Common.{◌≡◌, ◌∷◌, max, sym, arith}
 use Rattle.moka_base.specs.History.{Maintain}
-use Rattle.moka_state.specs.Table.{entries}
+use Rattle.moka_table.specs.Table.{entries}
 use Rattle.moka_state.proofs.Cases.{stands-same}
 use Rattle.moka_state.proofs.Maintained.{stands-after-maintain}
 use Rattle.moka_state.proofs.Slots.{goes_with-place, goes_with-now, IsSound-put, where-place, where-now, stands-after-put, flush-not_due, flush-due, flush-done, after-unflushed, after-flushed}
