@@ -1,0 +1,9 @@
+-- The definitions that the clauses cite, passed on to the crates above.
+pub use Rattle.mokabox_lines.specs.Answer
+pub use Rattle.mokabox_lines.specs.Command
+pub use Rattle.mokabox_lines.specs.Settings
+pub mod Events
+pub mod Program
+pub mod Script
+pub mod Session
+pub mod Status
