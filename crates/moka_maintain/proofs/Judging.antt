@@ -1,8 +1,8 @@
 -- What a judgement of the waiting rows finds and does, row by row.
 use Rattle.std.proofs.Common.{◌≡◌, ℕ, suc, ◌+◌, ◌*◌, ◌≤◌, true, false, Option, Some, None, List, [], ◌∷◌, ◌++◌, length, refl, sym, ap, ◌∙◌, arith, length-append}
 use Rattle.std.proofs.lemmas.Bool.{cond-false}
-use Rattle.moka_base.specs.Maintenance.{total, fits, front}
-use Rattle.moka_base.proofs.Maintenance.{total-append, front-fits}
+use Rattle.moka_model.specs.Maintenance.{total, fits, front}
+use Rattle.moka_model.proofs.Callers.{total-append, front-fits}
 use Rattle.moka_rows.specs.declared.rows.Row.{Row}
 use Rattle.moka_rows.specs.Rows.{first_number}
 use Rattle.moka_table.specs.Table.{weight_of}

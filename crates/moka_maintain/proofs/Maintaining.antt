@@ -1,8 +1,8 @@
 -- What a row's leaving does to a table, and what the leaving of the least recently used rows does.
 use Rattle.std.proofs.Common.{◌≡◌, ℕ, suc, ◌≤◌, Some, None, [], ◌∷◌, ◌++◌, length, take, drop, refl, sym, ap, ◌∙◌, arith, append_assoc}
 use Rattle.std.specs.Option.{IfSome}
-use Rattle.moka_base.specs.declared.notification.RemovalCause.{RemovalCause}
-use Rattle.moka_base.specs.declared.notification.RemovalCause.TheVariants.{Size}
+use Rattle.moka_model.specs.declared.notification.RemovalCause.{RemovalCause}
+use Rattle.moka_model.specs.declared.notification.RemovalCause.TheVariants.{Size}
 use Rattle.moka_rows.specs.declared.rows.Row.{Row}
 use Rattle.moka_rows.specs.Rows.{row_under, without_row, first_number}
 use Rattle.moka_table.specs.Table.{Contents, entries, TakesRow}

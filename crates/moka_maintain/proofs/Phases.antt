@@ -4,12 +4,12 @@ use Rattle.std.specs.List.{All}
 use Rattle.std.proofs.lemmas.Bool.{true≢false}
 use Rattle.std.proofs.lemmas.List.{append-nil, map-append}
 use Rattle.std.proofs.lemmas.List.Elements.{All-head, All-tail, All-take, All-drop, filter_passes, recursion_from_All, All-from_recursion}
-use Rattle.moka_base.specs.declared.notification.Notice.{Notice}
-use Rattle.moka_base.specs.declared.notification.RemovalCause.TheVariants.{Expired, Size}
-use Rattle.moka_base.specs.History.{has_come}
-use Rattle.moka_base.specs.Maintenance.{Queues, front, judged, leaving_in, after_parts}
-use Rattle.moka_base.proofs.Maintenance.{admitted_after, after-judged, All-admitted_after, within, too_much, leaving-parts, after-parts}
-use Rattle.moka_base.proofs.MaintenanceOrder.{All-leaving-judged}
+use Rattle.moka_model.specs.declared.notification.Notice.{Notice}
+use Rattle.moka_model.specs.declared.notification.RemovalCause.TheVariants.{Expired, Size}
+use Rattle.moka_model.specs.History.{has_come}
+use Rattle.moka_model.specs.Maintenance.{Queues, front, judged, leaving_in, after_parts}
+use Rattle.moka_model.proofs.Callers.{admitted_after, after-judged, All-admitted_after, within, too_much, leaving-parts, after-parts}
+use Rattle.moka_model.proofs.Callers.{All-leaving-judged}
 use Rattle.moka_ways.specs.declared.lives.Lives.{Lives}
 use Rattle.moka_rows.specs.declared.rows.Row.{Row}
 use Rattle.moka_ways.specs.Lives.{deadline_of}

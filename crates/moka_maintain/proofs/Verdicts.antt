@@ -2,9 +2,9 @@
 use Rattle.std.proofs.Common.{◌≡◌, ℕ, ◌==◌, ◌||◌, ◌+◌, Bool, true, false, cond, Option, Some, None, List, [], ◌∷◌, ◌++◌, take, drop, refl, sym, ap, subst, ◌∙◌}
 use Rattle.std.specs.Option.{IfSome, IsSome}
 use Rattle.std.proofs.lemmas.Bool.{cond-true, cond-false}
-use Rattle.moka_base.specs.declared.notification.RemovalCause.TheVariants.{Size}
-use Rattle.moka_base.specs.Maintenance.{Part, fits, front, judge, judged, leaving_in, after_parts}
-use Rattle.moka_base.proofs.Maintenance.{admitting, dropping}
+use Rattle.moka_model.specs.declared.notification.RemovalCause.TheVariants.{Size}
+use Rattle.moka_model.specs.Maintenance.{Part, fits, front, judge, judged, leaving_in, after_parts}
+use Rattle.moka_model.proofs.Callers.{admitting, dropping}
 use Rattle.moka_rows.specs.declared.rows.Row.{Row}
 use Rattle.moka_rows.specs.Rows.{row_under, without_row, first_number, NumbersDiffer}
 use Rattle.moka_table.specs.Table.{Contents, entries, weight_of, TakesRow}

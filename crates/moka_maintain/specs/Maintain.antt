@@ -1,11 +1,11 @@
 -- What a maintenance does with the rows.
 use Rattle.std.specs.Prelude.{◌≡◌, ℕ, ◌+◌, Bool, true, not, ◌||◌, if◌then◌else◌, nat_le, Option, List, [], ◌∷◌, ◌++◌, filter, map, None, Some}
 use Rattle.std.specs.List.{AllByRecursion}
-use Rattle.moka_base.specs.declared.notification.Notice.{Notice}
-use Rattle.moka_base.specs.declared.notification.RemovalCause.{RemovalCause}
-use Rattle.moka_base.specs.declared.notification.RemovalCause.TheVariants.{Expired, Size}
-use Rattle.moka_base.specs.History.{has_come}
-use Rattle.moka_base.specs.Maintenance.{Queues, Part, total, judge, judged, parts, leaving_in, after_parts}
+use Rattle.moka_model.specs.declared.notification.Notice.{Notice}
+use Rattle.moka_model.specs.declared.notification.RemovalCause.{RemovalCause}
+use Rattle.moka_model.specs.declared.notification.RemovalCause.TheVariants.{Expired, Size}
+use Rattle.moka_model.specs.History.{has_come}
+use Rattle.moka_model.specs.Maintenance.{Queues, Part, total, judge, judged, parts, leaving_in, after_parts}
 use Rattle.moka_ways.specs.declared.lives.Lives.{Lives}
 use Rattle.moka_rows.specs.declared.rows.Row.{Row}
 use Rattle.moka_ways.specs.Lives.{deadline_of}

@@ -1,17 +1,17 @@
 //! The maintenance of a cache: the expired leave, then what is over the capacity, and then each key that waits is
 //! admitted or leaves.
 ghost use Rattle.std.specs.Prelude.{◌≡◌, ℕ, ◌+◌, ◌-◌, ◌≤◌, Some, List, [], ◌++◌, length, take, drop};
-ghost use Rattle.moka_base.specs.declared.notification.RemovalCause.TheVariants.{Expired, Size};
-ghost use Rattle.moka_base.specs.Maintenance.{front, leaving_in, after_parts};
-ghost use Rattle.moka_base.specs.Policy.{is_lru};
+ghost use Rattle.moka_model.specs.declared.notification.RemovalCause.TheVariants.{Expired, Size};
+ghost use Rattle.moka_model.specs.Maintenance.{front, leaving_in, after_parts};
+ghost use Rattle.moka_policy.specs.Policy.{is_lru};
 ghost use Rattle.moka_rows.specs.declared.rows.Row.{Row};
 ghost use Rattle.moka_rows.specs.Rows.{first_number, NumbersDiffer};
 ghost use Rattle.moka_table.specs.Table.{entries, weight_of};
 ghost use Rattle.moka_maintain.specs.Maintain.{rows_in, other, living, dead, notices_for, is_within, rows_of, frequencies, hash_wins, judgements, JudgesFirst, IsDueFrom, IsMaintained};
 
-use moka_base::frequency::FrequencySource;
-use moka_base::notification::RemovalCause;
-use moka_base::policy::EvictionPolicy;
+use moka_policy::frequency::FrequencySource;
+use moka_model::notification::RemovalCause;
+use moka_policy::policy::EvictionPolicy;
 use moka_rows::rows::RowStore;
 use moka_table::table::Table;
 use moka_ways::lives::{Lives, earlier, has_come};

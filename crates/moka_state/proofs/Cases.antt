@@ -6,12 +6,12 @@ use Rattle.std.specs.Cmp.{IsEquivalence}
 use Rattle.std.proofs.lemmas.List.{map-append, append-nil}
 use Rattle.std.specs.Option.{option_to_list}
 use Rattle.std.specs.List.{filter}
-use Rattle.moka_base.specs.declared.notification.Notice.{Notice}
-use Rattle.moka_base.specs.declared.notification.RemovalCause.{RemovalCause}
-use Rattle.moka_base.specs.declared.notification.RemovalCause.TheVariants.{Expired, Explicit, Replaced}
-use Rattle.moka_base.specs.History.{Event, Ways, Get, Insert, Invalidate, Rules, Write, Leaving, standing, deadline, hit, rest, given, after_look, after_write, left, used_where, is_hit, is_of, is_live, has_come, stores_nothing, is_flush_due}
-use Rattle.moka_base.specs.Maintenance.{Queues}
-use Rattle.moka_base.specs.StandsFor.{StandsFor, writes, writes_of}
+use Rattle.moka_model.specs.declared.notification.Notice.{Notice}
+use Rattle.moka_model.specs.declared.notification.RemovalCause.{RemovalCause}
+use Rattle.moka_model.specs.declared.notification.RemovalCause.TheVariants.{Expired, Explicit, Replaced}
+use Rattle.moka_model.specs.History.{Event, Ways, Get, Insert, Invalidate, Rules, Write, Leaving, standing, deadline, hit, rest, given, after_look, after_write, left, used_where, is_hit, is_of, is_live, has_come, stores_nothing, is_flush_due}
+use Rattle.moka_model.specs.Maintenance.{Queues}
+use Rattle.moka_model.specs.StandsFor.{StandsFor, writes, writes_of}
 use Rattle.moka_rows.specs.declared.rows.Row.{Row}
 use Rattle.moka_rows.specs.declared.rows.EntryInfo.{EntryInfo}
 use Rattle.moka_ways.specs.declared.lives.Lives.{Lives}

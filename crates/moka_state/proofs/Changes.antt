@@ -4,8 +4,8 @@ use Rattle.std.proofs.lemmas.List.{append-nil}
 use Rattle.std.specs.Option.{option_to_list}
 use Rattle.std.specs.Cmp.{IsEquivalence}
 use Rattle.std.proofs.lemmas.List.Elements.{filter-append}
-use Rattle.moka_base.specs.History.{Write}
-use Rattle.moka_base.specs.StandsFor.{writes_of}
+use Rattle.moka_model.specs.History.{Write}
+use Rattle.moka_model.specs.StandsFor.{writes_of}
 
 -- a list around an element that has one element at most has that one alone
 pub alone-before : {A : Type 0} (xs ys : List A) (x : A) (o : Option A) → xs ++ x ∷ ys ≡ option_to_list o → xs ≡ []

@@ -2,11 +2,11 @@
 use Rattle.std.proofs.Common.{◌≡◌, ℕ, ◌+◌, ◌≤◌, Bool, List, ◌∷◌, ◌++◌, length, Option, Some, None, refl, sym, ap, ◌∙◌, arith, length-append}
 use Rattle.std.specs.Option.{IfSome}
 use Rattle.std.proofs.lemmas.List.{length-map, map-append}
-use Rattle.moka_base.specs.History.{Event, Maintain, Rules, Ways, Write, queues, flush_point, entry_count, weighted_size}
-use Rattle.moka_base.specs.Maintenance.{total}
-use Rattle.moka_base.specs.SizeLaws.{WeighsOnes}
-use Rattle.moka_base.specs.StandsFor.{Holdings, StandsFor, writes}
-use Rattle.moka_base.proofs.Sizes.{entry_count-le, maintained-entry_count-le}
+use Rattle.moka_model.specs.History.{Event, Maintain, Rules, Ways, Write, queues, flush_point, entry_count, weighted_size}
+use Rattle.moka_model.specs.Maintenance.{total}
+use Rattle.moka_model.specs.SizeLaws.{WeighsOnes}
+use Rattle.moka_model.specs.StandsFor.{Holdings, StandsFor, writes}
+use Rattle.moka_model.proofs.Callers.{entry_count-le, maintained-entry_count-le}
 use Rattle.moka_ways.specs.declared.lives.Lives.{Lives}
 use Rattle.moka_rows.specs.declared.rows.Row.{Row}
 use Rattle.moka_table.specs.Table.{Contents, entries, weight_of, stored_write, stored_writes}

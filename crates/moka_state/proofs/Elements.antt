@@ -2,9 +2,9 @@
 use Rattle.std.proofs.Common.{ℕ, Bool, Option, List}
 use Rattle.std.specs.List.{All, AllByRecursion}
 use Rattle.std.proofs.lemmas.List.Elements.{recursion_from_All, All-from_recursion}
-use Rattle.moka_base.specs.Maintenance.{Queues, Part, parts, leaving_in, after_parts}
-use Rattle.moka_base.specs.MaintenanceLaws.{everything}
-use Rattle.moka_base.proofs.MaintenanceKept.{InParts, InParts-parts, All-leaving_in, All-after_parts}
+use Rattle.moka_model.specs.Maintenance.{Queues, Part, parts, leaving_in, after_parts}
+use Rattle.moka_model.specs.MaintenanceLaws.{everything}
+use Rattle.moka_model.proofs.Callers.{InParts, InParts-parts, All-leaving_in, All-after_parts}
 use Rattle.moka_rows.proofs.Callers.{all-front, all-back}
 
 module _ {X : Type 0} (P : X → Type 0) (weight : X → ℕ) (capacity : Option ℕ) (wins : X → List X → Bool) (is_live : X → Bool) (q : Queues X) (all : AllByRecursion P (everything q)) where

@@ -4,8 +4,8 @@ use Rattle.std.specs.Arc.{arc_value}
 use Rattle.std.specs.List.{filter, AllByRecursion}
 use Rattle.std.specs.Cmp.{IsEquivalence}
 use Rattle.std.proofs.lemmas.List.{map-append}
-use Rattle.moka_base.specs.History.{Write}
-use Rattle.moka_base.specs.StandsFor.{writes_of}
+use Rattle.moka_model.specs.History.{Write}
+use Rattle.moka_model.specs.StandsFor.{writes_of}
 use Rattle.moka_rows.specs.declared.rows.Row.{Row}
 use Rattle.moka_rows.specs.Rows.{row_under, with_row, without_row, is_row_of, IsRowOf, NoneIsRowOf}
 use Rattle.moka_table.specs.Table.{Contents, entries, stored_write, stored_writes, UsesRow, TakesRow}

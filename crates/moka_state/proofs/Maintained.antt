@@ -6,14 +6,14 @@ use Rattle.std.specs.Cmp.{IsEquivalence}
 use Rattle.std.specs.Duration.{as_nanos}
 use Rattle.std.proofs.lemmas.List.{append-nil, map-append}
 use Rattle.std.proofs.lemmas.List.Elements.{All-same, recursion_from_All}
-use Rattle.moka_base.specs.declared.notification.RemovalCause.TheVariants.{Expired, Size}
-use Rattle.moka_base.specs.History.{Event, Maintain, Rules, Ways, Write, Leaving, notes, frequency, wins, latest, ends_at, earlier, own_end, has_come, is_live, leaving_of as write_leaving, queues, maintained, let_go, standing, next_number}
-use Rattle.moka_base.specs.Maintenance.{Queues, Part, total, parts, leaving_in, after_parts}
-use Rattle.moka_base.specs.StandsFor.{StandsFor, writes_of}
-use Rattle.moka_base.proofs.Maintenance.{All-live-after, total-after-le, after-parts}
-use Rattle.moka_base.proofs.MaintenanceBy.{total-by, part_by, leaving_in-by, after_parts-by, parts-by}
-use Rattle.moka_base.proofs.MaintenanceWins.{parts-same}
-use Rattle.moka_base.proofs.QueuesHold.{held-maintained}
+use Rattle.moka_model.specs.declared.notification.RemovalCause.TheVariants.{Expired, Size}
+use Rattle.moka_model.specs.History.{Event, Maintain, Rules, Ways, Write, Leaving, notes, frequency, wins, latest, ends_at, earlier, own_end, has_come, is_live, leaving_of as write_leaving, queues, maintained, let_go, standing, next_number}
+use Rattle.moka_model.specs.Maintenance.{Queues, Part, total, parts, leaving_in, after_parts}
+use Rattle.moka_model.specs.StandsFor.{StandsFor, writes_of}
+use Rattle.moka_model.proofs.Callers.{All-live-after, total-after-le, after-parts}
+use Rattle.moka_model.proofs.Callers.{total-by, part_by, leaving_in-by, after_parts-by, parts-by}
+use Rattle.moka_model.proofs.Callers.{parts-same}
+use Rattle.moka_model.proofs.Callers.{held-maintained}
 use Rattle.moka_ways.specs.declared.lives.Lives.{Lives}
 use Rattle.moka_rows.specs.declared.rows.Row.{Row}
 use Rattle.moka_ways.specs.Lives.{own_of}

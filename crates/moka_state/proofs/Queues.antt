@@ -5,9 +5,9 @@ use Rattle.std.specs.List.{filter}
 use Rattle.std.specs.Cmp.{IsEquivalence}
 use Rattle.std.proofs.lemmas.List.{append-nil, map-append}
 use Rattle.std.proofs.lemmas.List.Elements.{filter-append}
-use Rattle.moka_base.specs.History.{Rules, Write, changed_where, moved_last, is_of, used_where, opened_by, written_in, removed_in, after_write}
-use Rattle.moka_base.specs.Maintenance.{Queues}
-use Rattle.moka_base.specs.StandsFor.{writes_of}
+use Rattle.moka_model.specs.History.{Rules, Write, changed_where, moved_last, is_of, used_where, opened_by, written_in, removed_in, after_write}
+use Rattle.moka_model.specs.Maintenance.{Queues}
+use Rattle.moka_model.specs.StandsFor.{writes_of}
 use Rattle.moka_rows.specs.declared.rows.Row.{Row}
 use Rattle.moka_rows.specs.Rows.{row_under, with_row, without_row}
 use Rattle.moka_table.specs.Table.{Contents, entries, stored_write, stored_writes, UsesRow, TakesRow}

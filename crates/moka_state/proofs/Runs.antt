@@ -1,7 +1,7 @@
 -- Runs that go on by one step.
 use Rattle.std.proofs.Common.{◌≡◌, Bool, List, [], ◌∷◌, ◌++◌, suc, length, drop, refl, sym, ap, subst, arith}
-use Rattle.moka_base.specs.History.{Event, Rules}
-use Rattle.moka_base.specs.StandsFor.{Holdings, StandsFor}
+use Rattle.moka_model.specs.History.{Event, Rules}
+use Rattle.moka_model.specs.StandsFor.{Holdings, StandsFor}
 use Rattle.moka_state.specs.declared.step.Step.{Step}
 use Rattle.moka_state.specs.declared.step.Reply.{Reply}
 use Rattle.moka_state.specs.Step.{IsReplyTo, IsRun, after, after_all}

@@ -6,9 +6,9 @@ use Rattle.std.specs.declared.alloc.Global.{Global}
 use Rattle.std.specs.Cmp.{IsEquivalence}
 use Rattle.std.proofs.lemmas.Bool.{le-leb, lt-leb}
 use Rattle.std.proofs.lemmas.List.{length-map}
-use Rattle.moka_base.specs.History.{Event, Ways, frequency as notes_frequency, Insert, Maintain, Rules, Write, latest, standing, queues, leaves_in, stores_nothing, is_flush_due, after_insert}
-use Rattle.moka_base.specs.StandsFor.{StandsFor}
-use Rattle.moka_base.proofs.QueuesHold.{maintained-none_waits}
+use Rattle.moka_model.specs.History.{Event, Ways, frequency as notes_frequency, Insert, Maintain, Rules, Write, latest, standing, queues, leaves_in, stores_nothing, is_flush_due, after_insert}
+use Rattle.moka_model.specs.StandsFor.{StandsFor}
+use Rattle.moka_model.proofs.Callers.{maintained-none_waits}
 use Rattle.moka_ways.specs.declared.lives.Lives.{Lives}
 use Rattle.moka_rows.specs.declared.rows.Row.{Row}
 use Rattle.moka_rows.specs.declared.rows.EntryInfo.{EntryInfo}
@@ -26,7 +26,7 @@ use Rattle.moka_state.proofs.Cases.{stands-after-overwrite, stands-after-open}
 use Rattle.moka_state.proofs.Found.{same-key}
 use Rattle.moka_state.proofs.Sound.{IsSound-overwritten, IsSound-added}
 use Rattle.moka_state.proofs.Stands.{standing-found, standing-absent}
-use Rattle.moka_base.specs.History.{earlier}
+use Rattle.moka_model.specs.History.{earlier}
 
 module _ {K V : Type 0} (eq : K → K → Bool) (laws : IsEquivalence eq) (key : K) (contents : Contents K V) where
   -- a slot that goes with a key among some rows

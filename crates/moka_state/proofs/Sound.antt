@@ -1,14 +1,14 @@
 -- What a state keeps to stays so: after a change of one row, and after a maintenance.
 use Rattle.std.proofs.Common.{◌≡◌, ℕ, Bool, true, List, [], ◌∷◌, ◌++◌, map, Option, Some, sym, ap, ◌∙◌, append_assoc}
 use Rattle.std.specs.Arc.{arc_value}
-use Rattle.moka_base.specs.declared.notification.Notice.{Notice}
+use Rattle.moka_model.specs.declared.notification.Notice.{Notice}
 use Rattle.moka_rows.specs.declared.rows.EntryInfo.{EntryInfo}
 use Rattle.moka_state.specs.State.{IsSound}
 use Rattle.std.specs.List.{AllByRecursion}
 use Rattle.moka_rows.specs.declared.rows.Row.{Row}
-use Rattle.moka_base.specs.declared.notification.RemovalCause.{RemovalCause}
-use Rattle.moka_base.specs.History.{earlier, has_come}
-use Rattle.moka_base.specs.Maintenance.{leaving_in, after_parts}
+use Rattle.moka_model.specs.declared.notification.RemovalCause.{RemovalCause}
+use Rattle.moka_model.specs.History.{earlier, has_come}
+use Rattle.moka_model.specs.Maintenance.{leaving_in, after_parts}
 use Rattle.moka_ways.specs.declared.lives.Lives.{Lives}
 use Rattle.moka_ways.specs.Lives.{deadline_of}
 use Rattle.moka_maintain.specs.Maintain.{is_alive, notice_at, rows_of, row_wins, row_parts, IsDueFrom, IsMaintained}

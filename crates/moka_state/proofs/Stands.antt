@@ -4,8 +4,8 @@ use Rattle.std.specs.Option.{option_to_list}
 use Rattle.std.specs.Arc.{arc_value}
 use Rattle.std.specs.Duration.{as_nanos}
 use Rattle.std.specs.Cmp.{IsEquivalence}
-use Rattle.moka_base.specs.History.{Event, Ways, Rules, Write, latest, standing, live, live_one, deadline, earlier, ends_at, own_end, has_come}
-use Rattle.moka_base.specs.StandsFor.{StandsFor, writes_of}
+use Rattle.moka_model.specs.History.{Event, Ways, Rules, Write, latest, standing, live, live_one, deadline, earlier, ends_at, own_end, has_come}
+use Rattle.moka_model.specs.StandsFor.{StandsFor, writes_of}
 use Rattle.moka_rows.specs.declared.rows.Row.{Row}
 use Rattle.moka_ways.specs.declared.lives.Lives.{Lives}
 use Rattle.moka_rows.specs.Rows.{row_under, NoneIsRowOf}

@@ -4,10 +4,10 @@ use Rattle.std.specs.Option.{option_to_list}
 use Rattle.std.specs.Cmp.{IsEquivalence}
 use Rattle.std.proofs.lemmas.List.{append-nil, drop-append-le, drop-drop, drop_all}
 use Rattle.std.proofs.lemmas.Bool.{leb-true, leb-false}
-use Rattle.moka_base.specs.declared.notification.RemovalCause.TheVariants.{Explicit, Replaced}
-use Rattle.moka_base.specs.History.{Event, Ways, notes, Get, ContainsKey, Insert, Invalidate, Maintain, Skip, Measure, TakeNotice, Rules, Write, Leaving, latest, standing, queues, used_where, is_hit, written_in, removed_in, after_look, after_write, left, leaving, leavings, taken, noticed, drawn, next_number, stores_nothing, is_flush_due, IsHistory}
-use Rattle.moka_base.specs.Maintenance.{Queues}
-use Rattle.moka_base.specs.StandsFor.{Holdings, StandsFor, writes, writes_of}
+use Rattle.moka_model.specs.declared.notification.RemovalCause.TheVariants.{Explicit, Replaced}
+use Rattle.moka_model.specs.History.{Event, Ways, notes, Get, ContainsKey, Insert, Invalidate, Maintain, Skip, Measure, TakeNotice, Rules, Write, Leaving, latest, standing, queues, used_where, is_hit, written_in, removed_in, after_look, after_write, left, leaving, leavings, taken, noticed, drawn, next_number, stores_nothing, is_flush_due, IsHistory}
+use Rattle.moka_model.specs.Maintenance.{Queues}
+use Rattle.moka_model.specs.StandsFor.{Holdings, StandsFor, writes, writes_of}
 use Rattle.moka_state.proofs.Changes.{ChangesAt, OneEach, writes_of-equal, option_to_list-same}
 
 max-zero : (n : ℕ) → max n 0 ≡ n

@@ -4,8 +4,8 @@ use Rattle.std.specs.Arc.{arc_value}
 use Rattle.std.specs.List.{AllByRecursion}
 use Rattle.std.specs.Duration.{as_nanos}
 use Rattle.std.specs.declared.time.Duration.{Duration}
-use Rattle.moka_base.specs.History.{Rules, Ways, Write}
-use Rattle.moka_base.specs.StandsFor.{Holdings}
+use Rattle.moka_model.specs.History.{Rules, Ways, Write}
+use Rattle.moka_model.specs.StandsFor.{Holdings}
 use Rattle.moka_ways.specs.declared.lives.Lives.{Lives}
 use Rattle.moka_maintain.specs.Maintain.{IsDueFrom}
 use Rattle.moka_table.specs.Table.{Contents, entries, stored_writes, leaving_of}

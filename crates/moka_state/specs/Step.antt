@@ -1,9 +1,9 @@
 -- Steps and replies as data, and what a run of steps answers.
 use Rattle.std.specs.Prelude.{⊤, Bool, if◌then◌else◌, List, [], ◌∷◌, Some, option_map}
 use Rattle.std.specs.Arc.{arc_value}
-use Rattle.moka_base.specs.declared.policy.Refused.TheVariants.{OutOfMemory, NumbersUsedUp}
-use Rattle.moka_base.specs.History.{Event, Quantity, Rules, stores_nothing, after_insert}
-use Rattle.moka_base.specs.Replies.{Answer, answer, IsAnswer, MayTakeMemory, IsOutOfNumbers}
+use Rattle.moka_policy.specs.declared.policy.Refused.TheVariants.{OutOfMemory, NumbersUsedUp}
+use Rattle.moka_model.specs.History.{Event, Quantity, Rules, stores_nothing, after_insert}
+use Rattle.moka_model.specs.Replies.{Answer, answer, IsAnswer, MayTakeMemory, IsOutOfNumbers}
 use Rattle.moka_state.specs.declared.step.Step.{Step}
 use Rattle.moka_state.specs.declared.step.Step.TheVariants.{Get, ContainsKey, Insert, Invalidate, RunPendingTasks, EntryCount, WeightedSize, TakeNotice}
 use Rattle.moka_state.specs.declared.step.Reply.{Reply}

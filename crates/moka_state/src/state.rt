@@ -2,18 +2,18 @@
 ghost use Rattle.std.specs.Prelude.{◌≡◌, ◌≢◌, ◌+◌, ◌≤◌, ℕ, true, false, ◌↔◌, ◌∷◌, [], length, min, map, option_map, is_some, IsOk, IfOk, IfErr, IfSome, OnOk, OnErr, None, Some, IsErrAnd};
 ghost use Rattle.std.specs.Arc.{arc_value};
 ghost use Rattle.std.specs.List.{AllByRecursion};
-ghost use Rattle.moka_base.specs.History.{Event, Get, ContainsKey, Invalidate, Maintain, Measure, EntryCount, WeightedSize, TakeNotice, latest, is_live, live, noticed, greatest_number, flush_point, stores_nothing, after_insert};
-ghost use Rattle.moka_base.specs.Maintenance.{total};
-ghost use Rattle.moka_base.specs.Replies.{answer, Found, Contains, Done, Counted, Noticed, IsAnswer};
-ghost use Rattle.moka_base.specs.SizeLaws.{WeighsOnes};
-ghost use Rattle.moka_base.specs.StandsFor.{StandsFor, Follows, AtEachHistory};
-ghost use Rattle.moka_base.specs.Policy.{is_lru};
+ghost use Rattle.moka_model.specs.History.{Event, Get, ContainsKey, Invalidate, Maintain, Measure, EntryCount, WeightedSize, TakeNotice, latest, is_live, live, noticed, greatest_number, flush_point, stores_nothing, after_insert};
+ghost use Rattle.moka_model.specs.Maintenance.{total};
+ghost use Rattle.moka_model.specs.Replies.{answer, Found, Contains, Done, Counted, Noticed, IsAnswer};
+ghost use Rattle.moka_model.specs.SizeLaws.{WeighsOnes};
+ghost use Rattle.moka_model.specs.StandsFor.{StandsFor, Follows, AtEachHistory};
+ghost use Rattle.moka_policy.specs.Policy.{is_lru};
 ghost use Rattle.moka_table.specs.Table.{leaving_of};
 ghost use Rattle.moka_state.specs.State.{Kept, kept_by, all_writes, rules_of, IsSound};
 ghost use Rattle.moka_ways.specs.Ways.{hash_by};
 
-use moka_base::notification::{Notice, RemovalCause};
-use moka_base::policy::{CacheTypes, EvictionPolicy, FrequencySource, Refused};
+use moka_model::notification::{Notice, RemovalCause};
+use moka_policy::policy::{CacheTypes, EvictionPolicy, FrequencySource, Refused};
 use moka_maintain::maintain::maintain;
 use moka_rows::list_rows::ListRows;
 use moka_rows::rows::{EntryInfo, RowStore};

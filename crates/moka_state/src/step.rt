@@ -1,15 +1,15 @@
 //! Calls and their answers as data, and runs of them.
 ghost use Rattle.std.specs.Prelude.{◌≡◌, ◌+◌, ◌≤◌, length, IfOk, IfErr, IfSome, OnErr};
 ghost use Rattle.std.specs.List.{AllByRecursion};
-ghost use Rattle.moka_base.specs.History.{flush_point};
-ghost use Rattle.moka_base.specs.SizeLaws.{WeighsOnes};
-ghost use Rattle.moka_base.specs.StandsFor.{StandsFor, AtEachHistory};
+ghost use Rattle.moka_model.specs.History.{flush_point};
+ghost use Rattle.moka_model.specs.SizeLaws.{WeighsOnes};
+ghost use Rattle.moka_model.specs.StandsFor.{StandsFor, AtEachHistory};
 ghost use Rattle.moka_state.specs.State.{all_writes};
 ghost use Rattle.moka_state.specs.Step.{IsReplyTo, StepKeeps, ReplyKeeps, after, IsRun, after_all};
 
 use crate::state::{InsertRefused, State};
-use moka_base::notification::Notice;
-use moka_base::policy::{CacheTypes, Refused};
+use moka_model::notification::Notice;
+use moka_policy::policy::{CacheTypes, Refused};
 use moka_rows::rows::RowStore;
 use moka_ways::means::Means;
 use std::collections::VecDeque;

@@ -3,8 +3,8 @@ use Rattle.std.proofs.Common.{◌≡◌, ℕ, ◌+◌, ◌*◌, ◌<◌, ◌≤�
 use Rattle.std.specs.Option.{IsSome, IfSome}
 use Rattle.std.specs.List.{AllByRecursion}
 use Rattle.std.proofs.lemmas.Bool.{true≢false}
-use Rattle.moka_base.specs.Maintenance.{total}
-use Rattle.moka_base.proofs.Maintenance.{total-append}
+use Rattle.moka_model.specs.Maintenance.{total}
+use Rattle.moka_model.proofs.Callers.{total-append}
 use Rattle.moka_rows.specs.declared.rows.Row.{Row}
 use Rattle.moka_table.specs.declared.table.Weights.{Weights}
 use Rattle.moka_rows.specs.Rows.{row_under, with_row, without_row, NumbersDiffer}

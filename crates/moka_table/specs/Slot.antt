@@ -3,8 +3,8 @@ use Rattle.std.specs.Prelude.{⊤, ◌≡◌, ℕ, Bool, not, if◌then◌else�
 use Rattle.std.specs.Arc.{arc_value}
 use Rattle.std.specs.declared.sync.Arc.{Arc}
 use Rattle.std.specs.declared.alloc.Global.{Global}
-use Rattle.moka_base.specs.declared.notification.RemovalCause.TheVariants.{Expired, Replaced}
-use Rattle.moka_base.specs.History.{Ways, OwnLife, has_come, rest, given}
+use Rattle.moka_model.specs.declared.notification.RemovalCause.TheVariants.{Expired, Replaced}
+use Rattle.moka_model.specs.History.{Ways, OwnLife, has_come, rest, given}
 use Rattle.moka_ways.specs.declared.lives.Lives.{Lives}
 use Rattle.moka_rows.specs.declared.rows.EntryInfo.{EntryInfo}
 use Rattle.moka_rows.specs.declared.rows.Row.{Row}

@@ -2,9 +2,9 @@
 use Rattle.std.specs.Prelude.{◌≡◌, ℕ, ◌+◌, ◌<◌, ◌≤◌, ◌^◌, List, [], ◌∷◌, ◌++◌, length, map, IfSome, MatchOption}
 use Rattle.std.specs.Arc.{arc_value}
 use Rattle.std.specs.List.{AllByRecursion}
-use Rattle.moka_base.specs.declared.notification.Notice.{Notice}
-use Rattle.moka_base.specs.History.{Write, Leaving}
-use Rattle.moka_base.specs.Maintenance.{total}
+use Rattle.moka_model.specs.declared.notification.Notice.{Notice}
+use Rattle.moka_model.specs.History.{Write, Leaving}
+use Rattle.moka_model.specs.Maintenance.{total}
 use Rattle.moka_rows.specs.declared.rows.Row.{Row}
 use Rattle.moka_table.specs.declared.table.Weights.{Weights}
 use Rattle.moka_ways.specs.Lives.{own_of}

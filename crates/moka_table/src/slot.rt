@@ -5,8 +5,8 @@ ghost use Rattle.moka_table.specs.Table.{entries};
 
 use crate::shared_key::IntoShared;
 use crate::table::{Place, Table};
-use moka_base::notification::RemovalCause;
-use moka_base::policy::CacheTypes;
+use moka_model::notification::RemovalCause;
+use moka_policy::policy::CacheTypes;
 use moka_rows::rows::{EntryInfo, Row, RowStore};
 use moka_ways::lives::Lives;
 use moka_ways::means::Means;

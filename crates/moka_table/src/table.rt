@@ -2,12 +2,12 @@
 ghost use Rattle.std.specs.Prelude.{◌≡◌, ℕ, ◌+◌, ◌-◌, ◌<◌, ◌≤◌, List, [], ◌∷◌, ◌++◌, length, min, IsSome, IfSome, IfNone, IfOk, OnOk, OnErr, Some, None, MatchOption};
 ghost use Rattle.std.specs.Option.{option_to_list};
 ghost use Rattle.std.specs.VecDeque.{deque_len, deque_capacity};
-ghost use Rattle.moka_base.specs.Maintenance.{total};
+ghost use Rattle.moka_model.specs.Maintenance.{total};
 ghost use Rattle.moka_rows.specs.Rows.{row_under, with_row, without_row, touched, overwritten, first_number, number_after, IsRowOf, NoneIsRowOf, NumbersDiffer};
 ghost use Rattle.moka_table.specs.Place.{IsPlaceOf};
 ghost use Rattle.moka_table.specs.Table.{Contents, entries, weight_of, SameRows, UsesRow, TakesRow, AreWeightsWith, IsKept};
 
-use moka_base::notification::{Notice, RemovalCause};
+use moka_model::notification::{Notice, RemovalCause};
 use moka_rows::rows::{EntryInfo, Row, RowStore};
 use std::alloc::{AllocError, Global};
 use std::collections::VecDeque;

@@ -1,8 +1,8 @@
 -- The deadline of a row's value.
 use Rattle.std.specs.Prelude.{ℕ, Option, option_map}
 use Rattle.std.specs.Duration.{as_nanos}
-use Rattle.moka_base.specs.History.{ends_at, earlier, own_end}
-use Rattle.moka_base.specs.History as history
+use Rattle.moka_model.specs.History.{ends_at, earlier, own_end}
+use Rattle.moka_model.specs.History as history
 use Rattle.moka_ways.specs.declared.lives.Lives.{Lives}
 use Rattle.moka_rows.specs.declared.rows.EntryInfo.{EntryInfo}
 use Rattle.moka_rows.specs.declared.rows.OwnLife.{OwnLife}

@@ -1,8 +1,8 @@
 -- What a state keeps, and what this means.
 use Rattle.std.specs.Prelude.{ℕ, List, Option}
-use Rattle.moka_base.specs.Frequency.{after_notes}
-use Rattle.moka_base.specs.History.{Ways, Write, Leaving}
-use Rattle.moka_base.specs.StandsFor.{Holdings}
+use Rattle.moka_policy.specs.Frequency.{after_notes}
+use Rattle.moka_model.specs.History.{Ways, Write, Leaving}
+use Rattle.moka_model.specs.StandsFor.{Holdings}
 use Rattle.moka_ways.specs.Ways.{WaysData}
 
 -- what a source estimates of a hash, once it has noted these hashes more

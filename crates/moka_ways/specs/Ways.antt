@@ -1,7 +1,7 @@
 -- The ways of a cache, by what it keeps for them. What it keeps is data, and the types that the cache is made of say what
 -- that means.
 use Rattle.std.specs.Prelude.{ℕ, Bool, if◌then◌else◌, List, fold}
-use Rattle.moka_base.specs.History.{Ways, Lifetimes, no_lifetimes}
+use Rattle.moka_model.specs.History.{Ways, Lifetimes, no_lifetimes}
 
 -- What a cache keeps for its ways: its policy, its hasher, and whether it has a weigher and an expiry.
 pub record WaysData (H : Type 0) : Type 0 where

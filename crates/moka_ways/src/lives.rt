@@ -1,10 +1,10 @@
 //! How long a value lives.
 ghost use Rattle.std.specs.Prelude.{◌≡◌, option_map, if◌then◌else◌};
 ghost use Rattle.std.specs.Duration.{as_nanos};
-ghost use Rattle.moka_base.specs.History.{ends_at, earlier, has_come, own_end, rest, given};
+ghost use Rattle.moka_model.specs.History.{ends_at, earlier, has_come, own_end, rest, given};
 ghost use Rattle.moka_ways.specs.Lives.{deadline_of, own_life};
 
-use moka_base::notification::RemovalCause;
+use moka_model::notification::RemovalCause;
 use moka_rows::rows::{EntryInfo, OwnLife};
 use std::time::Duration;
 

@@ -1,13 +1,13 @@
 //! What the data means that a cache keeps.
-use moka_base::policy::{CacheTypes, FrequencySource};
+use moka_policy::policy::{CacheTypes, FrequencySource};
 use std::hash::Hash;
 
 /// What caches of these types mean by the data that they keep: which ways they have, and what they hold. It follows from
 /// the types, and nothing more is to be said of them.
 pub trait Means<K: Hash, V: Clone>: CacheTypes<K, V> {
     ghost use Rattle.std.specs.Prelude.{ℕ, List};
-    ghost use Rattle.moka_base.specs.History.{Ways};
-    ghost use Rattle.moka_base.specs.StandsFor.{Holdings};
+    ghost use Rattle.moka_model.specs.History.{Ways};
+    ghost use Rattle.moka_model.specs.StandsFor.{Holdings};
     ghost use Rattle.moka_ways.specs.Ways.{WaysData};
     ghost use Rattle.moka_ways.specs.Means.{Kept};
 

@@ -2,14 +2,14 @@
 //! get.
 ghost use Rattle.std.specs.Prelude.{◌≡◌, true, not, if◌then◌else◌, is_some, option_map, IfSome};
 ghost use Rattle.std.specs.Arc.{arc_value};
-ghost use Rattle.moka_base.specs.History.{rest, given};
-ghost use Rattle.moka_base.specs.Policy.{is_lru};
+ghost use Rattle.moka_model.specs.History.{rest, given};
+ghost use Rattle.moka_policy.specs.Policy.{is_lru};
 ghost use Rattle.moka_ways.specs.Lives.{own_life, own_of};
 ghost use Rattle.moka_ways.specs.Ways.{WaysData};
 
 use crate::lives::{given, rest};
 use crate::means::Means;
-use moka_base::policy::{CacheTypes, EvictionPolicy, Expiry, Weigher};
+use moka_policy::policy::{CacheTypes, EvictionPolicy, Expiry, Weigher};
 use moka_rows::rows::{EntryInfo, OwnLife};
 use std::hash::{BuildHasher, Hash, Hasher};
 use std::marker::Model;

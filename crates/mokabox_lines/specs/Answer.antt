@@ -1,10 +1,10 @@
 use Rattle.std.specs.Prelude.{ℕ, true, false, List, [], ◌∷◌, ◌++◌, codes}
 use Rattle.std.specs.Fmt.{decimal}
 use Rattle.std.specs.String.{string_bytes}
-use Rattle.moka_base.specs.declared.notification.RemovalCause.{RemovalCause}
-use Rattle.moka_base.specs.declared.notification.RemovalCause.TheVariants as causes
-use Rattle.moka_base.specs.declared.policy.Refused as moka_refused
-use Rattle.moka_base.specs.declared.policy.Refused.TheVariants as refusals
+use Rattle.moka_model.specs.declared.notification.RemovalCause.{RemovalCause}
+use Rattle.moka_model.specs.declared.notification.RemovalCause.TheVariants as causes
+use Rattle.moka_policy.specs.declared.policy.Refused as moka_refused
+use Rattle.moka_policy.specs.declared.policy.Refused.TheVariants as refusals
 use Rattle.mokabox_lines.specs.declared.answer.Answer.{Answer}
 use Rattle.mokabox_lines.specs.declared.answer.Answer.TheVariants.{Done, Found, NotFound, Whether, Counted, Refused, NotBuilt, Left, End, BadLine}
 use Rattle.mokabox_lines.specs.declared.answer.BuildRefusal.{BuildRefusal}

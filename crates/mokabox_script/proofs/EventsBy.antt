@@ -5,16 +5,16 @@ use Rattle.std.proofs.Math.Path.{fun_ext}
 use Rattle.std.proofs.lemmas.List.{drop-map, map-append, length-map}
 use Rattle.std.proofs.lemmas.Option.{slice_get-map}
 use Rattle.std.specs.List.{list_any}
-use Rattle.moka_base.proofs.Arrivals.{list_any-map}
-use Rattle.moka_base.proofs.ListLemmas.{map-filter}
-use Rattle.moka_base.specs.Maintenance.{Queues, total, parts, leaving_in, after_parts}
-use Rattle.moka_base.specs.declared.notification.RemovalCause.{RemovalCause}
-use Rattle.moka_base.specs.declared.notification.RemovalCause.TheVariants.{Explicit, Replaced, Size}
-use Rattle.moka_base.specs.History.{Event, Get, ContainsKey, Insert, Invalidate, Maintain, Skip, Measure, EntryCount, WeightedSize, TakeNotice, Rules, Write, recorded, latest, is_live, live_one, hit, after_look, after_write, is_of, is_hit, used_where, opened_by, written_in, removed_in, notes, frequency, wins, maintenance, let_go, maintained, queues, leaves_in, standing, left, leaving_of, leaving, leavings, taken, noticed, drawn, next_number, live, entry_count, weighted_size, greatest_number, stores_nothing, is_flush_due, flush_point, after_insert}
-use Rattle.moka_base.specs.Replies as replies
-use Rattle.moka_base.specs.Replies.{Answer, answer}
+use Rattle.moka_model.proofs.Callers.{list_any-map}
+use Rattle.moka_model.proofs.Callers.{map-filter}
+use Rattle.moka_model.specs.Maintenance.{Queues, total, parts, leaving_in, after_parts}
+use Rattle.moka_model.specs.declared.notification.RemovalCause.{RemovalCause}
+use Rattle.moka_model.specs.declared.notification.RemovalCause.TheVariants.{Explicit, Replaced, Size}
+use Rattle.moka_model.specs.History.{Event, Get, ContainsKey, Insert, Invalidate, Maintain, Skip, Measure, EntryCount, WeightedSize, TakeNotice, Rules, Write, recorded, latest, is_live, live_one, hit, after_look, after_write, is_of, is_hit, used_where, opened_by, written_in, removed_in, notes, frequency, wins, maintenance, let_go, maintained, queues, leaves_in, standing, left, leaving_of, leaving, leavings, taken, noticed, drawn, next_number, live, entry_count, weighted_size, greatest_number, stores_nothing, is_flush_due, flush_point, after_insert}
+use Rattle.moka_model.specs.Replies as replies
+use Rattle.moka_model.specs.Replies.{Answer, answer}
 use Rattle.mokabox_script.specs.Events.{event_by, write_by, leaving_by, answer_by, rules_before}
-use Rattle.moka_base.proofs.MaintenanceBy.{queues_by, part_by, total-by, leaving_in-by, after_parts-by, changed_where-by, moved_last-by, parts-by}
+use Rattle.moka_model.proofs.Callers.{queues_by, part_by, total-by, leaving_in-by, after_parts-by, changed_where-by, moved_last-by, parts-by}
 
 module _ {K V W : Type 0} (f : V → W) where
   recorded-by : (e : Event K V) → recorded (event_by f e) ≡ recorded e

@@ -5,10 +5,10 @@ use Rattle.std.specs.Duration.{as_nanos}
 use Rattle.std.specs.declared.time.Duration.{Duration}
 use Rattle.std.specs.Hash.BuildHasherDefault.{initial_hasher}
 use Rattle.std.specs.String.{string_bytes}
-use Rattle.moka_base.proofs.NumberHashes.{number_hash-remainder}
-use Rattle.moka_base.specs.Frequency.{none_noted, noted, estimated, estimate_after}
-use Rattle.moka_base.specs.History.{Rules, no_lifetimes}
-use Rattle.moka_base.specs.StandsFor.{StandsFor}
+use Rattle.moka_model.proofs.Callers.{number_hash-remainder}
+use Rattle.moka_policy.specs.Frequency.{none_noted, noted, estimated, estimate_after}
+use Rattle.moka_model.specs.History.{Rules, no_lifetimes}
+use Rattle.moka_model.specs.StandsFor.{StandsFor}
 use Rattle.moka_state.specs.State.{rules_of, estimates}
 use Rattle.mokabox_lines.specs.declared.settings.Settings.{Settings}
 use Rattle.mokabox_lines.specs.declared.settings.Weighing.{Weighing}

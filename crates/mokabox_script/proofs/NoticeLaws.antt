@@ -5,14 +5,14 @@ use Rattle.std.specs.List.{slice_get}
 use Rattle.std.specs.String.{string_bytes}
 use Rattle.std.proofs.lemmas.List.{append-nil, drop_min, get_or-drop, length-map, length-take-le, map-append, take_more}
 use Rattle.std.proofs.lemmas.Option.{get_or_from_slice_get}
-use Rattle.moka_base.specs.History as history
-use Rattle.moka_base.specs.History.{Event, Leaving, leavings, taken, noticed}
-use Rattle.moka_base.specs.Replies as replies
-use Rattle.moka_base.specs.Replies.{answer}
-use Rattle.moka_base.specs.StandsFor.{Follows, AtEachHistory}
+use Rattle.moka_model.specs.History as history
+use Rattle.moka_model.specs.History.{Event, Leaving, leavings, taken, noticed}
+use Rattle.moka_model.specs.Replies as replies
+use Rattle.moka_model.specs.Replies.{answer}
+use Rattle.moka_model.specs.StandsFor.{Follows, AtEachHistory}
 use Rattle.mokabox_script.proofs.EventsBy.{noticed-by}
 use Rattle.mokabox_script.proofs.SessionLaws.{Text, accepted, answered}
-use Rattle.moka_base.specs.declared.notification.RemovalCause.{RemovalCause}
+use Rattle.moka_model.specs.declared.notification.RemovalCause.{RemovalCause}
 use Rattle.mokabox_lines.specs.Answer.{answer_text}
 use Rattle.mokabox_lines.specs.declared.answer.Answer.TheVariants as answers
 use Rattle.mokabox_script.specs.Events.{leaving_by, answer_by}

@@ -5,13 +5,13 @@ use Rattle.std.specs.declared.alloc.Global.{Global}
 use Rattle.std.specs.Fmt.{decimal}
 use Rattle.std.specs.String.{string_bytes}
 use Rattle.std.proofs.lemmas.Fmt.{decimal_digit}
-use Rattle.moka_base.specs.declared.policy.Refused as moka_refused
-use Rattle.moka_base.specs.declared.policy.Refused.TheVariants as refusals
-use Rattle.moka_base.specs.History as history
-use Rattle.moka_base.specs.History.{Event, Quantity, Write, Leaving, latest, live, next_number, greatest_number, stores_nothing, after_insert}
-use Rattle.moka_base.specs.Replies as replies
-use Rattle.moka_base.specs.Replies.{Answer, answer, IsOutOfNumbers, IsAnswer, IsCopyOf, MayTakeMemory}
-use Rattle.moka_base.specs.StandsFor.{StandsFor, Follows, AtEachHistory}
+use Rattle.moka_policy.specs.declared.policy.Refused as moka_refused
+use Rattle.moka_policy.specs.declared.policy.Refused.TheVariants as refusals
+use Rattle.moka_model.specs.History as history
+use Rattle.moka_model.specs.History.{Event, Quantity, Write, Leaving, latest, live, next_number, greatest_number, stores_nothing, after_insert}
+use Rattle.moka_model.specs.Replies as replies
+use Rattle.moka_model.specs.Replies.{Answer, answer, IsOutOfNumbers, IsAnswer, IsCopyOf, MayTakeMemory}
+use Rattle.moka_model.specs.StandsFor.{StandsFor, Follows, AtEachHistory}
 use Rattle.mokabox_script.proofs.EventsBy.{latest-by, live-by, next_number-by, answer-by, after_insert-by}
 use Rattle.mokabox_lines.specs.Answer.{answer_text, refusal_number}
 use Rattle.mokabox_lines.specs.declared.answer.Answer.TheVariants as answers

@@ -2,11 +2,11 @@
 use Rattle.std.specs.Prelude.{◌≡◌, ℕ, ◌*◌, ◌%◌, ◌^◌, max, Bool, true, false, ◌||◌, IsSome, List, [], ◌∷◌, ◌++◌, map, flat_map, Option, Some, None, option_map, unwrap_or, nat_eq, codes, ◌⊎◌, if◌then◌else◌}
 use Rattle.std.specs.Fmt.{decimal}
 use Rattle.std.specs.List.{onto_first}
-use Rattle.moka_base.specs.History as history
-use Rattle.moka_base.specs.History.{Event, Rules, Leaving, no_lifetimes, latest, live, noticed, stores_nothing, after_insert}
-use Rattle.moka_base.specs.Frequency.{estimate_after}
-use Rattle.moka_base.specs.Replies as replies
-use Rattle.moka_base.specs.Replies.{Answer, answer, IsOutOfNumbers, MayTakeMemory}
+use Rattle.moka_model.specs.History as history
+use Rattle.moka_model.specs.History.{Event, Rules, Leaving, no_lifetimes, latest, live, noticed, stores_nothing, after_insert}
+use Rattle.moka_policy.specs.Frequency.{estimate_after}
+use Rattle.moka_model.specs.Replies as replies
+use Rattle.moka_model.specs.Replies.{Answer, answer, IsOutOfNumbers, MayTakeMemory}
 use Rattle.mokabox_lines.specs.Answer.{cause_text}
 use Rattle.mokabox_lines.specs.Command.{PlainCommand, command_by_line}
 use Rattle.mokabox_lines.specs.Settings.{settings_by, byte_weight}

@@ -5,11 +5,11 @@ use Rattle.std.specs.Io.KnownBytes.{Appends}
 use Rattle.std.specs.String.{string_bytes}
 use Rattle.std.specs.declared.alloc.Global.{Global}
 use Rattle.std.specs.declared.hash.BuildHasherDefault.{BuildHasherDefault}
-use Rattle.moka_base.specs.declared.policy.NumberHash.{NumberHash}
-use Rattle.moka_base.specs.Frequency.{Counts, noted, estimated}
-use Rattle.moka_base.specs.History.{Event, Rules, Ways, no_lifetimes}
-use Rattle.moka_base.specs.NumberHash.{number_hash}
-use Rattle.moka_base.specs.StandsFor.{Holdings, StandsFor}
+use Rattle.moka_policy.specs.declared.policy.NumberHash.{NumberHash}
+use Rattle.moka_policy.specs.Frequency.{Counts, noted, estimated}
+use Rattle.moka_model.specs.History.{Event, Rules, Ways, no_lifetimes}
+use Rattle.moka_model.specs.NumberHash.{number_hash}
+use Rattle.moka_model.specs.StandsFor.{Holdings, StandsFor}
 use Rattle.moka_state.specs.State.{Kept, held_by, estimates}
 use Rattle.moka_state.specs.Ways.{WaysData, hash_by, ways_by}
 use Rattle.mokabox_lines.specs.Command.{PlainCommand, command_by_line}

@@ -1,8 +1,8 @@
 //! The cache that a script drives.
 ghost use Rattle.std.specs.Prelude.{◌≡◌, refl, [], ◌∷◌, map, is_some, IfOk, IfErr};
 ghost use Rattle.std.specs.String.{string_bytes};
-ghost use Rattle.moka_base.specs.History.{no_lifetimes};
-ghost use Rattle.moka_base.specs.Policy.{is_lru};
+ghost use Rattle.moka_model.specs.History.{no_lifetimes};
+ghost use Rattle.moka_policy.specs.Policy.{is_lru};
 ghost use Rattle.mokabox_lines.specs.Answer.{answer_text};
 ghost use Rattle.mokabox_lines.specs.Command.{plain_command};
 ghost use Rattle.mokabox_script.specs.Script.{beginning, is_lru_by, rules_by};

@@ -1,8 +1,8 @@
 use Rattle.std.proofs.Common.{sym, ap, ◌∙◌, take, drop, ◌++◌, arith}
 use Rattle.std.proofs.lemmas.Bool.{true≢false, eq-eqb, ne_eqb}
-use Rattle.moka_base.proofs.Maintenance.{front-le}
-use Rattle.moka_base.specs.Policy.{is_lru}
-use Rattle.moka_base.specs.declared.notification.RemovalCause.TheVariants.{Size}
+use Rattle.moka_model.proofs.Callers.{front-le}
+use Rattle.moka_policy.specs.Policy.{is_lru}
+use Rattle.moka_model.specs.declared.notification.RemovalCause.TheVariants.{Size}
 use Rattle.moka_table.specs.Table.{weight_of}
 use Rattle.moka_maintain.specs.Maintain.{notices_for}
 use Rattle.moka_maintain.proofs.Verdicts.{first-stored, judges-admit, judges-drop, admits-none, admits-won, drops-heavy, drops-lost}

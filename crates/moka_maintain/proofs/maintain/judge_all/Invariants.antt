@@ -1,5 +1,5 @@
 use Rattle.std.proofs.Common.{◌≤◌, length}
-use Rattle.moka_base.specs.Policy.{is_lru}
+use Rattle.moka_policy.specs.Policy.{is_lru}
 use Rattle.moka_maintain.proofs.Verdicts.{JudgesAll}
 use Rattle.moka_maintain.proofs.maintain.judge_all.Given as goal
 

@@ -1,4 +1,4 @@
-use Rattle.moka_base.specs.Policy.{is_lru}
+use Rattle.moka_policy.specs.Policy.{is_lru}
 use Rattle.moka_maintain.proofs.Deadlines.{due-both}
 use Rattle.moka_maintain.proofs.Phases.{phases-maintain, phases-due}
 use Rattle.moka_maintain.proofs.maintain.maintain.Goals as goal

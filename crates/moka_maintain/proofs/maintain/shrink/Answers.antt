@@ -1,5 +1,5 @@
 use Rattle.std.proofs.Common.{arith}
-use Rattle.moka_base.proofs.Maintenance.{front-le}
+use Rattle.moka_model.proofs.Callers.{front-le}
 use Rattle.moka_table.specs.Table.{weight_of}
 use Rattle.moka_maintain.proofs.maintain.shrink.Goals as goal
 

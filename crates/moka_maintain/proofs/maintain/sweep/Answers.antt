@@ -1,5 +1,5 @@
 use Rattle.std.proofs.Common.{◌∙◌, None, [], ◌∷◌, ◌++◌, refl, sym, arith}
-use Rattle.moka_base.specs.declared.notification.RemovalCause.TheVariants.{Expired}
+use Rattle.moka_model.specs.declared.notification.RemovalCause.TheVariants.{Expired}
 use Rattle.moka_maintain.specs.Maintain.{rows_in}
 use Rattle.moka_maintain.proofs.Sweeping.{sweeps-first, sweeps-over_dead, sweeps-over_alive, rest-shorter, stored-in, at-order, left-order}
 use Rattle.moka_maintain.proofs.maintain.sweep.Goals as goal

@@ -1,6 +1,6 @@
 use Rattle.std.proofs.Common.{sym, ap, ◌∙◌, ◌++◌}
 use Rattle.std.proofs.lemmas.List.{append-nil}
-use Rattle.moka_base.specs.declared.notification.RemovalCause.TheVariants.{Expired}
+use Rattle.moka_model.specs.declared.notification.RemovalCause.TheVariants.{Expired}
 use Rattle.moka_maintain.specs.Maintain.{notices_for}
 use Rattle.moka_maintain.proofs.Deadlines.{living-before_due, dead-before_due}
 use Rattle.moka_maintain.proofs.maintain.sweep_if_due.Goals as goal

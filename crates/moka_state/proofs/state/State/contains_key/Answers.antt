@@ -1,6 +1,6 @@
 use Rattle.std.proofs.Common.{◌≡◌, Bool, true, false, not, cond, max, Some, None, is_some, ◌∙◌, ap, sym, refl}
-use Rattle.moka_base.specs.Replies.{Contains}
-use Rattle.moka_base.specs.History.{has_come}
+use Rattle.moka_model.specs.Replies.{Contains}
+use Rattle.moka_model.specs.History.{has_come}
 use Rattle.moka_ways.specs.Lives.{deadline_of}
 use Rattle.moka_state.proofs.Found.{same-key}
 use Rattle.moka_state.proofs.Stands.{live-found, live-absent}

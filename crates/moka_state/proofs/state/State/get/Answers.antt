@@ -1,6 +1,6 @@
 use Rattle.std.proofs.Common.{max, ◌∙◌, ap, sym, refl}
 use Rattle.std.specs.Arc.{arc_value}
-use Rattle.moka_base.specs.History.{has_come}
+use Rattle.moka_model.specs.History.{has_come}
 use Rattle.moka_ways.specs.Lives.{deadline_of}
 use Rattle.moka_state.proofs.Found.{same-key}
 use Rattle.moka_table.proofs.Callers.{of-row}

@@ -1,6 +1,6 @@
 use Rattle.std.proofs.Common.{cond, ◌∙◌, ap}
-use Rattle.moka_base.specs.declared.notification.RemovalCause.TheVariants.{Expired, Explicit}
-use Rattle.moka_base.specs.History.{has_come}
+use Rattle.moka_model.specs.declared.notification.RemovalCause.TheVariants.{Expired, Explicit}
+use Rattle.moka_model.specs.History.{has_come}
 use Rattle.moka_ways.specs.Lives.{deadline_of}
 use Rattle.moka_state.proofs.Found.{same-key}
 use Rattle.moka_state.proofs.Sound.{IsSound-taken}

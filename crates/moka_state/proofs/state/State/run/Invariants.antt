@@ -2,8 +2,8 @@ use Rattle.std.proofs.Common.{◌≡◌, ◌+◌, ◌≤◌, List, ◌++◌, vec
 use Rattle.std.specs.Vec.{vec_capacity}
 use Rattle.std.specs.VecDeque.{deque_len}
 use Rattle.std.specs.List.{AllByRecursion}
-use Rattle.moka_base.specs.History.{Rules, Event}
-use Rattle.moka_base.specs.StandsFor.{StandsFor}
+use Rattle.moka_model.specs.History.{Rules, Event}
+use Rattle.moka_model.specs.StandsFor.{StandsFor}
 use Rattle.moka_state.specs.declared.step.Step.{Step}
 use Rattle.moka_state.specs.State.{held_by, estimates}
 use Rattle.moka_state.specs.Step.{StepKeeps, IsRun, after_all}

@@ -1,7 +1,7 @@
 use Rattle.std.proofs.Common.{min, ap, sym, ◌∙◌}
-use Rattle.moka_base.specs.History.{Write, greatest_number}
-use Rattle.moka_base.specs.Maintenance.{total}
-use Rattle.moka_base.specs.Replies.{Counted}
+use Rattle.moka_model.specs.History.{Write, greatest_number}
+use Rattle.moka_model.specs.Maintenance.{total}
+use Rattle.moka_model.specs.Replies.{Counted}
 use Rattle.moka_table.specs.Table.{entries}
 use Rattle.moka_state.proofs.Counts.{weighed-same}
 use Rattle.moka_state.proofs.Found.{stored-append}

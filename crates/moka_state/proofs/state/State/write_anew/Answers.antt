@@ -1,5 +1,5 @@
 use Rattle.std.proofs.Common.{◌≡◌, ◌∷◌, max, sym, arith}
-use Rattle.moka_base.specs.History.{Maintain}
+use Rattle.moka_model.specs.History.{Maintain}
 use Rattle.moka_table.specs.Table.{entries}
 use Rattle.moka_state.proofs.Cases.{stands-same}
 use Rattle.moka_state.proofs.Maintained.{stands-after-maintain}

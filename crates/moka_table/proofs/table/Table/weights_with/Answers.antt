@@ -1,5 +1,5 @@
 use Rattle.std.proofs.Common.{arith}
-use Rattle.moka_base.proofs.Maintenance.{total-append}
+use Rattle.moka_model.proofs.Callers.{total-append}
 use Rattle.moka_table.specs.Table.{weight_of}
 use Rattle.moka_table.proofs.Weights.{total-light, row-le, is-admitted, is-waiting, with-admitted, with-waiting}
 use Rattle.moka_table.proofs.table.Table.weights_with.Goals as goal

@@ -1,6 +1,6 @@
 use Rattle.std.proofs.Common.{is_some, rules}
 use Rattle.std.specs.Arc.{arc_value}
-use Rattle.moka_base.specs.Policy.{is_lru}
+use Rattle.moka_policy.specs.Policy.{is_lru}
 use Rattle.mokabox_script.proofs.FirstCache.{begins}
 use Rattle.mokabox_script.proofs.session.Session.new.Goals as goal
 
