@@ -1,11 +1,11 @@
 -- Those that wait are judged one by one.
-use Rattle.std.proofs.Common.{◌≡◌, ℕ, ◌||◌, ◌==◌, Bool, true, false, if◌then◌else◌, Option, List, [], ◌∷◌, ◌++◌, take, drop, refl, sym, ap, ◌∙◌}
+use Rattle.std.proofs.Common.{◌≡◌, ℕ, ◌||◌, ◌==◌, Bool, true, false, if◌then◌else◌, Option, List, [], ◌∷◌, take, drop, refl, sym, ap, ◌∙◌}
 use Rattle.std.specs.List.{All, AllByRecursion}
 use Rattle.std.proofs.lemmas.List.Elements.{All-nil, All-cons, All-push, All-drop, All-from_recursion}
 use Rattle.moka_model.specs.Maintenance.{Part, fits, front, judge, judged, parts}
 use Rattle.moka_model.specs.MaintenanceLaws.{queues}
 use Rattle.moka_model.proofs.Callers.{admitting, dropping, judge_both, fits-admitted}
-use Rattle.moka_laws.proofs.MaintenanceResumed.{AllLive, parts-live, by_weight-fit}
+use Rattle.moka_laws.proofs.MaintenanceResumed.{parts-live, by_weight-fit}
 
 -- a part of a maintenance of one that waits, where others wait behind it
 abbrev pub beside : {X : Type 0} → Part X → List X → Part X
@@ -41,11 +41,11 @@ module _ {X : Type 0} (weight : X → ℕ) (capacity : Option ℕ) (is_live : X 
       let now : All is p.after.admitted = judge_both weight capacity wins admitted x [] (λ r. All is r.after.admitted) (λ _. All-push is (drop n admitted) x (All-drop is n admitted a) live.0) a in
       let fit_now : fits weight capacity 0 p.after.admitted ≡ true = judge_both weight capacity wins admitted x [] (λ r. fits weight capacity 0 r.after.admitted ≡ true) (fits-admitted weight capacity admitted x) fit in
       let rest : parts weight capacity is_live wins (queues p.after.admitted waiting) ≡ judged weight capacity wins p.after.admitted waiting =
-          parts-live weight capacity is_live wins p.after.admitted waiting now w ∙ by_weight-fit weight capacity is_live wins p.after.admitted waiting fit_now in (
+      parts-live weight capacity is_live wins p.after.admitted waiting now w ∙ by_weight-fit weight capacity is_live wins p.after.admitted waiting fit_now in (
         p,
         parts-live weight capacity is_live wins admitted (x ∷ []) a (All-cons is x [] live.0 (All-nil is)) ∙ by_weight-fit weight capacity is_live wins admitted (x ∷ []) fit,
         parts-live weight capacity is_live wins admitted (x ∷ waiting) a (All-cons is x waiting live.0 w)
-        ∙ by_weight-fit weight capacity is_live wins admitted (x ∷ waiting) fit
-        ∙ ap (λ (r : Part X). r ∷ judged weight capacity wins r.after.admitted waiting) (judge-beside weight capacity wins admitted x waiting)
-        ∙ ap (λ rs. beside p waiting ∷ rs) (sym rest),
+            ∙ by_weight-fit weight capacity is_live wins admitted (x ∷ waiting) fit
+            ∙ ap (λ (r : Part X). r ∷ judged weight capacity wins r.after.admitted waiting) (judge-beside weight capacity wins admitted x waiting)
+            ∙ ap (λ rs. beside p waiting ∷ rs) (sym rest),
       )

@@ -1,9 +1,9 @@
 -- What stays admitted is what a front leaves behind, by whatever rule of who wins.
 use Rattle.std.proofs.Common.{◌≡◌, ℕ, ◌+◌, Bool, Option, List, [], ◌∷◌, ◌++◌, drop, filter, sym, ap, ◌∙◌, inl, inr, refl, append_assoc, append-nil, drop-drop}
 use Rattle.std.proofs.lemmas.List.{drop-append-le}
-use Rattle.moka_model.specs.Maintenance.{Queues, Part, front, judge, parts, after_parts}
+use Rattle.moka_model.specs.Maintenance.{Queues, front, parts, after_parts}
 use Rattle.moka_model.specs.MaintenanceLaws.{AreAmong}
-use Rattle.moka_model.proofs.Callers.{front-le, admitting, dropping, judge_both, admitted_after, within, after-parts}
+use Rattle.moka_model.proofs.Callers.{front-le, judge_both, admitted_after, after-parts}
 
 -- some of a list are some of a longer one
 among_more : {X : Type 0} (xs ys : List X) (y : X) → AreAmong xs ys → AreAmong xs (y ∷ ys)

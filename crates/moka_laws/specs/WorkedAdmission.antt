@@ -35,7 +35,11 @@ until_a_hit = record { created = λ k v at. Some (seconds 5); read = λ k v at l
 
 -- a hit gives a life as long as the value had stood since it was written
 abbrev pub as_long_again : Lifetimes ℕ ℕ
-as_long_again = record { created = λ k v at. None; read = λ k v at left written. Some (at - written); updated = λ k v at left. left }
+as_long_again = record {
+  created = λ k v at. None;
+  read = λ k v at left written. Some (at - written);
+  updated = λ k v at left. left;
+}
 
 -- values have these lives
 abbrev pub with_lives : Lifetimes ℕ ℕ → Rules ℕ ℕ
@@ -79,10 +83,13 @@ abbrev pub looked : ℕ → ℕ → List (Event ℕ ℕ) → List (Event ℕ ℕ
 looked key zero h = h
 looked key (suc n) h = Get key 5 ∷ looked key n h
 
--- two keys are admitted, the first looked for twice and the second once; a third and a fourth come, and are looked for
--- so many times
+-- two keys come, are looked for twice and once, and are admitted,
+abbrev pub two_stand : List (Event ℕ ℕ)
+two_stand = Maintain 4 ∷ Get 2 3 ∷ Get 1 2 ∷ Get 1 2 ∷ Insert 2 20 1 ∷ Insert 1 10 0 ∷ []
+
+-- and a third and a fourth come, and are looked for so many times
 abbrev pub two_contend : ℕ → ℕ → List (Event ℕ ℕ)
-two_contend third fourth = looked 4 fourth (looked 3 third (Insert 4 40 5 ∷ Insert 3 30 5 ∷ Maintain 4 ∷ Get 2 3 ∷ Get 1 2 ∷ Get 1 2 ∷ Insert 2 20 1 ∷ Insert 1 10 0 ∷ []))
+two_contend third fourth = looked 4 fourth (looked 3 third (Insert 4 40 5 ∷ Insert 3 30 5 ∷ two_stand))
 
 -- two values of the greatest weight
 abbrev pub two_heaviest : List (Event ℕ ℕ)
