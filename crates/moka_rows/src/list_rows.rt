@@ -151,9 +151,8 @@ impl<K: Eq + Drop, V: Drop> RowStore<K, V> for ListRows<K, V> {
     fn touch(&mut self, number: usize, info: EntryInfo) {
         match self.place(number) {
             Place::Admitted(place) => {
-                let (_, mut row) = self.admitted.remove(place);
-                row.info = info;
-                self.admitted.push_reserved((number, row));
+                let (_, row) = self.admitted.remove(place);
+                self.admitted.push_reserved((number, Row { info, ..row }));
             }
             Place::Waiting(place) => self.waiting[place].1.info = info,
         }
@@ -193,8 +192,8 @@ impl<K: Eq + Drop, V: Drop> RowStore<K, V> for ListRows<K, V> {
     fn admit(&mut self, number: usize) {
         match place_of(&self.waiting, number) {
             Some(place) => {
-                let (_, row) = self.waiting.remove(place);
-                self.admitted.push_reserved((number, row));
+                let (_, newest) = self.waiting.remove(place);
+                self.admitted.push_reserved((number, newest));
             }
             None => unreachable!(),
         }

@@ -237,9 +237,13 @@ impl<K: Eq + Drop, V: Drop, R: RowStore<K, V>> Table<K, V, R> {
             self.new.notices ≡ self.old.notices ++ record { key = key; value = row.value; cause = cause } ∷ []) }
     {
         let weights = self.weights_with(number, info.policy_weight);
-        let value = self.rows.overwrite(number, value, info);
+        let before = self.rows.overwrite(number, value, info);
         self.weights = weights;
-        match self.notices.push_back(Notice { key, value, cause }) {
+        match self.notices.push_back(Notice {
+            key,
+            value: before,
+            cause,
+        }) {
             Ok(()) => {}
             Err(_) => unreachable!(),
         }
