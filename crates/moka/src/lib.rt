@@ -10,10 +10,7 @@ pub use moka_base::{notification, policy};
 pub mod state {
     pub use moka_state::list_rows::ListRows;
     pub use moka_state::means::Means;
-    pub use moka_state::rows::{EntryInfo, Row, RowStore};
+    pub use moka_state::rows::{EntryInfo, OwnLife, Row, RowStore};
     pub use moka_state::state::{CacheState, InsertRefused, Settings, State};
     pub use moka_state::step::{Reply, Step};
 }
-
-#[cfg(test)]
-mod example;

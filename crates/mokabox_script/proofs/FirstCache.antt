@@ -9,7 +9,8 @@ use Rattle.moka_model.proofs.Callers.{number_hash-remainder}
 use Rattle.moka_policy.specs.Frequency.{none_noted, noted, estimated, estimate_after}
 use Rattle.moka_model.specs.History.{Rules, no_lifetimes}
 use Rattle.moka_model.specs.StandsFor.{StandsFor}
-use Rattle.moka_state.specs.State.{rules_of, estimates}
+use Rattle.moka_state.specs.Means.{estimates}
+use Rattle.moka_state.specs.State.{rules_of}
 use Rattle.mokabox_lines.specs.declared.settings.Settings.{Settings}
 use Rattle.mokabox_lines.specs.declared.settings.Weighing.{Weighing}
 use Rattle.mokabox_lines.specs.declared.settings.Weighing.TheVariants.{Bytes}

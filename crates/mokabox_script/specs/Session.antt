@@ -10,7 +10,7 @@ use Rattle.moka_policy.specs.Frequency.{Counts, noted, estimated}
 use Rattle.moka_model.specs.History.{Event, Rules, Ways, no_lifetimes}
 use Rattle.moka_model.specs.NumberHash.{number_hash}
 use Rattle.moka_model.specs.StandsFor.{Holdings, StandsFor}
-use Rattle.moka_state.specs.State.{Kept, held_by, estimates}
+use Rattle.moka_state.specs.Means.{Kept, held_by, estimates}
 use Rattle.moka_state.specs.Ways.{WaysData, hash_by, ways_by}
 use Rattle.mokabox_lines.specs.Command.{PlainCommand, command_by_line}
 use Rattle.mokabox_script.specs.Events.{event_by, rules_before}

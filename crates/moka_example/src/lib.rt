@@ -1,14 +1,16 @@
-// The example of the README, whole: the gate proves it and runs it.
-ghost use Rattle.std.specs.Prelude.{◌≡◌, refl};
-ghost use Rattle.moka.specs.Example.{length_of, a_minute};
-ghost use Rattle.moka_base.specs.History.{no_lifetimes};
+//! The example of the README, whole, by a user of `moka` alone: the gate proves it and runs it.
+#![tactic(auto)]
 
-use crate::notification::RemovalCause;
-use crate::policy::{
+ghost use Rattle.std.specs.Prelude.{◌≡◌, refl};
+ghost use Rattle.moka_example.specs.Example.{length_of, a_minute};
+ghost use Rattle.moka.specs.History.{no_lifetimes};
+
+use moka::notification::RemovalCause;
+use moka::policy::{
     CacheTypes, CountTable, EvictionPolicy, ExpireBy, Expiry, NoExpiry, NoWeigher, NumberHash,
     Refused, WeighBy, Weigher,
 };
-use crate::state::{CacheState, InsertRefused, Reply, Settings, Step};
+use moka::state::{CacheState, InsertRefused, Reply, Settings, Step};
 use std::alloc::{AllocError, Global};
 use std::hash::BuildHasherDefault;
 use std::marker::PhantomData;

@@ -1,0 +1,14 @@
+//! The tests of the cache, over the calls that its users make.
+//!
+//! Almost all are tables: how a cache is built, and then calls, each with its moment and its answer. `subject` says what
+//! is done with a table, and what else holds after each call.
+#![tactic(auto)]
+
+#[cfg(test)]
+mod calls;
+#[cfg(test)]
+mod keys;
+#[cfg(test)]
+mod subject;
+#[cfg(test)]
+mod values;
