@@ -9,6 +9,18 @@ mod calls;
 #[cfg(test)]
 mod keys;
 #[cfg(test)]
+mod list_rows;
+#[cfg(test)]
+mod long_use;
+#[cfg(test)]
+mod maintenance;
+#[cfg(test)]
+mod memory;
+#[cfg(test)]
+mod pieces;
+#[cfg(test)]
 mod subject;
 #[cfg(test)]
 mod values;
+#[cfg(test)]
+mod ways;

@@ -498,3 +498,24 @@ pub(crate) fn answers_patiently<K: Key, H: BuildHasher + Default + Drop>(
     }
     Ok(())
 }
+
+/// Does the first calls, and then the others between two requests for memory of its own. In a run where the last request
+/// before those calls is the one that is refused, the next request of all is the one behind them, unless they took memory.
+pub(crate) fn answers_between_requests<K: Key, H: BuildHasher + Default + Drop>(
+    rt: &impl Abort,
+    alloc: Global,
+    rules: Rules,
+    before: &[Row],
+    rows: &[Row],
+) -> Result<(), Fail> {
+    let mut subject: Subject<K, H> = Subject::new(alloc, rules, false, 0)?;
+    for (place, row) in before.iter().enumerate() {
+        subject.row(rt, Way::Calls, *row, place)?;
+    }
+    assert!(rt; Arc::new(alloc, 0_u64).is_ok(), "refused before the calls");
+    for (place, row) in rows.iter().enumerate() {
+        subject.row(rt, Way::Calls, *row, place)?;
+    }
+    assert!(rt; Arc::new(alloc, 0_u64).is_ok(), "refused behind the calls");
+    Ok(())
+}

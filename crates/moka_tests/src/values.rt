@@ -1,5 +1,5 @@
 //! The values of the tests, and what weighs them and gives them lives of their own.
-ghost use Rattle.std.specs.Prelude.{◌≡◌, ◌*◌, option_map, refl};
+ghost use Rattle.std.specs.Prelude.{◌≡◌, ◌-◌, ◌*◌, Some, option_map, refl, if◌then◌else◌};
 ghost use Rattle.std.specs.Option.{option_or};
 
 use crate::keys::Key;
@@ -21,6 +21,8 @@ pub(crate) struct Given {
     pub life: Option<u64>,
     /// The one that it gets at each look, in seconds; else it keeps what is left.
     pub life_after_look: Option<u64>,
+    /// Whether a look in place of that gives it a life as long as it has been there.
+    pub doubles: bool,
 }
 
 /// A value that weighs one and has no life of its own.
@@ -30,6 +32,7 @@ pub(crate) const fn plain(text: &'static str) -> Given {
         weight: 1,
         life: None,
         life_after_look: None,
+        doubles: false,
     }
 }
 
@@ -40,6 +43,7 @@ pub(crate) const fn heavy(weight: u32) -> Given {
         weight,
         life: None,
         life_after_look: None,
+        doubles: false,
     }
 }
 
@@ -111,7 +115,7 @@ impl<K> Weigher<K, Value> for Watch {
 impl<K> Expiry<K, Value> for Watch {
     ghost gives = { λ _ lives. lives ≡ record {
       created = λ _ value _. option_map (λ seconds. seconds * 1000000000) value.given.life;
-      read = λ _ value _ left _. option_or (option_map (λ seconds. seconds * 1000000000) value.given.life_after_look) left;
+      read = λ _ value read_at left written_at. if value.given.doubles then Some (read_at - written_at) else option_or (option_map (λ seconds. seconds * 1000000000) value.given.life_after_look) left;
       updated = λ _ _ _ left. left;
     } };
 
@@ -124,11 +128,14 @@ impl<K> Expiry<K, Value> for Watch {
         &self,
         _key: &K,
         value: &Value,
-        _read_at: u64,
+        read_at: u64,
         rest: Option<Duration>,
-        _written_at: u64,
+        written_at: u64,
     ) -> Option<Duration> {
         count(&self.looked_at);
+        if value.given.doubles {
+            return Some(Duration::from_nanos(read_at.saturating_sub(written_at)));
+        }
         match value.given.life_after_look {
             Some(seconds) => Some(Duration::from_secs(seconds)),
             None => rest,
@@ -191,7 +198,7 @@ impl<K: Key, H: BuildHasher + Drop> CacheTypes<K, Value> for Types<H> {
 
     ghost lifetimes = { record {
       created = λ _ value _. option_map (λ seconds. seconds * 1000000000) value.given.life;
-      read = λ _ value _ left _. option_or (option_map (λ seconds. seconds * 1000000000) value.given.life_after_look) left;
+      read = λ _ value read_at left written_at. if value.given.doubles then Some (read_at - written_at) else option_or (option_map (λ seconds. seconds * 1000000000) value.given.life_after_look) left;
       updated = λ _ _ _ left. left;
     } };
 
