@@ -2,7 +2,8 @@
 use Rattle.std.specs.Prelude.{◌≡◌, ◌≤◌, ℕ, Bool, true, Option, Some, None, List, [], ◌∷◌, ◌++◌, take, drop, option_to_list}
 use Rattle.std.specs.List.{AllByRecursion}
 use Rattle.moka_model.specs.Maintenance.{total, front}
-use Rattle.moka_model.specs.History.{Event, Get, ContainsKey, Insert, Invalidate, Maintain, Skip, Measure, TakeNotice, Rules, Write, frequency, queues}
+use Rattle.moka_model.specs.History.{Event, Get, ContainsKey, Insert, Invalidate, Maintain, Skip, Measure, TakeNotice, Rules, Write}
+use Rattle.moka_model.specs.History.{frequency, queues}
 use Rattle.moka_model.specs.SizeLaws.{lives}
 
 -- the key that an event looks for by `get`, if it is such a look

@@ -1,8 +1,10 @@
 -- The words of the laws over the list of events.
-use Rattle.std.specs.Prelude.{◌≡◌, ◌⊎◌, ℕ, ◌+◌, ◌≤◌, ◌++◌, ◌&&◌, max, Bool, true, false, if◌then◌else◌, Option, Some, None, List, [], ◌∷◌, filter, is_some}
+use Rattle.std.specs.Prelude.{◌≡◌, ◌⊎◌, ℕ, ◌+◌, ◌≤◌, ◌++◌, ◌&&◌, max, Bool, true, false, if◌then◌else◌, Option, Some, None, List, [], ◌∷◌}
+use Rattle.std.specs.Prelude.{filter, is_some}
 use Rattle.moka_model.specs.declared.notification.RemovalCause.{RemovalCause}
 use Rattle.moka_model.specs.declared.notification.RemovalCause.TheVariants.{Expired}
-use Rattle.moka_model.specs.History.{Event, Get, ContainsKey, Insert, Invalidate, Maintain, Skip, Measure, TakeNotice, Rules, OwnLife, Write, Leaving, latest, has_come, deadline, life_given, leaves_in, standing, live, is_flush_due}
+use Rattle.moka_model.specs.History.{Event, Get, ContainsKey, Insert, Invalidate, Maintain, Skip, Measure, TakeNotice, Rules, OwnLife}
+use Rattle.moka_model.specs.History.{Write, Leaving, latest, has_come, deadline, life_given, leaves_in, standing, live, is_flush_due}
 use Rattle.moka_model.specs.Replies.{Answer, Found, Contains, Done, Counted, Noticed, answer}
 
 -- whether an event writes a key

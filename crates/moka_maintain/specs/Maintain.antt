@@ -1,5 +1,6 @@
 -- What a maintenance does with the rows.
-use Rattle.std.specs.Prelude.{◌≡◌, ℕ, ◌+◌, Bool, true, not, ◌||◌, if◌then◌else◌, nat_le, Option, List, [], ◌∷◌, ◌++◌, filter, map, None, Some}
+use Rattle.std.specs.Prelude.{◌≡◌, ℕ, ◌+◌, Bool, true, not, ◌||◌, if◌then◌else◌, nat_le, Option, List, [], ◌∷◌, ◌++◌, filter, map, None}
+use Rattle.std.specs.Prelude.{Some}
 use Rattle.std.specs.List.{AllByRecursion}
 use Rattle.moka_model.specs.declared.notification.Notice.{Notice}
 use Rattle.moka_model.specs.declared.notification.RemovalCause.{RemovalCause}

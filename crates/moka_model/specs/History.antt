@@ -1,6 +1,7 @@
 -- What a cache means, over the list of its events. A list of events is read from its newest: `e ∷ h` is "the
 -- events of h, and then e". Keys are compared by `eq`, the `Eq` of their type, and never by identity.
-use Rattle.std.specs.Prelude.{⊤, ◌≡◌, ◌==◌, ℕ, ◌+◌, ◌-◌, ◌^◌, max, min, Bool, false, not, if◌then◌else◌, nat_le, Option, Some, None, List, [], ◌∷◌, ◌++◌, length, drop, option_map, map, filter, ◌&&◌, ◌||◌}
+use Rattle.std.specs.Prelude.{⊤, ◌≡◌, ◌==◌, ℕ, ◌+◌, ◌-◌, ◌^◌, max, min, Bool, false, not, if◌then◌else◌, nat_le, Option, Some, None, List}
+use Rattle.std.specs.Prelude.{[], ◌∷◌, ◌++◌, length, drop, option_map, map, filter, ◌&&◌, ◌||◌}
 use Rattle.std.specs.List.{list_any}
 use Rattle.moka_model.specs.Maintenance.{Queues, Part, total, parts, done, leaving_in, after_parts}
 use Rattle.moka_model.specs.declared.notification.RemovalCause.{RemovalCause}

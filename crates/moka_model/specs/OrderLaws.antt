@@ -1,8 +1,10 @@
 -- The words of the laws over the two orders.
-use Rattle.std.specs.Prelude.{◌≡◌, ℕ, Bool, true, false, not, ◌&&◌, if◌then◌else◌, Option, List, [], ◌∷◌, ◌++◌, map, is_some, option_to_list}
+use Rattle.std.specs.Prelude.{◌≡◌, ℕ, Bool, true, false, not, ◌&&◌, if◌then◌else◌, Option, List, [], ◌∷◌, ◌++◌, map, is_some}
+use Rattle.std.specs.Prelude.{option_to_list}
 use Rattle.std.specs.List.{filter, list_any}
 use Rattle.moka_model.specs.Maintenance.{Queues}
-use Rattle.moka_model.specs.History.{Event, Get, ContainsKey, Insert, Invalidate, Maintain, Skip, Measure, TakeNotice, Rules, Write, latest, after_write, standing, live, queues}
+use Rattle.moka_model.specs.History.{Event, Get, ContainsKey, Insert, Invalidate, Maintain, Skip, Measure, TakeNotice, Rules, Write, latest}
+use Rattle.moka_model.specs.History.{after_write, standing, live, queues}
 use Rattle.moka_model.specs.StandsFor.{writes_of}
 
 module _ {K V : Type 0} where

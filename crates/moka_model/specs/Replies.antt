@@ -1,6 +1,8 @@
 -- What each step answers, as a function of the events before it.
 use Rattle.std.specs.Prelude.{⊤, ℕ, min, ◌≡◌, Bool, max, Option, Some, None, List, option_map, is_some, slice_get, ◌≢◌, ◌<◌}
-use Rattle.moka_model.specs.History.{Event, Get, ContainsKey, Insert, Invalidate, Maintain, Skip, Measure, EntryCount, WeightedSize, TakeNotice, Rules, Leaving, latest, live, noticed, entry_count, weighted_size, next_number, greatest_number, drawn}
+use Rattle.moka_model.specs.History.{Event, Get, ContainsKey, Insert, Invalidate, Maintain, Skip, Measure, EntryCount, WeightedSize}
+use Rattle.moka_model.specs.History.{TakeNotice, Rules, Leaving, latest, live, noticed, entry_count, weighted_size, next_number}
+use Rattle.moka_model.specs.History.{greatest_number, drawn}
 
 -- An answer, with the values themselves. What a step hands out is a copy of them.
 pub data Answer (K V : Type 0) : Type 0 where

@@ -1,5 +1,6 @@
 -- Rows whose numbers differ, and the place of one of them.
-use Rattle.std.specs.Prelude.{◌≡◌, ℕ, ◌+◌, ◌<◌, ◌≤◌, Bool, Option, Some, None, List, length, slice_index_or, slice_set, remove, find, option_map, drop}
+use Rattle.std.specs.Prelude.{◌≡◌, ℕ, ◌+◌, ◌<◌, ◌≤◌, Bool, Option, Some, None, List, length, slice_index_or, slice_set, remove, find}
+use Rattle.std.specs.Prelude.{option_map, drop}
 use Rattle.moka_rows.specs.Rows.{count_under, row_under, with_row, without_row, first_number, number_after}
 use Rattle.moka_rows.specs.declared.list_rows.Place.{Place}
 use Rattle.moka_rows.specs.declared.list_rows.Place.TheVariants.{Admitted, Waiting}

@@ -5,7 +5,8 @@ use Rattle.moka_policy.specs.declared.policy.Refused.TheVariants.{OutOfMemory, N
 use Rattle.moka_model.specs.History.{Event, Quantity, Rules, stores_nothing, after_insert}
 use Rattle.moka_model.specs.Replies.{Answer, answer, IsAnswer, MayTakeMemory, IsOutOfNumbers}
 use Rattle.moka_state.specs.declared.step.Step.{Step}
-use Rattle.moka_state.specs.declared.step.Step.TheVariants.{Get, ContainsKey, Insert, Invalidate, RunPendingTasks, EntryCount, WeightedSize, TakeNotice}
+use Rattle.moka_state.specs.declared.step.Step.TheVariants.{Get, ContainsKey, Insert, Invalidate, RunPendingTasks, EntryCount, WeightedSize}
+use Rattle.moka_state.specs.declared.step.Step.TheVariants.{TakeNotice}
 use Rattle.moka_state.specs.declared.step.Reply.{Reply}
 use Rattle.moka_state.specs.declared.step.Reply.TheVariants.{Found, Contains, Done, Counted, Noticed, Refused}
 use Rattle.moka_table.specs.Table.{leaving_of}

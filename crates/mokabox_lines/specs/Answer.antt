@@ -6,7 +6,8 @@ use Rattle.moka_model.specs.declared.notification.RemovalCause.TheVariants as ca
 use Rattle.moka_policy.specs.declared.policy.Refused as moka_refused
 use Rattle.moka_policy.specs.declared.policy.Refused.TheVariants as refusals
 use Rattle.mokabox_lines.specs.declared.answer.Answer.{Answer}
-use Rattle.mokabox_lines.specs.declared.answer.Answer.TheVariants.{Done, Found, NotFound, Whether, Counted, Refused, NotBuilt, Left, End, BadLine}
+use Rattle.mokabox_lines.specs.declared.answer.Answer.TheVariants.{Done, Found, NotFound, Whether, Counted, Refused, NotBuilt, Left, End}
+use Rattle.mokabox_lines.specs.declared.answer.Answer.TheVariants.{BadLine}
 use Rattle.mokabox_lines.specs.declared.answer.BuildRefusal.{BuildRefusal}
 use Rattle.mokabox_lines.specs.declared.answer.BuildRefusal.TheVariants as builds
 

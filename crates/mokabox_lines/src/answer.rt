@@ -3,8 +3,8 @@ ghost use Rattle.std.specs.Prelude.{◌≡◌, Some, OnOk};
 ghost use Rattle.std.specs.Io.KnownBytes.{Appends};
 ghost use Rattle.mokabox_lines.specs.Answer.{answer_text, answer_line, cause_text, refusal_number, build_refusal_number};
 
-use moka_base::notification::RemovalCause;
-use moka_base::policy::Refused;
+use moka_model::notification::RemovalCause;
+use moka_policy::policy::Refused;
 use std::io::Write;
 use std::{fmt, io};
 

@@ -1,6 +1,7 @@
 -- Events, writes, notices, answers and rules, with an image in place of each value.
 use Rattle.std.specs.Prelude.{option_map}
-use Rattle.moka_model.specs.History.{Event, Get, ContainsKey, Insert, Invalidate, Maintain, Skip, Measure, TakeNotice, Lifetimes, Ways, Rules, Write, Leaving}
+use Rattle.moka_model.specs.History.{Event, Get, ContainsKey, Insert, Invalidate, Maintain, Skip, Measure, TakeNotice, Lifetimes, Ways}
+use Rattle.moka_model.specs.History.{Rules, Write, Leaving}
 use Rattle.moka_model.specs.Replies.{Answer, Found, Contains, Done, Counted, Noticed}
 
 module _ {K V W : Type 0} (f : V → W) where

@@ -1,5 +1,6 @@
 -- What a script prints, by the events of its cache.
-use Rattle.std.specs.Prelude.{◌≡◌, ℕ, ◌*◌, ◌%◌, ◌^◌, max, Bool, true, false, ◌||◌, IsSome, List, [], ◌∷◌, ◌++◌, map, flat_map, Option, Some, None, option_map, unwrap_or, nat_eq, codes, ◌⊎◌, if◌then◌else◌}
+use Rattle.std.specs.Prelude.{◌≡◌, ℕ, ◌*◌, ◌%◌, ◌^◌, max, Bool, true, false, ◌||◌, IsSome, List, [], ◌∷◌, ◌++◌, map, flat_map, Option, Some}
+use Rattle.std.specs.Prelude.{None, option_map, unwrap_or, nat_eq, codes, ◌⊎◌, if◌then◌else◌}
 use Rattle.std.specs.Fmt.{decimal}
 use Rattle.std.specs.List.{onto_first}
 use Rattle.moka_model.specs.History as history
