@@ -45,7 +45,8 @@ abbrev pub frequencies : {K V : Type 0} → Rules K V → List (Event K V) → L
 frequencies rules h ws = total (λ u. frequency rules h u.hash) ws
 
 -- One write waits alone before a maintenance, live, beside live admitted ones that are within the capacity.
-pub record WaitsAlone {K V : Type 0} (eq : K → K → Bool) (rules : Rules K V) (at : ℕ) (h : List (Event K V)) (capacity : ℕ) (w : Write K V) : Type 0 where
+pub record WaitsAlone {K V : Type 0} (eq : K → K → Bool) (rules : Rules K V) (at : ℕ) (h : List (Event K V)) (capacity : ℕ)
+    (w : Write K V) : Type 0 where
   pub capacity_is : rules.max_capacity ≡ Some capacity
   pub alone : (queues eq rules h).waiting ≡ w ∷ []
   pub all_live : AllByRecursion (λ u. lives eq rules at h u ≡ true) (w ∷ (queues eq rules h).admitted)

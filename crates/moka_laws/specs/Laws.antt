@@ -102,13 +102,17 @@ pub record FirstWrite {K V : Type 0} (eq : K → K → Bool) (rules : Rules K V)
   pub kept : IsUnremoved eq rules k later (Insert key value at ∷ before)
 
 -- the events up to the last write, with it
-abbrev pub up_to_write : {K V : Type 0} {eq : K → K → Bool} {rules : Rules K V} {k : K} {h : List (Event K V)} → LastWrite eq rules k h → List (Event K V)
+abbrev pub up_to_write :
+    {K V : Type 0} {eq : K → K → Bool} {rules : Rules K V} {k : K} {h : List (Event K V)} → LastWrite eq rules k h → List (Event K V)
 up_to_write last = Insert last.key last.value last.at ∷ last.before
 
 -- The moments of the hits on a key among the events after `before`: its looks by `get` that found its write live.
 abbrev pub hits : {K V : Type 0} → (K → K → Bool) → Rules K V → K → List (Event K V) → List (Event K V) → List ℕ
 hits eq rules k [] before = []
-hits eq rules k (Get q at ∷ later) before = if eq q k && is_some (live eq rules k (latest (Get q at ∷ later ++ before)) (later ++ before)) then latest (Get q at ∷ later ++ before) ∷ hits eq rules k later before else hits eq rules k later before
+hits eq rules k (Get q at ∷ later) before =
+    if eq q k && is_some (live eq rules k (latest (Get q at ∷ later ++ before)) (later ++ before))
+    then latest (Get q at ∷ later ++ before) ∷ hits eq rules k later before
+    else hits eq rules k later before
 hits eq rules k (ContainsKey q at ∷ later) before = hits eq rules k later before
 hits eq rules k (Insert q v at ∷ later) before = hits eq rules k later before
 hits eq rules k (Invalidate q at ∷ later) before = hits eq rules k later before
@@ -124,7 +128,8 @@ greatest (m ∷ ms) = max m (greatest ms)
 
 -- What stands has the value, the weight and the moment of the last write, and was used at the greatest moment among that
 -- one and the hits since.
-pub record IsAsWritten {K V : Type 0} {eq : K → K → Bool} {rules : Rules K V} {k : K} {h : List (Event K V)} (last : LastWrite eq rules k h) (w : Write K V) : Type 0 where
+pub record IsAsWritten {K V : Type 0} {eq : K → K → Bool} {rules : Rules K V} {k : K} {h : List (Event K V)}
+    (last : LastWrite eq rules k h) (w : Write K V) : Type 0 where
   pub value : w.value ≡ last.value
   pub weight : w.weight ≡ rules.ways.weight last.key last.value
   pub written : w.written ≡ latest (up_to_write last)
@@ -132,7 +137,8 @@ pub record IsAsWritten {K V : Type 0} {eq : K → K → Bool} {rules : Rules K V
 
 -- A leaving is that of the last write: with its value, under an equal key, and for the event's own cause, but
 -- expired where at that moment the deadline of what stood had come.
-pub record IsLeavingOf {K V : Type 0} {eq : K → K → Bool} {rules : Rules K V} {k : K} {h : List (Event K V)} (last : LastWrite eq rules k h) (own : RemovalCause) (at : ℕ) (l : Leaving K V) : Type 0 where
+pub record IsLeavingOf {K V : Type 0} {eq : K → K → Bool} {rules : Rules K V} {k : K} {h : List (Event K V)}
+    (last : LastWrite eq rules k h) (own : RemovalCause) (at : ℕ) (l : Leaving K V) : Type 0 where
   pub stood : Write K V
   pub stands : standing eq rules k h ≡ Some stood
   pub as_written : IsAsWritten last stood

@@ -14,7 +14,15 @@ plain_ways = record { is_lru = true; hash = λ k. k; weight = λ k v. 1; lifetim
 
 -- no life ends
 abbrev pub without_lives : Rules ℕ ℕ
-without_lives = record { time_to_live = None; time_to_idle = None; max_capacity = None; first_number = 0; ways = plain_ways; frequency = estimate_after 6 }
+without_lives =
+    record {
+      time_to_live = None;
+      time_to_idle = None;
+      max_capacity = None;
+      first_number = 0;
+      ways = plain_ways;
+      frequency = estimate_after 6;
+    }
 
 -- ten seconds to live
 abbrev pub ten_to_live : Rules ℕ ℕ

@@ -19,7 +19,8 @@ weighed = record without_lives { ways = record plain_ways { weight = λ k v. v }
 
 -- five seconds from the creation on, and three from each hit on
 abbrev pub five_and_three : Lifetimes ℕ ℕ
-five_and_three = record { created = λ k v at. Some (seconds 5); read = λ k v at left written. Some (seconds 3); updated = λ k v at left. left }
+five_and_three =
+    record { created = λ k v at. Some (seconds 5); read = λ k v at left written. Some (seconds 3); updated = λ k v at left. left }
 
 -- five seconds from the creation on, which no hit and no update changes
 abbrev pub five_alone : Lifetimes ℕ ℕ
@@ -55,7 +56,9 @@ asked_twice = Insert 4 42 17 ∷ Get 4 16 ∷ Maintain 15 ∷ asked_once
 
 -- three keys of weights 10, 15 and 5 in their order of use: 3, 1, 2
 abbrev pub three_weighed : List (Event ℕ ℕ)
-three_weighed = Maintain 10 ∷ Get 2 9 ∷ Get 1 8 ∷ Maintain 7 ∷ Get 3 6 ∷ Insert 3 5 5 ∷ Maintain 4 ∷ Get 2 3 ∷ Get 1 2 ∷ Insert 2 15 1 ∷ Insert 1 10 0 ∷ []
+three_weighed =
+    Maintain 10 ∷ Get 2 9 ∷ Get 1 8 ∷ Maintain 7 ∷ Get 3 6 ∷ Insert 3 5 5 ∷ Maintain 4 ∷ Get 2 3 ∷ Get 1 2
+    ∷ Insert 2 15 1 ∷ Insert 1 10 0 ∷ []
 
 -- a fourth of weight 15 comes so many times, each time followed by a maintenance and a look for it
 abbrev pub fourth_tries : ℕ → List (Event ℕ ℕ)

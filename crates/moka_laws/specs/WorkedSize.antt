@@ -18,7 +18,9 @@ third_comes = Insert 3 30 4 ∷ Get 1 3 ∷ Maintain 2 ∷ Insert 2 20 1 ∷ Ins
 
 -- two keys come, are hit and are admitted; a third comes, is hit and is admitted; and the first two are hit again
 abbrev pub three_used : List (Event ℕ ℕ)
-three_used = Maintain 10 ∷ Get 2 9 ∷ Get 1 8 ∷ Maintain 7 ∷ Get 3 6 ∷ Insert 3 30 5 ∷ Maintain 4 ∷ Get 2 3 ∷ Get 1 2 ∷ Insert 2 20 1 ∷ Insert 1 10 0 ∷ []
+three_used =
+    Maintain 10 ∷ Get 2 9 ∷ Get 1 8 ∷ Maintain 7 ∷ Get 3 6 ∷ Insert 3 30 5 ∷ Maintain 4 ∷ Get 2 3 ∷ Get 1 2
+    ∷ Insert 2 20 1 ∷ Insert 1 10 0 ∷ []
 
 -- and a fourth comes
 abbrev pub fourth_comes : List (Event ℕ ℕ)

@@ -51,7 +51,8 @@ module _ {K V : Type 0} where
 
   -- no deadline of these rows comes before the earliest, and where there is no earliest none comes at all
   abbrev pub IsDueFrom : Option ℕ → Lives → List (ℕ × Row K V) → Type 0
-  IsDueFrom earliest lives rows = AllByRecursion (λ p. (at : ℕ) → has_come (deadline_of lives p.1.info) at ≡ true → has_come earliest at ≡ true) rows
+  IsDueFrom earliest lives rows =
+      AllByRecursion (λ p. (at : ℕ) → has_come (deadline_of lives p.1.info) at ≡ true → has_come earliest at ≡ true) rows
 
   -- the rows of one order
   abbrev pub rows_in : Order → Contents K V → List (ℕ × Row K V)
@@ -79,18 +80,22 @@ module _ {K V : Type 0} where
   judgements is_lru frequency_of capacity c = judged weight_of capacity (row_wins is_lru frequency_of) c.admitted c.waiting
 
   -- The first row that waits was judged: what the judgement says leaves is noticed, in order, and the rest still wait.
-  pub record JudgesFirst (is_lru : Bool) (frequency_of : ℕ → ℕ) (capacity : Option ℕ) (first : ℕ × Row K V) (rest : List (ℕ × Row K V)) (old new : Contents K V) : Type 0 where
+  pub record JudgesFirst (is_lru : Bool) (frequency_of : ℕ → ℕ) (capacity : Option ℕ) (first : ℕ × Row K V) (rest : List (ℕ × Row K V))
+      (old new : Contents K V) : Type 0 where
     pub waited : old.waiting ≡ first ∷ rest
     pub waiting : new.waiting ≡ rest
     pub admitted : new.admitted ≡ (judge weight_of capacity (row_wins is_lru frequency_of) old.admitted first rest).after.admitted
-    pub notices : new.notices ≡ old.notices ++ notices_for Size (judge weight_of capacity (row_wins is_lru frequency_of) old.admitted first rest).leaves
+    pub notices : new.notices ≡ old.notices
+        ++ notices_for Size (judge weight_of capacity (row_wins is_lru frequency_of) old.admitted first rest).leaves
 
   -- the parts of a maintenance of rows
   abbrev pub row_parts : Lives → Bool → (ℕ → ℕ) → Option ℕ → ℕ → Contents K V → List (Part (ℕ × Row K V))
-  row_parts lives is_lru frequency_of capacity at c = parts weight_of capacity (is_alive lives at) (row_wins is_lru frequency_of) (rows_of c)
+  row_parts lives is_lru frequency_of capacity at c =
+      parts weight_of capacity (is_alive lives at) (row_wins is_lru frequency_of) (rows_of c)
 
 -- What a maintenance at a moment makes of a table: its parts are done, and what leaves is noticed, in order.
-pub record IsMaintained {K V : Type 0} (lives : Lives) (is_lru : Bool) (frequency_of : ℕ → ℕ) (capacity : Option ℕ) (at : ℕ) (old new : Contents K V) : Type 0 where
+pub record IsMaintained {K V : Type 0} (lives : Lives) (is_lru : Bool) (frequency_of : ℕ → ℕ) (capacity : Option ℕ) (at : ℕ)
+    (old new : Contents K V) : Type 0 where
   pub waiting : new.waiting ≡ []
   pub admitted : new.admitted ≡ (after_parts (rows_of old) (row_parts lives is_lru frequency_of capacity at old)).admitted
   pub notices : new.notices ≡ old.notices ++ map (notice_at lives at) (leaving_in (row_parts lives is_lru frequency_of capacity at old))

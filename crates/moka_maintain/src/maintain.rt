@@ -9,8 +9,8 @@ ghost use Rattle.moka_rows.specs.Rows.{first_number, NumbersDiffer};
 ghost use Rattle.moka_table.specs.Table.{entries, weight_of};
 ghost use Rattle.moka_maintain.specs.Maintain.{rows_in, other, living, dead, notices_for, is_within, rows_of, frequencies, hash_wins, judgements, JudgesFirst, IsDueFrom, IsMaintained};
 
-use moka_policy::frequency::FrequencySource;
 use moka_model::notification::RemovalCause;
+use moka_policy::frequency::FrequencySource;
 use moka_policy::policy::EvictionPolicy;
 use moka_rows::rows::RowStore;
 use moka_table::table::Table;

@@ -152,12 +152,29 @@ module _ {K V : Type 0} (rules : Rules K V) where
   -- an update where a live value stood, and else that of a creation.
   abbrev pub life_given : K → V → ℕ → Option (Write K V) → Option ℕ
   life_given k v at None = rules.ways.lifetimes.created k v at
-  life_given k v at (Some w) = if is_live w at then rules.ways.lifetimes.updated w.key v at (rest w.own at) else rules.ways.lifetimes.created w.key v at
+  life_given k v at (Some w) =
+      if is_live w at then rules.ways.lifetimes.updated w.key v at (rest w.own at) else rules.ways.lifetimes.created w.key v at
 
   -- A write at a moment. A key that stands keeps the stored key.
   abbrev pub after_write : K → V → ℕ → Option (Write K V) → Write K V
-  after_write k v at None = record { key = k; hash = rules.ways.hash k; value = v; weight = rules.ways.weight k v; written = at; used = at; own = given (life_given k v at None) at }
-  after_write k v at (Some w) = record { key = w.key; hash = w.hash; value = v; weight = rules.ways.weight k v; written = at; used = at; own = given (life_given k v at (Some w)) at }
+  after_write k v at None = record {
+    key = k;
+    hash = rules.ways.hash k;
+    value = v;
+    weight = rules.ways.weight k v;
+    written = at;
+    used = at;
+    own = given (life_given k v at None) at;
+  }
+  after_write k v at (Some w) = record {
+    key = w.key;
+    hash = w.hash;
+    value = v;
+    weight = rules.ways.weight k v;
+    written = at;
+    used = at;
+    own = given (life_given k v at (Some w)) at;
+  }
 
 module _ {A : Type 0} where
   -- those that pass a test change, and stay in their places
@@ -188,7 +205,9 @@ module _ {K V : Type 0} (eq : K → K → Bool) (rules : Rules K V) where
   opened_by w (standing ∷ more) q = q
 
   abbrev pub written_in : K → V → ℕ → Queues (Write K V) → Queues (Write K V)
-  written_in k v at q = opened_by (after_write rules k v at None) (filter (is_of k) (q.admitted ++ q.waiting)) (used_where (is_of k) (λ w. after_write rules k v at (Some w)) q)
+  written_in k v at q =
+      opened_by (after_write rules k v at None) (filter (is_of k) (q.admitted ++ q.waiting))
+      (used_where (is_of k) (λ w. after_write rules k v at (Some w)) q)
 
   -- a key that is removed is in neither order
   abbrev pub removed_in : K → Queues (Write K V) → Queues (Write K V)
@@ -231,7 +250,8 @@ module _ {K V : Type 0} (rules : Rules K V) (frequency_of : ℕ → ℕ) where
 -- What stands after a list of events, in its two orders.
 abbrev pub queues : {K V : Type 0} → (K → K → Bool) → Rules K V → List (Event K V) → Queues (Write K V)
 queues eq rules [] = record { admitted = []; waiting = [] }
-queues eq rules (Get k at ∷ h) = used_where eq rules (is_hit eq rules k (latest (Get k at ∷ h))) (after_look rules (latest (Get k at ∷ h))) (queues eq rules h)
+queues eq rules (Get k at ∷ h) =
+    used_where eq rules (is_hit eq rules k (latest (Get k at ∷ h))) (after_look rules (latest (Get k at ∷ h))) (queues eq rules h)
 queues eq rules (ContainsKey k at ∷ h) = queues eq rules h
 queues eq rules (Insert k v at ∷ h) = written_in eq rules k v (latest (Insert k v at ∷ h)) (queues eq rules h)
 queues eq rules (Invalidate k at ∷ h) = removed_in eq rules k (queues eq rules h)
@@ -247,9 +267,11 @@ leaves_in eq rules k at h = list_any (λ w. eq w.key k) (let_go rules (frequency
 -- The write that stands for a key.
 abbrev pub standing : {K V : Type 0} → (K → K → Bool) → Rules K V → K → List (Event K V) → Option (Write K V)
 standing eq rules k [] = None
-standing eq rules k (Get q at ∷ h) = if eq q k then option_map (after_look rules (latest (Get q at ∷ h))) (standing eq rules k h) else standing eq rules k h
+standing eq rules k (Get q at ∷ h) =
+    if eq q k then option_map (after_look rules (latest (Get q at ∷ h))) (standing eq rules k h) else standing eq rules k h
 standing eq rules k (ContainsKey q at ∷ h) = standing eq rules k h
-standing eq rules k (Insert q v at ∷ h) = if eq q k then Some (after_write rules q v (latest (Insert q v at ∷ h)) (standing eq rules k h)) else standing eq rules k h
+standing eq rules k (Insert q v at ∷ h) =
+    if eq q k then Some (after_write rules q v (latest (Insert q v at ∷ h)) (standing eq rules k h)) else standing eq rules k h
 standing eq rules k (Invalidate q at ∷ h) = if eq q k then None else standing eq rules k h
 standing eq rules k (Maintain at ∷ h) = if leaves_in eq rules k at h then None else standing eq rules k h
 standing eq rules k (Skip at ∷ h) = standing eq rules k h
@@ -276,7 +298,8 @@ abbrev pub leaving : {K V : Type 0} → (K → K → Bool) → Rules K V → Eve
 leaving eq rules (Insert q v at) h = left rules Replaced (latest (Insert q v at ∷ h)) (standing eq rules q h)
 leaving eq rules (Invalidate q at) h = left rules Explicit (latest (Invalidate q at ∷ h)) (standing eq rules q h)
 leaving eq rules (Get q at) h = []
-leaving eq rules (Maintain at) h = map (leaving_of rules Size (latest (Maintain at ∷ h))) (let_go rules (frequency rules h) (latest (Maintain at ∷ h)) (queues eq rules h))
+leaving eq rules (Maintain at) h =
+    map (leaving_of rules Size (latest (Maintain at ∷ h))) (let_go rules (frequency rules h) (latest (Maintain at ∷ h)) (queues eq rules h))
 leaving eq rules (ContainsKey q at) h = []
 leaving eq rules (Skip at) h = []
 leaving eq rules (Measure what) h = []
@@ -350,12 +373,15 @@ is_flush_due eq rules h = nat_le flush_point (length (queues eq rules h).waiting
 -- The events after an accepted write: where the capacity is 0 nothing was written, and where a flush was due a
 -- maintenance came first, at the moment of the write.
 abbrev pub after_insert : {K V : Type 0} → (K → K → Bool) → Rules K V → K → V → ℕ → List (Event K V) → List (Event K V)
-after_insert eq rules k v at h = if stores_nothing rules.max_capacity then Skip at ∷ h else (if is_flush_due eq rules h then Insert k v at ∷ Maintain at ∷ h else Insert k v at ∷ h)
+after_insert eq rules k v at h =
+    if stores_nothing rules.max_capacity then Skip at ∷ h
+    else (if is_flush_due eq rules h then Insert k v at ∷ Maintain at ∷ h else Insert k v at ∷ h)
 
 -- A list of events is one that steps give: each write in it comes where the capacity is not 0 and no flush is due.
 abbrev pub IsHistory : {K V : Type 0} → (K → K → Bool) → Rules K V → List (Event K V) → Type 0
 IsHistory eq rules [] = ⊤
-IsHistory eq rules (Insert k v at ∷ h) = (stores_nothing rules.max_capacity ≡ false) × (is_flush_due eq rules h ≡ false) × IsHistory eq rules h
+IsHistory eq rules (Insert k v at ∷ h) =
+    (stores_nothing rules.max_capacity ≡ false) × (is_flush_due eq rules h ≡ false) × IsHistory eq rules h
 IsHistory eq rules (Get k at ∷ h) = IsHistory eq rules h
 IsHistory eq rules (ContainsKey k at ∷ h) = IsHistory eq rules h
 IsHistory eq rules (Invalidate k at ∷ h) = IsHistory eq rules h

@@ -33,18 +33,24 @@ module _ {X : Type 0} (is_live : X → Bool) where
   -- what is dead leaves, one by one: first among the admitted,
   abbrev pub dead_admitted : List X → List X → List X → List (Part X)
   dead_admitted kept [] waiting = []
-  dead_admitted kept (x ∷ xs) waiting = if is_live x then dead_admitted (kept ++ x ∷ []) xs waiting else record { leaves = x ∷ []; after = record { admitted = kept ++ xs; waiting = waiting } } ∷ dead_admitted kept xs waiting
+  dead_admitted kept (x ∷ xs) waiting =
+      if is_live x then dead_admitted (kept ++ x ∷ []) xs waiting
+      else record { leaves = x ∷ []; after = record { admitted = kept ++ xs; waiting = waiting } } ∷ dead_admitted kept xs waiting
 
   -- and then among those that wait
   abbrev pub dead_waiting : List X → List X → List X → List (Part X)
   dead_waiting admitted kept [] = []
-  dead_waiting admitted kept (x ∷ xs) = if is_live x then dead_waiting admitted (kept ++ x ∷ []) xs else record { leaves = x ∷ []; after = record { admitted = admitted; waiting = kept ++ xs } } ∷ dead_waiting admitted kept xs
+  dead_waiting admitted kept (x ∷ xs) =
+      if is_live x then dead_waiting admitted (kept ++ x ∷ []) xs
+      else record { leaves = x ∷ []; after = record { admitted = admitted; waiting = kept ++ xs } } ∷ dead_waiting admitted kept xs
 
 module _ {X : Type 0} (weight : X → ℕ) (capacity : Option ℕ) where
   -- where the admitted weight passes the capacity, the shortest front that brings it within leaves, one by one
   abbrev pub over : List X → List X → List (Part X)
   over [] waiting = []
-  over (x ∷ xs) waiting = if fits weight capacity 0 (x ∷ xs) then [] else record { leaves = x ∷ []; after = record { admitted = xs; waiting = waiting } } ∷ over xs waiting
+  over (x ∷ xs) waiting =
+      if fits weight capacity 0 (x ∷ xs) then []
+      else record { leaves = x ∷ []; after = record { admitted = xs; waiting = waiting } } ∷ over xs waiting
 
   -- The first that waits is dropped where it is heavier than the capacity. Else its victims are the shortest front
   -- that makes room for it, and they leave and it is admitted where it needs none or wins against them; where it

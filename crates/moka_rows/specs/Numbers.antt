@@ -20,7 +20,8 @@ pub record IsPlaceOf {R : Type 0} (n : ℕ) (rows : List (ℕ × R)) (place : �
   pub within : place < length rows
   pub number : (p : ℕ × R) → p ≡ slice_index_or rows place p → p.0 ≡ n
   pub row : (p : ℕ × R) → p ≡ slice_index_or rows place p → row_under n rows ≡ Some p.1
-  pub changed : (p : ℕ × R) (change : R → R) → p ≡ slice_index_or rows place p → slice_set rows place (p.0, change p.1) ≡ with_row n change rows
+  pub changed :
+      (p : ℕ × R) (change : R → R) → p ≡ slice_index_or rows place p → slice_set rows place (p.0, change p.1) ≡ with_row n change rows
   pub rest : remove rows place ≡ without_row n rows
   pub next : number_after n rows ≡ first_number (drop (place + 1) rows)
 

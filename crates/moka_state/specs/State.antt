@@ -14,7 +14,15 @@ pub use Rattle.moka_ways.specs.Means.{Kept, held_by, estimates}
 
 -- the rules of a cache that is built with these settings
 abbrev pub rules_of : {K V : Type 0} → Option ℕ → Option Duration → Option Duration → ℕ → Ways K V → (List ℕ → ℕ → ℕ) → Rules K V
-rules_of max_capacity time_to_live time_to_idle first_number ways frequency = record { time_to_live = option_map as_nanos time_to_live; time_to_idle = option_map as_nanos time_to_idle; max_capacity = max_capacity; first_number = first_number; ways = ways; frequency = frequency }
+rules_of max_capacity time_to_live time_to_idle first_number ways frequency =
+    record {
+      time_to_live = option_map as_nanos time_to_live;
+      time_to_idle = option_map as_nanos time_to_idle;
+      max_capacity = max_capacity;
+      first_number = first_number;
+      ways = ways;
+      frequency = frequency;
+    }
 
 module _ {K V H F : Type 0} where
   -- what a state keeps, by its fields
@@ -54,7 +62,8 @@ module _ {K V : Type 0} where
 
   -- Each row has the hash of its key; each key and value, stored or noticed, are in the relation that the cache keeps;
   -- and no admitted value's deadline comes before the earliest.
-  pub record IsSound (keeps : K → V → Type 0) (hash_of : K → ℕ) (lives : Lives) (earliest : Option ℕ) (contents : Contents K V) : Type 0 where
+  pub record IsSound (keeps : K → V → Type 0) (hash_of : K → ℕ) (lives : Lives) (earliest : Option ℕ)
+      (contents : Contents K V) : Type 0 where
     pub due : IsDueFrom earliest lives contents.admitted
     pub hashed : AllByRecursion (λ p. p.1.hash ≡ hash_of (arc_value p.1.key)) (entries contents)
     pub kept : AllByRecursion (λ p. keeps (arc_value p.1.key) p.1.value) (entries contents)

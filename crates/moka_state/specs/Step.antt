@@ -28,11 +28,17 @@ event_of rules TakeNotice = Event.TakeNotice
 abbrev pub IsReplyTo : {K V : Type 0} → (K → K → Bool) → (V → V → Type 0) → Rules K V → List (Event K V) → Step K V → Reply K V → Type 0
 IsReplyTo eq is_clone rules h step (Refused OutOfMemory) = MayTakeMemory eq rules (event_of rules step) h
 IsReplyTo eq is_clone rules h step (Refused NumbersUsedUp) = IsOutOfNumbers rules (event_of rules step) h
-IsReplyTo eq is_clone rules h step (Found v) = IsAnswer is_clone (answer eq rules (event_of rules step) h) (Answer.Found v) × ¬ (IsOutOfNumbers rules (event_of rules step) h)
-IsReplyTo eq is_clone rules h step (Contains b) = IsAnswer is_clone (answer eq rules (event_of rules step) h) (Answer.Contains b) × ¬ (IsOutOfNumbers rules (event_of rules step) h)
-IsReplyTo eq is_clone rules h step Done = IsAnswer is_clone (answer eq rules (event_of rules step) h) Answer.Done × ¬ (IsOutOfNumbers rules (event_of rules step) h)
-IsReplyTo eq is_clone rules h step (Counted n) = IsAnswer is_clone (answer eq rules (event_of rules step) h) (Answer.Counted n) × ¬ (IsOutOfNumbers rules (event_of rules step) h)
-IsReplyTo eq is_clone rules h step (Noticed n) = IsAnswer is_clone (answer eq rules (event_of rules step) h) (Answer.Noticed (option_map leaving_of n)) × ¬ (IsOutOfNumbers rules (event_of rules step) h)
+IsReplyTo eq is_clone rules h step (Found v) =
+    IsAnswer is_clone (answer eq rules (event_of rules step) h) (Answer.Found v) × ¬ (IsOutOfNumbers rules (event_of rules step) h)
+IsReplyTo eq is_clone rules h step (Contains b) =
+    IsAnswer is_clone (answer eq rules (event_of rules step) h) (Answer.Contains b) × ¬ (IsOutOfNumbers rules (event_of rules step) h)
+IsReplyTo eq is_clone rules h step Done =
+    IsAnswer is_clone (answer eq rules (event_of rules step) h) Answer.Done × ¬ (IsOutOfNumbers rules (event_of rules step) h)
+IsReplyTo eq is_clone rules h step (Counted n) =
+    IsAnswer is_clone (answer eq rules (event_of rules step) h) (Answer.Counted n) × ¬ (IsOutOfNumbers rules (event_of rules step) h)
+IsReplyTo eq is_clone rules h step (Noticed n) =
+    IsAnswer is_clone (answer eq rules (event_of rules step) h) (Answer.Noticed (option_map leaving_of n))
+    × ¬ (IsOutOfNumbers rules (event_of rules step) h)
 
 -- The events after an accepted step: one more, but where an insert flushes a maintenance comes first.
 abbrev pub accepted : {K V : Type 0} → (K → K → Bool) → Rules K V → Step K V → List (Event K V) → List (Event K V)
@@ -55,14 +61,17 @@ after eq rules step (Counted n) h = accepted eq rules step h
 after eq rules step (Noticed n) h = accepted eq rules step h
 
 -- Each reply is the step's, after the accepted steps before it, and there are as many replies as steps.
-abbrev pub IsRun : {K V : Type 0} → (K → K → Bool) → (V → V → Type 0) → Rules K V → List (Event K V) → List (Step K V) → List (Reply K V) → Type 0
+abbrev pub IsRun :
+    {K V : Type 0} → (K → K → Bool) → (V → V → Type 0) → Rules K V → List (Event K V) → List (Step K V) → List (Reply K V) → Type 0
 IsRun eq is_clone rules h [] [] = ⊤
-IsRun eq is_clone rules h (step ∷ steps) (reply ∷ replies) = IsReplyTo eq is_clone rules h step reply × IsRun eq is_clone rules (after eq rules step reply h) steps replies
+IsRun eq is_clone rules h (step ∷ steps) (reply ∷ replies) =
+    IsReplyTo eq is_clone rules h step reply × IsRun eq is_clone rules (after eq rules step reply h) steps replies
 IsRun eq is_clone rules h [] (reply ∷ replies) = ⊥
 IsRun eq is_clone rules h (step ∷ steps) [] = ⊥
 
 -- the events after a run: its accepted steps, on those before it
-abbrev pub after_all : {K V : Type 0} → (K → K → Bool) → Rules K V → List (Step K V) → List (Reply K V) → List (Event K V) → List (Event K V)
+abbrev pub after_all :
+    {K V : Type 0} → (K → K → Bool) → Rules K V → List (Step K V) → List (Reply K V) → List (Event K V) → List (Event K V)
 after_all eq rules [] replies h = h
 after_all eq rules (step ∷ steps) [] h = h
 after_all eq rules (step ∷ steps) (reply ∷ replies) h = after_all eq rules steps replies (after eq rules step reply h)

@@ -12,9 +12,9 @@ ghost use Rattle.moka_table.specs.Table.{leaving_of};
 ghost use Rattle.moka_state.specs.State.{Kept, kept_by, all_writes, rules_of, IsSound};
 ghost use Rattle.moka_ways.specs.Ways.{hash_by};
 
+use moka_maintain::maintain::maintain;
 use moka_model::notification::{Notice, RemovalCause};
 use moka_policy::policy::{CacheTypes, EvictionPolicy, FrequencySource, Refused};
-use moka_maintain::maintain::maintain;
 use moka_rows::list_rows::ListRows;
 use moka_rows::rows::{EntryInfo, RowStore};
 use moka_table::shared_key::{IntoShared, Owned};

@@ -8,5 +8,6 @@ use Rattle.moka_rows.specs.Rows.{row_under, IsRowOf, NoneIsRowOf}
 
 -- the place of the key with this hash among these rows
 abbrev pub IsPlaceOf : {K V : Type 0} → (K → K → Bool) → K → ℕ → List (ℕ × Row K V) → Place K → Type 0
-IsPlaceOf {K} {V} eq key hash rows (Stored number shared) = (row : Row K V) × (row_under number rows ≡ Some row) × IsRowOf eq key hash row × (arc_value shared ≡ arc_value row.key)
+IsPlaceOf {K} {V} eq key hash rows (Stored number shared) =
+    (row : Row K V) × (row_under number rows ≡ Some row) × IsRowOf eq key hash row × (arc_value shared ≡ arc_value row.key)
 IsPlaceOf eq key hash rows Absent = NoneIsRowOf eq key hash rows

@@ -26,7 +26,8 @@ IsSlotFor key Absent (New k) = arc_value k ≡ key
 module _ {K V : Type 0} where
   -- the slot at that place once some of the rows have left, among the rows that are there now
   abbrev pub IsSlotNow : (K → K → Bool) → ℕ → Place K → Arc K Global → List (ℕ × Row K V) → Slot K → Type 0
-  IsSlotNow eq hash (Stored number stored) key rows (Over m k) = (k ≡ stored) × (row : Row K V) × (row_under m rows ≡ Some row) × IsRowOf eq (arc_value key) hash row
+  IsSlotNow eq hash (Stored number stored) key rows (Over m k) =
+      (k ≡ stored) × (row : Row K V) × (row_under m rows ≡ Some row) × IsRowOf eq (arc_value key) hash row
   IsSlotNow eq hash (Stored number stored) key rows (New k) = (k ≡ key) × NoneIsRowOf eq (arc_value key) hash rows
   IsSlotNow eq hash Absent key rows (Over m k) = ⊥
   IsSlotNow eq hash Absent key rows (New k) = k ≡ key
@@ -39,11 +40,15 @@ module _ {K V : Type 0} where
   -- The life of its own that a value gets in a slot: over a live value that of an update, and else that of a creation.
   abbrev pub IsOwnIn : Ways K V → Lives → Slot K → V → ℕ → Contents K V → Option OwnLife → Type 0
   IsOwnIn ways lives (Over number key) value at c own = IfSome (row_under number (entries c)) (λ row.
-      own ≡ given (if not (has_come (deadline_of lives row.info) at) then ways.lifetimes.updated (arc_value key) value at (rest (own_of row.info) at) else ways.lifetimes.created (arc_value key) value at) at)
+      own ≡ given
+      (if not (has_come (deadline_of lives row.info) at)
+      then ways.lifetimes.updated (arc_value key) value at (rest (own_of row.info) at)
+      else ways.lifetimes.created (arc_value key) value at) at)
   IsOwnIn ways lives (New key) value at c own = own ≡ given (ways.lifetimes.created (arc_value key) value at) at
 
   -- what is kept of a value that is written into a slot at a moment
-  pub record IsInfoOf (ways : Ways K V) (lives : Lives) (slot : Slot K) (value : V) (weight at : ℕ) (c : Contents K V) (info : EntryInfo) : Type 0 where
+  pub record IsInfoOf (ways : Ways K V) (lives : Lives) (slot : Slot K) (value : V) (weight at : ℕ) (c : Contents K V)
+      (info : EntryInfo) : Type 0 where
     pub modified : info.last_modified ≡ at
     pub accessed : info.last_accessed ≡ at
     pub weight_is : info.policy_weight ≡ weight
@@ -54,6 +59,12 @@ module _ {K V : Type 0} where
   abbrev pub Puts : Lives → Slot K → ℕ → V → EntryInfo → Contents K V → Contents K V → Type 0
   Puts lives (Over number key) hash value info old new = IfSome (row_under number (entries old)) (λ row.
       UsesRow number (overwritten value info) old new
-      × (new.notices ≡ old.notices ++ record { key = key; value = row.value; cause = if has_come (deadline_of lives row.info) info.last_modified then Expired else Replaced } ∷ []))
+      × (new.notices ≡ old.notices ++ record {
+        key = key;
+        value = row.value;
+        cause = if has_come (deadline_of lives row.info) info.last_modified then Expired else Replaced;
+      } ∷ []))
   Puts lives (New key) hash value info old new =
-      (number : ℕ) × (new.admitted ≡ old.admitted) × (new.waiting ≡ old.waiting ++ (number, record { key = key; hash = hash; value = value; info = info }) ∷ []) × (new.notices ≡ old.notices)
+      (number : ℕ) × (new.admitted ≡ old.admitted)
+      × (new.waiting ≡ old.waiting ++ (number, record { key = key; hash = hash; value = value; info = info }) ∷ [])
+      × (new.notices ≡ old.notices)

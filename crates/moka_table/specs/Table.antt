@@ -23,7 +23,16 @@ module _ {K V : Type 0} where
 
   -- the write that a row stores
   abbrev pub stored_write : Row K V → Write K V
-  stored_write row = record { key = arc_value row.key; hash = row.hash; value = row.value; weight = row.info.policy_weight; written = row.info.last_modified; used = row.info.last_accessed; own = own_of row.info }
+  stored_write row =
+      record {
+        key = arc_value row.key;
+        hash = row.hash;
+        value = row.value;
+        weight = row.info.policy_weight;
+        written = row.info.last_modified;
+        used = row.info.last_accessed;
+        own = own_of row.info;
+      }
 
   -- how heavy a row is
   abbrev pub weight_of : ℕ × Row K V → ℕ
@@ -57,7 +66,8 @@ module _ {K V : Type 0} where
   -- The weights of both orders once the row under a number has another weight.
   abbrev pub AreWeightsWith : ℕ → ℕ → List (ℕ × Row K V) → List (ℕ × Row K V) → Weights → Type 0
   AreWeightsWith n weight admitted waiting weights = MatchOption (row_under n admitted)
-      ((weights.admitted ≡ total weight_of admitted) × IfSome (row_under n waiting) (λ row. weights.waiting + row.info.policy_weight ≡ total weight_of waiting + weight))
+      ((weights.admitted ≡ total weight_of admitted)
+      × IfSome (row_under n waiting) (λ row. weights.waiting + row.info.policy_weight ≡ total weight_of waiting + weight))
       (λ row. (weights.admitted + row.info.policy_weight ≡ total weight_of admitted + weight) × (weights.waiting ≡ total weight_of waiting))
 
   -- What a table keeps to: it has a place for a notice of each row, each weight is one of 32 bits, and the weights of

@@ -17,4 +17,6 @@ own_of info = option_map own_life info.own_life
 
 -- a value's deadline under these lives, by its moments and the life of its own
 abbrev pub deadline_of : Lives → EntryInfo → Option ℕ
-deadline_of lives info = earlier (earlier (ends_at (option_map as_nanos lives.time_to_live) info.last_modified) (ends_at (option_map as_nanos lives.time_to_idle) info.last_accessed)) (own_end (own_of info))
+deadline_of lives info =
+    earlier (earlier (ends_at (option_map as_nanos lives.time_to_live) info.last_modified)
+    (ends_at (option_map as_nanos lives.time_to_idle) info.last_accessed)) (own_end (own_of info))

@@ -53,9 +53,12 @@ none_given = record { time_to_live = None; time_to_idle = None; first_number = N
 
 -- the settings and one more, which isn't given yet
 abbrev pub with_setting : Settings → Setting → Option Settings
-with_setting settings (TimeToLive seconds) = if is_some settings.time_to_live then None else Some (record settings { time_to_live = Some seconds })
-with_setting settings (TimeToIdle seconds) = if is_some settings.time_to_idle then None else Some (record settings { time_to_idle = Some seconds })
-with_setting settings (FirstNumber number) = if is_some settings.first_number then None else Some (record settings { first_number = Some number })
+with_setting settings (TimeToLive seconds) =
+    if is_some settings.time_to_live then None else Some (record settings { time_to_live = Some seconds })
+with_setting settings (TimeToIdle seconds) =
+    if is_some settings.time_to_idle then None else Some (record settings { time_to_idle = Some seconds })
+with_setting settings (FirstNumber number) =
+    if is_some settings.first_number then None else Some (record settings { first_number = Some number })
 with_setting settings (Capacity most) = if is_some settings.capacity then None else Some (record settings { capacity = Some most })
 with_setting settings (Policy eviction) = if is_some settings.policy then None else Some (record settings { policy = Some eviction })
 with_setting settings (Weigher weighing) = if is_some settings.weigher then None else Some (record settings { weigher = Some weighing })
@@ -103,7 +106,8 @@ setting_of field = option_and_then (λ parts. value_by names parts.0 parts.1) (h
 -- the settings with those that the fields give
 abbrev pub settings_from : Settings → List (List ℕ) → Option Settings
 settings_from settings [] = Some settings
-settings_from settings (field ∷ fields) = option_and_then (λ setting. option_and_then (λ now. settings_from now fields) (with_setting settings setting)) (setting_of field)
+settings_from settings (field ∷ fields) =
+    option_and_then (λ setting. option_and_then (λ now. settings_from now fields) (with_setting settings setting)) (setting_of field)
 
 -- the settings that the fields of a first line give
 abbrev pub settings_of : List (List ℕ) → Option Settings

@@ -60,7 +60,8 @@ abbrev pub write_event : ScriptRules → ℕ → List ℕ → ℕ → ScriptEven
 write_event rules key value at = if stores_nothing rules.max_capacity then history.Skip at else history.Insert key value at
 
 -- The write is accepted, and its answer is printed. Where a flush is due, a maintenance comes before it.
-pub record AcceptsWrite (rules : ScriptRules) (before : Course) (key : ℕ) (value : List ℕ) (lines : List (List ℕ)) (course : Course) : Type 0 where
+pub record AcceptsWrite (rules : ScriptRules) (before : Course) (key : ℕ) (value : List ℕ) (lines : List (List ℕ))
+    (course : Course) : Type 0 where
   pub printed : lines ≡ reply_text (answer nat_eq rules (write_event rules key value before.moment) before.events) ∷ []
   pub after : course ≡ record before { events = after_insert nat_eq rules key value before.moment before.events }
 
@@ -81,13 +82,15 @@ CommandPrints rules before (commands.At moment) printed after = (printed ≡ [])
 CommandPrints rules before (commands.Insert key value) printed after = (let event = write_event rules key value before.moment in
     ((IsOutOfNumbers rules event before.events → ⊥) × AcceptsWrite rules before key value printed after)
     ⊎ (IsOutOfNumbers rules event before.events × Refuses before (codes "2") printed after)
-    ⊎ (MayTakeMemory nat_eq rules event before.events × (IsOutOfNumbers rules event before.events → ⊥) × Refuses before (codes "1") printed after))
+    ⊎ (MayTakeMemory nat_eq rules event before.events × (IsOutOfNumbers rules event before.events → ⊥)
+    × Refuses before (codes "1") printed after))
 -- a look that finds a value is refused for want of memory for its copy
 CommandPrints rules before (commands.Get key) printed after =
     Accepts rules before (history.Get key before.moment) printed after
     ⊎ (IsSome (live nat_eq rules key (max (latest before.events) before.moment) before.events) × Refuses before (codes "1") printed after)
 CommandPrints rules before (commands.Has key) printed after = Accepts rules before (history.ContainsKey key before.moment) printed after
-CommandPrints rules before (commands.Invalidate key) printed after = Accepts rules before (history.Invalidate key before.moment) printed after
+CommandPrints rules before (commands.Invalidate key) printed after =
+    Accepts rules before (history.Invalidate key before.moment) printed after
 CommandPrints rules before commands.Tasks printed after = Accepts rules before (history.Maintain before.moment) printed after
 CommandPrints rules before commands.Count printed after = Accepts rules before (history.Measure history.EntryCount) printed after
 CommandPrints rules before commands.Weight printed after = Accepts rules before (history.Measure history.WeightedSize) printed after
@@ -146,7 +149,8 @@ status_of bad = if bad then 2 else 0
 abbrev pub FirstPrints : Option Settings → List (List ℕ) → List (List ℕ) → ℕ → Type 0
 FirstPrints None lines printed status = (printed ≡ codes "bad line" ∷ []) × (status ≡ 2)
 FirstPrints (Some settings) lines printed status =
-    ((rest : List (List ℕ)) × (bad : Bool) × (printed ≡ codes "ok" ∷ rest) × LinesPrint (rules_by settings) beginning lines rest bad × (status ≡ status_of bad))
+    ((rest : List (List ℕ)) × (bad : Bool) × (printed ≡ codes "ok" ∷ rest) × LinesPrint (rules_by settings) beginning lines rest bad
+    × (status ≡ status_of bad))
     ⊎ ((printed ≡ codes "refused build 5" ∷ []) × (status ≡ 2))
 
 -- The lines of an input: a line end ends a line, and what stands behind the last one is a line if it is anything.

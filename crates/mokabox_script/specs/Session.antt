@@ -56,6 +56,7 @@ Prints cache moment command printed cache_after moment_after = (rules : ScriptRu
 
 -- Wherever the script has come, the line prints what is written, and the session is where it comes.
 abbrev pub DoesLine : ScriptCache → ℕ → List ℕ → Bool → ScriptCache → ℕ → Option (List ℕ) → Option (List ℕ) → Type 0
-DoesLine cache moment line bad cache_after moment_after held held_after = (rules : ScriptRules) (before : Course) → IsAt cache moment rules before →
+DoesLine cache moment line bad cache_after moment_after held held_after =
+    (rules : ScriptRules) (before : Course) → IsAt cache moment rules before →
     (printed : List (List ℕ)) × (after : Course) × LinePrints rules before (command_by_line line) printed after bad
     × IsAt cache_after moment_after rules after × Appends held held_after (lines_text printed)
