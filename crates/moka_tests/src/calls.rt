@@ -212,8 +212,8 @@ fn stores_nothing_at_a_capacity_of_0(rt: HostRuntime) -> Result<(), Fail> {
     answers::<u64, ByNumber>(&rt, rt.alloc(), rules, &STORED_NOWHERE)
 }
 
-/// A look that was refused was no use of the value, and its moment was not recorded.
-const WITHOUT_COPIES: [Row; 7] = [
+/// A look that was refused was no use of the value, and its moment was not recorded: 2 is written at 0.
+const WITHOUT_COPIES: [Row; 9] = [
     (Call::Insert(1, "one"), 0, Answer::Done),
     (Call::RefuseCopies(true), 0, Answer::Done),
     (
@@ -221,11 +221,13 @@ const WITHOUT_COPIES: [Row; 7] = [
         4_000_000_000,
         Answer::Refused(Refused::OutOfMemory),
     ),
+    (Call::Insert(2, "two"), 0, Answer::Done),
     (Call::ContainsKey(1), 4_999_999_999, Answer::Contains(true)),
     (Call::ContainsKey(1), 5_000_000_000, Answer::Contains(false)),
+    (Call::ContainsKey(2), 5_000_000_000, Answer::Contains(false)),
     // A look that finds nothing needs no copy.
     (Call::Get(1), 5_000_000_000, Answer::Absent),
-    (Call::Get(2), 5_000_000_000, Answer::Absent),
+    (Call::Get(3), 5_000_000_000, Answer::Absent),
 ];
 
 /// Nor did it move its key behind the other, and its hash was not noted: 1 leaves for 3, which was looked for once.

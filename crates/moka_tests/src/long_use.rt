@@ -19,7 +19,9 @@ impl Numbers {
             .last
             .wrapping_mul(6_364_136_223_846_793_005)
             .wrapping_add(1_442_695_040_888_963_407);
-        (self.last >> 33).checked_rem(bound).unwrap_or(0)
+        (self.last ^ (self.last >> 32))
+            .checked_rem(bound)
+            .unwrap_or(0)
     }
 
     /// A life of up to 20 seconds for half of all values.
@@ -30,7 +32,7 @@ impl Numbers {
 
     fn given(&mut self) -> Given {
         Given {
-            weight: self.below(5) as u32,
+            weight: u32::try_from(self.below(5)).unwrap_or(0),
             life: self.life(),
             life_after_look: self.life(),
             ..plain("any")
