@@ -1,7 +1,7 @@
 -- The hash that leaves a number as it is.
 use Rattle.std.proofs.Common.{◌≡◌, ℕ, ◌+◌, ◌*◌, ◌/◌, ◌%◌, ◌^◌, ◌<◌, [], ◌∷◌, ap, ◌∙◌, arith}
 use Rattle.std.specs.Hash.{le_bytes}
-use Rattle.moka_model.specs.NumberHash.{byte_hash, number_hash}
+use Rattle.moka_policy.specs.NumberHash.{byte_hash, number_hash}
 
 -- one more byte moves all others down
 moved : (rest low byte : ℕ) → byte_hash (rest + 256 * low) byte ≡ rest / 256 + (low + byte * 2 ^ 56)
