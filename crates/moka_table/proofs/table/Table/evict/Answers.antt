@@ -1,7 +1,7 @@
 use Rattle.std.proofs.Common.{arith}
 use Rattle.moka_table.proofs.Lengths.{length-taken}
 use Rattle.moka_table.proofs.Weights.{kept-taken}
-use Rattle.moka_table.proofs.table.Table.let_go.Goals as goal
+use Rattle.moka_table.proofs.table.Table.evict.Goals as goal
 
 pub invariant_of-self : goal.invariant_of-self
 invariant_of-self g c =

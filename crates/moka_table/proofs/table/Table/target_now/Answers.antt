@@ -1,6 +1,6 @@
 use Rattle.std.proofs.Common.{refl}
 use Rattle.moka_table.proofs.Finds.{found-row}
-use Rattle.moka_table.proofs.table.Table.slot_now.Goals as goal
+use Rattle.moka_table.proofs.table.Table.target_now.Goals as goal
 
 pub returns-in-Some : goal.returns-in-Some
 returns-in-Some g c =
