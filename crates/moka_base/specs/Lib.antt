@@ -13,6 +13,7 @@ pub use Rattle.moka_laws.specs.Laws
 pub use Rattle.moka_laws.specs.OwnLifeLaws
 pub use Rattle.moka_laws.specs.Worked
 pub use Rattle.moka_laws.specs.WorkedAdmission
+pub use Rattle.moka_laws.specs.WorkedExpiry
 pub use Rattle.moka_laws.specs.WorkedMaintenance
 pub use Rattle.moka_laws.specs.WorkedOrder
 pub use Rattle.moka_laws.specs.WorkedSize

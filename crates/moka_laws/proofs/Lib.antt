@@ -9,6 +9,8 @@ pub mod HeldOnes
 pub mod InOrder
 pub mod Leavings
 pub mod Looks
+pub mod MaintenanceFirst
+pub mod MaintenanceFronts
 pub mod MaintenanceJudged
 pub mod MaintenanceLimits
 pub mod MaintenanceResumed

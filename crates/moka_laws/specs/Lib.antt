@@ -3,6 +3,7 @@ pub mod Laws
 pub mod OwnLifeLaws
 pub mod Worked
 pub mod WorkedAdmission
+pub mod WorkedExpiry
 pub mod WorkedMaintenance
 pub mod WorkedOrder
 pub mod WorkedSize

@@ -1,6 +1,6 @@
 -- The rules and the events of the worked cases of admission by frequency and by weight, and of lives of single values.
 -- Keys and values are numbers.
-use Rattle.std.specs.Prelude.{ℕ, ◌%◌, zero, suc, false, Some, None, List, [], ◌∷◌}
+use Rattle.std.specs.Prelude.{ℕ, ◌-◌, ◌%◌, zero, suc, false, Some, None, List, [], ◌∷◌}
 use Rattle.moka_model.specs.History.{Event, Get, Insert, Maintain, Rules, Lifetimes}
 use Rattle.moka_laws.specs.Worked.{seconds, plain_ways, without_lives, written}
 use Rattle.moka_laws.specs.WorkedSize.{at_capacity, fourth_comes}
@@ -32,6 +32,14 @@ from_a_hit = record { created = λ k v at. None; read = λ k v at left written. 
 -- five seconds from the creation on, and none after a hit
 abbrev pub until_a_hit : Lifetimes ℕ ℕ
 until_a_hit = record { created = λ k v at. Some (seconds 5); read = λ k v at left written. None; updated = λ k v at left. left }
+
+-- a hit gives a life as long as the value had stood since it was written
+abbrev pub as_long_again : Lifetimes ℕ ℕ
+as_long_again = record {
+  created = λ k v at. None;
+  read = λ k v at left written. Some (at - written);
+  updated = λ k v at left. left;
+}
 
 -- values have these lives
 abbrev pub with_lives : Lifetimes ℕ ℕ → Rules ℕ ℕ
@@ -69,6 +77,19 @@ second_lighter = Insert 2 15 16 ∷ Insert 1 10 16 ∷ Maintain 15 ∷ second_he
 -- two keys of weights 3 and 2 that are looked for once each, and a third of weight 4 that is looked for twice
 abbrev pub third_of_four : List (Event ℕ ℕ)
 third_of_four = Get 3 7 ∷ Get 3 6 ∷ Insert 3 4 5 ∷ Maintain 4 ∷ Get 2 3 ∷ Get 1 2 ∷ Insert 2 2 1 ∷ Insert 1 3 0 ∷ []
+
+-- a key is looked for so many times
+abbrev pub looked : ℕ → ℕ → List (Event ℕ ℕ) → List (Event ℕ ℕ)
+looked key zero h = h
+looked key (suc n) h = Get key 5 ∷ looked key n h
+
+-- two keys come, are looked for twice and once, and are admitted,
+abbrev pub two_stand : List (Event ℕ ℕ)
+two_stand = Maintain 4 ∷ Get 2 3 ∷ Get 1 2 ∷ Get 1 2 ∷ Insert 2 20 1 ∷ Insert 1 10 0 ∷ []
+
+-- and a third and a fourth come, and are looked for so many times
+abbrev pub two_contend : ℕ → ℕ → List (Event ℕ ℕ)
+two_contend third fourth = looked 4 fourth (looked 3 third (Insert 4 40 5 ∷ Insert 3 30 5 ∷ two_stand))
 
 -- two values of the greatest weight
 abbrev pub two_heaviest : List (Event ℕ ℕ)

@@ -35,6 +35,10 @@ twelve_wait = queues [] (1 ∷ 2 ∷ 3 ∷ 4 ∷ 5 ∷ 6 ∷ 7 ∷ 8 ∷ 9 ∷ 1
 abbrev pub four_waits : Queues ℕ
 four_waits = queues (3 ∷ 1 ∷ 2 ∷ []) (4 ∷ [])
 
+-- 1 and 2 are admitted, and 3 and 4 wait
+abbrev pub two_wait : Queues ℕ
+two_wait = queues (1 ∷ 2 ∷ []) (3 ∷ 4 ∷ [])
+
 -- 1, 2 and 3 are admitted, and 4, 5 and 6 wait
 abbrev pub three_wait : Queues ℕ
 three_wait = queues (1 ∷ 2 ∷ 3 ∷ []) (4 ∷ 5 ∷ 6 ∷ [])

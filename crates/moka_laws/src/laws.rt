@@ -2,7 +2,7 @@
 //! the contract of a function that does nothing, so that the check proves it for every list of events.
 ghost use Rattle.std.specs.Prelude.{◌≡◌, ◌≢◌, ◌⊎◌, ◌↔◌, ℕ, ◌+◌, ◌<◌, ◌≤◌, max, Bool, not, if◌then◌else◌, true, false, List, [], ◌∷◌, ◌++◌, length, filter, slice_get, ◌^◌, fold};
 ghost use Rattle.moka_model.specs.declared.notification.RemovalCause.TheVariants.{Explicit, Replaced, Size};
-ghost use Rattle.moka_model.specs.History.{Event, Get, ContainsKey, Insert, Invalidate, Maintain, TakeNotice, Rules, Write, Leaving, latest, frequency, is_expired, leaves_in, standing, leaving, leavings, taken, noticed, next_number, stores_nothing, after_insert, IsHistory};
+ghost use Rattle.moka_model.specs.History.{Event, Get, ContainsKey, Insert, Invalidate, Maintain, TakeNotice, Rules, Write, Leaving, latest, frequency, is_expired, leaves_in, queues, standing, leaving, leavings, taken, noticed, next_number, stores_nothing, after_insert, IsHistory};
 ghost use Rattle.moka_laws.specs.Laws.{ends, IsUnwritten, IsUntouched, LastWrite, FirstWrite, FirstEnd, NothingStands, up_to_write, IsAsWritten, IsLeavingOf, HasEnded, OwnHasEnded, is_write, life_by_write, before_write, values_written, values_left, leavings_of, value_standing, given_out};
 ghost use Rattle.moka_model.specs.NumberHash.{number_hash};
 ghost use Rattle.std.specs.Hash.{u64 as number_writes};
@@ -28,8 +28,8 @@ pub fn get_after_insert<K: Eq, V>()
         → answer K.eq rules (Get q now) (after_insert K.eq rules k v at h) ≡ Found None }
 {}
 
-/// A look by `contains_key` changes nothing: every later answer is as if it had not been made, and so is how often each
-/// hash was noted.
+/// A look by `contains_key` changes nothing: every later answer is as if it had not been made, and so are the two orders,
+/// whether a flush is due, and how often each hash was noted.
 pub fn contains_key_changes_no_reply<K: Eq, V>()
     ensures answer { (rules : Rules K V) (later h : List (Event K V)) (q : K) (at : ℕ) (e : Event K V)
         → answer K.eq rules e (later ++ ContainsKey q at ∷ h) ≡ answer K.eq rules e (later ++ h) }
@@ -37,6 +37,8 @@ pub fn contains_key_changes_no_reply<K: Eq, V>()
         → standing K.eq rules k (later ++ ContainsKey q at ∷ h) ≡ standing K.eq rules k (later ++ h) }
     ensures noticed { (rules : Rules K V) (later h : List (Event K V)) (q : K) (at : ℕ)
         → noticed K.eq rules (later ++ ContainsKey q at ∷ h) ≡ noticed K.eq rules (later ++ h) }
+    ensures queues { (rules : Rules K V) (later h : List (Event K V)) (q : K) (at : ℕ)
+        → queues K.eq rules (later ++ ContainsKey q at ∷ h) ≡ queues K.eq rules (later ++ h) }
     ensures next_number { (rules : Rules K V) (later h : List (Event K V)) (q : K) (at : ℕ)
         → next_number rules (later ++ ContainsKey q at ∷ h) ≡ next_number rules (later ++ h) }
     ensures frequency { (rules : Rules K V) (later h : List (Event K V)) (q : K) (at hash : ℕ)

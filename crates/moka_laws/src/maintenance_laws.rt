@@ -4,7 +4,7 @@
 ghost use Rattle.std.specs.Prelude.{◌≡◌, ◌⊎◌, ℕ, ◌+◌, ◌-◌, ◌<◌, ◌≤◌, Bool, true, false, Option, Some, None, List, [], ◌∷◌, ◌++◌, length, take, drop, filter};
 ghost use Rattle.std.specs.List.{AllByRecursion};
 ghost use Rattle.moka_model.specs.Maintenance.{Queues, Part, total, fits, front, parts, done, leaving_in, after_parts};
-ghost use Rattle.moka_model.specs.MaintenanceLaws.{queues, everything, count, the_dead, the_living, behind_the_dead, leaving_within, after_within};
+ghost use Rattle.moka_model.specs.MaintenanceLaws.{queues, everything, count, the_dead, the_living, behind_the_dead, AreAmong, leaving_within, after_within};
 
 /// The shortest front: where more fits alone, it fits beside what the front leaves behind, and it
 /// fits behind no shorter one.
@@ -74,6 +74,14 @@ pub fn the_order_of_use_decides<X>()
         → (after_within weight (Some capacity) is_live wins None q).admitted ≡ drop (front weight (Some capacity) 0 (the_living is_live q)) (the_living is_live q) }
 {}
 
+/// By whatever rule of who wins, and whatever the weights, the order of use says which of the admitted leave for size: a
+/// front of it, where those that joined stand behind. The weights and the rule say how many, and who joins.
+pub fn a_front_of_the_order_of_use_leaves<X>()
+    ensures { (weight : X → ℕ) (capacity : Option ℕ) (is_live : X → Bool) (wins : X → List X → Bool) (q : Queues X)
+        → (n : ℕ) × (joined : List X) × AreAmong joined (filter is_live q.waiting)
+        × ((after_within weight capacity is_live wins None q).admitted ≡ drop n (filter is_live q.admitted ++ joined)) }
+{}
+
 /// At most as many leave as a limit allows. What is done is a front of the parts, and all of them
 /// where there is no limit, or it is enough; else the next part would pass the limit.
 pub fn a_limit_is_kept<X>()
@@ -128,4 +136,14 @@ pub fn one_that_waits_is_judged<X>()
         → AllByRecursion (λ y. is_live y ≡ true) (x ∷ admitted) → total weight admitted ≤ capacity → capacity < weight x + total weight admitted
         → wins x (take (front weight (Some capacity) (weight x) admitted) admitted) ≡ false
         → parts weight (Some capacity) is_live wins (queues admitted (x ∷ [])) ≡ record { leaves = x ∷ []; after = queues admitted [] } ∷ [] }
+{}
+
+/// Those that wait are judged one by one: where all are live, and the admitted within the capacity, the first that waits
+/// is judged as if it waited alone, and the rest is the maintenance of what that leaves.
+pub fn those_that_wait_are_judged_one_by_one<X>()
+    ensures { (weight : X → ℕ) (capacity : Option ℕ) (is_live : X → Bool) (wins : X → List X → Bool) (admitted : List X) (x : X) (xs : List X)
+        → AllByRecursion (λ y. is_live y ≡ true) (x ∷ admitted) → AllByRecursion (λ y. is_live y ≡ true) xs
+        → fits weight capacity 0 admitted ≡ true
+        → (p : Part X) × (parts weight capacity is_live wins (queues admitted (x ∷ [])) ≡ p ∷ [])
+        × (parts weight capacity is_live wins (queues admitted (x ∷ xs)) ≡ record { leaves = p.leaves; after = queues p.after.admitted xs } ∷ parts weight capacity is_live wins (queues p.after.admitted xs)) }
 {}

@@ -1,16 +1,22 @@
 //! The laws of a bounded size, over every list of events.
-ghost use Rattle.std.specs.Prelude.{◌≡◌, ◌≢◌, ℕ, ◌+◌, ◌≤◌, true, false, Some, None, List, [], ◌∷◌, ◌++◌, length, take, drop, map, filter};
+ghost use Rattle.std.specs.Prelude.{◌≡◌, ◌≢◌, ◌↔◌, ℕ, Option, ◌+◌, ◌≤◌, true, false, Some, None, List, [], ◌∷◌, ◌++◌, length, take, drop, map, filter};
 ghost use Rattle.std.specs.List.{AllByRecursion};
 ghost use Rattle.moka_model.specs.declared.notification.RemovalCause.TheVariants.{Expired, Size};
 ghost use Rattle.moka_model.specs.History.{Event, Get, ContainsKey, Maintain, Rules, Write, latest, is_live, queues, standing, leaving, leavings, next_number, entry_count, weighted_size, stores_nothing, flush_point, IsHistory};
 ghost use Rattle.moka_model.specs.Replies.{Found, Contains, answer};
+ghost use Rattle.moka_model.specs.MaintenanceLaws.{AreAmong};
 ghost use Rattle.moka_model.specs.SizeLaws.{WeighsOnes, lives, dead, living, gone, gone_behind, excess, overweight, leaving_as};
 
-use moka_policy::policy::CacheTypes;
+use moka_policy::policy::{CacheTypes, NoWeigher, Weigher};
 
 /// Equal keys weigh alike with each value: it does not matter under which of them a value is written.
 pub fn equal_keys_weigh_alike<K: Eq, V: Clone, C: CacheTypes<K, V>>()
     ensures { (a b : K) (v : V) → K.eq a b ≡ true → C.weight a v ≡ C.weight b v }
+{}
+
+/// Without a weigher each key weighs one with each value.
+pub fn without_a_weigher_each_weighs_one<K, V>()
+    ensures { (rules : Rules K V) (weigher : _) → ⟦<NoWeigher as Weigher<K, V>>⟧.weighs weigher rules.ways.weight → WeighsOnes rules }
 {}
 
 /// After a maintenance nothing waits, all that stands is live at its moment, and its weight is within the capacity. Where
@@ -42,6 +48,11 @@ pub fn without_a_capacity_nothing_leaves_for_size<K: Eq, V>()
         → AllByRecursion (λ l. l.cause ≢ Size) (leavings K.eq rules h) }
     ensures just_the_dead { (rules : Rules K V) (h : List (Event K V)) (at : ℕ) → rules.max_capacity ≡ None
         → leaving K.eq rules (Maintain at) h ≡ map (leaving_as Expired) (dead K.eq rules at h) }
+{}
+
+/// A capacity of 0, and no other, stores nothing.
+pub fn no_other_capacity_stores_nothing()
+    ensures { (capacity : Option ℕ) → (stores_nothing capacity ≡ true) ↔ (capacity ≡ Some 0) }
 {}
 
 /// With a capacity of 0 nothing is ever stored, found or counted, nothing leaves, and no number is
@@ -95,4 +106,12 @@ pub fn the_shortest_front_leaves<K: Eq, V>()
     ensures admitted { (rules : Rules K V) (h : List (Event K V)) (at capacity : ℕ) → rules.ways.is_lru ≡ true → rules.max_capacity ≡ Some capacity
         → AllByRecursion (λ w. w.weight ≤ capacity) (filter (lives K.eq rules at h) (queues K.eq rules h).waiting)
         → (queues K.eq rules (Maintain at ∷ h)).admitted ≡ drop (overweight K.eq rules at h capacity) (living K.eq rules at h) }
+{}
+
+/// By either policy, and whatever the weights, the order of use says which of the admitted leave in a maintenance as the
+/// least recently used: a front of it, where those that are admitted just now stand behind.
+pub fn a_front_of_the_order_of_use_leaves<K: Eq, V>()
+    ensures { (rules : Rules K V) (h : List (Event K V)) (at : ℕ)
+        → (n : ℕ) × (joined : List (Write K V)) × AreAmong joined (filter (lives K.eq rules at h) (queues K.eq rules h).waiting)
+        × ((queues K.eq rules (Maintain at ∷ h)).admitted ≡ drop n (filter (lives K.eq rules at h) (queues K.eq rules h).admitted ++ joined)) }
 {}

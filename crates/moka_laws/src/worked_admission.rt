@@ -6,7 +6,7 @@ ghost use Rattle.moka_model.specs.OrderLaws.{keys};
 ghost use Rattle.moka_model.specs.Replies.{Found, Contains, Counted, answer};
 ghost use Rattle.moka_laws.specs.Worked.{seconds, written, left_as};
 ghost use Rattle.moka_laws.specs.WorkedSize.{three_used, fourth_comes};
-ghost use Rattle.moka_laws.specs.WorkedAdmission.{by_frequency, by_weight, weighed, five_and_three, five_alone, from_a_hit, until_a_hit, with_lives, asked_once, asked_twice, fourth_tries, fourth_again, second_heavier, second_lighter, third_of_four, two_heaviest, hit_twice};
+ghost use Rattle.moka_laws.specs.WorkedAdmission.{by_frequency, by_weight, weighed, five_and_three, five_alone, from_a_hit, until_a_hit, as_long_again, with_lives, asked_once, asked_twice, fourth_tries, fourth_again, second_heavier, second_lighter, third_of_four, two_contend, two_heaviest, hit_twice};
 
 /// Three keys were looked for twice, twice and once, and the third is the least recently used. A fourth is not
 /// admitted before it was looked for, nor after one look, since one is not greater than one; after two it is, and
@@ -51,14 +51,27 @@ pub fn more_often_than_both_together()
     ensures weight { answer nat_eq (by_weight 5) (Measure WeightedSize) (Maintain 9 ∷ Get 3 8 ∷ third_of_four) ≡ Counted 4 }
 {}
 
+/// Two keys stand at a capacity of two, the first looked for twice and the second once, and two others wait. Each of
+/// these is judged by its own looks, in order, and the second against what the first left.
+pub fn two_contend_for_the_place()
+    ensures order { keys (queues nat_eq (by_frequency 2) (two_contend 2 2)).admitted ≡ 1 ∷ 2 ∷ [] }
+    ensures waiting { keys (queues nat_eq (by_frequency 2) (two_contend 2 2)).waiting ≡ 3 ∷ 4 ∷ [] }
+    ensures neither { leaving nat_eq (by_frequency 2) (Maintain 6) (two_contend 2 2) ≡ left_as 3 30 Size ∷ left_as 4 40 Size ∷ [] }
+    ensures both { leaving nat_eq (by_frequency 2) (Maintain 6) (two_contend 3 2) ≡ left_as 1 10 Size ∷ left_as 2 20 Size ∷ [] }
+    ensures both_stay { keys (queues nat_eq (by_frequency 2) (Maintain 6 ∷ two_contend 3 2)).admitted ≡ 3 ∷ 4 ∷ [] }
+    ensures first_alone { leaving nat_eq (by_frequency 2) (Maintain 6) (two_contend 3 1) ≡ left_as 1 10 Size ∷ left_as 4 40 Size ∷ [] }
+    ensures second_alone { leaving nat_eq (by_frequency 2) (Maintain 6) (two_contend 2 3) ≡ left_as 3 30 Size ∷ left_as 1 10 Size ∷ [] }
+    ensures second_stays { keys (queues nat_eq (by_frequency 2) (Maintain 6 ∷ two_contend 2 3)).admitted ≡ 2 ∷ 4 ∷ [] }
+{}
+
 /// Sums of weights do not wrap at the greatest weight.
 pub fn two_of_the_greatest_weight()
     ensures weight { answer nat_eq weighed (Measure WeightedSize) (Maintain 0 ∷ two_heaviest) ≡ Counted 8_589_934_590 }
     ensures left { leavings nat_eq weighed (Maintain 0 ∷ two_heaviest) ≡ [] }
 {}
 
-/// Five seconds from the creation on, and three from each hit on; or no hit changes it; or a hit takes it away. An
-/// update asks for itself over a live value alone: over an expired one the value is created.
+/// Five seconds from the creation on, and three from each hit on; or no hit changes it; or a hit takes it away; or a hit
+/// gives as long again as the value had stood, from the moment of the hit. An update asks for itself over a live value alone: over an expired one the value is created.
 pub fn own_lives()
     ensures at_four { answer nat_eq (with_lives five_and_three) (Get 1 (seconds 4)) written ≡ Found (Some 7) }
     ensures at_six { answer nat_eq (with_lives five_and_three) (Get 1 (seconds 6)) (Get 1 (seconds 4) ∷ written) ≡ Found (Some 7) }
@@ -67,6 +80,8 @@ pub fn own_lives()
     ensures kept { answer nat_eq (with_lives five_alone) (Get 1 (seconds 4)) written ≡ Found (Some 7) }
     ensures kept_to_the_end { answer nat_eq (with_lives five_alone) (Get 1 (seconds 5)) (Get 1 (seconds 4) ∷ written) ≡ Found None }
     ensures taken_away { answer nat_eq (with_lives until_a_hit) (Get 1 (seconds 9)) (Get 1 (seconds 4) ∷ written) ≡ Found (Some 7) }
+    ensures as_long_again { answer nat_eq (with_lives as_long_again) (Get 1 7_999_999_999) (Get 1 (seconds 5) ∷ Insert 1 7 (seconds 2) ∷ []) ≡ Found (Some 7) }
+    ensures no_longer { answer nat_eq (with_lives as_long_again) (Get 1 (seconds 8)) (Get 1 (seconds 5) ∷ Insert 1 7 (seconds 2) ∷ []) ≡ Found None }
     ensures after_a_hit { answer nat_eq (with_lives from_a_hit) (Get 1 (seconds 7)) (Get 1 (seconds 4) ∷ written) ≡ Found None }
     ensures after_an_update { answer nat_eq (with_lives from_a_hit) (Get 1 (seconds 7)) (Insert 1 8 (seconds 1) ∷ written) ≡ Found (Some 8) }
     ensures updated_at_its_end { answer nat_eq (with_lives from_a_hit) (Get 1 (seconds 8)) (Insert 1 8 (seconds 1) ∷ written) ≡ Found None }

@@ -1,7 +1,7 @@
 //! Worked cases of a maintenance of two queues, at numbers: each computes.
 ghost use Rattle.std.specs.Prelude.{◌≡◌, Some, None, [], ◌∷◌};
 ghost use Rattle.moka_model.specs.MaintenanceLaws.{queues, leaving_within, after_within};
-ghost use Rattle.moka_laws.specs.WorkedMaintenance.{one, all_live, two_and_five_dead, least_recently_used, by_count, of_four, twelve_wait, four_waits, three_wait};
+ghost use Rattle.moka_laws.specs.WorkedMaintenance.{one, all_live, two_and_five_dead, least_recently_used, by_count, of_four, twelve_wait, four_waits, two_wait, three_wait};
 
 /// Least recently used, where each weighs one: of twelve that wait at a capacity of ten the first two
 /// leave; and one that waits at a full cache takes the place of the least recently used.
@@ -20,6 +20,21 @@ pub fn greater_count_wins()
     ensures admitted { leaving_within one (Some 3) all_live (by_count (of_four 2 2 1 2)) None four_waits ≡ 3 ∷ [] }
     ensures in_its_place { after_within one (Some 3) all_live (by_count (of_four 2 2 1 2)) None four_waits ≡ queues (1 ∷ 2 ∷ 4 ∷ []) [] }
     ensures room { leaving_within one (Some 4) all_live (by_count (of_four 2 2 1 0)) None four_waits ≡ [] }
+{}
+
+/// By counts, where two wait: each is judged by itself, in order, the second against what the first left. So the second
+/// takes the place of the key that the first did not win against, or of the next one, or of the first itself.
+pub fn each_is_judged_by_itself()
+    ensures neither { leaving_within one (Some 2) all_live (by_count (of_four 2 1 2 2)) None two_wait ≡ 3 ∷ 4 ∷ [] }
+    ensures both { leaving_within one (Some 2) all_live (by_count (of_four 2 1 3 2)) None two_wait ≡ 1 ∷ 2 ∷ [] }
+    ensures both_stay { after_within one (Some 2) all_live (by_count (of_four 2 1 3 2)) None two_wait ≡ queues (3 ∷ 4 ∷ []) [] }
+    ensures first_alone { leaving_within one (Some 2) all_live (by_count (of_four 2 1 3 1)) None two_wait ≡ 1 ∷ 4 ∷ [] }
+    ensures first_stays { after_within one (Some 2) all_live (by_count (of_four 2 1 3 1)) None two_wait ≡ queues (2 ∷ 3 ∷ []) [] }
+    ensures second_alone { leaving_within one (Some 2) all_live (by_count (of_four 2 1 2 3)) None two_wait ≡ 3 ∷ 1 ∷ [] }
+    ensures second_stays { after_within one (Some 2) all_live (by_count (of_four 2 1 2 3)) None two_wait ≡ queues (2 ∷ 4 ∷ []) [] }
+    ensures against_the_first { leaving_within (of_four 1 1 2 2) (Some 2) all_live (by_count (of_four 1 1 3 4)) None two_wait ≡ 1 ∷ 2 ∷ 3 ∷ [] }
+    ensures just_as_often { leaving_within (of_four 1 1 2 2) (Some 2) all_live (by_count (of_four 1 1 3 3)) None two_wait ≡ 1 ∷ 2 ∷ 4 ∷ [] }
+    ensures room_is_made { leaving_within (of_four 1 1 2 2) (Some 2) all_live (by_count (of_four 1 1 2 3)) None two_wait ≡ 3 ∷ 1 ∷ 2 ∷ [] }
 {}
 
 /// By weights: the victims are the shortest front that makes room, and one that waits wins against

@@ -2,7 +2,7 @@
 //! the laws of the size take the step.
 ghost use Rattle.std.specs.Prelude.{◌≡◌, true, false, nat_eq, Some, None, [], ◌∷◌};
 ghost use Rattle.moka_model.specs.declared.notification.RemovalCause.TheVariants.{Expired, Size};
-ghost use Rattle.moka_model.specs.History.{Get, Insert, Maintain, Skip, Measure, EntryCount, queues, leaving, leavings, entry_count, next_number, is_flush_due};
+ghost use Rattle.moka_model.specs.History.{Get, Insert, Maintain, Skip, Measure, EntryCount, queues, leaving, leavings, entry_count, next_number, is_flush_due, stores_nothing, after_insert};
 ghost use Rattle.moka_model.specs.OrderLaws.{keys, lasts, uses};
 ghost use Rattle.moka_model.specs.Replies.{Found, Counted, answer};
 ghost use Rattle.moka_laws.specs.Worked.{seconds, written, left_as};
@@ -44,6 +44,17 @@ pub fn a_capacity_of_0()
     ensures not_found { answer nat_eq (at_capacity 0) (Get 1 0) skipped ≡ Found None }
     ensures counted { answer nat_eq (at_capacity 0) (Measure EntryCount) skipped ≡ Counted 0 }
     ensures none_drawn { next_number (at_capacity 0) skipped ≡ 0 }
+{}
+
+/// At a capacity of 1 a write is stored, as it is without a capacity, and one key stands after a maintenance.
+pub fn a_capacity_of_1()
+    ensures stores { stores_nothing (Some 1) ≡ false }
+    ensures unbounded { stores_nothing None ≡ false }
+    ensures writes { after_insert nat_eq (at_capacity 1) 1 7 0 [] ≡ written }
+    ensures found { answer nat_eq (at_capacity 1) (Get 1 0) written ≡ Found (Some 7) }
+    ensures counted { answer nat_eq (at_capacity 1) (Measure EntryCount) (Maintain 1 ∷ written) ≡ Counted 1 }
+    ensures left { leaving nat_eq (at_capacity 1) (Maintain 2) (Insert 2 8 1 ∷ written) ≡ left_as 1 7 Size ∷ [] }
+    ensures stays { keys (queues nat_eq (at_capacity 1) (Maintain 2 ∷ Insert 2 8 1 ∷ written)).admitted ≡ 2 ∷ [] }
 {}
 
 /// At a capacity of ten 64 keys come, and all wait. The write of the next one runs a maintenance

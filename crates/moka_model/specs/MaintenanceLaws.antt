@@ -1,5 +1,5 @@
 -- The words of the laws over a maintenance of two queues.
-use Rattle.std.specs.Prelude.{ℕ, Bool, not, Option, List, ◌++◌, length, drop, filter}
+use Rattle.std.specs.Prelude.{⊤, ◌≡◌, ◌⊎◌, ℕ, Bool, not, Option, List, [], ◌∷◌, ◌++◌, length, drop, filter}
 use Rattle.moka_model.specs.Maintenance.{Queues, parts, done, evicted_in, after_parts}
 
 -- the two queues
@@ -9,6 +9,12 @@ queues admitted waiting = record { admitted = admitted; waiting = waiting }
 -- all that stands in the queues, the admitted first
 abbrev pub everything : {X : Type 0} → Queues X → List X
 everything q = q.admitted ++ q.waiting
+
+-- some of a list, in its order
+abbrev pub AreAmong : {X : Type 0} → List X → List X → Type 0
+AreAmong [] ys = ⊤
+AreAmong (x ∷ xs) [] = ⊥
+AreAmong (x ∷ xs) (y ∷ ys) = ((x ≡ y) × AreAmong xs ys) ⊎ AreAmong (x ∷ xs) ys
 
 -- how many pass a test
 abbrev pub count : {X : Type 0} → (X → Bool) → List X → ℕ

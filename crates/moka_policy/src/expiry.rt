@@ -63,10 +63,10 @@ impl<K, V> Expiry<K, V> for NoExpiry {
         _key: &K,
         _value: &V,
         _read_at: u64,
-        rest: Option<Duration>,
+        remaining: Option<Duration>,
         _written_at: u64,
     ) -> Option<Duration> {
-        rest
+        remaining
     }
 
     fn expire_after_update(
