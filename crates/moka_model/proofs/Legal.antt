@@ -1,5 +1,5 @@
 -- Legal lists of accepted steps: each is made by calls, and a call keeps a list legal.
-use Rattle.std.proofs.Common.{◌≡◌, ℕ, Bool, false, Option, Some, None, List, [], ◌∷◌, ◌++◌, refl, subst}
+use Rattle.std.proofs.Common.{◌≡◌, ℕ, Bool, false, Option, Some, None, List, [], ◌∷◌, ◌++◌, refl, sym, ap, ◌∙◌, subst, append_assoc}
 use Rattle.std.proofs.lemmas.Bool.{cond_both}
 use Rattle.moka_model.specs.Lives.{Settings}
 use Rattle.moka_model.specs.Events.{Event, Looked, Written, Invalidated, Maintained, Passed, Taken}
@@ -11,6 +11,11 @@ use Rattle.moka_model.specs.Calls.{Call, Get, ContainsKey, Insert, Invalidate, R
 abbrev pub IsNoWrite : {K V : Type 0} → Event K V → Type 0
 IsNoWrite (Written k v at) = ⊥
 IsNoWrite e = Unit {0}
+
+-- the events of some steps behind others
+pub events_in-append : {K V E : Type 0} (later steps : List (AcceptedStep K V E)) → events_in (later ++ steps) ≡ events_in later ++ events_in steps
+events_in-append [] steps = refl
+events_in-append (step ∷ later) steps = ap (λ h. step.events ++ h) (events_in-append later steps) ∙ sym (append_assoc step.events (events_in later) (events_in steps))
 
 module _ {K V E : Type 0} (eq : K → K → Bool) (settings : Settings K V) where
   -- a call keeps a list legal

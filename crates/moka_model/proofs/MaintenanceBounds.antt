@@ -16,21 +16,21 @@ total-filter-le weight p (x ∷ xs) = let rest = total-filter-le weight p xs in 
 
 module _ {X : Type 0} (P : Queues X → Type 0) where
   -- it is true of the queues after each part
-  abbrev AllAfter : List (Part X) → Type 0
+  abbrev pub AllAfter : List (Part X) → Type 0
   AllAfter [] = Unit {0}
   AllAfter (p ∷ ps) = P p.after × AllAfter ps
 
-  AllAfter-append : (ps rs : List (Part X)) → AllAfter ps → AllAfter rs → AllAfter (ps ++ rs)
+  pub AllAfter-append : (ps rs : List (Part X)) → AllAfter ps → AllAfter rs → AllAfter (ps ++ rs)
   AllAfter-append [] rs a b = b
   AllAfter-append (p ∷ ps) rs a b = (a.0, AllAfter-append ps rs a.1 b)
 
-  AllAfter-done : (limit : Option ℕ) (ps : List (Part X)) → AllAfter ps → AllAfter (done limit ps)
+  pub AllAfter-done : (limit : Option ℕ) (ps : List (Part X)) → AllAfter ps → AllAfter (done limit ps)
   AllAfter-done None ps a = a
   AllAfter-done (Some limit) [] a = tt
   AllAfter-done (Some limit) (p ∷ ps) a = cond_both (nat_le (length p.evicted) limit) (p ∷ done (Some (limit - length p.evicted)) ps) [] AllAfter (λ _. (a.0, AllAfter-done (Some (limit - length p.evicted)) ps a.1)) (λ _. tt)
 
   -- so it is after all of them
-  AllAfter-last : (q : Queues X) (ps : List (Part X)) → P q → AllAfter ps → P (after_parts q ps)
+  pub AllAfter-last : (q : Queues X) (ps : List (Part X)) → P q → AllAfter ps → P (after_parts q ps)
   AllAfter-last q [] here all = here
   AllAfter-last q (p ∷ ps) here all = AllAfter-last p.after ps all.0 all.1
 

@@ -1,6 +1,7 @@
 -- The words of the laws of a bounded size.
-use Rattle.std.specs.Prelude.{◌≡◌, ℕ, ◌-◌, Bool, Some, None, List, ◌∷◌, length}
+use Rattle.std.specs.Prelude.{◌≡◌, ℕ, ◌-◌, Bool, if◌then◌else◌, Some, None, List, ◌∷◌, length}
 use Rattle.moka_model.specs.declared.notification.RemovalCause.{RemovalCause}
+use Rattle.moka_model.specs.declared.notification.RemovalCause.TheVariants.{Expired, Explicit}
 use Rattle.moka_model.specs.Maintenance.{front}
 use Rattle.moka_model.specs.MaintenanceLaws.{the_dead, the_living, behind_the_dead}
 use Rattle.moka_model.specs.Lives.{Settings, Write, is_live}
@@ -45,3 +46,7 @@ module _ {K V : Type 0} (eq : K → K → Bool) (settings : Settings K V) (at : 
 -- a write that leaves for a cause
 abbrev pub removal_as : {K V : Type 0} → RemovalCause → Write K V → Removal K V
 removal_as cause w = record { key = w.key; value = w.value; cause = cause }
+
+-- a dead write leaves as removed where it is hidden, and else as expired
+abbrev pub dead_removal : {K V : Type 0} → Write K V → Removal K V
+dead_removal w = removal_as (if w.is_hidden then Explicit else Expired) w
