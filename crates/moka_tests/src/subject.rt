@@ -5,14 +5,13 @@
 //! - where there is a capacity and each value weighs one, no more keys are stored than it allows, and 64;
 //! - a call that was refused has left the numbers of keys and notices and the weight as they were, no expiry was asked,
 //!   and a write has handed back its key and its value.
-use crate::keys::Key;
+use crate::keys::{ByNumber, Key};
 use crate::values::{Counts, Given, Types, Value, Watch, heavy, plain};
 use moka::notification::RemovalCause;
 use moka::policy::{EvictionPolicy, Refused};
 use moka::state::{CacheState, InsertRefused, Reply, Settings, Step};
 use std::alloc::{AllocError, Global};
 use std::hash::BuildHasher;
-use std::mem;
 use std::process::Abort;
 use std::sync::Arc;
 use std::test::Fail;
@@ -472,7 +471,7 @@ fn done<K: Key, H: BuildHasher + Default + Drop>(
 }
 
 /// Each call of a table at its moment answers what the table says, in each way, with these keys and this hasher.
-pub(crate) fn answers<K: Key, H: BuildHasher + Default + Drop>(
+pub(crate) fn answers_by<K: Key, H: BuildHasher + Default + Drop>(
     rt: &impl Abort,
     alloc: Global,
     rules: Rules,
@@ -484,16 +483,26 @@ pub(crate) fn answers<K: Key, H: BuildHasher + Default + Drop>(
     Ok(())
 }
 
+/// So it is with number keys, each of which is its own hash.
+pub(crate) fn answers(
+    rt: &impl Abort,
+    alloc: Global,
+    rules: Rules,
+    rows: &[Row],
+) -> Result<(), Fail> {
+    answers_by::<u64, ByNumber>(rt, alloc, rules, rows)
+}
+
 /// So it is also where one request for memory is refused, whichever: what was refused is then done again.
-pub(crate) fn answers_patiently<K: Key, H: BuildHasher + Default + Drop>(
+pub(crate) fn answers_patiently(
     rt: &impl Abort,
     alloc: Global,
     rules: Rules,
     rows: &[Row],
 ) -> Result<(), Fail> {
     for way in [Way::Calls, Way::Steps, Way::Runs] {
-        if !done::<K, H>(rt, alloc, rules, true, way, rows)? {
-            assert!(rt; done::<K, H>(rt, alloc, rules, false, way, rows)?);
+        if !done::<u64, ByNumber>(rt, alloc, rules, true, way, rows)? {
+            assert!(rt; done::<u64, ByNumber>(rt, alloc, rules, false, way, rows)?);
         }
     }
     Ok(())
@@ -501,14 +510,14 @@ pub(crate) fn answers_patiently<K: Key, H: BuildHasher + Default + Drop>(
 
 /// Does the first calls, and then the others between two requests for memory of its own. In a run where the last request
 /// before those calls is the one that is refused, the next request of all is the one behind them, unless they took memory.
-pub(crate) fn answers_between_requests<K: Key, H: BuildHasher + Default + Drop>(
+pub(crate) fn answers_between_requests(
     rt: &impl Abort,
     alloc: Global,
     rules: Rules,
     before: &[Row],
     rows: &[Row],
 ) -> Result<(), Fail> {
-    let mut subject: Subject<K, H> = Subject::new(alloc, rules, false, 0)?;
+    let mut subject: Subject<u64, ByNumber> = Subject::new(alloc, rules, false, 0)?;
     for (place, row) in before.iter().enumerate() {
         subject.row(rt, Way::Calls, *row, place)?;
     }
