@@ -1,5 +1,6 @@
 -- A maintenance of two queues, as the list of its parts, over anything that has a weight and may be dead.
-use Rattle.std.specs.Prelude.{ℕ, ◌+◌, ◌-◌, Bool, true, ◌||◌, ◌==◌, if◌then◌else◌, nat_le, Option, Some, None, List, [], ◌∷◌, ◌++◌, length, take, drop}
+use Rattle.std.specs.Prelude.{ℕ, ◌+◌, ◌-◌, Bool, true, ◌||◌, ◌==◌, if◌then◌else◌, nat_le, Option, Some, None, List, [], ◌∷◌, ◌++◌, length}
+use Rattle.std.specs.Prelude.{take, drop}
 use Rattle.std.specs.Prelude.{filter}
 
 -- Two orders: the admitted, the least recently used first, and those that wait for admission, in the order in

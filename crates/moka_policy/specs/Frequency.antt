@@ -1,5 +1,6 @@
 -- How often hashes were noted: by a source of any kind, and by counters that age.
-use Rattle.std.specs.Prelude.{ℕ, ◌+◌, ◌*◌, ◌/◌, ◌%◌, ◌^◌, ◌≡◌, ◌<◌, ◌≤◌, List, [], ◌∷◌, length, map, fold, min, replicate, slice_set, slice_index_or, nat_eq, All, if◌then◌else◌}
+use Rattle.std.specs.Prelude.{ℕ, ◌+◌, ◌*◌, ◌/◌, ◌%◌, ◌^◌, ◌≡◌, ◌<◌, ◌≤◌, List, [], ◌∷◌, length, map, fold, min, replicate, slice_set}
+use Rattle.std.specs.Prelude.{slice_index_or, nat_eq, All, if◌then◌else◌}
 
 -- a source after these notes, in order
 abbrev pub after_notes : {F : Type 0} → F → (F → ℕ → F) → List ℕ → F
