@@ -5,12 +5,17 @@ use Rattle.std.specs.List.{filter, list_any}
 use Rattle.std.specs.Cmp.{IsEquivalence}
 use Rattle.std.proofs.lemmas.List.{map-append}
 use Rattle.std.proofs.lemmas.List.Elements.{filter-append, filter_agree}
+use Rattle.std.proofs.lemmas.Map.Views.{any-filter_same}
 use Rattle.moka_model.specs.Maintenance.{Queues}
-use Rattle.moka_model.specs.History.{Event, Get, ContainsKey, Insert, Invalidate, Maintain, Skip, Measure, TakeNotice, Rules, Write, latest, standing, frequency, queues}
-use Rattle.moka_model.specs.StandsFor.{writes_of}
-use Rattle.moka_model.specs.OrderLaws.{keys, lasts, openings, waits}
-use Rattle.moka_model.proofs.Callers.{filter-both, list_any-map, one_side, opening, held-queues, held-append, maintained-none_waits}
-use Rattle.moka_laws.proofs.Moves.{none_held, written_in-anew, look-waiting_keys, overwrite-waiting_keys, removed_in-waiting_keys}
+use Rattle.moka_model.specs.Lives.{Settings, Write, is_live}
+use Rattle.moka_model.specs.Events.{Event, Looked, TurnedDown, Written, Invalidated, Hidden, Maintained, Passed, Drawn, Taken, latest}
+use Rattle.moka_model.specs.Admission.{frequency, wins}
+use Rattle.moka_model.specs.Orders.{standing, orders}
+use Rattle.moka_model.specs.OrderLaws.{writes_of, keys, lasts, openings, waits}
+use Rattle.moka_model.proofs.Callers.{filter-both, and_comm, list_any-map, map-filter, one_side, opening, held-orders, held-append}
+use Rattle.moka_laws.proofs.Rests.{IsRestOf, rest-waiting}
+use Rattle.moka_laws.proofs.RestOnes.{HasOne, filter-is_in}
+use Rattle.moka_laws.proofs.Moves.{none_held, hidden-keys, written_in-anew, look-waiting_keys, overwrite-waiting_keys, removed_in-waiting_keys}
 
 -- one more element that a test may find
 list_any-push : {K : Type 0} (p : K → Bool) (ks : List K) (k : K) → list_any p (ks ++ k ∷ []) ≡ (list_any p ks || p k)
@@ -118,14 +123,6 @@ module _ {K : Type 0} (eq : K → K → Bool) where
             go true e = sym (is_among-congr p x ks e ∙ new)
             go false e = or_false (is_among ks x)
 
-    -- nothing waits
-    KeepsArrival-none : (all : List K) → KeepsArrival [] all
-    KeepsArrival-none all = sym (none (lasts eq all))
-      where
-        none : (xs : List K) → filter (is_among []) xs ≡ []
-        none [] = refl
-        none (x ∷ xs) = none xs
-
     -- a key is taken out
     pub KeepsArrival-filter : (ks all : List K) (p : K) → KeepsArrival ks all → KeepsArrival (filter (λ x. not (eq x p)) ks) all
     KeepsArrival-filter ks all p kept =
@@ -133,31 +130,38 @@ module _ {K : Type 0} (eq : K → K → Bool) where
         ∙ sym (filter-both (is_among ks) (λ x. not (eq x p)) (lasts eq all))
         ∙ filter_agree (λ x. is_among ks x && not (eq x p)) (is_among (filter (λ x. not (eq x p)) ks)) (λ x. sym (is_among-filter p x ks)) (lasts eq all)
 
-module _ {K V : Type 0} (eq : K → K → Bool) (rules : Rules K V) (laws : IsEquivalence eq) where
+    -- keys are taken out by a test that cannot tell equal keys apart
+    pub KeepsArrival-test : (t : K → Bool) → ((a b : K) → eq a b ≡ true → t a ≡ t b) → (ks all : List K) → KeepsArrival ks all → KeepsArrival (filter t ks) all
+    KeepsArrival-test t alike ks all kept =
+        ap (filter t) kept
+        ∙ sym (filter-both (is_among ks) t (lasts eq all))
+        ∙ filter_agree (λ x. is_among ks x && t x) (is_among (filter t ks)) (λ x. and_comm (is_among ks x) (t x) ∙ sym (any-filter_same (λ y. eq y x) t (t x) (λ y same. alike y x same) ks)) (lasts eq all)
+
+module _ {K V : Type 0} (eq : K → K → Bool) (settings : Settings K V) (laws : IsEquivalence eq) where
   -- a write of a key that does not stand puts it behind those that wait
-  pub opening-waiting_keys : (p : K) (v : V) (at : ℕ) (h : List (Event K V)) → standing eq rules p h ≡ None → keys (queues eq rules (Insert p v at ∷ h)).waiting ≡ keys (queues eq rules h).waiting ++ p ∷ []
+  pub opening-waiting_keys : (p : K) (v : V) (at : ℕ) (h : List (Event K V)) → standing eq settings p h ≡ None → keys (orders eq settings (Written p v at ∷ h)).waiting ≡ keys (orders eq settings h).waiting ++ p ∷ []
   opening-waiting_keys p v at h none =
-      ap (λ (r : Queues (Write K V)). keys r.waiting) (written_in-anew eq rules p (queues eq rules h) v (latest (Insert p v at ∷ h)) (held-queues eq rules laws p h ∙ ap option_to_list none))
-      ∙ map-append (λ (w : Write K V). w.key) (queues eq rules h).waiting (opening eq rules p v (latest (Insert p v at ∷ h)) ∷ [])
+      ap (λ (r : Queues (Write K V)). keys r.waiting) (written_in-anew eq settings p (orders eq settings h) v (latest (Written p v at ∷ h)) (held-orders eq settings laws p h ∙ ap option_to_list none))
+      ∙ map-append (λ (w : Write K V). w.key) (orders eq settings h).waiting (opening eq settings p v (latest (Written p v at ∷ h)) ∷ [])
 
   -- and a write of a key that stands leaves them
-  pub standing-waiting_keys : (p : K) (v : V) (at : ℕ) (h : List (Event K V)) (w : Write K V) → standing eq rules p h ≡ Some w → keys (queues eq rules (Insert p v at ∷ h)).waiting ≡ keys (queues eq rules h).waiting
+  pub standing-waiting_keys : (p : K) (v : V) (at : ℕ) (h : List (Event K V)) (w : Write K V) → standing eq settings p h ≡ Some w → keys (orders eq settings (Written p v at ∷ h)).waiting ≡ keys (orders eq settings h).waiting
   standing-waiting_keys p v at h w there =
-      overwrite-waiting_keys eq rules p (queues eq rules h) v (latest (Insert p v at ∷ h)) (λ none. let no : w ∷ [] ≡ [] = sym (held-queues eq rules laws p h ∙ ap option_to_list there) ∙ none in cc)
+      overwrite-waiting_keys eq settings p (orders eq settings h) v (latest (Written p v at ∷ h)) (λ none. let no : w ∷ [] ≡ [] = sym (held-orders eq settings laws p h ∙ ap option_to_list there) ∙ none in cc)
 
   -- a key is among those that wait where one of its writes waits
-  is_among-waiting : (h : List (Event K V)) (k : K) → is_among eq (keys (queues eq rules h).waiting) k ≡ is_some_of (writes_of eq k (queues eq rules h).waiting)
-  is_among-waiting h k = list_any-map (λ (w : Write K V). w.key) (λ x. eq x k) (queues eq rules h).waiting ∙ list_any-filter (λ (w : Write K V). eq w.key k) (queues eq rules h).waiting
+  is_among-waiting : (h : List (Event K V)) (k : K) → is_among eq (keys (orders eq settings h).waiting) k ≡ is_some_of (writes_of eq k (orders eq settings h).waiting)
+  is_among-waiting h k = list_any-map (λ (w : Write K V). w.key) (λ x. eq x k) (orders eq settings h).waiting ∙ list_any-filter (λ (w : Write K V). eq w.key k) (orders eq settings h).waiting
 
   -- a key that does not stand is not among them
-  is_among-none : (h : List (Event K V)) (p : K) → standing eq rules p h ≡ None → is_among eq (keys (queues eq rules h).waiting) p ≡ false
-  is_among-none h p none = is_among-waiting h p ∙ ap is_some_of (none_held eq rules p (queues eq rules h) (held-queues eq rules laws p h ∙ ap option_to_list none)).1
+  is_among-none : (h : List (Event K V)) (p : K) → standing eq settings p h ≡ None → is_among eq (keys (orders eq settings h).waiting) p ≡ false
+  is_among-none h p none = is_among-waiting h p ∙ ap is_some_of (none_held eq settings p (orders eq settings h) (held-orders eq settings laws p h ∙ ap option_to_list none)).1
 
   -- a key waits where it is among them
-  pub waits-is_among : (h : List (Event K V)) (k : K) → waits eq rules h k ≡ is_among eq (keys (queues eq rules h).waiting) k
+  pub waits-is_among : (h : List (Event K V)) (k : K) → waits eq settings h k ≡ is_among eq (keys (orders eq settings h).waiting) k
   waits-is_among h k =
-      ap (λ t. is_some (standing eq rules k h) && not t) (list_any-filter (λ (w : Write K V). eq w.key k) (queues eq rules h).admitted)
-      ∙ go (standing eq rules k h) (writes_of eq k (queues eq rules h).admitted) (writes_of eq k (queues eq rules h).waiting) (sym (held-append eq rules k (queues eq rules h)) ∙ held-queues eq rules laws k h)
+      ap (λ t. is_some (standing eq settings k h) && not t) (list_any-filter (λ (w : Write K V). eq w.key k) (orders eq settings h).admitted)
+      ∙ go (standing eq settings k h) (writes_of eq k (orders eq settings h).admitted) (writes_of eq k (orders eq settings h).waiting) (sym (held-append eq settings k (orders eq settings h)) ∙ held-orders eq settings laws k h)
       ∙ sym (is_among-waiting h k)
     where
       is_some_of-option : (o : Option (Write K V)) → is_some_of (option_to_list o) ≡ is_some o
@@ -171,23 +175,47 @@ module _ {K V : Type 0} (eq : K → K → Bool) (rules : Rules K V) (laws : IsEq
           (λ (s : (xs ≡ option_to_list o) × (ys ≡ [])). rw (s.0, s.1, is_some_of-option o) (and_not (is_some o)))
           (one_side xs ys o e)
 
+  -- a key has a write among these
+  abbrev pub waits_in : List (Write K V) → K → Bool
+  waits_in ws k = list_any (λ w. eq w.key k) ws
+
+  waits_in-congr : (ws : List (Write K V)) (a b : K) → eq a b ≡ true → waits_in ws a ≡ waits_in ws b
+  waits_in-congr ws a b same = sym (list_any-map (λ (w : Write K V). w.key) (λ x. eq x a) ws) ∙ sym (is_among-congr eq laws a b (keys ws) same) ∙ list_any-map (λ (w : Write K V). w.key) (λ x. eq x b) ws
+
+  -- each key has one write at most among those that wait
+  one_waits : (h : List (Event K V)) → HasOne eq (orders eq settings h).waiting
+  one_waits h k =
+      ⊎_elim
+      (λ (s : (writes_of eq k (orders eq settings h).admitted ≡ []) × (writes_of eq k (orders eq settings h).waiting ≡ option_to_list (standing eq settings k h))). (standing eq settings k h, s.1))
+      (λ (s : (writes_of eq k (orders eq settings h).admitted ≡ option_to_list (standing eq settings k h)) × (writes_of eq k (orders eq settings h).waiting ≡ [])). (None, s.1))
+      (one_side (writes_of eq k (orders eq settings h).admitted) (writes_of eq k (orders eq settings h).waiting) (standing eq settings k h) (sym (held-append eq settings k (orders eq settings h)) ∙ held-orders eq settings laws k h))
+
+  -- the keys that wait after a maintenance within any limit are those of before that still wait
+  pub maintained-waiting_keys : (h : List (Event K V)) (limit : Option ℕ) (at : ℕ) → keys (orders eq settings (Maintained limit at ∷ h)).waiting ≡ filter (waits_in (orders eq settings (Maintained limit at ∷ h)).waiting) (keys (orders eq settings h).waiting)
+  maintained-waiting_keys h limit at =
+      let q : Queues (Write K V) = orders eq settings h in
+      let after : List (Write K V) = (orders eq settings (Maintained limit at ∷ h)).waiting in
+      let is_rest : IsRestOf after q.waiting = rest-waiting (λ w. w.policy_weight) settings.max_capacity (wins settings (frequency settings h)) (λ w. is_live settings w (latest (Maintained limit at ∷ h))) limit q in
+      ap keys (sym (filter-is_in eq laws after q.waiting is_rest (one_waits h))) ∙ map-filter (λ (w : Write K V). w.key) (waits_in after) q.waiting
+
   -- the waiting keys keep the order in which their last openings came
-  keeps_arrival : (h : List (Event K V)) → KeepsArrival eq (keys (queues eq rules h).waiting) (openings eq rules h)
+  keeps_arrival : (h : List (Event K V)) → KeepsArrival eq (keys (orders eq settings h).waiting) (openings eq settings h)
   keeps_arrival [] = refl
-  keeps_arrival (Get p at ∷ h) = subst (λ ks. KeepsArrival eq ks (openings eq rules h)) (sym (look-waiting_keys eq rules p (queues eq rules h) (latest (Get p at ∷ h)))) (keeps_arrival h)
-  keeps_arrival (ContainsKey p at ∷ h) = keeps_arrival h
-  keeps_arrival (Insert p v at ∷ h) = go (standing eq rules p h) refl (keeps_arrival h)
+  keeps_arrival (Looked p at ∷ h) = subst (λ ks. KeepsArrival eq ks (openings eq settings h)) (sym (look-waiting_keys eq settings p (orders eq settings h) (latest (Looked p at ∷ h)))) (keeps_arrival h)
+  keeps_arrival (TurnedDown p at ∷ h) = keeps_arrival h
+  keeps_arrival (Written p v at ∷ h) = go (standing eq settings p h) refl (keeps_arrival h)
     where
-      go : (o : Option (Write K V)) → standing eq rules p h ≡ o → KeepsArrival eq (keys (queues eq rules h).waiting) (openings eq rules h)
-          → KeepsArrival eq (keys (queues eq rules (Insert p v at ∷ h)).waiting) (cond (is_some o) (openings eq rules h) (openings eq rules h ++ p ∷ []))
-      go None e kept = subst (λ ks. KeepsArrival eq ks (openings eq rules h ++ p ∷ [])) (sym (opening-waiting_keys p v at h e)) (KeepsArrival-push eq laws (keys (queues eq rules h).waiting) (openings eq rules h) p (is_among-none h p e) kept)
-      go (Some w) e kept = subst (λ ks. KeepsArrival eq ks (openings eq rules h)) (sym (standing-waiting_keys p v at h w e)) kept
-  keeps_arrival (Invalidate p at ∷ h) = subst (λ ks. KeepsArrival eq ks (openings eq rules h)) (sym (removed_in-waiting_keys eq rules p (queues eq rules h))) (KeepsArrival-filter eq laws (keys (queues eq rules h).waiting) (openings eq rules h) p (keeps_arrival h))
-  keeps_arrival (Maintain at ∷ h) = subst (λ ks. KeepsArrival eq ks (openings eq rules h)) (sym (ap keys (maintained-none_waits eq rules (frequency rules h) (latest (Maintain at ∷ h)) (queues eq rules h)))) (KeepsArrival-none eq laws (openings eq rules h))
-  keeps_arrival (Skip at ∷ h) = keeps_arrival h
-  keeps_arrival (Measure what ∷ h) = keeps_arrival h
-  keeps_arrival (TakeNotice ∷ h) = keeps_arrival h
+      go : (o : Option (Write K V)) → standing eq settings p h ≡ o → KeepsArrival eq (keys (orders eq settings h).waiting) (openings eq settings h)
+          → KeepsArrival eq (keys (orders eq settings (Written p v at ∷ h)).waiting) (cond (is_some o) (openings eq settings h) (openings eq settings h ++ p ∷ []))
+      go None e kept = subst (λ ks. KeepsArrival eq ks (openings eq settings h ++ p ∷ [])) (sym (opening-waiting_keys p v at h e)) (KeepsArrival-push eq laws (keys (orders eq settings h).waiting) (openings eq settings h) p (is_among-none h p e) kept)
+      go (Some w) e kept = subst (λ ks. KeepsArrival eq ks (openings eq settings h)) (sym (standing-waiting_keys p v at h w e)) kept
+  keeps_arrival (Invalidated p at ∷ h) = subst (λ ks. KeepsArrival eq ks (openings eq settings h)) (sym (removed_in-waiting_keys eq settings p (orders eq settings h))) (KeepsArrival-filter eq laws (keys (orders eq settings h).waiting) (openings eq settings h) p (keeps_arrival h))
+  keeps_arrival (Hidden test ∷ h) = subst (λ ks. KeepsArrival eq ks (openings eq settings h)) (sym (hidden-keys test (orders eq settings h).waiting)) (keeps_arrival h)
+  keeps_arrival (Maintained limit at ∷ h) = subst (λ ks. KeepsArrival eq ks (openings eq settings h)) (sym (maintained-waiting_keys h limit at)) (KeepsArrival-test eq laws (waits_in (orders eq settings (Maintained limit at ∷ h)).waiting) (waits_in-congr (orders eq settings (Maintained limit at ∷ h)).waiting) (keys (orders eq settings h).waiting) (openings eq settings h) (keeps_arrival h))
+  keeps_arrival (Passed at ∷ h) = keeps_arrival h
+  keeps_arrival (Drawn ∷ h) = keeps_arrival h
+  keeps_arrival (Taken ∷ h) = keeps_arrival h
 
   -- so they are the last openings of the keys that wait
-  pub waiting_in_order : (h : List (Event K V)) → keys (queues eq rules h).waiting ≡ filter (waits eq rules h) (lasts eq (openings eq rules h))
-  waiting_in_order h = keeps_arrival h ∙ filter_agree (is_among eq (keys (queues eq rules h).waiting)) (waits eq rules h) (λ k. sym (waits-is_among h k)) (lasts eq (openings eq rules h))
+  pub waiting_in_order : (h : List (Event K V)) → keys (orders eq settings h).waiting ≡ filter (waits eq settings h) (lasts eq (openings eq settings h))
+  waiting_in_order h = keeps_arrival h ∙ filter_agree (is_among eq (keys (orders eq settings h).waiting)) (waits eq settings h) (λ k. sym (waits-is_among h k)) (lasts eq (openings eq settings h))

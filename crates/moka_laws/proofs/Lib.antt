@@ -7,8 +7,6 @@ pub mod Departures
 pub mod Flushes
 pub mod HeldOnes
 pub mod InOrder
-pub mod Leavings
-pub mod Looks
 pub mod MaintenanceFirst
 pub mod MaintenanceFronts
 pub mod MaintenanceJudged
@@ -21,6 +19,10 @@ pub mod Notices
 pub mod OwnLives
 pub mod Places
 pub mod Positions
+pub mod Questions
+pub mod Removals
+pub mod RestOnes
 pub mod Rests
+pub mod Undrawn
 pub mod Uses
 pub mod Written

@@ -9,7 +9,7 @@ use Rattle.moka_laws.proofs.MaintenanceResumed.{parts-live, by_weight-fit}
 
 -- a part of a maintenance of one that waits, where others wait behind it
 abbrev pub beside : {X : Type 0} → Part X → List X → Part X
-beside p waiting = record { leaves = p.leaves; after = queues p.after.admitted waiting }
+beside p waiting = record { evicted = p.evicted; after = queues p.after.admitted waiting }
 
 module _ {X : Type 0} (weight : X → ℕ) (capacity : Option ℕ) (wins : X → List X → Bool) (admitted : List X) (x : X) where
   -- what waits behind one does not matter to its judgement

@@ -4,9 +4,9 @@ use Rattle.std.specs.List.{All}
 use Rattle.std.proofs.lemmas.Bool.{cond-true, cases_Bool}
 use Rattle.std.proofs.lemmas.List.{take_all, drop_all}
 use Rattle.std.proofs.lemmas.List.Elements.{All-nil, All-head, All-tail, All-drop, All-push}
-use Rattle.moka_model.specs.Maintenance.{Queues, Part, fits, front, dead_admitted, dead_waiting, over, judge, judged, parts, done, leaving_in, after_parts}
+use Rattle.moka_model.specs.Maintenance.{Queues, Part, fits, front, dead_admitted, dead_waiting, over, judge, judged, parts, done, evicted_in, after_parts}
 use Rattle.moka_model.specs.MaintenanceLaws.{queues}
-use Rattle.moka_model.proofs.Callers.{judge_both, leaving_in-append, after_parts-append, front-fits, fits-none, fits-admitted}
+use Rattle.moka_model.proofs.Callers.{judge_both, evicted_in-append, after_parts-append, front-fits, fits-none, fits-admitted}
 use Rattle.moka_laws.proofs.MaintenanceLimits.{done_front}
 
 module _ {X : Type 0} (is_live : X → Bool) where
@@ -48,7 +48,7 @@ module _ {X : Type 0} (weight : X → ℕ) (capacity : Option ℕ) where
   -- where the admitted fit, none of them leaves
   over-fit : (xs waiting : List X) → fits weight capacity 0 xs ≡ true → over weight capacity xs waiting ≡ []
   over-fit [] waiting fit = refl
-  over-fit (x ∷ xs) waiting fit = cond-true (fits weight capacity 0 (x ∷ xs)) [] (record { leaves = x ∷ []; after = queues xs waiting } ∷ over weight capacity xs waiting) fit
+  over-fit (x ∷ xs) waiting fit = cond-true (fits weight capacity 0 (x ∷ xs)) [] (record { evicted = x ∷ []; after = queues xs waiting } ∷ over weight capacity xs waiting) fit
 
 module _ {X : Type 0} (weight : X → ℕ) (capacity : Option ℕ) (is_live : X → Bool) (wins : X → List X → Bool) where
   -- what a maintenance does once the dead are gone
@@ -93,7 +93,7 @@ module _ {X : Type 0} (weight : X → ℕ) (capacity : Option ℕ) (is_live : X 
       (λ fit. rw (by_weight-fit (x ∷ xs) waiting fit) (Resumes-judged (x ∷ xs) waiting live_a live_w fit))
       (λ past.
       let all : parts weight capacity is_live wins (queues (x ∷ xs) waiting) ≡ by_weight (x ∷ xs) waiting = parts-live (x ∷ xs) waiting live_a live_w in
-      let step : by_weight (x ∷ xs) waiting ≡ record { leaves = x ∷ []; after = queues xs waiting } ∷ by_weight xs waiting = rw past (rw add-one refl) in
+      let step : by_weight (x ∷ xs) waiting ≡ record { evicted = x ∷ []; after = queues xs waiting } ∷ by_weight xs waiting = rw past (rw add-one refl) in
       rw step (all ∙ step, Resumes-by_weight xs waiting (All-tail live x xs live_a) live_w))
       (cases_Bool test)
 
@@ -147,13 +147,13 @@ module _ {X : Type 0} (weight : X → ℕ) (capacity : Option ℕ) (is_live : X 
         ∙ drop_all (length ps) ps (omega arith)
 
     -- what leaves in the first parts and then in those left is what leaves in all
-    leaving_resumed : (n : ℕ) (ds : List (Part X)) → ds ≡ take n (parts weight capacity is_live wins q) → leaving_in ds ++ leaving_in (parts weight capacity is_live wins (after_parts q ds)) ≡ leaving_in (parts weight capacity is_live wins q)
+    leaving_resumed : (n : ℕ) (ds : List (Part X)) → ds ≡ take n (parts weight capacity is_live wins q) → evicted_in ds ++ evicted_in (parts weight capacity is_live wins (after_parts q ds)) ≡ evicted_in (parts weight capacity is_live wins q)
     leaving_resumed n ds first =
         let ps : List (Part X) = parts weight capacity is_live wins q in
-        ap (λ rs. leaving_in rs ++ leaving_in (parts weight capacity is_live wins (after_parts q rs))) first
-        ∙ ap (λ rs. leaving_in (take n ps) ++ leaving_in rs) (parts_left n)
-        ∙ sym (leaving_in-append (take n ps) (drop n ps))
-        ∙ ap leaving_in (take-append-drop n ps)
+        ap (λ rs. evicted_in rs ++ evicted_in (parts weight capacity is_live wins (after_parts q rs))) first
+        ∙ ap (λ rs. evicted_in (take n ps) ++ evicted_in rs) (parts_left n)
+        ∙ sym (evicted_in-append (take n ps) (drop n ps))
+        ∙ ap evicted_in (take-append-drop n ps)
 
     after_resumed : (n : ℕ) (ds : List (Part X)) → ds ≡ take n (parts weight capacity is_live wins q) → after_parts (after_parts q ds) (parts weight capacity is_live wins (after_parts q ds)) ≡ after_parts q (parts weight capacity is_live wins q)
     after_resumed n ds first =
@@ -163,7 +163,7 @@ module _ {X : Type 0} (weight : X → ℕ) (capacity : Option ℕ) (is_live : X 
         ∙ sym (after_parts-append q (take n ps) (drop n ps))
         ∙ ap (after_parts q) (take-append-drop n ps)
 
-    pub leaving_in_turn : (limit : Option ℕ) → leaving_in (done limit (parts weight capacity is_live wins q)) ++ leaving_in (parts weight capacity is_live wins (after_parts q (done limit (parts weight capacity is_live wins q)))) ≡ leaving_in (parts weight capacity is_live wins q)
+    pub leaving_in_turn : (limit : Option ℕ) → evicted_in (done limit (parts weight capacity is_live wins q)) ++ evicted_in (parts weight capacity is_live wins (after_parts q (done limit (parts weight capacity is_live wins q)))) ≡ evicted_in (parts weight capacity is_live wins q)
     leaving_in_turn None = leaving_resumed (length (parts weight capacity is_live wins q)) (parts weight capacity is_live wins q) (sym (take_all (length (parts weight capacity is_live wins q)) (parts weight capacity is_live wins q) (omega arith)))
     leaving_in_turn (Some limit) = let front_of = done_front (parts weight capacity is_live wins q) limit in leaving_resumed front_of.0 (done (Some limit) (parts weight capacity is_live wins q)) front_of.1
 

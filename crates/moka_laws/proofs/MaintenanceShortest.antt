@@ -3,9 +3,9 @@ use Rattle.std.proofs.Common.{◌≡◌, ℕ, zero, suc, ◌+◌, ◌≤◌, min
 use Rattle.std.specs.List.{AllByRecursion}
 use Rattle.std.proofs.lemmas.Bool.{cases_Bool, cond-true, cond-false, both_ways, leb-false, lt-leb}
 use Rattle.std.proofs.lemmas.List.{take_at, drop_at, drop-append-le}
-use Rattle.moka_model.specs.Maintenance.{Queues, Part, total, fits, front, judged, parts, leaving_in, after_parts}
+use Rattle.moka_model.specs.Maintenance.{Queues, Part, total, fits, front, judged, parts, evicted_in, after_parts}
 use Rattle.moka_model.specs.MaintenanceLaws.{the_living, behind_the_dead}
-use Rattle.moka_model.proofs.Callers.{total-append, front-fits, front-le, fits-none, fits-drop_front, fits-admitted, behind, behind_the_dead-leaving, judge-wins, all_fit_alone, behind-append-admitted}
+use Rattle.moka_model.proofs.Callers.{total-append, front-fits, front-le, fits-none, fits-drop_front, fits-admitted, behind, behind_the_dead-evicted, judge-wins, all_fit_alone, behind-append-admitted}
 
 module _ {X : Type 0} (weight : X → ℕ) where
   -- what is no lighter does not fit either
@@ -62,17 +62,17 @@ module _ {X : Type 0} (weight : X → ℕ) (capacity : Option ℕ) where
 
 module _ {X : Type 0} (weight : X → ℕ) (capacity : Option ℕ) (wins : X → List X → Bool) (always : (x : X) (victims : List X) → wins x victims ≡ true) where
   -- what leaves as the waiting are judged is as long as the front of all
-  length-leaving-wins : (admitted waiting : List X) → fits weight capacity 0 admitted ≡ true → AllByRecursion (λ x. fits weight capacity (weight x) [] ≡ true) waiting → length (leaving_in (judged weight capacity wins admitted waiting)) ≡ front weight capacity 0 (admitted ++ waiting)
-  length-leaving-wins admitted [] fit light = sym (ap (front weight capacity 0) (append-nil admitted) ∙ front-fits weight capacity 0 admitted fit)
-  length-leaving-wins admitted (x ∷ xs) fit light =
+  length-evicted-wins : (admitted waiting : List X) → fits weight capacity 0 admitted ≡ true → AllByRecursion (λ x. fits weight capacity (weight x) [] ≡ true) waiting → length (evicted_in (judged weight capacity wins admitted waiting)) ≡ front weight capacity 0 (admitted ++ waiting)
+  length-evicted-wins admitted [] fit light = sym (ap (front weight capacity 0) (append-nil admitted) ∙ front-fits weight capacity 0 admitted fit)
+  length-evicted-wins admitted (x ∷ xs) fit light =
       let n : ℕ = front weight capacity (weight x) admitted in
       let kept : List X = drop n admitted in
       let now : List X = kept ++ x ∷ [] in
-      let rest : List X = leaving_in (judged weight capacity wins now xs) in
-      ap (λ (p : Part X). length (p.leaves ++ leaving_in (judged weight capacity wins p.after.admitted xs))) (judge-wins weight capacity wins always admitted x xs light.0)
+      let rest : List X = evicted_in (judged weight capacity wins now xs) in
+      ap (λ (p : Part X). length (p.evicted ++ evicted_in (judged weight capacity wins p.after.admitted xs))) (judge-wins weight capacity wins always admitted x xs light.0)
       ∙ length-append (take n admitted) rest
       ∙ ap (λ k. k + length rest) (length-take_front weight capacity (weight x) admitted)
-      ∙ ap (λ k. n + k) (length-leaving-wins now xs (fits-admitted weight capacity admitted x light.0) light.1)
+      ∙ ap (λ k. n + k) (length-evicted-wins now xs (fits-admitted weight capacity admitted x light.0) light.1)
       ∙ ap (λ ys. n + front weight capacity 0 ys) (append_assoc kept (x ∷ []) xs)
       ∙ front-turn weight capacity (weight x) admitted (x ∷ xs) (omega arith)
 
@@ -82,10 +82,10 @@ module _ {X : Type 0} (weight : X → ℕ) (capacity : Option ℕ) (wins : X →
       let admitted : List X = filter is_live q.admitted in
       let waiting : List X = filter is_live q.waiting in
       let n : ℕ = front weight capacity 0 admitted in
-      let rest : List X = leaving_in (judged weight capacity wins (drop n admitted) waiting) in
+      let rest : List X = evicted_in (judged weight capacity wins (drop n admitted) waiting) in
       length-append (take n admitted) rest
       ∙ ap (λ k. k + length rest) (length-take_front weight capacity 0 admitted)
-      ∙ ap (λ k. n + k) (length-leaving-wins (drop n admitted) waiting (fits-drop_front weight capacity 0 admitted (fits-none weight capacity)) light)
+      ∙ ap (λ k. n + k) (length-evicted-wins (drop n admitted) waiting (fits-drop_front weight capacity 0 admitted (fits-none weight capacity)) light)
       ∙ front-turn weight capacity 0 admitted waiting (omega arith)
 
 module _ {X : Type 0} (weight : X → ℕ) (capacity : ℕ) (is_live : X → Bool) (wins : X → List X → Bool) (q : Queues X) (always : (x : X) (victims : List X) → wins x victims ≡ true) (light : AllByRecursion (λ x. weight x ≤ capacity) (filter is_live q.waiting)) where
@@ -95,10 +95,10 @@ module _ {X : Type 0} (weight : X → ℕ) (capacity : ℕ) (is_live : X → Boo
   behind-append-light : behind weight (Some capacity) is_live wins q ++ (after_parts q (parts weight (Some capacity) is_live wins q)).admitted ≡ the_living is_live q
   behind-append-light = behind-append-admitted weight (Some capacity) wins always is_live q (all_fit_alone weight capacity (filter is_live q.waiting) light)
 
-  pub leaving-shortest : behind_the_dead is_live q (leaving_in (parts weight (Some capacity) is_live wins q)) ≡ take (front weight (Some capacity) 0 (the_living is_live q)) (the_living is_live q)
-  leaving-shortest =
+  pub evicted-shortest : behind_the_dead is_live q (evicted_in (parts weight (Some capacity) is_live wins q)) ≡ take (front weight (Some capacity) 0 (the_living is_live q)) (the_living is_live q)
+  evicted-shortest =
       let n : ℕ = front weight (Some capacity) 0 (the_living is_live q) in
-      behind_the_dead-leaving weight (Some capacity) is_live wins q
+      behind_the_dead-evicted weight (Some capacity) is_live wins q
       ∙ sym (take_at (behind weight (Some capacity) is_live wins q) (after_parts q (parts weight (Some capacity) is_live wins q)).admitted n length-behind-light)
       ∙ ap (take n) behind-append-light
 

@@ -1,13 +1,17 @@
 -- A look after a write finds its value, unless a life of nothing has ended.
-use Rattle.std.proofs.Common.{◌≡◌, ◌≢◌, ◌⊎◌, inl, inr, ⊎_elim, ℕ, zero, suc, ◌+◌, ◌≤◌, max, Bool, true, false, if◌then◌else◌, Option, Some, None, List, ◌∷◌, refl, sym, ap, ◌∙◌, arith}
+use Rattle.std.proofs.Common.{◌≡◌, ◌≢◌, ◌⊎◌, inl, inr, ⊎_elim, ℕ, zero, suc, ◌+◌, ◌≤◌, max, Bool, true, false, if◌then◌else◌, Option, Some, None, List, [], ◌∷◌, ◌++◌, refl, sym, ap, ◌∙◌, arith}
 use Rattle.std.specs.Option.{option_map}
 use Rattle.std.specs.Cmp.{IsEquivalence}
-use Rattle.std.proofs.lemmas.Bool.{cases_Bool, cond-true, cond-false, le-leb, lt-leb}
-use Rattle.moka_model.specs.History.{Event, Get, Insert, Maintain, Skip, Rules, Write, latest, ends_at, earlier, has_come, own_end, given, is_expired, live_one, life_given, after_write, standing, stores_nothing, is_flush_due, after_insert}
-use Rattle.moka_model.specs.Replies.{Found, answer}
-use Rattle.moka_laws.specs.Laws.{life_by_write, before_write}
+use Rattle.std.proofs.lemmas.Bool.{cases_Bool, cond-true, le-leb, lt-leb}
+use Rattle.moka_model.specs.Lives.{Settings, Write, ends_at, earlier, has_come, own_end, given, is_expired, live_one, life_given, after_write}
+use Rattle.moka_model.specs.Events.{Event, Written, Passed, latest}
+use Rattle.moka_model.specs.Orders.{standing}
+use Rattle.moka_model.specs.Numbers.{stores_nothing}
+use Rattle.moka_model.specs.Steps.{AcceptedStep, events_in}
+use Rattle.moka_model.specs.Calls.{Get, Insert, Found, live_at, flush, after, IsLegal}
+use Rattle.moka_laws.specs.Laws.{answer, and_then, life_by_write}
 use Rattle.moka_laws.proofs.Deadlines.{has_come-earlier}
-use Rattle.moka_model.proofs.Callers.{standing_congr}
+use Rattle.moka_model.proofs.Callers.{standing_congr, standing-empty, IsLegal-after}
 
 -- a life that is not nothing ends later than it begins
 has_come-not_nothing : (life : Option ℕ) (from at : ℕ) → at ≤ from → life ≢ Some 0 → has_come (ends_at life from) at ≡ false
@@ -32,72 +36,91 @@ own_end-given : (life : Option ℕ) (at : ℕ) → own_end (given life at) ≡ e
 own_end-given None at = refl
 own_end-given (Some n) at = refl
 
-module _ {K V : Type 0} (rules : Rules K V) (k : K) (v : V) (at : ℕ) where
+module _ {K V : Type 0} (settings : Settings K V) (k : K) (v : V) (at : ℕ) where
   -- the three deadlines of a write
-  is_expired-after_write : (o : Option (Write K V)) (now : ℕ) → is_expired rules (after_write rules k v at o) now ≡ has_come (earlier (earlier (ends_at rules.time_to_live at) (ends_at rules.time_to_idle at)) (ends_at (life_given rules k v at o) at)) now
-  is_expired-after_write None now = ap (λ d. has_come (earlier (earlier (ends_at rules.time_to_live at) (ends_at rules.time_to_idle at)) d) now) (own_end-given (life_given rules k v at None) at)
-  is_expired-after_write (Some w) now = ap (λ d. has_come (earlier (earlier (ends_at rules.time_to_live at) (ends_at rules.time_to_idle at)) d) now) (own_end-given (life_given rules k v at (Some w)) at)
+  is_expired-after_write : (o : Option (Write K V)) (now : ℕ) → is_expired settings (after_write settings k v at o) now ≡ has_come (earlier (earlier (ends_at settings.time_to_live at) (ends_at settings.time_to_idle at)) (ends_at (life_given settings k v at o) at)) now
+  is_expired-after_write None now = ap (λ d. has_come (earlier (earlier (ends_at settings.time_to_live at) (ends_at settings.time_to_idle at)) d) now) (own_end-given (life_given settings k v at None) at)
+  is_expired-after_write (Some w) now = ap (λ d. has_come (earlier (earlier (ends_at settings.time_to_live at) (ends_at settings.time_to_idle at)) d) now) (own_end-given (life_given settings k v at (Some w)) at)
 
-  after_write-value : (o : Option (Write K V)) → (after_write rules k v at o).value ≡ v
+  after_write-shown : (o : Option (Write K V)) → (after_write settings k v at o).is_hidden ≡ false
+  after_write-shown None = refl
+  after_write-shown (Some w) = refl
+
+  after_write-value : (o : Option (Write K V)) → (after_write settings k v at o).value ≡ v
   after_write-value None = refl
   after_write-value (Some w) = refl
 
   -- where no life is nothing it is live at its moment and before
-  live-after_write : (o : Option (Write K V)) (now : ℕ) → now ≤ at → rules.time_to_live ≢ Some 0 → rules.time_to_idle ≢ Some 0 → life_given rules k v at o ≢ Some 0 → option_map (λ (w : Write K V). w.value) (live_one rules now (Some (after_write rules k v at o))) ≡ Some v
+  live-after_write : (o : Option (Write K V)) (now : ℕ) → now ≤ at → settings.time_to_live ≢ Some 0 → settings.time_to_idle ≢ Some 0 → life_given settings k v at o ≢ Some 0 → option_map (λ (w : Write K V). w.value) (live_one settings now (Some (after_write settings k v at o))) ≡ Some v
   live-after_write o now le live idle own =
-      let ends = has_come-neither (earlier (ends_at rules.time_to_live at) (ends_at rules.time_to_idle at)) (ends_at (life_given rules k v at o) at) now
-      (has_come-neither (ends_at rules.time_to_live at) (ends_at rules.time_to_idle at) now (has_come-not_nothing rules.time_to_live at now le live) (has_come-not_nothing rules.time_to_idle at now le idle))
-      (has_come-not_nothing (life_given rules k v at o) at now le own) in
-      rw (is_expired-after_write o now ∙ ends) (ap Some (after_write-value o))
+      let ends = has_come-neither (earlier (ends_at settings.time_to_live at) (ends_at settings.time_to_idle at)) (ends_at (life_given settings k v at o) at) now
+      (has_come-neither (ends_at settings.time_to_live at) (ends_at settings.time_to_idle at) now (has_come-not_nothing settings.time_to_live at now le live) (has_come-not_nothing settings.time_to_idle at now le idle))
+      (has_come-not_nothing (life_given settings k v at o) at now le own) in
+      rw (after_write-shown o, is_expired-after_write o now ∙ ends) (ap Some (after_write-value o))
 
   -- and where one is nothing it never is
-  expired-after_write : (o : Option (Write K V)) (now : ℕ) → at ≤ now → (rules.time_to_live ≡ Some 0) ⊎ (rules.time_to_idle ≡ Some 0) ⊎ (life_given rules k v at o ≡ Some 0) → live_one rules now (Some (after_write rules k v at o)) ≡ None
+  expired-after_write : (o : Option (Write K V)) (now : ℕ) → at ≤ now → (settings.time_to_live ≡ Some 0) ⊎ (settings.time_to_idle ≡ Some 0) ⊎ (life_given settings k v at o ≡ Some 0) → live_one settings now (Some (after_write settings k v at o)) ≡ None
   expired-after_write o now le some =
-      let live = ends_at rules.time_to_live at in
-      let idle = ends_at rules.time_to_idle at in
-      let own = ends_at (life_given rules k v at o) at in
+      let live = ends_at settings.time_to_live at in
+      let idle = ends_at settings.time_to_idle at in
+      let own = ends_at (life_given settings k v at o) at in
       let shared = (has_come-earlier live idle now).1 in
       let whole = (has_come-earlier (earlier live idle) own now).1 in
       let ends : has_come (earlier (earlier live idle) own) now ≡ true =
       ⊎_elim
-      (λ e. whole (inl (shared (inl (has_come-nothing rules.time_to_live at now le e)))))
-      (λ more. ⊎_elim (λ e. whole (inl (shared (inr (has_come-nothing rules.time_to_idle at now le e))))) (λ e. whole (inr (has_come-nothing (life_given rules k v at o) at now le e))) more)
+      (λ e. whole (inl (shared (inl (has_come-nothing settings.time_to_live at now le e)))))
+      (λ more. ⊎_elim (λ e. whole (inl (shared (inr (has_come-nothing settings.time_to_idle at now le e))))) (λ e. whole (inr (has_come-nothing (life_given settings k v at o) at now le e))) more)
       some in
-      rw (is_expired-after_write o now ∙ ends) refl
+      rw (after_write-shown o, is_expired-after_write o now ∙ ends) refl
 
-module _ {K V : Type 0} (eq : K → K → Bool) (rules : Rules K V) (laws : IsEquivalence eq) (k q : K) (v : V) (at now : ℕ) (same : eq k q ≡ true) where
+module _ {K V : Type 0} (eq : K → K → Bool) (settings : Settings K V) (laws : IsEquivalence eq) (k q : K) (v : V) (at now : ℕ) (same : eq k q ≡ true) where
   module _ (h : List (Event K V)) where
     -- what stands for the key after the write
-    abbrev after : Option (Write K V)
-    after = Some (after_write rules k v (latest (Insert k v at ∷ h)) (standing eq rules q h))
+    abbrev stands_then : Option (Write K V)
+    stands_then = Some (after_write settings k v (latest (Written k v at ∷ h)) (standing eq settings q h))
 
-    standing-after : standing eq rules q (Insert k v at ∷ h) ≡ after
-    standing-after = cond-true (eq k q) after (standing eq rules q h) same
+    standing-after : standing eq settings q (Written k v at ∷ h) ≡ stands_then
+    standing-after = cond-true (eq k q) stands_then (standing eq settings q h) same
 
-    life-after : life_given rules k v (latest (Insert k v at ∷ h)) (standing eq rules q h) ≡ life_by_write eq rules k v at h
-    life-after = ap (life_given rules k v (latest (Insert k v at ∷ h))) (sym (standing_congr eq rules laws k q h same))
+    life-after : life_given settings k v (latest (Written k v at ∷ h)) (standing eq settings q h) ≡ life_by_write eq settings k v at h
+    life-after = ap (life_given settings k v (latest (Written k v at ∷ h))) (sym (standing_congr eq settings laws k q h same))
 
-    pub get-written : now ≤ at → rules.time_to_live ≢ Some 0 → rules.time_to_idle ≢ Some 0 → life_by_write eq rules k v at h ≢ Some 0 → answer eq rules (Get q now) (Insert k v at ∷ h) ≡ Found (Some v)
-    get-written le live idle own =
-        ap (λ o. Found (option_map (λ (w : Write K V). w.value) (live_one rules (max (latest (Insert k v at ∷ h)) now) o))) standing-after
-        ∙ ap Found (live-after_write rules k v (latest (Insert k v at ∷ h)) (standing eq rules q h) (max (latest (Insert k v at ∷ h)) now) (omega arith) live idle (λ none. own (sym life-after ∙ none)))
+    -- the value that a look finds behind it
+    abbrev found_then : Option V
+    found_then = option_map (λ (w : Write K V). w.value) (live_at eq settings q now (Written k v at ∷ h))
 
-    pub get-ended : (rules.time_to_live ≡ Some 0) ⊎ (rules.time_to_idle ≡ Some 0) ⊎ (life_by_write eq rules k v at h ≡ Some 0) → answer eq rules (Get q now) (Insert k v at ∷ h) ≡ Found None
-    get-ended some =
-        ap (λ o. Found (option_map (λ (w : Write K V). w.value) (live_one rules (max (latest (Insert k v at ∷ h)) now) o))) standing-after
-        ∙ ap (λ (o : Option (Write K V)). Found (option_map (λ w. w.value) o))
-        (expired-after_write rules k v (latest (Insert k v at ∷ h)) (standing eq rules q h) (max (latest (Insert k v at ∷ h)) now) (omega arith)
+    found-written : now ≤ at → settings.time_to_live ≢ Some 0 → settings.time_to_idle ≢ Some 0 → life_by_write eq settings k v at h ≢ Some 0 → found_then ≡ Some v
+    found-written le live idle own =
+        ap (λ o. option_map (λ (w : Write K V). w.value) (live_one settings (max (latest (Written k v at ∷ h)) now) o)) standing-after
+        ∙ live-after_write settings k v (latest (Written k v at ∷ h)) (standing eq settings q h) (max (latest (Written k v at ∷ h)) now) (omega arith) live idle (λ none. own (sym life-after ∙ none))
+
+    found-ended : (settings.time_to_live ≡ Some 0) ⊎ (settings.time_to_idle ≡ Some 0) ⊎ (life_by_write eq settings k v at h ≡ Some 0) → found_then ≡ None
+    found-ended some =
+        ap (λ o. option_map (λ (w : Write K V). w.value) (live_one settings (max (latest (Written k v at ∷ h)) now) o)) standing-after
+        ∙ ap (λ (o : Option (Write K V)). option_map (λ w. w.value) o)
+        (expired-after_write settings k v (latest (Written k v at ∷ h)) (standing eq settings q h) (max (latest (Written k v at ∷ h)) now) (omega arith)
         (⊎_elim (λ e. inl e) (λ more. ⊎_elim (λ e. inr (inl e)) (λ e. inr (inr (life-after ∙ e))) more) some))
 
-  -- an accepted write comes behind a maintenance or not
-  after_insert-is : (h : List (Event K V)) → stores_nothing rules.max_capacity ≡ false → after_insert eq rules k v at h ≡ Insert k v at ∷ before_write eq rules at h
-  after_insert-is h stores =
-      cond-false (stores_nothing rules.max_capacity) (Skip at ∷ h) (if is_flush_due eq rules h then Insert k v at ∷ Maintain at ∷ h else Insert k v at ∷ h) stores ∙ go (is_flush_due eq rules h)
-    where
-      go : (t : Bool) → (if t then Insert k v at ∷ Maintain at ∷ h else Insert k v at ∷ h) ≡ Insert k v at ∷ (if t then Maintain at ∷ h else h)
-      go true = refl
-      go false = refl
+  module _ {E : Type 0} (steps : List (AcceptedStep K V E)) where
+    pub get-written : now ≤ at → settings.time_to_live ≢ Some 0 → settings.time_to_idle ≢ Some 0 → life_by_write eq settings k v at (events_in steps) ≢ Some 0 → answer eq settings (Get q now) (and_then (Written k v at ∷ []) steps) ≡ Some (Found (Some v))
+    get-written le live idle own = ap (λ o. Some (Found o)) (found-written (events_in steps) le live idle own)
 
-  pub get-accepted : (h : List (Event K V)) → now ≤ at → stores_nothing rules.max_capacity ≡ false → rules.time_to_live ≢ Some 0 → rules.time_to_idle ≢ Some 0 → life_by_write eq rules k v at (before_write eq rules at h) ≢ Some 0
-      → answer eq rules (Get q now) (after_insert eq rules k v at h) ≡ Found (Some v)
-  get-accepted h le stores live idle own = ap (answer eq rules (Get q now)) (after_insert-is h stores) ∙ get-written (before_write eq rules at h) le live idle own
+    pub get-ended : (settings.time_to_live ≡ Some 0) ⊎ (settings.time_to_idle ≡ Some 0) ⊎ (life_by_write eq settings k v at (events_in steps) ≡ Some 0) → answer eq settings (Get q now) (and_then (Written k v at ∷ []) steps) ≡ Some (Found None)
+    get-ended some = ap (λ o. Some (Found o)) (found-ended (events_in steps) some)
+
+    -- an accepted write comes behind a maintenance or not
+    pub get-accepted : now ≤ at → stores_nothing settings.max_capacity ≡ false → settings.time_to_live ≢ Some 0 → settings.time_to_idle ≢ Some 0
+        → life_by_write eq settings k v at (flush eq settings at (events_in steps) ++ events_in steps) ≢ Some 0
+        → answer eq settings (Get q now) (after eq settings (Insert k v at) steps) ≡ Some (Found (Some v))
+    get-accepted le stores live idle own =
+        let h : List (Event K V) = events_in steps in
+        let behind : List (Event K V) = flush eq settings at h in
+        ap (λ t. Some (Found (option_map (λ (w : Write K V). w.value) (live_at eq settings q now ((if t then Passed at ∷ [] else Written k v at ∷ behind) ++ h))))) stores
+        ∙ ap (λ o. Some (Found o)) (found-written (behind ++ h) le live idle own)
+
+-- with a capacity of 0 no look finds anything after a write
+pub get-not_stored : {K V E : Type 0} (eq : K → K → Bool) (settings : Settings K V) (steps : List (AcceptedStep K V E)) (k q : K) (v : V) (at now : ℕ) → stores_nothing settings.max_capacity ≡ true → IsLegal eq settings steps
+    → answer eq settings (Get q now) (after eq settings (Insert k v at) steps) ≡ Some (Found None)
+get-not_stored eq settings steps k q v at now none legal =
+    let h : List (Event _ _) = events_in (after eq settings (Insert k v at) steps) in
+    ap (λ o. Some (Found (option_map (λ w. w.value) (live_one settings (max (latest h) now) o)))) (standing-empty eq settings none q (after eq settings (Insert k v at) steps) (IsLegal-after eq settings (Insert k v at) steps legal))

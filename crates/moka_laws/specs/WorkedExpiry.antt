@@ -1,6 +1,6 @@
 -- The lives that the closures of the worked cases give. Keys and values are numbers.
 use Rattle.std.specs.Prelude.{ℕ, ◌-◌, Some, None}
-use Rattle.moka_model.specs.History.{Lifetimes}
+use Rattle.moka_model.specs.Lives.{Lifetimes}
 
 -- as long as the moment says, and after a look as long as the value has stood
 abbrev pub by_moments : Lifetimes ℕ ℕ

@@ -11,6 +11,7 @@ pub mod own_life_laws;
 pub mod size_laws;
 pub mod worked;
 pub mod worked_admission;
+pub mod worked_calls;
 pub mod worked_expiry;
 pub mod worked_frequency;
 pub mod worked_maintenance;

@@ -3,8 +3,8 @@
 //! live, admission rule and pair of queues.
 ghost use Rattle.std.specs.Prelude.{◌≡◌, ◌⊎◌, ℕ, ◌+◌, ◌-◌, ◌<◌, ◌≤◌, Bool, true, false, Option, Some, None, List, [], ◌∷◌, ◌++◌, length, take, drop, filter};
 ghost use Rattle.std.specs.List.{AllByRecursion};
-ghost use Rattle.moka_model.specs.Maintenance.{Queues, Part, total, fits, front, parts, done, leaving_in, after_parts};
-ghost use Rattle.moka_model.specs.MaintenanceLaws.{queues, everything, count, the_dead, the_living, behind_the_dead, AreAmong, leaving_within, after_within};
+ghost use Rattle.moka_model.specs.Maintenance.{Queues, Part, total, fits, front, parts, done, evicted_in, after_parts};
+ghost use Rattle.moka_model.specs.MaintenanceLaws.{queues, everything, count, the_dead, the_living, behind_the_dead, AreAmong, evicted_within, after_within};
 
 /// The shortest front: where more fits alone, it fits beside what the front leaves behind, and it
 /// fits behind no shorter one.
@@ -31,7 +31,7 @@ pub fn all_is_done<X>()
 /// and each that waits is admitted, in order, whatever the admission rule.
 pub fn where_all_fit_just_the_dead_leave<X>()
     ensures leaving { (weight : X → ℕ) (capacity : ℕ) (is_live : X → Bool) (wins : X → List X → Bool) (q : Queues X) → total weight (the_living is_live q) ≤ capacity
-        → leaving_within weight (Some capacity) is_live wins None q ≡ the_dead is_live q }
+        → evicted_within weight (Some capacity) is_live wins None q ≡ the_dead is_live q }
     ensures admitted { (weight : X → ℕ) (capacity : ℕ) (is_live : X → Bool) (wins : X → List X → Bool) (q : Queues X) → total weight (the_living is_live q) ≤ capacity
         → (after_within weight (Some capacity) is_live wins None q).admitted ≡ the_living is_live q }
 {}
@@ -39,7 +39,7 @@ pub fn where_all_fit_just_the_dead_leave<X>()
 /// So it is without a capacity.
 pub fn without_a_capacity<X>()
     ensures leaving { (weight : X → ℕ) (is_live : X → Bool) (wins : X → List X → Bool) (q : Queues X)
-        → leaving_within weight None is_live wins None q ≡ the_dead is_live q }
+        → evicted_within weight None is_live wins None q ≡ the_dead is_live q }
     ensures admitted { (weight : X → ℕ) (is_live : X → Bool) (wins : X → List X → Bool) (q : Queues X)
         → (after_within weight None is_live wins None q).admitted ≡ the_living is_live q }
 {}
@@ -48,15 +48,15 @@ pub fn without_a_capacity<X>()
 /// a maintenance as among what stood before it, also where a limit ended the maintenance early.
 pub fn nothing_is_lost<X>()
     ensures { (weight : X → ℕ) (capacity : Option ℕ) (is_live : X → Bool) (wins : X → List X → Bool) (limit : Option ℕ) (q : Queues X) (test : X → Bool)
-        → count test (leaving_within weight capacity is_live wins limit q) + count test (everything (after_within weight capacity is_live wins limit q)) ≡ count test (everything q) }
+        → count test (evicted_within weight capacity is_live wins limit q) + count test (everything (after_within weight capacity is_live wins limit q)) ≡ count test (everything q) }
 {}
 
 /// The dead leave first, the admitted before the waiting, and what leaves behind them is live.
 pub fn the_dead_leave_first<X>()
     ensures dead { (weight : X → ℕ) (capacity : Option ℕ) (is_live : X → Bool) (wins : X → List X → Bool) (q : Queues X)
-        → take (length (the_dead is_live q)) (leaving_within weight capacity is_live wins None q) ≡ the_dead is_live q }
+        → take (length (the_dead is_live q)) (evicted_within weight capacity is_live wins None q) ≡ the_dead is_live q }
     ensures live { (weight : X → ℕ) (capacity : Option ℕ) (is_live : X → Bool) (wins : X → List X → Bool) (q : Queues X)
-        → AllByRecursion (λ x. is_live x ≡ true) (behind_the_dead is_live q (leaving_within weight capacity is_live wins None q)) }
+        → AllByRecursion (λ x. is_live x ≡ true) (behind_the_dead is_live q (evicted_within weight capacity is_live wins None q)) }
 {}
 
 /// Where each wins, as under least recently used, and none that waits is heavier than the capacity,
@@ -65,10 +65,10 @@ pub fn the_dead_leave_first<X>()
 pub fn the_order_of_use_decides<X>()
     ensures in_order { (weight : X → ℕ) (capacity : ℕ) (is_live : X → Bool) (wins : X → List X → Bool) (q : Queues X)
         → ((x : X) (victims : List X) → wins x victims ≡ true) → AllByRecursion (λ x. weight x ≤ capacity) (filter is_live q.waiting)
-        → behind_the_dead is_live q (leaving_within weight (Some capacity) is_live wins None q) ++ (after_within weight (Some capacity) is_live wins None q).admitted ≡ the_living is_live q }
+        → behind_the_dead is_live q (evicted_within weight (Some capacity) is_live wins None q) ++ (after_within weight (Some capacity) is_live wins None q).admitted ≡ the_living is_live q }
     ensures leaving { (weight : X → ℕ) (capacity : ℕ) (is_live : X → Bool) (wins : X → List X → Bool) (q : Queues X)
         → ((x : X) (victims : List X) → wins x victims ≡ true) → AllByRecursion (λ x. weight x ≤ capacity) (filter is_live q.waiting)
-        → behind_the_dead is_live q (leaving_within weight (Some capacity) is_live wins None q) ≡ take (front weight (Some capacity) 0 (the_living is_live q)) (the_living is_live q) }
+        → behind_the_dead is_live q (evicted_within weight (Some capacity) is_live wins None q) ≡ take (front weight (Some capacity) 0 (the_living is_live q)) (the_living is_live q) }
     ensures admitted { (weight : X → ℕ) (capacity : ℕ) (is_live : X → Bool) (wins : X → List X → Bool) (q : Queues X)
         → ((x : X) (victims : List X) → wins x victims ≡ true) → AllByRecursion (λ x. weight x ≤ capacity) (filter is_live q.waiting)
         → (after_within weight (Some capacity) is_live wins None q).admitted ≡ drop (front weight (Some capacity) 0 (the_living is_live q)) (the_living is_live q) }
@@ -85,12 +85,12 @@ pub fn a_front_of_the_order_of_use_leaves<X>()
 /// At most as many leave as a limit allows. What is done is a front of the parts, and all of them
 /// where there is no limit, or it is enough; else the next part would pass the limit.
 pub fn a_limit_is_kept<X>()
-    ensures kept { (ps : List (Part X)) (limit : ℕ) → length (leaving_in (done (Some limit) ps)) ≤ limit }
+    ensures kept { (ps : List (Part X)) (limit : ℕ) → length (evicted_in (done (Some limit) ps)) ≤ limit }
     ensures whole { (ps : List (Part X)) → done None ps ≡ ps }
-    ensures enough { (ps : List (Part X)) (limit : ℕ) → length (leaving_in ps) ≤ limit → done (Some limit) ps ≡ ps }
+    ensures enough { (ps : List (Part X)) (limit : ℕ) → length (evicted_in ps) ≤ limit → done (Some limit) ps ≡ ps }
     ensures front { (ps : List (Part X)) (limit : ℕ) → (n : ℕ) × (done (Some limit) ps ≡ take n ps) }
     ensures next { (ps : List (Part X)) (limit : ℕ)
-        → (done (Some limit) ps ≡ ps) ⊎ ((p : Part X) × (rest : List (Part X)) × (ps ≡ done (Some limit) ps ++ p ∷ rest) × (limit < length (leaving_in (done (Some limit) ps)) + length p.leaves)) }
+        → (done (Some limit) ps ≡ ps) ⊎ ((p : Part X) × (rest : List (Part X)) × (ps ≡ done (Some limit) ps ++ p ∷ rest) × (limit < length (evicted_in (done (Some limit) ps)) + length p.evicted)) }
 {}
 
 /// Where each weighs one and each wins, as under least recently used, just as many leave behind the
@@ -98,7 +98,7 @@ pub fn a_limit_is_kept<X>()
 pub fn the_least_recently_used_leave<X>()
     ensures leaving { (weight : X → ℕ) (capacity : ℕ) (is_live : X → Bool) (wins : X → List X → Bool) (q : Queues X)
         → ((x : X) → weight x ≡ 1) → ((x : X) (victims : List X) → wins x victims ≡ true)
-        → behind_the_dead is_live q (leaving_within weight (Some capacity) is_live wins None q) ≡ take (length (the_living is_live q) - capacity) (the_living is_live q) }
+        → behind_the_dead is_live q (evicted_within weight (Some capacity) is_live wins None q) ≡ take (length (the_living is_live q) - capacity) (the_living is_live q) }
     ensures admitted { (weight : X → ℕ) (capacity : ℕ) (is_live : X → Bool) (wins : X → List X → Bool) (q : Queues X)
         → ((x : X) → weight x ≡ 1) → ((x : X) (victims : List X) → wins x victims ≡ true)
         → (after_within weight (Some capacity) is_live wins None q).admitted ≡ drop (length (the_living is_live q) - capacity) (the_living is_live q) }
@@ -111,7 +111,7 @@ pub fn it_goes_on_where_it_ended<X>()
     ensures parts { (weight : X → ℕ) (capacity : Option ℕ) (is_live : X → Bool) (wins : X → List X → Bool) (q : Queues X) (n : ℕ)
         → parts weight capacity is_live wins (after_parts q (take n (parts weight capacity is_live wins q))) ≡ drop n (parts weight capacity is_live wins q) }
     ensures leaving { (weight : X → ℕ) (capacity : Option ℕ) (is_live : X → Bool) (wins : X → List X → Bool) (limit : Option ℕ) (q : Queues X)
-        → leaving_within weight capacity is_live wins limit q ++ leaving_within weight capacity is_live wins None (after_within weight capacity is_live wins limit q) ≡ leaving_within weight capacity is_live wins None q }
+        → evicted_within weight capacity is_live wins limit q ++ evicted_within weight capacity is_live wins None (after_within weight capacity is_live wins limit q) ≡ evicted_within weight capacity is_live wins None q }
     ensures after { (weight : X → ℕ) (capacity : Option ℕ) (is_live : X → Bool) (wins : X → List X → Bool) (limit : Option ℕ) (q : Queues X)
         → after_within weight capacity is_live wins None (after_within weight capacity is_live wins limit q) ≡ after_within weight capacity is_live wins None q }
     ensures nothing_to_do { (weight : X → ℕ) (capacity : Option ℕ) (is_live : X → Bool) (wins : X → List X → Bool) (q : Queues X)
@@ -124,18 +124,18 @@ pub fn it_goes_on_where_it_ended<X>()
 pub fn one_that_waits_is_judged<X>()
     ensures too_heavy { (weight : X → ℕ) (capacity : ℕ) (is_live : X → Bool) (wins : X → List X → Bool) (admitted : List X) (x : X)
         → AllByRecursion (λ y. is_live y ≡ true) (x ∷ admitted) → total weight admitted ≤ capacity → capacity < weight x
-        → parts weight (Some capacity) is_live wins (queues admitted (x ∷ [])) ≡ record { leaves = x ∷ []; after = queues admitted [] } ∷ [] }
+        → parts weight (Some capacity) is_live wins (queues admitted (x ∷ [])) ≡ record { evicted = x ∷ []; after = queues admitted [] } ∷ [] }
     ensures room { (weight : X → ℕ) (capacity : ℕ) (is_live : X → Bool) (wins : X → List X → Bool) (admitted : List X) (x : X)
         → AllByRecursion (λ y. is_live y ≡ true) (x ∷ admitted) → weight x + total weight admitted ≤ capacity
-        → parts weight (Some capacity) is_live wins (queues admitted (x ∷ [])) ≡ record { leaves = []; after = queues (admitted ++ x ∷ []) [] } ∷ [] }
+        → parts weight (Some capacity) is_live wins (queues admitted (x ∷ [])) ≡ record { evicted = []; after = queues (admitted ++ x ∷ []) [] } ∷ [] }
     ensures wins { (weight : X → ℕ) (capacity : ℕ) (is_live : X → Bool) (wins : X → List X → Bool) (admitted : List X) (x : X)
         → AllByRecursion (λ y. is_live y ≡ true) (x ∷ admitted) → total weight admitted ≤ capacity → weight x ≤ capacity
         → wins x (take (front weight (Some capacity) (weight x) admitted) admitted) ≡ true
-        → parts weight (Some capacity) is_live wins (queues admitted (x ∷ [])) ≡ record { leaves = take (front weight (Some capacity) (weight x) admitted) admitted; after = queues (drop (front weight (Some capacity) (weight x) admitted) admitted ++ x ∷ []) [] } ∷ [] }
+        → parts weight (Some capacity) is_live wins (queues admitted (x ∷ [])) ≡ record { evicted = take (front weight (Some capacity) (weight x) admitted) admitted; after = queues (drop (front weight (Some capacity) (weight x) admitted) admitted ++ x ∷ []) [] } ∷ [] }
     ensures loses { (weight : X → ℕ) (capacity : ℕ) (is_live : X → Bool) (wins : X → List X → Bool) (admitted : List X) (x : X)
         → AllByRecursion (λ y. is_live y ≡ true) (x ∷ admitted) → total weight admitted ≤ capacity → capacity < weight x + total weight admitted
         → wins x (take (front weight (Some capacity) (weight x) admitted) admitted) ≡ false
-        → parts weight (Some capacity) is_live wins (queues admitted (x ∷ [])) ≡ record { leaves = x ∷ []; after = queues admitted [] } ∷ [] }
+        → parts weight (Some capacity) is_live wins (queues admitted (x ∷ [])) ≡ record { evicted = x ∷ []; after = queues admitted [] } ∷ [] }
 {}
 
 /// Those that wait are judged one by one: where all are live, and the admitted within the capacity, the first that waits
@@ -145,5 +145,5 @@ pub fn those_that_wait_are_judged_one_by_one<X>()
         → AllByRecursion (λ y. is_live y ≡ true) (x ∷ admitted) → AllByRecursion (λ y. is_live y ≡ true) xs
         → fits weight capacity 0 admitted ≡ true
         → (p : Part X) × (parts weight capacity is_live wins (queues admitted (x ∷ [])) ≡ p ∷ [])
-        × (parts weight capacity is_live wins (queues admitted (x ∷ xs)) ≡ record { leaves = p.leaves; after = queues p.after.admitted xs } ∷ parts weight capacity is_live wins (queues p.after.admitted xs)) }
+        × (parts weight capacity is_live wins (queues admitted (x ∷ xs)) ≡ record { evicted = p.evicted; after = queues p.after.admitted xs } ∷ parts weight capacity is_live wins (queues p.after.admitted xs)) }
 {}

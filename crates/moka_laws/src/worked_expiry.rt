@@ -1,7 +1,7 @@
 //! Worked cases of an expiry that asks closures: each is told what it is to be told, each thing in its place.
 ghost use Rattle.std.specs.Prelude.{◌≡◌, ℕ, Some, None, option_map};
 ghost use Rattle.std.specs.Duration.{as_nanos};
-ghost use Rattle.moka_model.specs.History.{Lifetimes};
+ghost use Rattle.moka_model.specs.Lives.{Lifetimes};
 
 use moka_policy::expiry::{ExpireBy, Expiry};
 use std::time::Duration;

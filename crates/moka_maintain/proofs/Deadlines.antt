@@ -1,6 +1,6 @@
 -- The earliest deadline of rows, and what it says of those that live and those that are dead.
 use Rattle.std.proofs.Common.{◌≡◌, ℕ, Bool, true, false, Option, List, [], ◌∷◌, ◌++◌, refl, sym, ap, ◌∙◌}
-use Rattle.moka_model.specs.History.{has_come, earlier}
+use Rattle.moka_model.specs.Lives.{has_come, earlier}
 use Rattle.moka_ways.specs.declared.lives.Lives.{Lives}
 use Rattle.moka_rows.specs.declared.rows.Row.{Row}
 use Rattle.moka_ways.specs.Lives.{deadline_of}

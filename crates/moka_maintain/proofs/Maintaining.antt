@@ -26,16 +26,16 @@ module _ {K V : Type 0} (n : ℕ) (row : Row K V) (cause : RemovalCause) (old ne
 module _ {K V : Type 0} where
   -- The first admitted rows on their way: so many are left to leave, and what stays and is noticed of those admitted now
   -- is what it was of those at first.
-  pub record LetsGo (count : ℕ) (first table : Contents K V) (left : ℕ) : Type 0 where
+  pub record EvictsFirst (count : ℕ) (first table : Contents K V) (left : ℕ) : Type 0 where
     pub enough : left ≤ length table.admitted
     pub admitted : drop left table.admitted ≡ drop count first.admitted
     pub waiting : table.waiting ≡ first.waiting
     pub notices : table.notices ++ notices_for Size (take left table.admitted) ≡ first.notices ++ notices_for Size (take count first.admitted)
 
   -- it goes on where the first row leaves
-  pub lets-go-on : (count : ℕ) (first table : Contents K V) (left : ℕ) → LetsGo count first table (suc left) → (n : ℕ) (new : Contents K V) → Some n ≡ first_number table.admitted → TakesRow n table new
-      → IfSome (row_under n (entries table)) (λ r. new.notices ≡ table.notices ++ notice_for Size (n, r) ∷ []) → LetsGo count first new left
-  lets-go-on count first table left on n new first_is takes noticed =
+  pub evicts-on : (count : ℕ) (first table : Contents K V) (left : ℕ) → EvictsFirst count first table (suc left) → (n : ℕ) (new : Contents K V) → Some n ≡ first_number table.admitted → TakesRow n table new
+      → IfSome (row_under n (entries table)) (λ r. new.notices ≡ table.notices ++ notice_for Size (n, r) ∷ []) → EvictsFirst count first new left
+  evicts-on count first table left on n new first_is takes noticed =
       let begins = begins-with table.admitted n first_is in
       let there : row_under n table.admitted ≡ Some begins.0 = ap (row_under n) begins.2 ∙ row_under-at n begins.0 [] begins.1 refl in
       let gone = left-admitted n begins.0 Size table new takes noticed there in

@@ -6,10 +6,10 @@ use Rattle.std.proofs.lemmas.List.{append-nil, map-append}
 use Rattle.std.proofs.lemmas.List.Elements.{All-head, All-tail, All-take, All-drop, filter_passes, recursion_from_All, All-from_recursion}
 use Rattle.moka_model.specs.declared.notification.Notice.{Notice}
 use Rattle.moka_model.specs.declared.notification.RemovalCause.TheVariants.{Expired, Size}
-use Rattle.moka_model.specs.History.{has_come}
-use Rattle.moka_model.specs.Maintenance.{Queues, front, judged, leaving_in, after_parts}
-use Rattle.moka_model.proofs.Callers.{admitted_after, after-judged, All-admitted_after, within, too_much, leaving-parts, after-parts}
-use Rattle.moka_model.proofs.Callers.{All-leaving-judged}
+use Rattle.moka_model.specs.Lives.{has_come}
+use Rattle.moka_model.specs.Maintenance.{Queues, front, judged, evicted_in, after_parts}
+use Rattle.moka_model.proofs.Callers.{admitted_after, after-judged, All-admitted_after, within, too_much, evicted-parts, after-parts}
+use Rattle.moka_model.proofs.Callers.{All-evicted-judged}
 use Rattle.moka_ways.specs.declared.lives.Lives.{Lives}
 use Rattle.moka_rows.specs.declared.rows.Row.{Row}
 use Rattle.moka_ways.specs.Lives.{deadline_of}
@@ -51,10 +51,10 @@ module _ {K V : Type 0} (lives : Lives) (at : ℕ) where
     Lives_on p = is_alive lives at p ≡ true
 
     abbrev judges : List (ℕ × Row K V)
-    judges = leaving_in (judged weight_of capacity wins (within weight_of capacity alive wins (rows_of old)) (living lives at old.waiting))
+    judges = evicted_in (judged weight_of capacity wins (within weight_of capacity alive wins (rows_of old)) (living lives at old.waiting))
 
     -- the notices of all that leaves
-    noticed-parts : map (notice_at lives at) (leaving_in (row_parts lives is_lru frequency_of capacity at old))
+    noticed-parts : map (notice_at lives at) (evicted_in (row_parts lives is_lru frequency_of capacity at old))
         ≡ notices_for Expired (dead lives at old.admitted) ++ (notices_for Expired (dead lives at old.waiting) ++ (notices_for Size (too_much weight_of capacity alive wins (rows_of old)) ++ notices_for Size judges))
     noticed-parts =
         let notice : ℕ × Row K V → Notice K V = notice_at lives at in
@@ -62,8 +62,8 @@ module _ {K V : Type 0} (lives : Lives) (at : ℕ) where
         let admitted_live = filter_passes alive old.admitted in
         let much_lives : All Lives_on much = All-take Lives_on (front weight_of capacity 0 (living lives at old.admitted)) (living lives at old.admitted) admitted_live in
         let stay_live : All Lives_on (within weight_of capacity alive wins (rows_of old)) = All-drop Lives_on (front weight_of capacity 0 (living lives at old.admitted)) (living lives at old.admitted) admitted_live in
-        let judged_live : All Lives_on judges = All-leaving-judged weight_of capacity wins Lives_on (within weight_of capacity alive wins (rows_of old)) (living lives at old.waiting) stay_live (filter_passes alive old.waiting) in
-        ap (map notice) (leaving-parts weight_of capacity alive wins (rows_of old))
+        let judged_live : All Lives_on judges = All-evicted-judged weight_of capacity wins Lives_on (within weight_of capacity alive wins (rows_of old)) (living lives at old.waiting) stay_live (filter_passes alive old.waiting) in
+        ap (map notice) (evicted-parts weight_of capacity alive wins (rows_of old))
         ∙ map-append notice (dead lives at old.admitted) (dead lives at old.waiting ++ (much ++ judges))
         ∙ ap (λ l. map notice (dead lives at old.admitted) ++ l) (map-append notice (dead lives at old.waiting) (much ++ judges))
         ∙ ap (λ l. map notice (dead lives at old.admitted) ++ (map notice (dead lives at old.waiting) ++ l)) (map-append notice much judges)
@@ -77,7 +77,7 @@ module _ {K V : Type 0} (lives : Lives) (at : ℕ) where
         (swept_admitted : swept.admitted ≡ living lives at old.admitted) (swept_waiting : swept.waiting ≡ old.waiting) (swept_notices : swept.notices ≡ old.notices ++ notices_for Expired (dead lives at old.admitted))
         (come_admitted : come.admitted ≡ swept.admitted) (come_waiting : come.waiting ≡ living lives at swept.waiting) (come_notices : come.notices ≡ swept.notices ++ notices_for Expired (dead lives at swept.waiting))
         (shrunk_admitted : shrunk.admitted ≡ drop (front weight_of capacity 0 come.admitted) come.admitted) (shrunk_waiting : shrunk.waiting ≡ come.waiting) (shrunk_notices : shrunk.notices ≡ come.notices ++ notices_for Size (take (front weight_of capacity 0 come.admitted) come.admitted))
-        (new_admitted : new.admitted ≡ (after_parts (rows_of shrunk) (judgements is_lru frequency_of capacity shrunk)).admitted) (new_waiting : new.waiting ≡ []) (new_notices : new.notices ≡ shrunk.notices ++ notices_for Size (leaving_in (judgements is_lru frequency_of capacity shrunk))) where
+        (new_admitted : new.admitted ≡ (after_parts (rows_of shrunk) (judgements is_lru frequency_of capacity shrunk)).admitted) (new_waiting : new.waiting ≡ []) (new_notices : new.notices ≡ shrunk.notices ++ notices_for Size (evicted_in (judgements is_lru frequency_of capacity shrunk))) where
       all_admitted : come.admitted ≡ living lives at old.admitted
       all_admitted = come_admitted ∙ swept_admitted
 
@@ -103,9 +103,9 @@ module _ {K V : Type 0} (lives : Lives) (at : ℕ) where
           let came : come.notices ≡ (old.notices ++ a) ++ b = come_notices ∙ ap (λ l. l ++ notices_for Expired (dead lives at swept.waiting)) swept_notices ∙ ap (λ l. (old.notices ++ a) ++ notices_for Expired (dead lives at l)) swept_waiting in
           let shrank : shrunk.notices ≡ ((old.notices ++ a) ++ b) ++ c = shrunk_notices ∙ ap (λ l. l ++ notices_for Size (take (front weight_of capacity 0 come.admitted) come.admitted)) came ∙ ap (λ l. ((old.notices ++ a) ++ b) ++ notices_for Size (take (front weight_of capacity 0 l) l)) all_admitted in
           let last : new.notices ≡ (((old.notices ++ a) ++ b) ++ c) ++ d =
-          new_notices ∙ ap (λ l. l ++ notices_for Size (leaving_in (judgements is_lru frequency_of capacity shrunk))) shrank
-          ∙ ap (λ l. (((old.notices ++ a) ++ b) ++ c) ++ notices_for Size (leaving_in (judged weight_of capacity wins l shrunk.waiting))) stays_admitted
-          ∙ ap (λ l. (((old.notices ++ a) ++ b) ++ c) ++ notices_for Size (leaving_in (judged weight_of capacity wins (within weight_of capacity alive wins (rows_of old)) l))) stays_waiting in
+          new_notices ∙ ap (λ l. l ++ notices_for Size (evicted_in (judgements is_lru frequency_of capacity shrunk))) shrank
+          ∙ ap (λ l. (((old.notices ++ a) ++ b) ++ c) ++ notices_for Size (evicted_in (judged weight_of capacity wins l shrunk.waiting))) stays_admitted
+          ∙ ap (λ l. (((old.notices ++ a) ++ b) ++ c) ++ notices_for Size (evicted_in (judged weight_of capacity wins (within weight_of capacity alive wins (rows_of old)) l))) stays_waiting in
           record {
             waiting = new_waiting;
             admitted = judged_admitted ∙ ap (λ l. admitted_after weight_of capacity wins l shrunk.waiting) stays_admitted ∙ ap (admitted_after weight_of capacity wins (within weight_of capacity alive wins (rows_of old))) stays_waiting

@@ -5,7 +5,7 @@ use Rattle.std.proofs.lemmas.List.{append-nil}
 use Rattle.moka_model.specs.declared.notification.Notice.{Notice}
 use Rattle.moka_model.specs.declared.notification.RemovalCause.{RemovalCause}
 use Rattle.moka_model.specs.declared.notification.RemovalCause.TheVariants.{Expired}
-use Rattle.moka_model.specs.History.{has_come, earlier}
+use Rattle.moka_model.specs.Lives.{has_come, earlier}
 use Rattle.moka_ways.specs.declared.lives.Lives.{Lives}
 use Rattle.moka_rows.specs.declared.rows.Row.{Row}
 use Rattle.moka_ways.specs.Lives.{deadline_of}

@@ -3,7 +3,7 @@ use Rattle.std.proofs.Common.{◌≡◌, ℕ, ◌==◌, ◌||◌, ◌+◌, Bool,
 use Rattle.std.specs.Option.{IfSome, IsSome}
 use Rattle.std.proofs.lemmas.Bool.{cond-true, cond-false}
 use Rattle.moka_model.specs.declared.notification.RemovalCause.TheVariants.{Size}
-use Rattle.moka_model.specs.Maintenance.{Part, fits, front, judge, judged, leaving_in, after_parts}
+use Rattle.moka_model.specs.Maintenance.{Part, fits, front, judge, judged, evicted_in, after_parts}
 use Rattle.moka_model.proofs.Callers.{admitting, dropping}
 use Rattle.moka_rows.specs.declared.rows.Row.{Row}
 use Rattle.moka_rows.specs.Rows.{row_under, without_row, first_number, NumbersDiffer}
@@ -102,7 +102,7 @@ module _ {K V : Type 0} where
               waited = begins.1;
               waiting = gone.1 ∙ ap (without_row n) begins.1 ∙ without_row-at n row [] begins.0 refl;
               admitted = gone.0 ∙ sym (ap (λ (p : Part (ℕ × Row K V)). p.after.admitted) is);
-              notices = gone.2 ∙ sym (ap (λ (p : Part (ℕ × Row K V)). old.notices ++ notices_for Size p.leaves) is);
+              notices = gone.2 ∙ sym (ap (λ (p : Part (ℕ × Row K V)). old.notices ++ notices_for Size p.evicted) is);
             },
           )
 
@@ -124,7 +124,7 @@ module _ {K V : Type 0} where
               waited = begins.1;
               waiting = without ∙ ap (without_row n) waiting ∙ without_row-at n row [] begins.0 refl;
               admitted = last ∙ ap (λ l. l ++ (n, row) ∷ []) kept ∙ sym (ap (λ (p : Part (ℕ × Row K V)). p.after.admitted) is);
-              notices = noticed ∙ gone ∙ sym (ap (λ (p : Part (ℕ × Row K V)). old.notices ++ notices_for Size p.leaves) is);
+              notices = noticed ∙ gone ∙ sym (ap (λ (p : Part (ℕ × Row K V)). old.notices ++ notices_for Size p.evicted) is);
             },
           )
 
@@ -133,7 +133,7 @@ module _ {K V : Type 0} where
     ends admitted waiting = (after_parts (record { admitted = admitted; waiting = waiting }) (judged weight_of capacity wins admitted waiting)).admitted
 
     abbrev leaves : List (ℕ × Row K V) → List (ℕ × Row K V) → List (ℕ × Row K V)
-    leaves admitted waiting = leaving_in (judged weight_of capacity wins admitted waiting)
+    leaves admitted waiting = evicted_in (judged weight_of capacity wins admitted waiting)
 
     -- The judgements on their way: what those that are left make of the admitted and let leave is what it was at first.
     pub record JudgesAll (first table : Contents K V) : Type 0 where

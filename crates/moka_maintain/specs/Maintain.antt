@@ -5,8 +5,8 @@ use Rattle.std.specs.List.{AllByRecursion}
 use Rattle.moka_model.specs.declared.notification.Notice.{Notice}
 use Rattle.moka_model.specs.declared.notification.RemovalCause.{RemovalCause}
 use Rattle.moka_model.specs.declared.notification.RemovalCause.TheVariants.{Expired, Size}
-use Rattle.moka_model.specs.History.{has_come}
-use Rattle.moka_model.specs.Maintenance.{Queues, Part, total, judge, judged, parts, leaving_in, after_parts}
+use Rattle.moka_model.specs.Lives.{has_come}
+use Rattle.moka_model.specs.Maintenance.{Queues, Part, total, judge, judged, parts, evicted_in, after_parts}
 use Rattle.moka_ways.specs.declared.lives.Lives.{Lives}
 use Rattle.moka_rows.specs.declared.rows.Row.{Row}
 use Rattle.moka_ways.specs.Lives.{deadline_of}
@@ -86,7 +86,7 @@ module _ {K V : Type 0} where
     pub waiting : new.waiting ≡ rest
     pub admitted : new.admitted ≡ (judge weight_of capacity (row_wins is_lru frequency_of) old.admitted first rest).after.admitted
     pub notices : new.notices ≡ old.notices
-        ++ notices_for Size (judge weight_of capacity (row_wins is_lru frequency_of) old.admitted first rest).leaves
+        ++ notices_for Size (judge weight_of capacity (row_wins is_lru frequency_of) old.admitted first rest).evicted
 
   -- the parts of a maintenance of rows
   abbrev pub row_parts : Lives → Bool → (ℕ → ℕ) → Option ℕ → ℕ → Contents K V → List (Part (ℕ × Row K V))
@@ -98,4 +98,4 @@ pub record IsMaintained {K V : Type 0} (lives : Lives) (is_lru : Bool) (frequenc
     (old new : Contents K V) : Type 0 where
   pub waiting : new.waiting ≡ []
   pub admitted : new.admitted ≡ (after_parts (rows_of old) (row_parts lives is_lru frequency_of capacity at old)).admitted
-  pub notices : new.notices ≡ old.notices ++ map (notice_at lives at) (leaving_in (row_parts lives is_lru frequency_of capacity at old))
+  pub notices : new.notices ≡ old.notices ++ map (notice_at lives at) (evicted_in (row_parts lives is_lru frequency_of capacity at old))

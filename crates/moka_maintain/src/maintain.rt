@@ -2,7 +2,7 @@
 //! admitted or leaves.
 ghost use Rattle.std.specs.Prelude.{◌≡◌, ℕ, ◌+◌, ◌-◌, ◌≤◌, Some, List, [], ◌++◌, length, take, drop};
 ghost use Rattle.moka_model.specs.declared.notification.RemovalCause.TheVariants.{Expired, Size};
-ghost use Rattle.moka_model.specs.Maintenance.{front, leaving_in, after_parts};
+ghost use Rattle.moka_model.specs.Maintenance.{front, evicted_in, after_parts};
 ghost use Rattle.moka_policy.specs.Policy.{is_lru};
 ghost use Rattle.moka_rows.specs.declared.rows.Row.{Row};
 ghost use Rattle.moka_rows.specs.Rows.{first_number, NumbersDiffer};
@@ -53,7 +53,7 @@ pub fn maintain<K: Eq + Drop, V: Drop, R: RowStore<K, V>, F: FrequencySource>(
     earliest
 }
 
-/// Lets the expired admitted rows go. Before the earliest deadline there is none, and no row is visited.
+/// Evicts the expired admitted rows. Before the earliest deadline there is none, and no row is visited.
 fn sweep_if_due<K: Eq + Drop, V: Drop, R: RowStore<K, V>>(
     table: &mut Table<K, V, R>,
     lives: &Lives,
@@ -74,7 +74,7 @@ fn sweep_if_due<K: Eq + Drop, V: Drop, R: RowStore<K, V>>(
     }
 }
 
-/// Lets the expired rows of an order go, and answers the earliest deadline of those that stay in it. Visits each row of
+/// Evicts the expired rows of an order, and answers the earliest deadline of those that stay in it. Visits each row of
 /// the order.
 fn sweep<K: Eq + Drop, V: Drop, R: RowStore<K, V>>(
     table: &mut Table<K, V, R>,
@@ -95,7 +95,7 @@ fn sweep<K: Eq + Drop, V: Drop, R: RowStore<K, V>>(
         cursor = table.next(number);
         let deadline = lives.deadline(table.row(number).info);
         if has_come(deadline, now) {
-            table.let_go(number, RemovalCause::Expired);
+            table.evict(number, RemovalCause::Expired);
         } else {
             earliest = earlier(earliest, deadline);
         }
@@ -116,8 +116,7 @@ fn first_in<K: Eq + Drop, V: Drop, R: RowStore<K, V>>(
     }
 }
 
-/// Lets the least recently used rows go until those that stay admitted are within the capacity. Visits those that
-/// leave.
+/// Evicts the least recently used rows until those that stay admitted are within the capacity. Visits those that leave.
 fn shrink<K: Eq + Drop, V: Drop, R: RowStore<K, V>>(
     table: &mut Table<K, V, R>,
     capacity: Option<u64>,
@@ -128,7 +127,7 @@ fn shrink<K: Eq + Drop, V: Drop, R: RowStore<K, V>>(
     ensures room { table.old.room ≤ table.new.room }
 {
     let count = victims(table, capacity, 0);
-    let_first_go(table, count);
+    evict_first(table, count);
 }
 
 /// Judges each waiting row, in order. Visits the waiting rows, and for each the victims that it would take.
@@ -140,7 +139,7 @@ fn judge_all<K: Eq + Drop, V: Drop, R: RowStore<K, V>, F: FrequencySource>(
 )
     ensures admitted { table.new.admitted ≡ (after_parts (rows_of table.old) (judgements (is_lru policy) (F.count source.now) capacity table.old)).admitted }
     ensures waiting { table.new.waiting ≡ [] }
-    ensures notices { table.new.notices ≡ table.old.notices ++ notices_for Size (leaving_in (judgements (is_lru policy) (F.count source.now) capacity table.old)) }
+    ensures notices { table.new.notices ≡ table.old.notices ++ notices_for Size (evicted_in (judgements (is_lru policy) (F.count source.now) capacity table.old)) }
     ensures room { table.old.room ≤ table.new.room }
 {
     while let Some(number) = table.first_waiting() {
@@ -148,9 +147,9 @@ fn judge_all<K: Eq + Drop, V: Drop, R: RowStore<K, V>, F: FrequencySource>(
     }
 }
 
-/// Judges the first row that waits. One that is heavier than the capacity is let go. Else its victims, the least
+/// Judges the first row that waits. One that is heavier than the capacity is evicted. Else its victims, the least
 /// recently used rows that have to leave to make room for it, leave and it is admitted, if it needs none or wins against
-/// them; if it does not win, it is let go itself.
+/// them; if it does not win, it is evicted itself.
 fn judge<K: Eq + Drop, V: Drop, R: RowStore<K, V>, F: FrequencySource>(
     table: &mut Table<K, V, R>,
     capacity: Option<u64>,
@@ -166,15 +165,15 @@ fn judge<K: Eq + Drop, V: Drop, R: RowStore<K, V>, F: FrequencySource>(
     let row = table.row(number);
     let (hash, weight) = (row.hash, row.info.policy_weight);
     if !fits(capacity, weight, 0) {
-        table.let_go(number, RemovalCause::Size);
+        table.evict(number, RemovalCause::Size);
         return;
     }
     let count = victims(table, capacity, weight);
     if count == 0 || wins(table, policy, source, hash, count) {
-        let_first_go(table, count);
+        evict_first(table, count);
         table.admit(number);
     } else {
-        table.let_go(number, RemovalCause::Size);
+        table.evict(number, RemovalCause::Size);
     }
 }
 
@@ -243,8 +242,8 @@ fn frequency_of_first<K: Eq + Drop, V: Drop, R: RowStore<K, V>, F: FrequencySour
     frequency
 }
 
-/// Lets this many of the least recently used rows go.
-fn let_first_go<K: Eq + Drop, V: Drop, R: RowStore<K, V>>(table: &mut Table<K, V, R>, count: usize)
+/// Evicts this many of the least recently used rows.
+fn evict_first<K: Eq + Drop, V: Drop, R: RowStore<K, V>>(table: &mut Table<K, V, R>, count: usize)
     requires { count ≤ length table.old.admitted }
     ensures admitted { table.new.admitted ≡ drop count table.old.admitted }
     ensures waiting { table.new.waiting ≡ table.old.waiting }
@@ -253,7 +252,7 @@ fn let_first_go<K: Eq + Drop, V: Drop, R: RowStore<K, V>>(table: &mut Table<K, V
 {
     for _ in 0..count {
         match table.first_admitted() {
-            Some(number) => table.let_go(number, RemovalCause::Size),
+            Some(number) => table.evict(number, RemovalCause::Size),
             None => unreachable!(),
         }
     }

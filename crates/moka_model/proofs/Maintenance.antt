@@ -3,13 +3,13 @@ use Rattle.std.proofs.Common.{◌≡◌, ℕ, zero, suc, ◌+◌, ◌<◌, ◌�
 use Rattle.std.specs.List.{All}
 use Rattle.std.proofs.lemmas.Bool.{cond_both, cases_Bool, cond-true, leb-true, le-leb}
 use Rattle.std.proofs.lemmas.List.Elements.{All-drop, All-push, filter_passes, All-head, All-tail}
-use Rattle.moka_model.specs.Maintenance.{Queues, Part, total, fits, front, dead_admitted, dead_waiting, over, judge, judged, parts, leaving_in, after_parts}
+use Rattle.moka_model.specs.Maintenance.{Queues, Part, total, fits, front, dead_admitted, dead_waiting, over, judge, judged, parts, evicted_in, after_parts}
 use Rattle.moka_model.specs.MaintenanceLaws.{queues}
 
 module _ {X : Type 0} where
-  pub leaving_in-append : (ps rs : List (Part X)) → leaving_in (ps ++ rs) ≡ leaving_in ps ++ leaving_in rs
-  leaving_in-append [] rs = refl
-  leaving_in-append (p ∷ ps) rs = rw (leaving_in-append ps rs) (sym (append_assoc p.leaves (leaving_in ps) (leaving_in rs)))
+  pub evicted_in-append : (ps rs : List (Part X)) → evicted_in (ps ++ rs) ≡ evicted_in ps ++ evicted_in rs
+  evicted_in-append [] rs = refl
+  evicted_in-append (p ∷ ps) rs = rw (evicted_in-append ps rs) (sym (append_assoc p.evicted (evicted_in ps) (evicted_in rs)))
 
   pub after_parts-append : (q : Queues X) (ps rs : List (Part X)) → after_parts q (ps ++ rs) ≡ after_parts (after_parts q ps) rs
   after_parts-append q [] rs = refl
@@ -57,9 +57,9 @@ module _ {X : Type 0} (weight : X → ℕ) (capacity : Option ℕ) (more : ℕ) 
   front-le (x ∷ xs) = let rest = front-le xs in cond_both (fits weight capacity more (x ∷ xs)) 0 (front weight capacity more xs + 1) (λ n. n ≤ suc (length xs)) (λ _. omega arith) (λ _. omega arith)
 
 module _ {X : Type 0} (is_live : X → Bool) where
-  pub leaving-dead_admitted : (kept xs waiting : List X) → leaving_in (dead_admitted is_live kept xs waiting) ≡ filter (λ x. not (is_live x)) xs
-  leaving-dead_admitted kept [] waiting = refl
-  leaving-dead_admitted kept (x ∷ xs) waiting = ⊎_elim (λ e. rw e (leaving-dead_admitted (kept ++ x ∷ []) xs waiting)) (λ e. rw e (ap (λ ys. x ∷ ys) (leaving-dead_admitted kept xs waiting))) (cases_Bool (is_live x))
+  pub evicted-dead_admitted : (kept xs waiting : List X) → evicted_in (dead_admitted is_live kept xs waiting) ≡ filter (λ x. not (is_live x)) xs
+  evicted-dead_admitted kept [] waiting = refl
+  evicted-dead_admitted kept (x ∷ xs) waiting = ⊎_elim (λ e. rw e (evicted-dead_admitted (kept ++ x ∷ []) xs waiting)) (λ e. rw e (ap (λ ys. x ∷ ys) (evicted-dead_admitted kept xs waiting))) (cases_Bool (is_live x))
 
   pub after-dead_admitted : (kept xs waiting : List X) → after_parts (queues (kept ++ xs) waiting) (dead_admitted is_live kept xs waiting) ≡ queues (kept ++ filter is_live xs) waiting
   after-dead_admitted kept [] waiting = refl
@@ -69,9 +69,9 @@ module _ {X : Type 0} (is_live : X → Bool) where
       (λ e. rw e (after-dead_admitted kept xs waiting))
       (cases_Bool (is_live x))
 
-  pub leaving-dead_waiting : (admitted kept xs : List X) → leaving_in (dead_waiting is_live admitted kept xs) ≡ filter (λ x. not (is_live x)) xs
-  leaving-dead_waiting admitted kept [] = refl
-  leaving-dead_waiting admitted kept (x ∷ xs) = ⊎_elim (λ e. rw e (leaving-dead_waiting admitted (kept ++ x ∷ []) xs)) (λ e. rw e (ap (λ ys. x ∷ ys) (leaving-dead_waiting admitted kept xs))) (cases_Bool (is_live x))
+  pub evicted-dead_waiting : (admitted kept xs : List X) → evicted_in (dead_waiting is_live admitted kept xs) ≡ filter (λ x. not (is_live x)) xs
+  evicted-dead_waiting admitted kept [] = refl
+  evicted-dead_waiting admitted kept (x ∷ xs) = ⊎_elim (λ e. rw e (evicted-dead_waiting admitted (kept ++ x ∷ []) xs)) (λ e. rw e (ap (λ ys. x ∷ ys) (evicted-dead_waiting admitted kept xs))) (cases_Bool (is_live x))
 
   pub after-dead_waiting : (admitted kept xs : List X) → after_parts (queues admitted (kept ++ xs)) (dead_waiting is_live admitted kept xs) ≡ queues admitted (kept ++ filter is_live xs)
   after-dead_waiting admitted kept [] = refl
@@ -82,9 +82,9 @@ module _ {X : Type 0} (is_live : X → Bool) where
       (cases_Bool (is_live x))
 
 module _ {X : Type 0} (weight : X → ℕ) (capacity : Option ℕ) where
-  pub leaving-over : (xs waiting : List X) → leaving_in (over weight capacity xs waiting) ≡ take (front weight capacity 0 xs) xs
-  leaving-over [] waiting = refl
-  leaving-over (x ∷ xs) waiting = ⊎_elim (λ e. rw e refl) (λ e. rw e (rw add-one (ap (λ ys. x ∷ ys) (leaving-over xs waiting)))) (cases_Bool (fits weight capacity 0 (x ∷ xs)))
+  pub evicted-over : (xs waiting : List X) → evicted_in (over weight capacity xs waiting) ≡ take (front weight capacity 0 xs) xs
+  evicted-over [] waiting = refl
+  evicted-over (x ∷ xs) waiting = ⊎_elim (λ e. rw e refl) (λ e. rw e (rw add-one (ap (λ ys. x ∷ ys) (evicted-over xs waiting)))) (cases_Bool (fits weight capacity 0 (x ∷ xs)))
 
   pub after-over : (xs waiting : List X) → after_parts (queues xs waiting) (over weight capacity xs waiting) ≡ queues (drop (front weight capacity 0 xs) xs) waiting
   after-over [] waiting = refl
@@ -99,11 +99,11 @@ fits-admitted weight capacity admitted x alone =
 
 -- the first that waits is admitted after a number of victims
 abbrev pub admitting : {X : Type 0} → ℕ → List X → X → List X → Part X
-admitting victims admitted x waiting = record { leaves = take victims admitted; after = queues (drop victims admitted ++ x ∷ []) waiting }
+admitting victims admitted x waiting = record { evicted = take victims admitted; after = queues (drop victims admitted ++ x ∷ []) waiting }
 
 -- it is dropped
 abbrev pub dropping : {X : Type 0} → List X → X → List X → Part X
-dropping admitted x waiting = record { leaves = x ∷ []; after = queues admitted waiting }
+dropping admitted x waiting = record { evicted = x ∷ []; after = queues admitted waiting }
 
 module _ {X : Type 0} (weight : X → ℕ) (capacity : Option ℕ) (wins : X → List X → Bool) where
   -- what is true of an admission after the front that makes room, and of a drop, is true of a judgement
@@ -153,15 +153,15 @@ module _ {X : Type 0} (weight : X → ℕ) (capacity : Option ℕ) (is_live : X 
   within q = drop (front weight capacity 0 (filter is_live q.admitted)) (filter is_live q.admitted)
 
   -- the dead leave, then what is too much, and then what leaves as the waiting are judged
-  pub leaving-parts : (q : Queues X) → leaving_in (parts weight capacity is_live wins q) ≡ filter (λ x. not (is_live x)) q.admitted ++ (filter (λ x. not (is_live x)) q.waiting ++ (too_much q ++ leaving_in (judged weight capacity wins (within q) (filter is_live q.waiting))))
-  leaving-parts q =
+  pub evicted-parts : (q : Queues X) → evicted_in (parts weight capacity is_live wins q) ≡ filter (λ x. not (is_live x)) q.admitted ++ (filter (λ x. not (is_live x)) q.waiting ++ (too_much q ++ evicted_in (judged weight capacity wins (within q) (filter is_live q.waiting))))
+  evicted-parts q =
       let admitted : List X = filter is_live q.admitted in
       let waiting : List X = filter is_live q.waiting in
       let a : List (Part X) = dead_admitted is_live [] q.admitted q.waiting in
       let b : List (Part X) = dead_waiting is_live admitted [] q.waiting in
       let c : List (Part X) = over weight capacity admitted waiting in
       let d : List (Part X) = judged weight capacity wins (within q) waiting in
-      rw (leaving_in-append a (b ++ (c ++ d)), leaving_in-append b (c ++ d), leaving_in-append c d, leaving-dead_admitted is_live [] q.admitted q.waiting, leaving-dead_waiting is_live admitted [] q.waiting, leaving-over weight capacity admitted waiting)
+      rw (evicted_in-append a (b ++ (c ++ d)), evicted_in-append b (c ++ d), evicted_in-append c d, evicted-dead_admitted is_live [] q.admitted q.waiting, evicted-dead_waiting is_live admitted [] q.waiting, evicted-over weight capacity admitted waiting)
 
   -- all that waited was judged, beside the live admitted within the capacity
   pub after-parts : (q : Queues X) → after_parts q (parts weight capacity is_live wins q) ≡ queues (admitted_after weight capacity wins (within q) (filter is_live q.waiting)) []

@@ -27,7 +27,7 @@ module _ {X : Type 0} (a b : X → ℕ) where
     over-agrees : (xs waiting : List X) → All Agrees xs → over a capacity xs waiting ≡ over b capacity xs waiting
     over-agrees [] waiting same = refl
     over-agrees (x ∷ xs) waiting same =
-        let first : Part X = record { leaves = x ∷ []; after = record { admitted = xs; waiting = waiting } } in
+        let first : Part X = record { evicted = x ∷ []; after = record { admitted = xs; waiting = waiting } } in
         ap (λ t. cond t [] (first ∷ over a capacity xs waiting)) (fits-agrees capacity 0 (x ∷ xs) same) ∙ ap (λ ps. cond (fits b capacity 0 (x ∷ xs)) [] (first ∷ ps)) (over-agrees xs waiting (All-tail Agrees x xs same))
 
     module _ (wins : X → List X → Bool) where

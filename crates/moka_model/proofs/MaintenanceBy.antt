@@ -2,8 +2,8 @@
 use Rattle.std.proofs.Common.{◌≡◌, ◌+◌, ◌==◌, ◌||◌, ℕ, Bool, true, false, cond, nat_le, Option, Some, None, List, [], ◌∷◌, ◌++◌, map, take, drop, filter, not, refl, sym, ap, ◌∙◌}
 use Rattle.std.proofs.lemmas.List.{map-append, take-map, drop-map}
 use Rattle.moka_model.proofs.ListLemmas.{map-filter}
-use Rattle.moka_model.specs.History.{changed_where, moved_last}
-use Rattle.moka_model.specs.Maintenance.{Queues, Part, total, fits, front, dead_admitted, dead_waiting, over, judge, judged, parts, leaving_in, after_parts}
+use Rattle.moka_model.specs.Orders.{changed_where, moved_last}
+use Rattle.moka_model.specs.Maintenance.{Queues, Part, total, fits, front, dead_admitted, dead_waiting, over, judge, judged, parts, evicted_in, after_parts}
 
 -- a choice has the image of what was chosen
 pub chosen-by : {A B : Type 0} (f : A → B) (b : Bool) (x y : A) → cond b (f x) (f y) ≡ f (cond b x y)
@@ -15,11 +15,11 @@ module _ {X Y : Type 0} (g : X → Y) where
   queues_by q = record { admitted = map g q.admitted; waiting = map g q.waiting }
 
   abbrev pub part_by : Part X → Part Y
-  part_by p = record { leaves = map g p.leaves; after = queues_by p.after }
+  part_by p = record { evicted = map g p.evicted; after = queues_by p.after }
 
-  pub leaving_in-by : (ps : List (Part X)) → leaving_in (map part_by ps) ≡ map g (leaving_in ps)
-  leaving_in-by [] = refl
-  leaving_in-by (p ∷ ps) = rw (leaving_in-by ps) (sym (map-append g p.leaves (leaving_in ps)))
+  pub evicted_in-by : (ps : List (Part X)) → evicted_in (map part_by ps) ≡ map g (evicted_in ps)
+  evicted_in-by [] = refl
+  evicted_in-by (p ∷ ps) = rw (evicted_in-by ps) (sym (map-append g p.evicted (evicted_in ps)))
 
   pub after_parts-by : (q : Queues X) (ps : List (Part X)) → after_parts (queues_by q) (map part_by ps) ≡ queues_by (after_parts q ps)
   after_parts-by q [] = refl
@@ -65,7 +65,7 @@ module _ {X Y : Type 0} (g : X → Y) where
     over-by : (xs waiting : List X) → over weight capacity (map g xs) (map g waiting) ≡ map part_by (over weight_before capacity xs waiting)
     over-by [] waiting = refl
     over-by (x ∷ xs) waiting =
-        let leave : Part X = record { leaves = x ∷ []; after = record { admitted = xs; waiting = waiting } } in
+        let leave : Part X = record { evicted = x ∷ []; after = record { admitted = xs; waiting = waiting } } in
         ap (λ b. cond b [] (part_by leave ∷ over weight capacity (map g xs) (map g waiting))) (fits-by capacity 0 (x ∷ xs))
         ∙ ap (λ ps. cond (fits weight_before capacity 0 (x ∷ xs)) [] (part_by leave ∷ ps)) (over-by xs waiting)
         ∙ chosen-by (map part_by) (fits weight_before capacity 0 (x ∷ xs)) [] (leave ∷ over weight_before capacity xs waiting)
@@ -74,7 +74,7 @@ module _ {X Y : Type 0} (g : X → Y) where
       abbrev wins_before : X → List X → Bool
       wins_before x victims = wins (g x) (map g victims)
 
-      admitting-by : (admitted : List X) (x : X) (waiting : List X) (n : ℕ) → record { leaves = take n (map g admitted); after = record { admitted = drop n (map g admitted) ++ g x ∷ []; waiting = map g waiting } } ≡ part_by (record { leaves = take n admitted; after = record { admitted = drop n admitted ++ x ∷ []; waiting = waiting } })
+      admitting-by : (admitted : List X) (x : X) (waiting : List X) (n : ℕ) → record { evicted = take n (map g admitted); after = record { admitted = drop n (map g admitted) ++ g x ∷ []; waiting = map g waiting } } ≡ part_by (record { evicted = take n admitted; after = record { admitted = drop n admitted ++ x ∷ []; waiting = waiting } })
       admitting-by admitted x waiting n =
           let rest : drop n (map g admitted) ++ g x ∷ [] ≡ map g (drop n admitted ++ x ∷ []) = ap (λ ys. ys ++ g x ∷ []) (drop-map g n admitted) ∙ pushed-by (drop n admitted) x in
           rw (take-map g n admitted, rest) refl
@@ -82,8 +82,8 @@ module _ {X Y : Type 0} (g : X → Y) where
       judge-by : (admitted : List X) (x : X) (waiting : List X) → judge weight capacity wins (map g admitted) (g x) (map g waiting) ≡ part_by (judge weight_before capacity wins_before admitted x waiting)
       judge-by admitted x waiting =
           let n : ℕ = front weight_before capacity (weight (g x)) admitted in
-          let admits : Part X = record { leaves = take n admitted; after = record { admitted = drop n admitted ++ x ∷ []; waiting = waiting } } in
-          let drops : Part X = record { leaves = x ∷ []; after = record { admitted = admitted; waiting = waiting } } in
+          let admits : Part X = record { evicted = take n admitted; after = record { admitted = drop n admitted ++ x ∷ []; waiting = waiting } } in
+          let drops : Part X = record { evicted = x ∷ []; after = record { admitted = admitted; waiting = waiting } } in
           let wins_here : Bool = n == 0 || wins (g x) (map g (take n admitted)) in
           rw (front-by (weight (g x)) admitted, admitting-by admitted x waiting n, take-map g n admitted)
           (ap (λ b. cond b (cond wins_here (part_by admits) (part_by drops)) (part_by drops)) (fits-by capacity (weight (g x)) [])
@@ -103,14 +103,14 @@ module _ {X Y : Type 0} (g : X → Y) where
     dead_admitted-by : (kept xs waiting : List X) → dead_admitted is_live (map g kept) (map g xs) (map g waiting) ≡ map part_by (dead_admitted live_before kept xs waiting)
     dead_admitted-by kept [] waiting = refl
     dead_admitted-by kept (x ∷ xs) waiting =
-        let leave : Part X = record { leaves = x ∷ []; after = record { admitted = kept ++ xs; waiting = waiting } } in
+        let leave : Part X = record { evicted = x ∷ []; after = record { admitted = kept ++ xs; waiting = waiting } } in
         rw (pushed-by kept x, dead_admitted-by (kept ++ x ∷ []) xs waiting, dead_admitted-by kept xs waiting, ← map-append g kept xs)
         (chosen-by (map part_by) (is_live (g x)) (dead_admitted live_before (kept ++ x ∷ []) xs waiting) (leave ∷ dead_admitted live_before kept xs waiting))
 
     dead_waiting-by : (admitted kept xs : List X) → dead_waiting is_live (map g admitted) (map g kept) (map g xs) ≡ map part_by (dead_waiting live_before admitted kept xs)
     dead_waiting-by admitted kept [] = refl
     dead_waiting-by admitted kept (x ∷ xs) =
-        let leave : Part X = record { leaves = x ∷ []; after = record { admitted = admitted; waiting = kept ++ xs } } in
+        let leave : Part X = record { evicted = x ∷ []; after = record { admitted = admitted; waiting = kept ++ xs } } in
         rw (pushed-by kept x, dead_waiting-by admitted (kept ++ x ∷ []) xs, dead_waiting-by admitted kept xs, ← map-append g kept xs)
         (chosen-by (map part_by) (is_live (g x)) (dead_waiting live_before admitted (kept ++ x ∷ []) xs) (leave ∷ dead_waiting live_before admitted kept xs))
 

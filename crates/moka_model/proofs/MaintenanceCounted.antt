@@ -2,7 +2,7 @@
 use Rattle.std.proofs.Common.{◌≡◌, ℕ, ◌+◌, ◌-◌, Bool, nat_le, Option, Some, None, List, [], ◌∷◌, ◌++◌, length, take, drop, filter, refl, sym, ap, ◌∙◌, append_assoc, length-append, take-append-drop, arith}
 use Rattle.std.proofs.lemmas.Bool.{cond_both}
 use Rattle.std.proofs.lemmas.List.Elements.{filter-append}
-use Rattle.moka_model.specs.Maintenance.{Queues, Part, fits, front, dead_admitted, dead_waiting, over, judge, judged, parts, done, leaving_in, after_parts}
+use Rattle.moka_model.specs.Maintenance.{Queues, Part, fits, front, dead_admitted, dead_waiting, over, judge, judged, parts, done, evicted_in, after_parts}
 use Rattle.moka_model.specs.MaintenanceLaws.{queues, everything, count}
 use Rattle.moka_model.proofs.Maintenance.{admitting, dropping, judge_both, within, after-dead_admitted, after-dead_waiting, after-over}
 
@@ -19,7 +19,7 @@ module _ {X : Type 0} (test : X → Bool) where
 
   -- a part moves what it has from the queues into what leaves
   abbrev Moves : Queues X → Part X → Type 0
-  Moves q p = count test p.leaves + (count test p.after.admitted + count test p.after.waiting) ≡ count test q.admitted + count test q.waiting
+  Moves q p = count test p.evicted + (count test p.after.admitted + count test p.after.waiting) ≡ count test q.admitted + count test q.waiting
 
   -- so does each part, from the queues after those before it
   abbrev AllMove : Queues X → List (Part X) → Type 0
@@ -38,7 +38,7 @@ module _ {X : Type 0} (test : X → Bool) where
       let between = count-append kept xs in
       let first = count-cons x xs in
       let moves : count test (x ∷ []) + (count test rest + count test waiting) ≡ count test (kept ++ x ∷ xs) + count test waiting = omega arith in
-      cond_both (is_live x) (dead_admitted is_live (kept ++ x ∷ []) xs waiting) (record { leaves = x ∷ []; after = queues rest waiting } ∷ dead_admitted is_live kept xs waiting)
+      cond_both (is_live x) (dead_admitted is_live (kept ++ x ∷ []) xs waiting) (record { evicted = x ∷ []; after = queues rest waiting } ∷ dead_admitted is_live kept xs waiting)
       (AllMove (queues (kept ++ x ∷ xs) waiting))
       (λ _. rw (append_assoc kept (x ∷ []) xs) at (AllMove-dead_admitted is_live (kept ++ x ∷ []) xs waiting))
       (λ _. (moves, AllMove-dead_admitted is_live kept xs waiting))
@@ -51,7 +51,7 @@ module _ {X : Type 0} (test : X → Bool) where
       let between = count-append kept xs in
       let first = count-cons x xs in
       let moves : count test (x ∷ []) + (count test admitted + count test rest) ≡ count test admitted + count test (kept ++ x ∷ xs) = omega arith in
-      cond_both (is_live x) (dead_waiting is_live admitted (kept ++ x ∷ []) xs) (record { leaves = x ∷ []; after = queues admitted rest } ∷ dead_waiting is_live admitted kept xs)
+      cond_both (is_live x) (dead_waiting is_live admitted (kept ++ x ∷ []) xs) (record { evicted = x ∷ []; after = queues admitted rest } ∷ dead_waiting is_live admitted kept xs)
       (AllMove (queues admitted (kept ++ x ∷ xs)))
       (λ _. rw (append_assoc kept (x ∷ []) xs) at (AllMove-dead_waiting is_live admitted (kept ++ x ∷ []) xs))
       (λ _. (moves, AllMove-dead_waiting is_live admitted kept xs))
@@ -61,7 +61,7 @@ module _ {X : Type 0} (test : X → Bool) where
   AllMove-over weight capacity (x ∷ xs) waiting =
       let first = count-cons x xs in
       let moves : count test (x ∷ []) + (count test xs + count test waiting) ≡ count test (x ∷ xs) + count test waiting = omega arith in
-      cond_both (fits weight capacity 0 (x ∷ xs)) [] (record { leaves = x ∷ []; after = queues xs waiting } ∷ over weight capacity xs waiting)
+      cond_both (fits weight capacity 0 (x ∷ xs)) [] (record { evicted = x ∷ []; after = queues xs waiting } ∷ over weight capacity xs waiting)
       (AllMove (queues (x ∷ xs) waiting))
       (λ _. tt)
       (λ _. (moves, AllMove-over weight capacity xs waiting))
@@ -97,10 +97,10 @@ module _ {X : Type 0} (test : X → Bool) where
       (rw (after-over weight capacity admitted waiting) (AllMove-judged weight capacity wins (within weight capacity is_live wins q) waiting))))))
 
   -- what all parts move is still there
-  counted_parts : (q : Queues X) (ps : List (Part X)) → AllMove q ps → count test (leaving_in ps) + (count test (after_parts q ps).admitted + count test (after_parts q ps).waiting) ≡ count test q.admitted + count test q.waiting
+  counted_parts : (q : Queues X) (ps : List (Part X)) → AllMove q ps → count test (evicted_in ps) + (count test (after_parts q ps).admitted + count test (after_parts q ps).waiting) ≡ count test q.admitted + count test q.waiting
   counted_parts q [] moves = omega arith
   counted_parts q (p ∷ ps) moves =
-      let left = count-append p.leaves (leaving_in ps) in
+      let left = count-append p.evicted (evicted_in ps) in
       let here : Moves q p = moves.0 in
       let rest = counted_parts p.after ps moves.1 in
       omega arith
@@ -108,13 +108,13 @@ module _ {X : Type 0} (test : X → Bool) where
   AllMove-done : (limit : Option ℕ) (q : Queues X) (ps : List (Part X)) → AllMove q ps → AllMove q (done limit ps)
   AllMove-done None q ps moves = moves
   AllMove-done (Some limit) q [] moves = tt
-  AllMove-done (Some limit) q (p ∷ ps) moves = cond_both (nat_le (length p.leaves) limit) (p ∷ done (Some (limit - length p.leaves)) ps) [] (AllMove q) (λ _. (moves.0, AllMove-done (Some (limit - length p.leaves)) p.after ps moves.1)) (λ _. tt)
+  AllMove-done (Some limit) q (p ∷ ps) moves = cond_both (nat_le (length p.evicted) limit) (p ∷ done (Some (limit - length p.evicted)) ps) [] (AllMove q) (λ _. (moves.0, AllMove-done (Some (limit - length p.evicted)) p.after ps moves.1)) (λ _. tt)
 
-  pub count-maintenance : (weight : X → ℕ) (capacity : Option ℕ) (is_live : X → Bool) (wins : X → List X → Bool) (limit : Option ℕ) (q : Queues X) → count test (leaving_in (done limit (parts weight capacity is_live wins q))) + count test (everything (after_parts q (done limit (parts weight capacity is_live wins q)))) ≡ count test (everything q)
+  pub count-maintenance : (weight : X → ℕ) (capacity : Option ℕ) (is_live : X → Bool) (wins : X → List X → Bool) (limit : Option ℕ) (q : Queues X) → count test (evicted_in (done limit (parts weight capacity is_live wins q))) + count test (everything (after_parts q (done limit (parts weight capacity is_live wins q)))) ≡ count test (everything q)
   count-maintenance weight capacity is_live wins limit q =
       let ps : List (Part X) = done limit (parts weight capacity is_live wins q) in
       let after : Queues X = after_parts q ps in
       let all_left : count test (everything after) ≡ count test after.admitted + count test after.waiting = count-append after.admitted after.waiting in
       let all_before : count test (everything q) ≡ count test q.admitted + count test q.waiting = count-append q.admitted q.waiting in
-      let moved : count test (leaving_in ps) + (count test after.admitted + count test after.waiting) ≡ count test q.admitted + count test q.waiting = counted_parts q ps (AllMove-done limit q (parts weight capacity is_live wins q) (AllMove-parts weight capacity is_live wins q)) in
+      let moved : count test (evicted_in ps) + (count test after.admitted + count test after.waiting) ≡ count test q.admitted + count test q.waiting = counted_parts q ps (AllMove-done limit q (parts weight capacity is_live wins q) (AllMove-parts weight capacity is_live wins q)) in
       rw (all_left, all_before) moved

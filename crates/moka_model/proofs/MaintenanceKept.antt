@@ -4,7 +4,7 @@ use Rattle.std.specs.Option.{option_to_list}
 use Rattle.std.specs.List.{All, list_any}
 use Rattle.std.proofs.lemmas.Bool.{cond_both, cases_Bool, both_ways}
 use Rattle.std.proofs.lemmas.List.Elements.{All-nil, All-cons, All-head, All-tail, All-append, All-push, All-take, All-drop, All-filter}
-use Rattle.moka_model.specs.Maintenance.{Queues, Part, fits, front, dead_admitted, dead_waiting, over, judge, judged, parts, done, leaving_in, after_parts}
+use Rattle.moka_model.specs.Maintenance.{Queues, Part, fits, front, dead_admitted, dead_waiting, over, judge, judged, parts, done, evicted_in, after_parts}
 use Rattle.moka_model.specs.MaintenanceLaws.{queues, everything, count}
 use Rattle.moka_model.proofs.Maintenance.{judge_both, within}
 use Rattle.moka_model.proofs.MaintenanceCounted.{count-maintenance}
@@ -12,7 +12,7 @@ use Rattle.moka_model.proofs.MaintenanceCounted.{count-maintenance}
 module _ {X : Type 0} (P : X → Type 0) where
   -- what is true of all that a part has
   abbrev pub InPart : Part X → Type 0
-  InPart p = All P p.leaves × All P p.after.admitted × All P p.after.waiting
+  InPart p = All P p.evicted × All P p.after.admitted × All P p.after.waiting
 
   -- and of all that some parts have
   abbrev pub InParts : List (Part X) → Type 0
@@ -31,7 +31,7 @@ module _ {X : Type 0} (P : X → Type 0) where
   InParts-dead_admitted is_live kept (x ∷ xs) waiting k a w =
       let here = All-head P x xs a in
       let more = All-tail P x xs a in
-      cond_both (is_live x) (dead_admitted is_live (kept ++ x ∷ []) xs waiting) (record { leaves = x ∷ []; after = queues (kept ++ xs) waiting } ∷ dead_admitted is_live kept xs waiting) InParts
+      cond_both (is_live x) (dead_admitted is_live (kept ++ x ∷ []) xs waiting) (record { evicted = x ∷ []; after = queues (kept ++ xs) waiting } ∷ dead_admitted is_live kept xs waiting) InParts
       (λ _. InParts-dead_admitted is_live (kept ++ x ∷ []) xs waiting (All-push P kept x k here) more w)
       (λ _. ((one x here, All-append P kept xs k more, w), InParts-dead_admitted is_live kept xs waiting k more w))
 
@@ -40,7 +40,7 @@ module _ {X : Type 0} (P : X → Type 0) where
   InParts-dead_waiting is_live admitted kept (x ∷ xs) a k w =
       let here = All-head P x xs w in
       let more = All-tail P x xs w in
-      cond_both (is_live x) (dead_waiting is_live admitted (kept ++ x ∷ []) xs) (record { leaves = x ∷ []; after = queues admitted (kept ++ xs) } ∷ dead_waiting is_live admitted kept xs) InParts
+      cond_both (is_live x) (dead_waiting is_live admitted (kept ++ x ∷ []) xs) (record { evicted = x ∷ []; after = queues admitted (kept ++ xs) } ∷ dead_waiting is_live admitted kept xs) InParts
       (λ _. InParts-dead_waiting is_live admitted (kept ++ x ∷ []) xs a (All-push P kept x k here) more)
       (λ _. ((one x here, a, All-append P kept xs k more), InParts-dead_waiting is_live admitted kept xs a k more))
 
@@ -49,7 +49,7 @@ module _ {X : Type 0} (P : X → Type 0) where
     InParts-over [] waiting a w = tt
     InParts-over (x ∷ xs) waiting a w =
         let more = All-tail P x xs a in
-        cond_both (fits weight capacity 0 (x ∷ xs)) [] (record { leaves = x ∷ []; after = queues xs waiting } ∷ over weight capacity xs waiting) InParts
+        cond_both (fits weight capacity 0 (x ∷ xs)) [] (record { evicted = x ∷ []; after = queues xs waiting } ∷ over weight capacity xs waiting) InParts
         (λ _. tt)
         (λ _. ((one x (All-head P x xs a), more, w), InParts-over xs waiting more w))
 
@@ -84,15 +84,27 @@ module _ {X : Type 0} (P : X → Type 0) where
   InParts-done : (limit : Option ℕ) (ps : List (Part X)) → InParts ps → InParts (done limit ps)
   InParts-done None ps a = a
   InParts-done (Some limit) [] a = tt
-  InParts-done (Some limit) (p ∷ ps) a = cond_both (nat_le (length p.leaves) limit) (p ∷ done (Some (limit - length p.leaves)) ps) [] InParts (λ _. (a.0, InParts-done (Some (limit - length p.leaves)) ps a.1)) (λ _. tt)
+  InParts-done (Some limit) (p ∷ ps) a = cond_both (nat_le (length p.evicted) limit) (p ∷ done (Some (limit - length p.evicted)) ps) [] InParts (λ _. (a.0, InParts-done (Some (limit - length p.evicted)) ps a.1)) (λ _. tt)
 
-  pub All-leaving_in : (ps : List (Part X)) → InParts ps → All P (leaving_in ps)
-  All-leaving_in [] a = All-nil P
-  All-leaving_in (p ∷ ps) a = All-append P p.leaves (leaving_in ps) (a.0).0 (All-leaving_in ps a.1)
+  pub All-evicted_in : (ps : List (Part X)) → InParts ps → All P (evicted_in ps)
+  All-evicted_in [] a = All-nil P
+  All-evicted_in (p ∷ ps) a = All-append P p.evicted (evicted_in ps) (a.0).0 (All-evicted_in ps a.1)
 
   pub All-after_parts : (q : Queues X) (ps : List (Part X)) → All P q.admitted → All P q.waiting → InParts ps → All P (everything (after_parts q ps))
   All-after_parts q [] a w all = All-append P q.admitted q.waiting a w
   All-after_parts q (p ∷ ps) a w all = All-after_parts p.after ps (all.0).1 (all.0).2 all.1
+
+  -- what is true of all before a maintenance within a limit is true of all that stays, in each order
+  abbrev HoldsIn : Queues X → Type 0
+  HoldsIn q = All P q.admitted × All P q.waiting
+
+  after_parts-holds : (q : Queues X) (ps : List (Part X)) → HoldsIn q → InParts ps → HoldsIn (after_parts q ps)
+  after_parts-holds q [] here all = here
+  after_parts-holds q (p ∷ ps) here all = after_parts-holds p.after ps ((all.0).1, (all.0).2) all.1
+
+  pub kept_within : (weight : X → ℕ) (capacity : Option ℕ) (is_live : X → Bool) (wins : X → List X → Bool) (limit : Option ℕ) (q : Queues X) → All P q.admitted → All P q.waiting
+      → All P (after_parts q (done limit (parts weight capacity is_live wins q))).admitted × All P (after_parts q (done limit (parts weight capacity is_live wins q))).waiting
+  kept_within weight capacity is_live wins limit q a w = after_parts-holds q (done limit (parts weight capacity is_live wins q)) (a, w) (InParts-done limit (parts weight capacity is_live wins q) (InParts-parts weight capacity wins is_live q a w))
 
 -- Where one alone passes a test before a maintenance, it leaves in it, or it stays.
 module _ {X : Type 0} (test : X → Bool) where
@@ -139,7 +151,7 @@ module _ {X : Type 0} (test : X → Bool) where
 
   module _ (weight : X → ℕ) (capacity : Option ℕ) (is_live : X → Bool) (wins : X → List X → Bool) (limit : Option ℕ) (q : Queues X) where
     abbrev gone : List X
-    gone = leaving_in (done limit (parts weight capacity is_live wins q))
+    gone = evicted_in (done limit (parts weight capacity is_live wins q))
 
     abbrev stays : List X
     stays = everything (after_parts q (done limit (parts weight capacity is_live wins q)))
@@ -160,7 +172,7 @@ module _ {X : Type 0} (test : X → Bool) where
         let admitted = All-front q.admitted q.waiting only in
         let waiting = All-back q.admitted q.waiting only in
         let ps = InParts-done (IsOnly w) limit (parts weight capacity is_live wins q) (InParts-parts (IsOnly w) weight capacity wins is_live q admitted waiting) in
-        split (count test gone) refl (count test stays) refl (rw once at all) (All-leaving_in (IsOnly w) (done limit (parts weight capacity is_live wins q)) ps) (All-after_parts (IsOnly w) q (done limit (parts weight capacity is_live wins q)) admitted waiting ps)
+        split (count test gone) refl (count test stays) refl (rw once at all) (All-evicted_in (IsOnly w) (done limit (parts weight capacity is_live wins q)) ps) (All-after_parts (IsOnly w) q (done limit (parts weight capacity is_live wins q)) admitted waiting ps)
       where
         All-front : (xs ys : List X) → All (IsOnly w) (xs ++ ys) → All (IsOnly w) xs
         All-front [] ys a = All-nil (IsOnly w)

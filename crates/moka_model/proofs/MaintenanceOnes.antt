@@ -3,10 +3,10 @@ use Rattle.std.proofs.Common.{◌≡◌, ℕ, zero, suc, ◌+◌, ◌-◌, ◌�
 use Rattle.std.specs.List.{AllByRecursion}
 use Rattle.std.proofs.lemmas.Bool.{cond_both, cond-false, leb-true, leb-false, lt-leb, le-leb}
 use Rattle.std.proofs.lemmas.List.{take_at, drop_at, take_all, drop_all}
-use Rattle.moka_model.specs.Maintenance.{Queues, Part, total, fits, front, judge, judged, parts, leaving_in, after_parts}
+use Rattle.moka_model.specs.Maintenance.{Queues, Part, total, fits, front, judge, judged, parts, evicted_in, after_parts}
 use Rattle.moka_model.specs.MaintenanceLaws.{the_living, behind_the_dead}
 use Rattle.moka_model.proofs.Maintenance.{admitting, dropping, admitted_after, within, after-parts}
-use Rattle.moka_model.proofs.MaintenanceOrder.{behind, behind_the_dead-leaving, judge-wins, behind-append-admitted}
+use Rattle.moka_model.proofs.MaintenanceOrder.{behind, behind_the_dead-evicted, judge-wins, behind-append-admitted}
 
 module _ {X : Type 0} (weight : X → ℕ) (one : (x : X) → weight x ≡ 1) where
   pub total-ones : (xs : List X) → total weight xs ≡ length xs
@@ -32,9 +32,9 @@ module _ {X : Type 0} (weight : X → ℕ) (one : (x : X) → weight x ≡ 1) wh
 
   module _ (wins : X → List X → Bool) (always : (x : X) (victims : List X) → wins x victims ≡ true) where
     -- as many leave as pass the capacity
-    length-leaving-judged : (capacity : ℕ) → 1 ≤ capacity → (admitted waiting : List X) → length admitted ≤ capacity → length (leaving_in (judged weight (Some capacity) wins admitted waiting)) ≡ length admitted + length waiting - capacity
-    length-leaving-judged capacity room admitted [] within = omega arith
-    length-leaving-judged capacity room admitted (x ∷ xs) within =
+    length-evicted-judged : (capacity : ℕ) → 1 ≤ capacity → (admitted waiting : List X) → length admitted ≤ capacity → length (evicted_in (judged weight (Some capacity) wins admitted waiting)) ≡ length admitted + length waiting - capacity
+    length-evicted-judged capacity room admitted [] within = omega arith
+    length-evicted-judged capacity room admitted (x ∷ xs) within =
         let n : ℕ = front weight (Some capacity) (weight x) admitted in
         let now : List X = drop n admitted ++ x ∷ [] in
         let here = one x in
@@ -42,10 +42,10 @@ module _ {X : Type 0} (weight : X → ℕ) (one : (x : X) → weight x ≡ 1) wh
         let taken : length (take n admitted) ≡ min n (length admitted) = length-take n admitted in
         let dropped : length (drop n admitted) ≡ length admitted - n = length-drop n admitted in
         let pushed : length now ≡ length (drop n admitted) + 1 = length-append (drop n admitted) (x ∷ []) in
-        let rest : length (leaving_in (judged weight (Some capacity) wins now xs)) ≡ length now + length xs - capacity = length-leaving-judged capacity room now xs (omega arith) in
-        let all : length (take n admitted ++ leaving_in (judged weight (Some capacity) wins now xs)) ≡ length (take n admitted) + length (leaving_in (judged weight (Some capacity) wins now xs)) = length-append (take n admitted) (leaving_in (judged weight (Some capacity) wins now xs)) in
-        let sum : length (take n admitted ++ leaving_in (judged weight (Some capacity) wins now xs)) ≡ length admitted + suc (length xs) - capacity = omega arith in
-        ap (λ (p : Part X). length (p.leaves ++ leaving_in (judged weight (Some capacity) wins p.after.admitted xs))) (judge-wins weight (Some capacity) wins always admitted x xs (le-leb (weight x + 0) capacity (omega arith))) ∙ sum
+        let rest : length (evicted_in (judged weight (Some capacity) wins now xs)) ≡ length now + length xs - capacity = length-evicted-judged capacity room now xs (omega arith) in
+        let all : length (take n admitted ++ evicted_in (judged weight (Some capacity) wins now xs)) ≡ length (take n admitted) + length (evicted_in (judged weight (Some capacity) wins now xs)) = length-append (take n admitted) (evicted_in (judged weight (Some capacity) wins now xs)) in
+        let sum : length (take n admitted ++ evicted_in (judged weight (Some capacity) wins now xs)) ≡ length admitted + suc (length xs) - capacity = omega arith in
+        ap (λ (p : Part X). length (p.evicted ++ evicted_in (judged weight (Some capacity) wins p.after.admitted xs))) (judge-wins weight (Some capacity) wins always admitted x xs (le-leb (weight x + 0) capacity (omega arith))) ∙ sum
 
   module _ (wins : X → List X → Bool) where
     -- at a capacity of 0 each is too heavy
@@ -55,9 +55,9 @@ module _ {X : Type 0} (weight : X → ℕ) (one : (x : X) → weight x ≡ 1) wh
         let victims : ℕ = front weight (Some 0) (weight x) [] in
         cond-false (nat_le (weight x + 0) 0) (if victims == 0 || wins x (take victims []) then admitting victims [] x waiting else dropping [] x waiting) (dropping [] x waiting) (lt-leb (weight x + 0) 0 (omega arith))
 
-    leaving-judged-no_room : (waiting : List X) → leaving_in (judged weight (Some 0) wins [] waiting) ≡ waiting
-    leaving-judged-no_room [] = refl
-    leaving-judged-no_room (x ∷ xs) = ap (λ (p : Part X). p.leaves ++ leaving_in (judged weight (Some 0) wins p.after.admitted xs)) (judge-no_room x xs) ∙ ap (λ ys. x ∷ ys) (leaving-judged-no_room xs)
+    evicted-judged-no_room : (waiting : List X) → evicted_in (judged weight (Some 0) wins [] waiting) ≡ waiting
+    evicted-judged-no_room [] = refl
+    evicted-judged-no_room (x ∷ xs) = ap (λ (p : Part X). p.evicted ++ evicted_in (judged weight (Some 0) wins p.after.admitted xs)) (judge-no_room x xs) ∙ ap (λ ys. x ∷ ys) (evicted-judged-no_room xs)
 
     admitted_after-no_room : (waiting : List X) → admitted_after weight (Some 0) wins [] waiting ≡ []
     admitted_after-no_room [] = refl
@@ -91,8 +91,8 @@ module _ {X : Type 0} (weight : X → ℕ) (one : (x : X) → weight x ≡ 1) (i
       let all : n ≡ 0 + length admitted - 0 = front-ones weight one 0 0 admitted (omega arith) in
       ap (λ ys. behind weight (Some 0) is_live wins q ++ ys) none_admitted
       ∙ append-nil (behind weight (Some 0) is_live wins q)
-      ∙ ap (λ ys. take n admitted ++ leaving_in (judged weight (Some 0) wins ys waiting)) none_within
-      ∙ ap (λ ys. take n admitted ++ ys) (leaving-judged-no_room weight one wins waiting)
+      ∙ ap (λ ys. take n admitted ++ evicted_in (judged weight (Some 0) wins ys waiting)) none_within
+      ∙ ap (λ ys. take n admitted ++ ys) (evicted-judged-no_room weight one wins waiting)
       ∙ ap (λ ys. ys ++ waiting) (take_all n admitted (omega arith))
   ones_in_order (suc c) = behind-append-admitted weight (Some (suc c)) wins always is_live q (ones_fit_alone weight one (suc c) (omega arith) (filter is_live q.waiting))
 
@@ -110,17 +110,17 @@ module _ {X : Type 0} (weight : X → ℕ) (one : (x : X) → weight x ≡ 1) (i
       let over : n ≡ 0 + length admitted - suc c = front-ones weight one (suc c) 0 admitted (omega arith) in
       let taken : length (take n admitted) ≡ min n (length admitted) = length-take n admitted in
       let dropped : length (drop n admitted) ≡ length admitted - n = length-drop n admitted in
-      let rest : List X = leaving_in (judged weight (Some (suc c)) wins (drop n admitted) waiting) in
-      let last : length rest ≡ length (drop n admitted) + length waiting - suc c = length-leaving-judged weight one wins always (suc c) (omega arith) (drop n admitted) waiting (omega arith) in
+      let rest : List X = evicted_in (judged weight (Some (suc c)) wins (drop n admitted) waiting) in
+      let last : length rest ≡ length (drop n admitted) + length waiting - suc c = length-evicted-judged weight one wins always (suc c) (omega arith) (drop n admitted) waiting (omega arith) in
       let all : length (take n admitted ++ rest) ≡ length (take n admitted) + length rest = length-append (take n admitted) rest in
       let living : length (admitted ++ waiting) ≡ length admitted + length waiting = length-append admitted waiting in
       omega arith
 
-  pub leaving-ones : (capacity : ℕ) → behind_the_dead is_live q (leaving_in (parts weight (Some capacity) is_live wins q)) ≡ take (length (the_living is_live q) - capacity) (the_living is_live q)
-  leaving-ones capacity =
+  pub evicted-ones : (capacity : ℕ) → behind_the_dead is_live q (evicted_in (parts weight (Some capacity) is_live wins q)) ≡ take (length (the_living is_live q) - capacity) (the_living is_live q)
+  evicted-ones capacity =
       let n : ℕ = length (the_living is_live q) - capacity in
       let leaving : List X = behind weight (Some capacity) is_live wins q in
-      behind_the_dead-leaving weight (Some capacity) is_live wins q
+      behind_the_dead-evicted weight (Some capacity) is_live wins q
       ∙ sym (take_at leaving (admitted_then capacity) n (length-behind-ones capacity))
       ∙ ap (take n) (ones_in_order capacity)
 

@@ -1,8 +1,13 @@
-pub mod History
+pub mod Admission
+pub mod Calls
+pub mod Events
+pub mod Lives
 pub mod Maintenance
 pub mod MaintenanceLaws
-pub mod NumberHash
+pub mod Numbers
 pub mod OrderLaws
-pub mod Replies
+pub mod Orders
+pub mod Removals
 pub mod SizeLaws
 pub mod StandsFor
+pub mod Steps

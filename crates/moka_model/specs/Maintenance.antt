@@ -1,6 +1,7 @@
 -- A maintenance of two queues, as the list of its parts, over anything that has a weight and may be dead.
 use Rattle.std.specs.Prelude.{ℕ, ◌+◌, ◌-◌, Bool, true, ◌||◌, ◌==◌, if◌then◌else◌, nat_le, Option, Some, None, List, [], ◌∷◌, ◌++◌, length}
-use Rattle.std.specs.Prelude.{take, drop, filter}
+use Rattle.std.specs.Prelude.{take, drop}
+use Rattle.std.specs.Prelude.{filter}
 
 -- Two orders: the admitted, the least recently used first, and those that wait for admission, in the order in
 -- which they came.
@@ -10,7 +11,7 @@ pub record Queues (X : Type 0) : Type 0 where
 
 -- One part of a maintenance: what leaves in it, in order, and how the queues stand after it.
 pub record Part (X : Type 0) : Type 0 where
-  pub leaves : List X
+  pub evicted : List X
   pub after : Queues X
 
 module _ {X : Type 0} (weight : X → ℕ) where
@@ -34,23 +35,26 @@ module _ {X : Type 0} (is_live : X → Bool) where
   abbrev pub dead_admitted : List X → List X → List X → List (Part X)
   dead_admitted kept [] waiting = []
   dead_admitted kept (x ∷ xs) waiting =
-      if is_live x then dead_admitted (kept ++ x ∷ []) xs waiting
-      else record { leaves = x ∷ []; after = record { admitted = kept ++ xs; waiting = waiting } } ∷ dead_admitted kept xs waiting
+      if is_live x
+      then dead_admitted (kept ++ x ∷ []) xs waiting
+      else record { evicted = x ∷ []; after = record { admitted = kept ++ xs; waiting = waiting } } ∷ dead_admitted kept xs waiting
 
   -- and then among those that wait
   abbrev pub dead_waiting : List X → List X → List X → List (Part X)
   dead_waiting admitted kept [] = []
   dead_waiting admitted kept (x ∷ xs) =
-      if is_live x then dead_waiting admitted (kept ++ x ∷ []) xs
-      else record { leaves = x ∷ []; after = record { admitted = admitted; waiting = kept ++ xs } } ∷ dead_waiting admitted kept xs
+      if is_live x
+      then dead_waiting admitted (kept ++ x ∷ []) xs
+      else record { evicted = x ∷ []; after = record { admitted = admitted; waiting = kept ++ xs } } ∷ dead_waiting admitted kept xs
 
 module _ {X : Type 0} (weight : X → ℕ) (capacity : Option ℕ) where
   -- where the admitted weight passes the capacity, the shortest front that brings it within leaves, one by one
   abbrev pub over : List X → List X → List (Part X)
   over [] waiting = []
   over (x ∷ xs) waiting =
-      if fits weight capacity 0 (x ∷ xs) then []
-      else record { leaves = x ∷ []; after = record { admitted = xs; waiting = waiting } } ∷ over xs waiting
+      if fits weight capacity 0 (x ∷ xs)
+      then []
+      else record { evicted = x ∷ []; after = record { admitted = xs; waiting = waiting } } ∷ over xs waiting
 
   -- The first that waits is dropped where it is heavier than the capacity. Else its victims are the shortest front
   -- that makes room for it, and they leave and it is admitted where it needs none or wins against them; where it
@@ -59,9 +63,9 @@ module _ {X : Type 0} (weight : X → ℕ) (capacity : Option ℕ) where
   judge wins admitted x waiting =
       let victims = front weight capacity (weight x) admitted in
       if fits weight capacity (weight x) [] then (if victims == 0 || wins x (take victims admitted)
-      then record { leaves = take victims admitted; after = record { admitted = drop victims admitted ++ x ∷ []; waiting = waiting } }
-      else record { leaves = x ∷ []; after = record { admitted = admitted; waiting = waiting } })
-      else record { leaves = x ∷ []; after = record { admitted = admitted; waiting = waiting } }
+      then record { evicted = take victims admitted; after = record { admitted = drop victims admitted ++ x ∷ []; waiting = waiting } }
+      else record { evicted = x ∷ []; after = record { admitted = admitted; waiting = waiting } })
+      else record { evicted = x ∷ []; after = record { admitted = admitted; waiting = waiting } }
 
   -- each that waits is judged, in order
   abbrev pub judged : (X → List X → Bool) → List X → List X → List (Part X)
@@ -83,12 +87,12 @@ module _ {X : Type 0} where
   abbrev pub done : Option ℕ → List (Part X) → List (Part X)
   done None ps = ps
   done (Some limit) [] = []
-  done (Some limit) (p ∷ ps) = if nat_le (length p.leaves) limit then p ∷ done (Some (limit - length p.leaves)) ps else []
+  done (Some limit) (p ∷ ps) = if nat_le (length p.evicted) limit then p ∷ done (Some (limit - length p.evicted)) ps else []
 
   -- all that leaves in these parts, in order
-  abbrev pub leaving_in : List (Part X) → List X
-  leaving_in [] = []
-  leaving_in (p ∷ ps) = p.leaves ++ leaving_in ps
+  abbrev pub evicted_in : List (Part X) → List X
+  evicted_in [] = []
+  evicted_in (p ∷ ps) = p.evicted ++ evicted_in ps
 
   -- the queues after these parts
   abbrev pub after_parts : Queues X → List (Part X) → Queues X

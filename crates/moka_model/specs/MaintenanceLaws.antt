@@ -1,6 +1,6 @@
 -- The words of the laws over a maintenance of two queues.
 use Rattle.std.specs.Prelude.{⊤, ◌≡◌, ◌⊎◌, ℕ, Bool, not, Option, List, [], ◌∷◌, ◌++◌, length, drop, filter}
-use Rattle.moka_model.specs.Maintenance.{Queues, parts, done, leaving_in, after_parts}
+use Rattle.moka_model.specs.Maintenance.{Queues, parts, done, evicted_in, after_parts}
 
 -- the two queues
 abbrev pub queues : {X : Type 0} → List X → List X → Queues X
@@ -35,8 +35,8 @@ module _ {X : Type 0} (is_live : X → Bool) where
 
 module _ {X : Type 0} (weight : X → ℕ) (capacity : Option ℕ) (is_live : X → Bool) (wins : X → List X → Bool) (limit : Option ℕ) where
   -- all that leaves in a maintenance within a limit, in order
-  abbrev pub leaving_within : Queues X → List X
-  leaving_within q = leaving_in (done limit (parts weight capacity is_live wins q))
+  abbrev pub evicted_within : Queues X → List X
+  evicted_within q = evicted_in (done limit (parts weight capacity is_live wins q))
 
   -- the queues after a maintenance within a limit
   abbrev pub after_within : Queues X → Queues X

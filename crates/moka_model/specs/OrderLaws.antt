@@ -3,9 +3,13 @@ use Rattle.std.specs.Prelude.{◌≡◌, ℕ, Bool, true, false, not, ◌&&◌, 
 use Rattle.std.specs.Prelude.{option_to_list}
 use Rattle.std.specs.List.{filter, list_any}
 use Rattle.moka_model.specs.Maintenance.{Queues}
-use Rattle.moka_model.specs.History.{Event, Get, ContainsKey, Insert, Invalidate, Maintain, Skip, Measure, TakeNotice, Rules, Write, latest}
-use Rattle.moka_model.specs.History.{after_write, standing, live, queues}
-use Rattle.moka_model.specs.StandsFor.{writes_of}
+use Rattle.moka_model.specs.Lives.{Settings, Write, after_write}
+use Rattle.moka_model.specs.Events.{Event, Looked, Written, Maintained, latest}
+use Rattle.moka_model.specs.Orders.{standing, live, orders}
+
+-- those of some writes whose key equals this one
+abbrev pub writes_of : {K V : Type 0} → (K → K → Bool) → K → List (Write K V) → List (Write K V)
+writes_of eq k ws = filter (λ w. eq w.key k) ws
 
 module _ {K V : Type 0} where
   -- the keys of writes, in order
@@ -34,44 +38,34 @@ module _ {K : Type 0} (eq : K → K → Bool) where
   lasts [] = []
   lasts (k ∷ ks) = if list_any (eq k) ks then lasts ks else k ∷ lasts ks
 
-  module _ {V : Type 0} (rules : Rules K V) where
+  module _ {V : Type 0} (settings : Settings K V) where
     -- The keys of the opening writes, oldest first: a write is one where nothing stood for its key.
     abbrev pub openings : List (Event K V) → List K
     openings [] = []
-    openings (Get k at ∷ h) = openings h
-    openings (ContainsKey k at ∷ h) = openings h
-    openings (Insert k v at ∷ h) = if is_some (standing eq rules k h) then openings h else openings h ++ k ∷ []
-    openings (Invalidate k at ∷ h) = openings h
-    openings (Maintain at ∷ h) = openings h
-    openings (Skip at ∷ h) = openings h
-    openings (Measure what ∷ h) = openings h
-    openings (TakeNotice ∷ h) = openings h
+    openings (Written k v at ∷ h) = if is_some (standing eq settings k h) then openings h else openings h ++ k ∷ []
+    openings (e ∷ h) = openings h
+
+    -- a key is admitted where its write is
+    abbrev pub is_admitted : List (Event K V) → K → Bool
+    is_admitted h k = list_any (λ w. eq w.key k) (orders eq settings h).admitted
 
     -- a key waits where it stands and is not admitted
     abbrev pub waits : List (Event K V) → K → Bool
-    waits h k = is_some (standing eq rules k h) && not (list_any (λ w. eq w.key k) (queues eq rules h).admitted)
+    waits h k = is_some (standing eq settings k h) && not (is_admitted h k)
 
-    -- The keys that a maintenance admits, in order, the events before it being h: of those that wait, the ones that
-    -- stand after it.
-    abbrev pub admitted_in : ℕ → List (Event K V) → List K
-    admitted_in at h = keys (filter (λ w. is_some (standing eq rules w.key (Maintain at ∷ h))) (queues eq rules h).waiting)
+    -- The keys that a maintenance admits, in order, the events before it being h: of those that wait, the ones that are
+    -- admitted after it.
+    abbrev pub admitted_in : Option ℕ → ℕ → List (Event K V) → List K
+    admitted_in limit at h = keys (filter (λ w. is_admitted (Maintained limit at ∷ h) w.key) (orders eq settings h).waiting)
 
     -- The keys that were used, oldest first, each as it was stored: a look that hits a live write uses its key, a write
     -- uses its key, and a maintenance uses the keys that it admits.
     abbrev pub uses : List (Event K V) → List K
     uses [] = []
-    uses (Get k at ∷ h) = uses h ++ keys (option_to_list (live eq rules k (latest (Get k at ∷ h)) h))
-    uses (ContainsKey k at ∷ h) = uses h
-    uses (Insert k v at ∷ h) = uses h ++ (after_write rules k v at (standing eq rules k h)).key ∷ []
-    uses (Invalidate k at ∷ h) = uses h
-    uses (Maintain at ∷ h) = uses h ++ admitted_in at h
-    uses (Skip at ∷ h) = uses h
-    uses (Measure what ∷ h) = uses h
-    uses (TakeNotice ∷ h) = uses h
-
-    -- a key is admitted where its write is
-    abbrev pub is_admitted : List (Event K V) → K → Bool
-    is_admitted h k = list_any (λ w. eq w.key k) (queues eq rules h).admitted
+    uses (Looked k at ∷ h) = uses h ++ keys (option_to_list (live eq settings k (latest (Looked k at ∷ h)) h))
+    uses (Written k v at ∷ h) = uses h ++ (after_write settings k v at (standing eq settings k h)).key ∷ []
+    uses (Maintained limit at ∷ h) = uses h ++ admitted_in limit at h
+    uses (e ∷ h) = uses h
 
 -- The last use of a key among those that were used, at its place: none later is of the key.
 pub record LastUse {K : Type 0} (eq : K → K → Bool) (k : K) (used : List K) : Type 0 where

@@ -1,51 +1,65 @@
--- What it means that a state stands for a list of events.
-use Rattle.std.specs.Prelude.{◌≡◌, ℕ, Bool, Option, List, ◌∷◌, ◌++◌, filter}
-use Rattle.std.specs.Option.{option_to_list}
-use Rattle.moka_model.specs.History.{Event, Rules, Ways, Write, Leaving, notes, latest, standing, queues, noticed, next_number, IsHistory}
+-- What it means that a state stands for a list of accepted steps.
+use Rattle.std.specs.Prelude.{◌≡◌, ℕ, Bool, Option, Some, None, List, ◌++◌}
+use Rattle.moka_model.specs.Maintenance.{Queues}
+use Rattle.moka_model.specs.Lives.{Settings, Write}
+use Rattle.moka_model.specs.Events.{Event, latest}
+use Rattle.moka_model.specs.Admission.{notes}
+use Rattle.moka_model.specs.Orders.{orders}
+use Rattle.moka_model.specs.Removals.{Removal, notices_left}
+use Rattle.moka_model.specs.Numbers.{next_number}
+use Rattle.moka_model.specs.Steps.{AcceptedStep, events_in}
+use Rattle.moka_model.specs.Calls.{Call, Answer, Accepted, accepted, after, IsLegal, IsAnswer}
 
--- What a state holds: its stored writes in their two orders, and the rest that the definitions speak of. The frequency
--- is what its source estimates of a hash once it has noted these hashes more, in order.
-pub record Holdings (K V : Type 0) : Type 0 where
-  pub time_to_live : Option ℕ
-  pub time_to_idle : Option ℕ
-  pub max_capacity : Option ℕ
-  pub ways : Ways K V
-  pub frequency : List ℕ → ℕ → ℕ
-  pub admitted : List (Write K V)
-  pub waiting : List (Write K V)
-  pub notices : List (Leaving K V)
+-- The books of a cache: what it stores in its two orders, the notices not taken yet, the latest moment, and the number
+-- that is drawn next.
+pub record Books (K V : Type 0) : Type 0 where
+  pub orders : Queues (Write K V)
+  pub notices : List (Removal K V)
   pub latest : ℕ
   pub next_number : ℕ
 
--- all stored writes
-abbrev pub writes : {K V : Type 0} → Holdings K V → List (Write K V)
-writes state = state.admitted ++ state.waiting
+-- the books after a list of events
+abbrev pub books_of : {K V : Type 0} → (K → K → Bool) → Settings K V → List (Event K V) → Books K V
+books_of eq settings h = record {
+  orders = orders eq settings h;
+  notices = notices_left eq settings h;
+  latest = latest h;
+  next_number = next_number settings h;
+}
 
--- those of the stored writes whose key equals this one
-abbrev pub writes_of : {K V : Type 0} → (K → K → Bool) → K → List (Write K V) → List (Write K V)
-writes_of eq k ws = filter (λ w. eq w.key k) ws
+-- What a state is, as the definitions speak of it. The frequency is what its source estimates of a hash once it has noted
+-- these hashes more, in order.
+pub record View (K V : Type 0) : Type 0 where
+  pub settings : Settings K V
+  pub books : Books K V
+  pub frequency : List ℕ → ℕ → ℕ
 
--- A state stands for a list of events where it holds what the definitions give for that list: for each key the
--- write that stands and no other, both orders, the notices not taken yet, the latest moment, the next number, and a
--- source that has noted the hashes of all recorded looks, in order. The list is one that steps give.
-pub record StandsFor {K V : Type 0} (eq : K → K → Bool) (rules : Rules K V) (state : Holdings K V) (h : List (Event K V)) : Type 0 where
-  pub history : IsHistory eq rules h
-  pub time_to_live : state.time_to_live ≡ rules.time_to_live
-  pub time_to_idle : state.time_to_idle ≡ rules.time_to_idle
-  pub max_capacity : state.max_capacity ≡ rules.max_capacity
-  pub ways : state.ways ≡ rules.ways
-  pub frequency : (more : List ℕ) (hash : ℕ) → state.frequency more hash ≡ rules.frequency (notes rules h ++ more) hash
-  pub writes : (k : K) → writes_of eq k (writes state) ≡ option_to_list (standing eq rules k h)
-  pub admitted : state.admitted ≡ (queues eq rules h).admitted
-  pub waiting : state.waiting ≡ (queues eq rules h).waiting
-  pub notices : state.notices ≡ noticed eq rules h
-  pub latest : state.latest ≡ latest h
-  pub next_number : state.next_number ≡ next_number rules h
+-- A state stands for a list of accepted steps under these settings where the list is legal, the state was built with the
+-- settings, its books are those of the list, and its source has noted the hashes of all recorded looks, in order.
+pub record StandsFor {K V E : Type 0} (eq : K → K → Bool) (given : Settings K V) (view : View K V)
+    (steps : List (AcceptedStep K V E)) : Type 0 where
+  pub legal : IsLegal eq given steps
+  pub settings : view.settings ≡ given
+  pub books : view.books ≡ books_of eq given (events_in steps)
+  pub frequency : (more : List ℕ) (hash : ℕ) →
+      view.frequency more hash ≡ given.frequency (notes given (events_in steps) ++ more) hash
 
--- Whatever list the old state stood for, the new one stands for that list followed by the event.
-abbrev pub Follows : {K V : Type 0} → (K → K → Bool) → Holdings K V → Event K V → Holdings K V → Type 0
-Follows {K} {V} eq old e new = (rules : Rules K V) (h : List (Event K V)) → StandsFor eq rules old h → StandsFor eq rules new (e ∷ h)
+-- P holds of whatever settings and steps the state stands for. The steps have errors of this type.
+abbrev pub AtEachHistory : {K V : Type 0} (E : Type 0) → (K → K → Bool) → View K V →
+    (Settings K V → List (AcceptedStep K V E) → Type 0) → Type 0
+AtEachHistory {K} {V} E eq view P =
+    (settings : Settings K V) (steps : List (AcceptedStep K V E)) → StandsFor eq settings view steps → P settings steps
 
--- P holds of whatever rules and list the state stands for.
-abbrev pub AtEachHistory : {K V : Type 0} → (K → K → Bool) → Holdings K V → (Rules K V → List (Event K V) → Type 0) → Type 0
-AtEachHistory {K} {V} eq state P = (rules : Rules K V) (h : List (Event K V)) → StandsFor eq rules state h → P rules h
+-- Whatever steps the old state stood for, the new one stands for those followed by the call.
+abbrev pub Follows : {K V : Type 0} (E : Type 0) → (K → K → Bool) → View K V → Call K V → View K V → Type 0
+Follows E eq old call new = AtEachHistory E eq old (λ settings steps. StandsFor eq settings new (after eq settings call steps))
+
+-- an answer that is handed out where a call is accepted
+abbrev pub IsAnswerOf : {K V E : Type 0} → (V → V → Type 0) → Option (Accepted K V E) → Answer K V E → Type 0
+IsAnswerOf is_clone None answer = ⊥
+IsAnswerOf is_clone (Some it) answer = IsAnswer is_clone it.answer answer
+
+-- What is handed out is the answer to the call, after whatever steps the state stands for.
+abbrev pub Answers : {K V : Type 0} (E : Type 0) → (K → K → Bool) → (V → V → Type 0) → View K V → Call K V → Answer K V E → Type 0
+Answers E eq is_clone view call answer =
+    AtEachHistory E eq view (λ settings steps. IsAnswerOf is_clone (accepted eq settings steps call) answer)

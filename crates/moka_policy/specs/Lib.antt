@@ -1,10 +1,4 @@
 pub mod Frequency
+pub mod NumberHash
 pub mod Policy
-pub use Rattle.moka_model.specs.History
-pub use Rattle.moka_model.specs.Maintenance
-pub use Rattle.moka_model.specs.MaintenanceLaws
-pub use Rattle.moka_model.specs.NumberHash
-pub use Rattle.moka_model.specs.OrderLaws
-pub use Rattle.moka_model.specs.Replies
-pub use Rattle.moka_model.specs.SizeLaws
-pub use Rattle.moka_model.specs.StandsFor
+pub use Rattle.moka_model.specs.Lives

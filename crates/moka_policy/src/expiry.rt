@@ -1,7 +1,7 @@
 //! The lives of single values.
 ghost use Rattle.std.specs.Prelude.{◌≡◌, ℕ, option_map};
 ghost use Rattle.std.specs.Duration.{as_nanos};
-ghost use Rattle.moka_model.specs.History.{Lifetimes, no_lifetimes};
+ghost use Rattle.moka_model.specs.Lives.{Lifetimes, no_lifetimes};
 ghost use Rattle.moka_policy.specs.Policy.{IsCreating, IsReading, IsUpdating};
 
 use std::time::Duration;

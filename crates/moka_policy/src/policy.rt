@@ -1,7 +1,7 @@
 //! The types that a cache is made of, the hasher of number keys, and the refusals.
 ghost use Rattle.std.specs.Prelude.{◌≡◌, ℕ, true, false, not};
-ghost use Rattle.moka_model.specs.History.{Lifetimes};
-ghost use Rattle.moka_model.specs.NumberHash.{number_hash};
+ghost use Rattle.moka_model.specs.Lives.{Lifetimes};
+ghost use Rattle.moka_policy.specs.NumberHash.{number_hash};
 ghost use Rattle.moka_policy.specs.Policy.{is_lru};
 
 pub use crate::expiry::{ExpireBy, Expiry, NoExpiry};
@@ -24,14 +24,17 @@ pub trait CacheTypes<K: Eq, V: Clone> {
     /// Estimates how often each key was looked for.
     type Frequency: FrequencySource;
 
-    /// The weight of a key with a value. A weigher that the cache is given answers it.
-    ghost weight: { K → V → ℕ };
+    /// What a computation of a value may fail with.
+    type Error: Drop;
+
+    /// The weight of a key with a value, by the weigher that the cache is given, which answers it.
+    ghost weight: { Self.Weigher → K → V → ℕ };
 
     /// Equal keys weigh alike.
-    ghost equal_keys_weigh: { (a b : K) (v : V) → K.eq a b ≡ true → weight a v ≡ weight b v };
+    ghost equal_keys_weigh: { (weigher : Self.Weigher) (a b : K) (v : V) → K.eq a b ≡ true → weight weigher a v ≡ weight weigher b v };
 
-    /// The lives that values have of their own. An expiry that the cache is given answers them.
-    ghost lifetimes: { Lifetimes K V };
+    /// The lives that values have of their own, by the expiry that the cache is given, which answers them.
+    ghost lifetimes: { Self.Expiry → Lifetimes K V };
 
     /// Holds of each key and value that the cache stores. Every writer owes it.
     ghost keeps: { K → V → Type 0 };
@@ -41,6 +44,9 @@ pub trait CacheTypes<K: Eq, V: Clone> {
 
     /// It does not tell a value from its copies.
     ghost copies_keep: { (k : K) (v w : V) → V.is_clone v w → keeps k v → keeps k w };
+
+    /// A copy of a copy is a copy.
+    ghost copies_compose: { (u v w : V) → V.is_clone u v → V.is_clone v w → V.is_clone u w };
 }
 
 /// Why a step was refused. A refused step changes nothing.

@@ -1,3 +1,3 @@
-pub mod Place
-pub mod Slot
+pub mod Lookup
+pub mod Target
 pub mod Table

@@ -1,9 +1,10 @@
 -- What a table holds: the rows in their two orders, the notices not taken, and for how many more rows it has room.
-use Rattle.std.specs.Prelude.{◌≡◌, ℕ, ◌+◌, ◌<◌, ◌≤◌, ◌^◌, List, [], ◌∷◌, ◌++◌, length, map, IfSome, MatchOption}
+use Rattle.std.specs.Prelude.{false, ◌≡◌, ℕ, ◌+◌, ◌<◌, ◌≤◌, ◌^◌, List, [], ◌∷◌, ◌++◌, length, map, IfSome, MatchOption}
 use Rattle.std.specs.Arc.{arc_value}
 use Rattle.std.specs.List.{AllByRecursion}
 use Rattle.moka_model.specs.declared.notification.Notice.{Notice}
-use Rattle.moka_model.specs.History.{Write, Leaving}
+use Rattle.moka_model.specs.Lives.{Write}
+use Rattle.moka_model.specs.Removals.{Removal}
 use Rattle.moka_model.specs.Maintenance.{total}
 use Rattle.moka_rows.specs.declared.rows.Row.{Row}
 use Rattle.moka_table.specs.declared.table.Weights.{Weights}
@@ -28,10 +29,11 @@ module _ {K V : Type 0} where
         key = arc_value row.key;
         hash = row.hash;
         value = row.value;
-        weight = row.info.policy_weight;
-        written = row.info.last_modified;
-        used = row.info.last_accessed;
-        own = own_of row.info;
+        policy_weight = row.info.policy_weight;
+        last_modified = row.info.last_modified;
+        last_accessed = row.info.last_accessed;
+        own_life = own_of row.info;
+        is_hidden = false;
       }
 
   -- how heavy a row is
@@ -42,9 +44,9 @@ module _ {K V : Type 0} where
   abbrev pub stored_writes : List (ℕ × Row K V) → List (Write K V)
   stored_writes ps = map (λ p. stored_write p.1) ps
 
-  -- what a notice says
-  abbrev pub leaving_of : Notice K V → Leaving K V
-  leaving_of notice = record { key = arc_value notice.key; value = notice.value; cause = notice.cause }
+  -- what a notice says of a removal
+  abbrev pub removal_of : Notice K V → Removal K V
+  removal_of notice = record { key = arc_value notice.key; value = notice.value; cause = notice.cause }
 
   -- nothing but the room changed
   abbrev pub SameRows : Contents K V → Contents K V → Type 0

@@ -2,5 +2,5 @@
 #![tactic(auto)]
 
 pub mod shared_key;
-pub mod slot;
 pub mod table;
+pub mod target;

@@ -4,7 +4,7 @@ ghost use Rattle.std.specs.Option.{option_to_list};
 ghost use Rattle.std.specs.VecDeque.{deque_len, deque_capacity};
 ghost use Rattle.moka_model.specs.Maintenance.{total};
 ghost use Rattle.moka_rows.specs.Rows.{row_under, with_row, without_row, touched, overwritten, first_number, number_after, IsRowOf, NoneIsRowOf, NumbersDiffer};
-ghost use Rattle.moka_table.specs.Place.{IsPlaceOf};
+ghost use Rattle.moka_table.specs.Lookup.{IsLookupOf};
 ghost use Rattle.moka_table.specs.Table.{Contents, entries, weight_of, SameRows, UsesRow, TakesRow, AreWeightsWith, IsKept};
 
 use moka_model::notification::{Notice, RemovalCause};
@@ -16,7 +16,7 @@ use std::sync::Arc;
 
 /// Where a key's row is.
 #[derive(Drop)]
-pub enum Place<K> {
+pub enum Lookup<K> {
     /// Under this number, with the stored key.
     Stored { number: usize, key: Arc<K> },
     /// Nowhere.
@@ -184,17 +184,17 @@ impl<K: Eq + Drop, V: Drop, R: RowStore<K, V>> Table<K, V, R> {
     }
 
     /// Makes room for a write of a key, and looks where its row is. Where memory is refused, nothing has changed.
-    pub fn place(&mut self, key: &K, hash: u64) -> Result<Place<K>, AllocError>
-        ensures place { IfOk result (IsPlaceOf K.eq key.now hash (entries self.new)) }
+    pub fn lookup(&mut self, key: &K, hash: u64) -> Result<Lookup<K>, AllocError>
+        ensures lookup { IfOk result (IsLookupOf K.eq key.now hash (entries self.new)) }
         ensures room { OnOk result (0 < self.new.room) }
         ensures same { SameRows self.old self.new }
     {
         self.reserve()?;
         match self.find(key, hash) {
-            None => Ok(Place::Absent),
+            None => Ok(Lookup::Absent),
             Some(number) => {
                 let key = self.row(number).key.clone()?;
-                Ok(Place::Stored { number, key })
+                Ok(Lookup::Stored { number, key })
             }
         }
     }
@@ -264,7 +264,7 @@ impl<K: Eq + Drop, V: Drop, R: RowStore<K, V>> Table<K, V, R> {
     }
 
     /// Lets a row leave, and notices it with this cause. It takes no memory, and none of the room.
-    pub fn let_go(&mut self, number: usize, cause: RemovalCause)
+    pub fn evict(&mut self, number: usize, cause: RemovalCause)
         requires { IsSome (row_under number (entries self.old)) }
         ensures rows { TakesRow number self.old self.new }
         ensures notices { IfSome (row_under number (entries self.old)) (λ row.

@@ -1,6 +1,6 @@
 //! Each call of a cache, by tables.
 use crate::keys::{ByNumber, Collides, LastDigit};
-use crate::subject::{Answer, Call, Row, Rules, UNLIMITED, answers, answers_patiently};
+use crate::subject::{Answer, Call, Row, Rules, UNLIMITED, answers, answers_by, answers_patiently};
 use moka::notification::RemovalCause;
 use moka::policy::Refused;
 use std::hash::BuildHasherDefault;
@@ -38,8 +38,8 @@ const ALL_CALLS: [Row; 19] = [
 
 #[test]
 fn answers_each_call(rt: HostRuntime) -> Result<(), Fail> {
-    answers::<u64, ByNumber>(&rt, rt.alloc(), UNLIMITED, &ALL_CALLS)?;
-    answers::<u64, BuildHasherDefault<Collides>>(&rt, rt.alloc(), UNLIMITED, &ALL_CALLS)
+    answers(&rt, rt.alloc(), UNLIMITED, &ALL_CALLS)?;
+    answers_by::<u64, BuildHasherDefault<Collides>>(&rt, rt.alloc(), UNLIMITED, &ALL_CALLS)
 }
 
 const TO_LIVE: [Row; 12] = [
@@ -75,7 +75,7 @@ fn ends_the_time_to_live(rt: HostRuntime) -> Result<(), Fail> {
         time_to_live: Some(10),
         ..UNLIMITED
     };
-    answers::<u64, ByNumber>(&rt, rt.alloc(), rules, &TO_LIVE)
+    answers(&rt, rt.alloc(), rules, &TO_LIVE)
 }
 
 const LOOKED: [Row; 3] = [
@@ -97,8 +97,8 @@ fn ends_the_time_to_idle(rt: HostRuntime) -> Result<(), Fail> {
         time_to_idle: Some(5),
         ..UNLIMITED
     };
-    answers::<u64, ByNumber>(&rt, rt.alloc(), rules, &LOOKED)?;
-    answers::<u64, ByNumber>(&rt, rt.alloc(), rules, &USED)
+    answers(&rt, rt.alloc(), rules, &LOOKED)?;
+    answers(&rt, rt.alloc(), rules, &USED)
 }
 
 const AT_THE_LAST_NUMBER: [Row; 9] = [
@@ -131,7 +131,7 @@ fn refuses_where_the_numbers_are_used_up(rt: HostRuntime) -> Result<(), Fail> {
         first_number: 18_446_744_073_709_551_614,
         ..UNLIMITED
     };
-    answers::<u64, ByNumber>(&rt, rt.alloc(), rules, &AT_THE_LAST_NUMBER)
+    answers(&rt, rt.alloc(), rules, &AT_THE_LAST_NUMBER)
 }
 
 /// One of each, where one number is left.
@@ -164,7 +164,7 @@ fn answers_each_step(rt: HostRuntime) -> Result<(), Fail> {
         first_number: u64::MAX - 1,
         ..UNLIMITED
     };
-    answers_patiently::<u64, ByNumber>(&rt, rt.alloc(), rules, &ALL_STEPS)
+    answers_patiently(&rt, rt.alloc(), rules, &ALL_STEPS)
 }
 
 /// Those keys are equal where their last digits are.
@@ -188,7 +188,7 @@ const EQUAL_KEYS: [Row; 7] = [
 
 #[test]
 fn keeps_the_key_of_the_first_write(rt: HostRuntime) -> Result<(), Fail> {
-    answers::<LastDigit, ByNumber>(&rt, rt.alloc(), UNLIMITED, &EQUAL_KEYS)
+    answers_by::<LastDigit, ByNumber>(&rt, rt.alloc(), UNLIMITED, &EQUAL_KEYS)
 }
 
 const STORED_NOWHERE: [Row; 7] = [
@@ -209,7 +209,7 @@ fn stores_nothing_at_a_capacity_of_0(rt: HostRuntime) -> Result<(), Fail> {
         first_number: u64::MAX,
         ..UNLIMITED
     };
-    answers::<u64, ByNumber>(&rt, rt.alloc(), rules, &STORED_NOWHERE)
+    answers(&rt, rt.alloc(), rules, &STORED_NOWHERE)
 }
 
 /// A look that was refused was no use of the value, and its moment was not recorded: 2 is written at 0.
@@ -255,14 +255,14 @@ fn refuses_a_look_without_memory(rt: HostRuntime) -> Result<(), Fail> {
         time_to_idle: Some(5),
         ..UNLIMITED
     };
-    answers::<u64, ByNumber>(&rt, rt.alloc(), rules, &WITHOUT_COPIES)?;
+    answers(&rt, rt.alloc(), rules, &WITHOUT_COPIES)?;
     for is_tiny_lfu in [false, true] {
         let rules = Rules {
             max_capacity: Some(2),
             is_tiny_lfu,
             ..UNLIMITED
         };
-        answers::<u64, ByNumber>(&rt, rt.alloc(), rules, &NOT_NOTED)?;
+        answers(&rt, rt.alloc(), rules, &NOT_NOTED)?;
     }
     Ok(())
 }
@@ -283,5 +283,5 @@ const WRITTEN: [Row; 10] = [
 /// It passes also where one request for memory is refused, whichever.
 #[test]
 fn keeps_its_values_where_a_call_is_refused(rt: HostRuntime) -> Result<(), Fail> {
-    answers_patiently::<u64, ByNumber>(&rt, rt.alloc(), UNLIMITED, &WRITTEN)
+    answers_patiently(&rt, rt.alloc(), UNLIMITED, &WRITTEN)
 }

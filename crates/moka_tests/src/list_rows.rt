@@ -1,7 +1,8 @@
-//! The plain row store through its bound.
+//! The plain row store through its bound, by tables.
 ghost use Rattle.std.specs.Prelude.{◌++◌, IsSome, IfSome};
 ghost use Rattle.moka.specs.Rows.{row_under};
 
+use crate::subject::room;
 use moka::state::{EntryInfo, ListRows, Row, RowStore};
 use std::alloc::{AllocError, Global};
 use std::process::Abort;
@@ -22,16 +23,106 @@ const LATER: EntryInfo = EntryInfo {
     policy_weight: 1,
 };
 
-/// Adds a row for a key of this hash.
-fn add<R: RowStore<u64, String>>(
+/// A call of a store of rows; most are about the row of a key of a hash.
+#[derive(Clone, Copy)]
+enum Call {
+    Len,
+    WaitingLen,
+    FirstAdmitted,
+    FirstWaiting,
+    AdmitFirst,
+    /// A row whose moments are `FIRST`.
+    Add(u64, u64, &'static str),
+    Of(u64, u64, Use),
+}
+
+/// What is done with a row. A use of it is at `LATER`.
+#[derive(Clone, Copy)]
+enum Use {
+    Find,
+    Read,
+    IsAdmitted,
+    Next,
+    Touch,
+    Overwrite(&'static str),
+    Remove,
+}
+
+#[derive(Clone, Copy, Debug, PartialEq)]
+enum Answer {
+    Done,
+    Counted(usize),
+    Is(bool),
+    /// The row of this key, by its number.
+    Key(u64),
+    Value(&'static str, EntryInfo),
+    Before(&'static str),
+    Absent,
+}
+
+/// The number of a key of this hash.
+fn number_of<R: RowStore<u64, &'static str>>(rows: &R, key: u64, hash: u64) -> Option<usize>
+    ensures { IfSome result (λ number. IsSome (row_under number (R.admitted rows.now ++ R.waiting rows.now))) }
+{
+    let mut reads = 0;
+    rows.find(&key, hash, &mut reads)
+}
+
+/// The number of the row that has waited longest.
+fn first_waiting<R: RowStore<u64, &'static str>>(rows: &R) -> Option<usize>
+    ensures { IfSome result (λ number. IsSome (row_under number (R.waiting rows.now))) }
+{
+    rows.first_waiting()
+}
+
+/// The row of a number, by the keys of the numbers that were given out.
+fn row_of(keys: &[(usize, u64)], number: Option<usize>) -> Answer {
+    for (given, key) in keys {
+        if number == Some(*given) {
+            return Answer::Key(*key);
+        }
+    }
+    Answer::Absent
+}
+
+/// Makes a use of the row under a number.
+fn used<R: RowStore<u64, &'static str>>(
+    rows: &mut R,
+    keys: &[(usize, u64)],
+    number: usize,
+    what: Use,
+) -> Answer
+    requires { IsSome (row_under number (R.admitted rows.old ++ R.waiting rows.old)) }
+{
+    match what {
+        Use::Find => row_of(keys, Some(number)),
+        Use::Read => {
+            let row = rows.row(number);
+            Answer::Value(row.value, row.info)
+        }
+        Use::IsAdmitted => Answer::Is(rows.is_admitted(number)),
+        Use::Next => row_of(keys, rows.next(number)),
+        Use::Touch => {
+            rows.touch(number, LATER);
+            Answer::Done
+        }
+        Use::Overwrite(value) => Answer::Before(rows.overwrite(number, value, LATER)),
+        Use::Remove => {
+            let row = rows.remove(number);
+            Answer::Value(row.value, row.info)
+        }
+    }
+}
+
+/// Adds a row, and answers its number.
+fn add<R: RowStore<u64, &'static str>>(
     alloc: Global,
     rows: &mut R,
     key: u64,
     hash: u64,
-    value: &str,
+    value: &'static str,
 ) -> Result<usize, AllocError> {
     let key = Arc::new(alloc, key)?;
-    let value = String::from_str(alloc, value)?;
     rows.reserve()?;
     Ok(rows.add(Row {
         key,
@@ -41,96 +132,117 @@ fn add<R: RowStore<u64, String>>(
     }))
 }
 
-/// The number of a key of this hash.
-fn number_of<R: RowStore<u64, String>>(rows: &R, key: u64, hash: u64) -> Option<usize>
-    ensures { IfSome result (λ number. IsSome (row_under number (R.admitted rows.now ++ R.waiting rows.now))) }
-{
-    let mut reads = 0;
-    rows.find(&key, hash, &mut reads)
+/// Makes a call.
+fn made<R: RowStore<u64, &'static str>>(
+    alloc: Global,
+    rows: &mut R,
+    keys: &mut Vec<(usize, u64)>,
+    call: Call,
+) -> Result<Answer, AllocError> {
+    Ok(match call {
+        Call::Len => Answer::Counted(rows.len()),
+        Call::WaitingLen => Answer::Counted(rows.waiting_len()),
+        Call::FirstAdmitted => row_of(keys.as_slice(), rows.first_admitted()),
+        Call::FirstWaiting => row_of(keys.as_slice(), rows.first_waiting()),
+        Call::AdmitFirst => match first_waiting(rows) {
+            Some(number) => {
+                rows.admit(number);
+                Answer::Done
+            }
+            None => Answer::Absent,
+        },
+        Call::Add(key, hash, value) => {
+            let number = add(alloc, rows, key, hash, value)?;
+            keys.push((number, key))?;
+            Answer::Done
+        }
+        Call::Of(key, hash, what) => match number_of(rows, key, hash) {
+            Some(number) => used(rows, keys.as_slice(), number, what),
+            None => Answer::Absent,
+        },
+    })
 }
 
-/// The number of the row that has waited longest.
-fn first_waiting<R: RowStore<u64, String>>(rows: &R) -> Option<usize>
-    ensures { IfSome result (λ number. IsSome (row_under number (R.waiting rows.now))) }
-{
-    rows.first_waiting()
-}
-
-/// The value of a key of this hash.
-fn value_of<R: RowStore<u64, String>>(rows: &R, key: u64, hash: u64) -> Option<&str> {
-    let number = number_of(rows, key, hash)?;
-    Some(rows.row(number).value.as_str())
-}
-
-fn keeps_rows<R: RowStore<u64, String>>(rt: &impl Abort, alloc: Global) -> Result<(), AllocError> {
+/// Each call answers what the table says.
+fn answers<R: RowStore<u64, &'static str>>(
+    rt: &impl Abort,
+    alloc: Global,
+    table: &[(Call, Answer)],
+) -> Result<(), Fail> {
     let mut rows: R = R::new(alloc);
-    let one = add(alloc, &mut rows, 1, 7, "one")?;
-    let two = add(alloc, &mut rows, 2, 7, "two")?;
-    let three = add(alloc, &mut rows, 3, 9, "three")?;
-    assert_eq!(rt; rows.len(), 3);
-    assert_eq!(rt; number_of(&rows, 1, 7), Some(one));
-    assert_eq!(rt; number_of(&rows, 2, 7), Some(two));
-    assert_eq!(rt; number_of(&rows, 3, 9), Some(three));
-    assert_eq!(rt; number_of(&rows, 4, 7), None);
-    assert_eq!(rt; value_of(&rows, 2, 7), Some("two"));
-
-    let again = String::from_str(alloc, "two again")?;
-    let number = number_of(&rows, 2, 7).expect(rt, "the second row");
-    let before = rows.overwrite(number, again, LATER);
-    assert_eq!(rt; before.as_str(), "two");
-    assert_eq!(rt; value_of(&rows, 2, 7), Some("two again"));
-
-    let number = number_of(&rows, 1, 7).expect(rt, "the first row");
-    rows.touch(number, LATER);
-    let number = number_of(&rows, 1, 7).expect(rt, "the first row");
-    assert_eq!(rt; rows.row(number).info, LATER);
-
-    let number = number_of(&rows, 2, 7).expect(rt, "the second row");
-    let gone = rows.remove(number);
-    assert_eq!(rt; gone.value.as_str(), "two again");
-    assert_eq!(rt; gone.info, LATER);
-    assert_eq!(rt; rows.len(), 2);
-    assert_eq!(rt; number_of(&rows, 2, 7), None);
-    assert_eq!(rt; value_of(&rows, 1, 7), Some("one"));
-    assert_eq!(rt; value_of(&rows, 3, 9), Some("three"));
+    let mut keys = room(alloc, table.len())?;
+    for (place, (call, expected)) in table.iter().enumerate() {
+        let found = made(alloc, &mut rows, &mut keys, *call)?;
+        assert_eq!(rt; found, *expected, "row {place}");
+    }
     Ok(())
 }
 
-fn admits_rows<R: RowStore<u64, String>>(rt: &impl Abort, alloc: Global) -> Result<(), AllocError> {
-    let mut rows: R = R::new(alloc);
-    let one = add(alloc, &mut rows, 1, 7, "one")?;
-    let two = add(alloc, &mut rows, 2, 7, "two")?;
-    let three = add(alloc, &mut rows, 3, 9, "three")?;
-    assert_eq!(rt; rows.waiting_len(), 3);
-    assert_eq!(rt; rows.first_admitted(), None);
-    let number = number_of(&rows, 2, 7).expect(rt, "the second row");
-    assert_eq!(rt; rows.next(number), Some(three));
-    assert!(rt; !rows.is_admitted(number));
-
-    let number = first_waiting(&rows).expect(rt, "the first row that waits");
-    rows.admit(number);
-    let number = first_waiting(&rows).expect(rt, "the second row that waits");
-    rows.admit(number);
-    assert_eq!(rt; rows.len(), 3);
-    assert_eq!(rt; rows.waiting_len(), 1);
-    assert_eq!(rt; rows.first_admitted(), Some(one));
-    assert_eq!(rt; rows.first_waiting(), Some(three));
-    let number = number_of(&rows, 1, 7).expect(rt, "the first row");
-    assert_eq!(rt; rows.next(number), Some(two));
-    let number = number_of(&rows, 2, 7).expect(rt, "the second row");
-    assert_eq!(rt; rows.next(number), None);
-    assert!(rt; rows.is_admitted(number));
-    Ok(())
-}
+const KEPT: [(Call, Answer); 21] = [
+    (Call::Add(1, 7, "one"), Answer::Done),
+    (Call::Add(2, 7, "two"), Answer::Done),
+    (Call::Add(3, 9, "three"), Answer::Done),
+    (Call::Len, Answer::Counted(3)),
+    (Call::Of(1, 7, Use::Find), Answer::Key(1)),
+    (Call::Of(2, 7, Use::Find), Answer::Key(2)),
+    (Call::Of(3, 9, Use::Find), Answer::Key(3)),
+    (Call::Of(4, 7, Use::Find), Answer::Absent),
+    (Call::Of(2, 7, Use::Read), Answer::Value("two", FIRST)),
+    (
+        Call::Of(2, 7, Use::Overwrite("two again")),
+        Answer::Before("two"),
+    ),
+    (Call::Of(2, 7, Use::Read), Answer::Value("two again", LATER)),
+    (Call::Of(1, 7, Use::Touch), Answer::Done),
+    (Call::Of(1, 7, Use::Read), Answer::Value("one", LATER)),
+    (
+        Call::Of(2, 7, Use::Remove),
+        Answer::Value("two again", LATER),
+    ),
+    (Call::Len, Answer::Counted(2)),
+    (Call::Of(2, 7, Use::Find), Answer::Absent),
+    (Call::Of(1, 7, Use::Read), Answer::Value("one", LATER)),
+    (Call::Of(3, 9, Use::Read), Answer::Value("three", FIRST)),
+    (Call::Of(1, 7, Use::Remove), Answer::Value("one", LATER)),
+    (Call::Of(3, 9, Use::Remove), Answer::Value("three", FIRST)),
+    (Call::Len, Answer::Counted(0)),
+];
 
 #[test]
 fn keeps_rows_in_lists(rt: HostRuntime) -> Result<(), Fail> {
-    keeps_rows::<ListRows<u64, String>>(&rt, rt.alloc())?;
-    Ok(())
+    answers::<ListRows<u64, &'static str>>(&rt, rt.alloc(), &KEPT)
 }
+
+const ADMITTED: [(Call, Answer); 22] = [
+    (Call::AdmitFirst, Answer::Absent),
+    (Call::FirstWaiting, Answer::Absent),
+    (Call::Add(1, 7, "one"), Answer::Done),
+    (Call::Add(2, 7, "two"), Answer::Done),
+    (Call::Add(3, 9, "three"), Answer::Done),
+    (Call::WaitingLen, Answer::Counted(3)),
+    (Call::FirstAdmitted, Answer::Absent),
+    (Call::Of(2, 7, Use::Next), Answer::Key(3)),
+    (Call::Of(2, 7, Use::IsAdmitted), Answer::Is(false)),
+    (Call::AdmitFirst, Answer::Done),
+    (Call::AdmitFirst, Answer::Done),
+    (Call::Len, Answer::Counted(3)),
+    (Call::WaitingLen, Answer::Counted(1)),
+    (Call::FirstAdmitted, Answer::Key(1)),
+    (Call::FirstWaiting, Answer::Key(3)),
+    (Call::Of(1, 7, Use::Next), Answer::Key(2)),
+    (Call::Of(2, 7, Use::Next), Answer::Absent),
+    (Call::Of(2, 7, Use::IsAdmitted), Answer::Is(true)),
+    // A use of an admitted row makes it the most recently used.
+    (Call::Of(1, 7, Use::Touch), Answer::Done),
+    (Call::FirstAdmitted, Answer::Key(2)),
+    (
+        Call::Of(2, 7, Use::Overwrite("again")),
+        Answer::Before("two"),
+    ),
+    (Call::FirstAdmitted, Answer::Key(1)),
+];
 
 #[test]
 fn admits_rows_in_lists(rt: HostRuntime) -> Result<(), Fail> {
-    admits_rows::<ListRows<u64, String>>(&rt, rt.alloc())?;
-    Ok(())
+    answers::<ListRows<u64, &'static str>>(&rt, rt.alloc(), &ADMITTED)
 }

@@ -1,9 +1,10 @@
 //! Thousands of calls, none of which is refused, by tables that are made.
-use crate::keys::ByNumber;
-use crate::subject::{Answer, Call, Row, Rules, UNLIMITED, answers, room};
+use crate::keys::Collides;
+use crate::subject::{Answer, Call, Row, Rules, UNLIMITED, answers, answers_by, room};
 use crate::values::{Given, plain};
 use moka::notification::RemovalCause;
 use std::alloc::{AllocError, Global};
+use std::hash::BuildHasherDefault;
 use std::test::Fail;
 
 /// Numbers in no order that shows, the same in each run.
@@ -121,8 +122,12 @@ fn refuses_none_of_thousands_of_calls(rt: HostRuntime) -> Result<(), Fail> {
     for (len, keys) in [(1000, 3), (3000, 80), (5000, 2000)] {
         let rows = calls(rt.alloc(), len, keys)?;
         for rules in ALL_RULES {
-            answers::<u64, ByNumber>(&rt, rt.alloc(), rules, rows.as_slice())?;
+            answers(&rt, rt.alloc(), rules, rows.as_slice())?;
         }
+    }
+    let rows = calls(rt.alloc(), 1000, 200)?;
+    for rules in ALL_RULES {
+        answers_by::<u64, BuildHasherDefault<Collides>>(&rt, rt.alloc(), rules, rows.as_slice())?;
     }
     Ok(())
 }
@@ -151,7 +156,7 @@ fn refuses_no_write_at_any_length(rt: HostRuntime) -> Result<(), Fail> {
         rows.push((Call::TakeNotice, 0, noticed))?;
     }
     rows.push((Call::TakeNotice, 0, Answer::NoNotice))?;
-    answers::<u64, ByNumber>(&rt, rt.alloc(), UNLIMITED, rows.as_slice())
+    answers(&rt, rt.alloc(), UNLIMITED, rows.as_slice())
 }
 
 const FEW_CALLS: [Row; 5] = [
@@ -176,7 +181,7 @@ fn opens_with_all_settings(rt: HostRuntime) -> Result<(), Fail> {
                 is_weighed: numbers.below(2) == 0,
                 may_expire: numbers.below(2) == 0,
             };
-            answers::<u64, ByNumber>(&rt, rt.alloc(), rules, &FEW_CALLS)?;
+            answers(&rt, rt.alloc(), rules, &FEW_CALLS)?;
         }
     }
     Ok(())

@@ -1,5 +1,4 @@
 //! Maintenances, by tables.
-use crate::keys::ByNumber;
 use crate::subject::{Answer, Call, Row, Rules, UNLIMITED, answers, answers_patiently, room};
 use moka::notification::RemovalCause;
 use moka::policy::Refused;
@@ -57,8 +56,8 @@ fn lets_the_least_recently_used_leave(rt: HostRuntime) -> Result<(), Fail> {
         max_capacity: Some(3),
         ..UNLIMITED
     };
-    answers::<u64, ByNumber>(&rt, rt.alloc(), rules, &IN_ORDER_OF_USE)?;
-    answers::<u64, ByNumber>(&rt, rt.alloc(), rules, &OVERWRITTEN)
+    answers(&rt, rt.alloc(), rules, &IN_ORDER_OF_USE)?;
+    answers(&rt, rt.alloc(), rules, &OVERWRITTEN)
 }
 
 const EXPIRED: [Row; 10] = [
@@ -97,8 +96,8 @@ fn lets_the_expired_leave(rt: HostRuntime) -> Result<(), Fail> {
         time_to_live: Some(10),
         ..UNLIMITED
     };
-    answers::<u64, ByNumber>(&rt, rt.alloc(), rules, &EXPIRED)?;
-    answers::<u64, ByNumber>(&rt, rt.alloc(), rules, &EXPIRED_WAITING)
+    answers(&rt, rt.alloc(), rules, &EXPIRED)?;
+    answers(&rt, rt.alloc(), rules, &EXPIRED_WAITING)
 }
 
 /// A capacity of 10.
@@ -129,7 +128,7 @@ fn flushes_before_a_write_that_finds_64_keys_waiting(rt: HostRuntime) -> Result<
         let noticed = Answer::Noticed(key, "first", RemovalCause::Size);
         rows.push((Call::TakeNotice, 0, noticed))?;
     }
-    answers_patiently::<u64, ByNumber>(&rt, rt.alloc(), TEN, rows.as_slice())
+    answers_patiently(&rt, rt.alloc(), TEN, rows.as_slice())
 }
 
 /// The key that is written is let go by the flush before its write, which then finds it not stored.
@@ -151,7 +150,7 @@ fn flushes_before_an_overwrite(rt: HostRuntime) -> Result<(), Fail> {
     for row in OVER_A_VALUE_THAT_LEAVES {
         rows.push(row)?;
     }
-    answers_patiently::<u64, ByNumber>(&rt, rt.alloc(), TEN, rows.as_slice())
+    answers_patiently(&rt, rt.alloc(), TEN, rows.as_slice())
 }
 
 #[test]
@@ -165,7 +164,7 @@ fn does_not_flush_before_a_refused_write(rt: HostRuntime) -> Result<(), Fail> {
         first_number: u64::MAX - 64,
         ..TEN
     };
-    answers::<u64, ByNumber>(&rt, rt.alloc(), rules, rows.as_slice())
+    answers(&rt, rt.alloc(), rules, rows.as_slice())
 }
 
 /// Three keys are admitted, the order of their use is 3, 1, 2, and the notes of their looks are 1, 2, 2. A fourth comes
@@ -247,10 +246,10 @@ fn admits_what_is_looked_for_more_often(rt: HostRuntime) -> Result<(), Fail> {
         is_tiny_lfu: true,
         ..UNLIMITED
     };
-    answers::<u64, ByNumber>(&rt, rt.alloc(), rules, &ADMISSIONS)?;
+    answers(&rt, rt.alloc(), rules, &ADMISSIONS)?;
     let rules = Rules {
         max_capacity: Some(2),
         ..rules
     };
-    answers::<u64, ByNumber>(&rt, rt.alloc(), rules, &CONTENDERS)
+    answers(&rt, rt.alloc(), rules, &CONTENDERS)
 }

@@ -4,7 +4,6 @@
 //! `rt try --test --fail-alloc N` the Nth request of each test is refused, so each test here, which asks for memory just
 //! before and just behind the calls that take none, fails at some N for want of the first, and at N + 1 for want of the
 //! second.
-use crate::keys::ByNumber;
 use crate::subject::{Answer, Call, Row, Rules, UNLIMITED, answers, answers_between_requests};
 use moka::notification::RemovalCause;
 use std::test::Fail;
@@ -60,7 +59,7 @@ fn keeps_nothing_that_left(rt: HostRuntime) -> Result<(), Fail> {
         time_to_live: Some(10),
         ..UNLIMITED
     };
-    answers::<u64, ByNumber>(&rt, rt.alloc(), rules, &ALL_LEAVE)
+    answers(&rt, rt.alloc(), rules, &ALL_LEAVE)
 }
 
 const BEFORE: [Row; 6] = [
@@ -127,7 +126,7 @@ fn takes_no_memory_but_for_writes(rt: HostRuntime) -> Result<(), Fail> {
         time_to_live: Some(10),
         ..UNLIMITED
     };
-    answers_between_requests::<u64, ByNumber>(&rt, rt.alloc(), rules, &BEFORE, &WITHOUT_MEMORY)
+    answers_between_requests(&rt, rt.alloc(), rules, &BEFORE, &WITHOUT_MEMORY)
 }
 
 /// 3 was looked for once, 4 not, and nor were those that are admitted.
@@ -160,7 +159,7 @@ fn takes_no_memory_to_judge_by_frequency(rt: HostRuntime) -> Result<(), Fail> {
         is_tiny_lfu: true,
         ..UNLIMITED
     };
-    answers_between_requests::<u64, ByNumber>(&rt, rt.alloc(), rules, &BEFORE, &BY_FREQUENCY)
+    answers_between_requests(&rt, rt.alloc(), rules, &BEFORE, &BY_FREQUENCY)
 }
 
 const AT_A_CAPACITY_OF_0: [Row; 8] = [
@@ -180,5 +179,5 @@ fn takes_no_memory_to_write_at_a_capacity_of_0(rt: HostRuntime) -> Result<(), Fa
         max_capacity: Some(0),
         ..UNLIMITED
     };
-    answers_between_requests::<u64, ByNumber>(&rt, rt.alloc(), rules, &[], &AT_A_CAPACITY_OF_0)
+    answers_between_requests(&rt, rt.alloc(), rules, &[], &AT_A_CAPACITY_OF_0)
 }

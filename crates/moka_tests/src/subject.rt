@@ -5,14 +5,13 @@
 //! - where there is a capacity and each value weighs one, no more keys are stored than it allows, and 64;
 //! - a call that was refused has left the numbers of keys and notices and the weight as they were, no expiry was asked,
 //!   and a write has handed back its key and its value.
-use crate::keys::Key;
+use crate::keys::{ByNumber, Key};
 use crate::values::{Counts, Given, Types, Value, Watch, heavy, plain};
 use moka::notification::RemovalCause;
 use moka::policy::{EvictionPolicy, Refused};
 use moka::state::{CacheState, InsertRefused, Reply, Settings, Step};
 use std::alloc::{AllocError, Global};
 use std::hash::BuildHasher;
-use std::mem;
 use std::process::Abort;
 use std::sync::Arc;
 use std::test::Fail;
@@ -196,9 +195,10 @@ impl<K: Key, H: BuildHasher + Default + Drop> Subject<K, H> {
         match self.cache.insert(K::of(number), value, now) {
             Ok(()) => Ok(Answer::Done),
             Err(InsertRefused { key, value, cause }) => {
-                assert_eq!(rt; key.number(), number);
-                assert_eq!(rt; value.given.text, given.text);
-                assert_eq!(rt; value.given.weight, given.weight);
+                let handed_back = key.number() == number
+                    && value.given.text == given.text
+                    && value.given.weight == given.weight;
+                assert!(rt; handed_back, "what was given");
                 Ok(Answer::Refused(cause))
             }
         }
@@ -319,12 +319,11 @@ impl<K: Key, H: BuildHasher + Default + Drop> Subject<K, H> {
     fn is_unchanged(&self, rt: &impl Abort, before: ([u64; 3], Counts)) {
         let (sizes, [_, created, looked_at, updated, _]) = before;
         let [_, created_now, looked_at_now, updated_now, _] = self.watch.counts();
-        assert_eq!(rt; self.sizes(), sizes, "after a refusal");
-        assert_eq!(rt;
-            (created_now, looked_at_now, updated_now),
-            (created, looked_at, updated),
-            "after a refusal"
-        );
+        assert!(rt; self.sizes() == sizes, "the sizes after a refusal");
+        let asked_no_more = created_now == created
+            && looked_at_now == looked_at
+            && updated_now == updated;
+        assert!(rt; asked_no_more, "the expiry before a refusal");
     }
 
     /// The steps of some rows.
@@ -338,29 +337,26 @@ impl<K: Key, H: BuildHasher + Default + Drop> Subject<K, H> {
         Ok(steps)
     }
 
+    /// The replies of one run of rows, all of them steps.
+    fn replies(
+        &mut self,
+        rows: &[Row],
+    ) -> Result<Result<Vec<Reply<K, Value>>, Refused>, AllocError> {
+        let steps = self.steps(rows)?;
+        Ok(self.cache.run(steps))
+    }
+
     /// Does rows, all of them steps, by one run. The answer is whether it may be done with the table: not where memory for a
     /// step was refused that may be.
     fn run(&mut self, rt: &impl Abort, rows: &[Row], place: usize) -> Result<bool, Fail> {
         let before = (self.sizes(), self.watch.counts());
-        let steps = self.steps(rows)?;
-        let replies = match self.cache.run(steps) {
-            Err(Refused::OutOfMemory) if self.is_patient => {
-                self.is_unchanged(rt, before);
-                let steps = self.steps(rows)?;
-                self.cache.run(steps)?
-            }
-            replies => replies?,
-        };
-        assert_eq!(rt; replies.len(), rows.len());
-        for (reply, (_, _, expected)) in replies.into_iter().zip(rows) {
-            let found = said(reply);
-            if self.is_patient
-                && found == Answer::Refused(Refused::OutOfMemory)
-                && found != *expected
-            {
-                return Ok(false);
-            }
-            fits(rt, found, *expected, place);
+        let mut replies = self.replies(rows)?;
+        if self.is_patient && replies.is_err() {
+            self.is_unchanged(rt, before);
+            replies = self.replies(rows)?;
+        }
+        if !fit(rt, replies?, rows, self.is_patient, place) {
+            return Ok(false);
         }
         self.holds(rt);
         Ok(true)
@@ -381,6 +377,45 @@ impl<K: Key, H: BuildHasher + Default + Drop> Subject<K, H> {
             }
         }
         self.run(rt, next.as_slice(), rows.len())
+    }
+
+    /// Does a table. The answer is whether it went through.
+    fn table(&mut self, rt: &impl Abort, way: Way, rows: &[Row]) -> Result<bool, Fail> {
+        match way {
+            Way::Calls => self.rows(rt, way, rows)?,
+            Way::Steps => {
+                self.rows(rt, way, rows)?;
+                self.keeps_no_more_keys(rt);
+            }
+            Way::Runs => {
+                if !self.runs(rt, rows)? {
+                    return Ok(false);
+                }
+                self.keeps_no_more_keys(rt);
+            }
+        }
+        Ok(true)
+    }
+
+    /// Does rows by calls or steps.
+    fn rows(&mut self, rt: &impl Abort, way: Way, rows: &[Row]) -> Result<(), Fail> {
+        for (place, row) in rows.iter().enumerate() {
+            self.row(rt, way, *row, place)?;
+        }
+        Ok(())
+    }
+
+    /// The keys of steps that are kept alive are those of what is stored or waits to be noticed.
+    fn keeps_no_more_keys(&self, rt: &impl Abort) {
+        let mut keys = 0_u64;
+        for key in self.keys.iter() {
+            keys = keys.wrapping_add((Arc::strong_count(key) as u64).wrapping_sub(1));
+        }
+        let [entries, notices, _] = self.sizes();
+        assert!(rt;
+            keys == entries.wrapping_add(notices),
+            "keys that are kept alive"
+        );
     }
 
     /// What holds after each call.
@@ -421,6 +456,26 @@ fn fits(rt: &impl Abort, found: Answer, expected: Answer, place: usize) {
     }
 }
 
+/// Asserts that replies are the expected ones. The answer is whether they are: not where memory for a step was refused
+/// that may be.
+fn fit<K: Key>(
+    rt: &impl Abort,
+    replies: Vec<Reply<K, Value>>,
+    rows: &[Row],
+    is_patient: bool,
+    place: usize,
+) -> bool {
+    assert!(rt; replies.len() == rows.len(), "as many replies as steps");
+    for (reply, (_, _, expected)) in replies.into_iter().zip(rows) {
+        let found = said(reply);
+        if is_patient && found == Answer::Refused(Refused::OutOfMemory) && found != *expected {
+            return false;
+        }
+        fits(rt, found, *expected, place);
+    }
+    true
+}
+
 /// What a reply says.
 fn said<K: Key>(reply: Reply<K, Value>) -> Answer {
     match reply {
@@ -447,32 +502,11 @@ fn done<K: Key, H: BuildHasher + Default + Drop>(
     rows: &[Row],
 ) -> Result<bool, Fail> {
     let mut subject: Subject<K, H> = Subject::new(alloc, rules, is_patient, rows.len())?;
-    if matches!(way, Way::Runs) {
-        if !subject.runs(rt, rows)? {
-            return Ok(false);
-        }
-    } else {
-        for (place, row) in rows.iter().enumerate() {
-            subject.row(rt, way, *row, place)?;
-        }
-    }
-    let [entries, notices, _] = subject.sizes();
-    let mut keys = 0_u64;
-    for key in subject.keys.iter() {
-        keys = keys.wrapping_add((Arc::strong_count(key) as u64).wrapping_sub(1));
-    }
-    if !matches!(way, Way::Calls) {
-        assert_eq!(rt;
-            keys,
-            entries.wrapping_add(notices),
-            "keys that are kept alive"
-        );
-    }
-    Ok(true)
+    subject.table(rt, way, rows)
 }
 
 /// Each call of a table at its moment answers what the table says, in each way, with these keys and this hasher.
-pub(crate) fn answers<K: Key, H: BuildHasher + Default + Drop>(
+pub(crate) fn answers_by<K: Key, H: BuildHasher + Default + Drop>(
     rt: &impl Abort,
     alloc: Global,
     rules: Rules,
@@ -484,16 +518,26 @@ pub(crate) fn answers<K: Key, H: BuildHasher + Default + Drop>(
     Ok(())
 }
 
+/// So it is with number keys, each of which is its own hash.
+pub(crate) fn answers(
+    rt: &impl Abort,
+    alloc: Global,
+    rules: Rules,
+    rows: &[Row],
+) -> Result<(), Fail> {
+    answers_by::<u64, ByNumber>(rt, alloc, rules, rows)
+}
+
 /// So it is also where one request for memory is refused, whichever: what was refused is then done again.
-pub(crate) fn answers_patiently<K: Key, H: BuildHasher + Default + Drop>(
+pub(crate) fn answers_patiently(
     rt: &impl Abort,
     alloc: Global,
     rules: Rules,
     rows: &[Row],
 ) -> Result<(), Fail> {
     for way in [Way::Calls, Way::Steps, Way::Runs] {
-        if !done::<K, H>(rt, alloc, rules, true, way, rows)? {
-            assert!(rt; done::<K, H>(rt, alloc, rules, false, way, rows)?);
+        if !done::<u64, ByNumber>(rt, alloc, rules, true, way, rows)? {
+            assert!(rt; done::<u64, ByNumber>(rt, alloc, rules, false, way, rows)?);
         }
     }
     Ok(())
@@ -501,21 +545,17 @@ pub(crate) fn answers_patiently<K: Key, H: BuildHasher + Default + Drop>(
 
 /// Does the first calls, and then the others between two requests for memory of its own. In a run where the last request
 /// before those calls is the one that is refused, the next request of all is the one behind them, unless they took memory.
-pub(crate) fn answers_between_requests<K: Key, H: BuildHasher + Default + Drop>(
+pub(crate) fn answers_between_requests(
     rt: &impl Abort,
     alloc: Global,
     rules: Rules,
     before: &[Row],
     rows: &[Row],
 ) -> Result<(), Fail> {
-    let mut subject: Subject<K, H> = Subject::new(alloc, rules, false, 0)?;
-    for (place, row) in before.iter().enumerate() {
-        subject.row(rt, Way::Calls, *row, place)?;
-    }
+    let mut subject: Subject<u64, ByNumber> = Subject::new(alloc, rules, false, 0)?;
+    subject.rows(rt, Way::Calls, before)?;
     assert!(rt; Arc::new(alloc, 0_u64).is_ok(), "refused before the calls");
-    for (place, row) in rows.iter().enumerate() {
-        subject.row(rt, Way::Calls, *row, place)?;
-    }
+    subject.rows(rt, Way::Calls, rows)?;
     assert!(rt; Arc::new(alloc, 0_u64).is_ok(), "refused behind the calls");
     Ok(())
 }

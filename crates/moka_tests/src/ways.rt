@@ -1,5 +1,4 @@
 //! Caches whose values are weighed and have lives of their own, by tables.
-use crate::keys::ByNumber;
 use crate::subject::{Answer, Call, Row, Rules, UNLIMITED, answers, room};
 use crate::values::Given;
 use moka::notification::RemovalCause;
@@ -49,7 +48,7 @@ fn keeps_the_weight_within_the_capacity(rt: HostRuntime) -> Result<(), Fail> {
         max_capacity: Some(10),
         ..WEIGHED
     };
-    answers::<u64, ByNumber>(&rt, rt.alloc(), rules, rows.as_slice())
+    answers(&rt, rt.alloc(), rules, rows.as_slice())
 }
 
 const GREATEST_WEIGHTS: [Row; 6] = [
@@ -63,7 +62,7 @@ const GREATEST_WEIGHTS: [Row; 6] = [
 
 #[test]
 fn adds_the_greatest_weights(rt: HostRuntime) -> Result<(), Fail> {
-    answers::<u64, ByNumber>(&rt, rt.alloc(), WEIGHED, &GREATEST_WEIGHTS)
+    answers(&rt, rt.alloc(), WEIGHED, &GREATEST_WEIGHTS)
 }
 
 /// It lives 5 seconds, and after a look 3 more.
@@ -116,7 +115,7 @@ fn gives_values_lives_of_their_own(rt: HostRuntime) -> Result<(), Fail> {
         may_expire: true,
         ..UNLIMITED
     };
-    answers::<u64, ByNumber>(&rt, rt.alloc(), rules, &OWN_LIVES)
+    answers(&rt, rt.alloc(), rules, &OWN_LIVES)
 }
 
 /// How often were asked, in this order: the weigher; the expiry after a creation, a look, an update; values for copies.
@@ -193,7 +192,7 @@ fn asks_no_more_than_it_says(rt: HostRuntime) -> Result<(), Fail> {
         may_expire: true,
         ..UNLIMITED
     };
-    answers::<u64, ByNumber>(&rt, rt.alloc(), rules, &QUESTIONS)
+    answers(&rt, rt.alloc(), rules, &QUESTIONS)
 }
 
 const UNASKED: [Row; 6] = [
@@ -213,5 +212,5 @@ fn asks_nothing_at_a_capacity_of_0(rt: HostRuntime) -> Result<(), Fail> {
         may_expire: true,
         ..UNLIMITED
     };
-    answers::<u64, ByNumber>(&rt, rt.alloc(), rules, &UNASKED)
+    answers(&rt, rt.alloc(), rules, &UNASKED)
 }

@@ -1,7 +1,7 @@
 -- What the crates above may use of the proofs here: the earlier of two deadlines.
 use Rattle.std.proofs.Common.{◌≡◌, ℕ, true, min, Option, Some, None, arith}
 use Rattle.std.proofs.lemmas.Bool.{leb-true, le-leb}
-use Rattle.moka_model.specs.History.{has_come, earlier}
+use Rattle.moka_model.specs.Lives.{has_come, earlier}
 
 -- a deadline has come where the earlier of two has, and the other way
 pub has_come-earlier_left : (a b : Option ℕ) (at : ℕ) → has_come a at ≡ true → has_come (earlier a b) at ≡ true

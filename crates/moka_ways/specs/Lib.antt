@@ -1,3 +1,3 @@
+pub mod Behaviour
 pub mod Lives
-pub mod Means
-pub mod Ways
+pub mod StateData

@@ -1,6 +1,6 @@
-//! What a cache asks of its keys and values, and what the data means that it keeps.
+//! How a cache behaves, and what the data means that it keeps.
 #![tactic(auto)]
 
+pub mod behaviour;
 pub mod lives;
-pub mod means;
-pub mod ways;
+pub mod view;

@@ -1,7 +1,7 @@
 //! How long a value lives.
 ghost use Rattle.std.specs.Prelude.{◌≡◌, option_map, if◌then◌else◌};
 ghost use Rattle.std.specs.Duration.{as_nanos};
-ghost use Rattle.moka_model.specs.History.{ends_at, earlier, has_come, own_end, rest, given};
+ghost use Rattle.moka_model.specs.Lives.{ends_at, earlier, has_come, own_end, rest, given};
 ghost use Rattle.moka_ways.specs.Lives.{deadline_of, own_life};
 
 use moka_model::notification::RemovalCause;

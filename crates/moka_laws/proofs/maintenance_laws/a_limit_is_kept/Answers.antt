@@ -1,9 +1,9 @@
 use Rattle.std.proofs.Common.{refl}
-use Rattle.moka_laws.proofs.MaintenanceLimits.{leaving-done-le, done-enough, done_front, done_next}
+use Rattle.moka_laws.proofs.MaintenanceLimits.{evicted-done-le, done-enough, done_front, done_next}
 use Rattle.moka_laws.proofs.maintenance_laws.a_limit_is_kept.Goals as goal
 
 pub returns-clause-kept : goal.returns-clause-kept
-returns-clause-kept g c ps limit = leaving-done-le ps limit
+returns-clause-kept g c ps limit = evicted-done-le ps limit
 
 pub returns-clause-whole : goal.returns-clause-whole
 returns-clause-whole g c ps = refl

@@ -4,7 +4,7 @@ use Rattle.moka_laws.proofs.Departures.{gone-dead_first, behind-front, admitted-
 use Rattle.moka_laws.proofs.size_laws.the_shortest_front_leaves.Goals as goal
 
 pub returns-clause-leaving : goal.returns-clause-leaving
-returns-clause-leaving g c rules h at capacity lru e light = gone-dead_first g.K.PartialEq.eq rules at h ∙ ap (λ ws. dead g.K.PartialEq.eq rules at h ++ ws) (behind-front g.K.PartialEq.eq rules at h lru capacity e light)
+returns-clause-leaving g c settings h at capacity lru e light = gone-dead_first g.K.PartialEq.eq settings at h ∙ ap (λ ws. dead g.K.PartialEq.eq settings at h ++ ws) (behind-front g.K.PartialEq.eq settings at h lru capacity e light)
 
 pub returns-clause-admitted : goal.returns-clause-admitted
-returns-clause-admitted g c rules h at capacity lru e light = admitted-front g.K.PartialEq.eq rules at h lru capacity e light
+returns-clause-admitted g c settings h at capacity lru e light = admitted-front g.K.PartialEq.eq settings at h lru capacity e light

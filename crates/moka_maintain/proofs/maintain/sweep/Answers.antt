@@ -25,19 +25,19 @@ pub loop-cursor-smaller-then-has_come : goal.loop-cursor-smaller-then-has_come
 loop-cursor-smaller-then-has_come g c =
     let was = rw c.in-Some.is at c.loop-cursor.invariant.sweeps in
     let here = at-order c.args.order c.loop-cursor.table c.in-Some.number was.0 was.1 was.2.walks c.row.result.now c.next-cursor.result c.next-cursor.ensures.apart c.row.ensures c.next-cursor.ensures.behind in
-    let left = left-order c.args.order c.loop-cursor.table c.in-Some.number was.0 was.1 was.2.walks c.row.result.now c.next-cursor.result c.next-cursor.ensures.apart c.row.ensures c.next-cursor.ensures.behind Expired c.let_go.new.self c.let_go.ensures.rows c.let_go.ensures.notices in
-    let on = sweeps-over_dead c.args.lives.now c.args.now (rows_in c.args.order c.args.table.now) c.args.table.now.notices (rows_in c.args.order c.loop-cursor.table) c.loop-cursor.table.notices c.in-Some.number c.loop-cursor.earliest was.0 was.1 was.2 c.row.result.now c.next-cursor.result here.0 here.1 c.deadline-deadline.result c.deadline-deadline.ensures (rows_in c.args.order c.let_go.new.self) c.let_go.new.self.notices (sym c.has_come.ensures ∙ c.if-has_come.true) left.0 left.2 in
+    let left = left-order c.args.order c.loop-cursor.table c.in-Some.number was.0 was.1 was.2.walks c.row.result.now c.next-cursor.result c.next-cursor.ensures.apart c.row.ensures c.next-cursor.ensures.behind Expired c.evict.new.self c.evict.ensures.rows c.evict.ensures.notices in
+    let on = sweeps-over_dead c.args.lives.now c.args.now (rows_in c.args.order c.args.table.now) c.args.table.now.notices (rows_in c.args.order c.loop-cursor.table) c.loop-cursor.table.notices c.in-Some.number c.loop-cursor.earliest was.0 was.1 was.2 c.row.result.now c.next-cursor.result here.0 here.1 c.deadline-deadline.result c.deadline-deadline.ensures (rows_in c.args.order c.evict.new.self) c.evict.new.self.notices (sym c.has_come.ensures ∙ c.if-has_come.true) left.0 left.2 in
     rw (on.ahead, c.in-Some.is, was.2.ahead) (omega (arith, rest-shorter c.args.lives.now c.args.now (rows_in c.args.order c.args.table.now) c.args.table.now.notices (rows_in c.args.order c.loop-cursor.table) c.loop-cursor.table.notices c.in-Some.number c.loop-cursor.earliest was.0 was.1 was.2 c.row.result.now c.next-cursor.result here.0 here.1 c.deadline-deadline.result c.deadline-deadline.ensures))
 
 pub loop-cursor-preserved-then-has_come : goal.loop-cursor-preserved-then-has_come
 loop-cursor-preserved-then-has_come g c =
     let was = rw c.in-Some.is at c.loop-cursor.invariant.sweeps in
     let here = at-order c.args.order c.loop-cursor.table c.in-Some.number was.0 was.1 was.2.walks c.row.result.now c.next-cursor.result c.next-cursor.ensures.apart c.row.ensures c.next-cursor.ensures.behind in
-    let left = left-order c.args.order c.loop-cursor.table c.in-Some.number was.0 was.1 was.2.walks c.row.result.now c.next-cursor.result c.next-cursor.ensures.apart c.row.ensures c.next-cursor.ensures.behind Expired c.let_go.new.self c.let_go.ensures.rows c.let_go.ensures.notices in
+    let left = left-order c.args.order c.loop-cursor.table c.in-Some.number was.0 was.1 was.2.walks c.row.result.now c.next-cursor.result c.next-cursor.ensures.apart c.row.ensures c.next-cursor.ensures.behind Expired c.evict.new.self c.evict.ensures.rows c.evict.ensures.notices in
     record {
       room = omega arith;
       others = left.1 ∙ c.loop-cursor.invariant.others;
-      sweeps = (was.0, here.0, sweeps-over_dead c.args.lives.now c.args.now (rows_in c.args.order c.args.table.now) c.args.table.now.notices (rows_in c.args.order c.loop-cursor.table) c.loop-cursor.table.notices c.in-Some.number c.loop-cursor.earliest was.0 was.1 was.2 c.row.result.now c.next-cursor.result here.0 here.1 c.deadline-deadline.result c.deadline-deadline.ensures (rows_in c.args.order c.let_go.new.self) c.let_go.new.self.notices (sym c.has_come.ensures ∙ c.if-has_come.true) left.0 left.2);
+      sweeps = (was.0, here.0, sweeps-over_dead c.args.lives.now c.args.now (rows_in c.args.order c.args.table.now) c.args.table.now.notices (rows_in c.args.order c.loop-cursor.table) c.loop-cursor.table.notices c.in-Some.number c.loop-cursor.earliest was.0 was.1 was.2 c.row.result.now c.next-cursor.result here.0 here.1 c.deadline-deadline.result c.deadline-deadline.ensures (rows_in c.args.order c.evict.new.self) c.evict.new.self.notices (sym c.has_come.ensures ∙ c.if-has_come.true) left.0 left.2);
     }
 
 pub loop-cursor-smaller : goal.loop-cursor-smaller

@@ -1,5 +1,5 @@
 use Rattle.std.proofs.Common.{◌≡◌, take}
-use Rattle.moka_model.specs.NumberHash.{number_hash}
+use Rattle.moka_policy.specs.NumberHash.{number_hash}
 use Rattle.moka_policy.proofs.policy.NumberHashHasher.write.Given as goal
 
 -- the hash so far is that of the bytes so far
