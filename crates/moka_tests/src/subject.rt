@@ -535,7 +535,7 @@ pub(crate) fn answers_patiently(
     rules: Rules,
     rows: &[Row],
 ) -> Result<(), Fail> {
-    for way in [Way::Calls, Way::Steps, Way::Runs] {
+    for way in [Way::Runs, Way::Steps, Way::Calls] {
         if !done::<u64, ByNumber>(rt, alloc, rules, true, way, rows)? {
             assert!(rt; done::<u64, ByNumber>(rt, alloc, rules, false, way, rows)?);
         }
