@@ -3,7 +3,7 @@
 #![tactic(auto)]
 
 pub use moka_laws::{
-    admission_laws, frequency_laws, laws, maintenance_laws, order_laws, own_life_laws, size_laws,
+    admission_laws, call_laws, frequency_laws, laws, maintenance_laws, order_laws, own_life_laws, size_laws,
     worked, worked_admission, worked_calls, worked_expiry, worked_frequency, worked_maintenance,
     worked_size,
 };

@@ -1,5 +1,6 @@
 pub mod Admissions
 pub mod Arrivals
+pub mod CallSteps
 pub mod Conserved
 pub mod Counters
 pub mod Deadlines

@@ -9,7 +9,7 @@ use Rattle.moka_model.specs.Events.{Event, Looked, Written, Invalidated, Hidden,
 use Rattle.moka_model.specs.Orders.{is_evicted, standing, live}
 use Rattle.moka_model.specs.Removals.{Removal, notices_left}
 use Rattle.moka_model.specs.Steps.{AcceptedStep}
-use Rattle.moka_model.specs.Calls.{Call, ContainsKey, EntryCount, WeightedSize, Answer, accepted, answer_of}
+use Rattle.moka_model.specs.Calls.{Call, Get, ContainsKey, Insert, Invalidate, RunPendingTasks, EntryCount, WeightedSize, Answer, accepted, answer_of}
 
 -- what a call is answered after some accepted steps
 abbrev pub answer : {K V E : Type 0} → (K → K → Bool) → Settings K V → Call K V → List (AcceptedStep K V E) → Option (Answer K V E)
@@ -18,6 +18,19 @@ answer eq settings call steps = answer_of (accepted eq settings steps call)
 -- some accepted steps, and these events as one more
 abbrev pub and_then : {K V E : Type 0} → List (Event K V) → List (AcceptedStep K V E) → List (AcceptedStep K V E)
 and_then events steps = record { events = events; move = None } ∷ steps
+
+-- the moment that a call hands in to be recorded, 0 where it hands in none
+abbrev pub moment_of : {K V : Type 0} → Call K V → ℕ
+moment_of (Get k at) = at
+moment_of (Insert k v at) = at
+moment_of (Invalidate k at) = at
+moment_of (RunPendingTasks at) = at
+moment_of call = 0
+
+-- a call that writes
+abbrev pub IsWrite : {K V : Type 0} → Call K V → Type 0
+IsWrite (Insert k v at) = ⊤
+IsWrite call = ⊥
 
 -- a call that only asks
 abbrev pub IsQuestion : {K V : Type 0} → Call K V → Type 0

@@ -3,6 +3,7 @@
 #![tactic(auto)]
 
 pub mod admission_laws;
+pub mod call_laws;
 pub mod frequency_laws;
 pub mod laws;
 pub mod maintenance_laws;
