@@ -92,13 +92,15 @@ impl<K: Hash + Drop, V: Clone, C: CacheTypes<K, V>, R: RowStore<K, V>> Model for
     ghost Value = { StateData K V C.Hasher C.Weigher C.Expiry C.Frequency };
 
     ghost view = { λ state. record {
-      settings = settings_of state.lives.time_to_live state.lives.time_to_idle state.max_capacity state.first_number state.behaviour;
+      settings = settings_of state.lives.time_to_live state.lives.time_to_idle state.max_capacity
+          state.first_number state.behaviour;
       books = books_by state.table state.latest state.next_number;
       source = state.source;
     } };
 
     ghost invariant = { λ state. IsSound C.keeps
-        (hash_by C.Hasher.build_hasher C.Hasher.Hasher.write C.Hasher.Hasher.finish K.hash_input state.behaviour.hasher)
+        (hash_by C.Hasher.build_hasher C.Hasher.Hasher.write C.Hasher.Hasher.finish K.hash_input
+        state.behaviour.hasher)
         state.lives state.earliest state.table };
 }
 
@@ -112,7 +114,8 @@ impl<K: Hash + Drop, V: Clone, C: CacheTypes<K, V>, R: RowStore<K, V>> State<K, 
             C.Expiry.gives (arc_value expiry) (C.lifetimes (arc_value expiry))) }
         ensures empty { IfOk result (λ state. ⟦<C as StateView<K, V>>⟧.stands_for
             (⟦<C as StateView<K, V>>⟧.settings
-            (settings_of settings.time_to_live settings.time_to_idle settings.max_capacity settings.first_number (record {
+            (settings_of settings.time_to_live settings.time_to_idle settings.max_capacity
+            settings.first_number (record {
               is_lru = is_lru settings.eviction_policy;
               hasher = arc_value settings.hasher;
               weigher = option_map arc_value settings.weigher;
@@ -324,7 +327,8 @@ impl<K: Hash + Drop, V: Clone, C: CacheTypes<K, V>, R: RowStore<K, V>> State<K, 
 
     /// The first notice that has not been taken, in the order of leaving. It takes no memory.
     pub fn take_notice(&mut self) -> Option<Notice<K, V>>
-        ensures reply { ⟦<C as StateView<K, V>>⟧.answers self.old TakeNotice (Noticed (option_map removal_of result)) }
+        ensures reply { ⟦<C as StateView<K, V>>⟧.answers self.old TakeNotice
+            (Noticed (option_map removal_of result)) }
         ensures stands { ⟦<C as StateView<K, V>>⟧.follows self.old TakeNotice self.new }
         ensures kept { IfSome result (λ notice. C.keeps (arc_value notice.key) notice.value) }
     {
@@ -340,16 +344,18 @@ impl<K: Hash + Drop, V: Clone, C: CacheTypes<K, V>, R: RowStore<K, V>> State<K, 
     pub fn run_pending_tasks(&mut self, now: u64)
         ensures stands { ⟦<C as StateView<K, V>>⟧.follows self.old (RunPendingTasks now) self.new }
 
-        // Nothing waits then, what is stored is live, and it is within the capacity, by its weight and so by its number where
-        // each value weighs 1.
+        // Nothing waits then, what is stored is live, and it is within the capacity, by its weight
+        // and so by its number where each value weighs 1.
         ensures none_waits { self.new.books.orders.waiting ≡ [] }
         ensures all_live { ⟦<C as StateView<K, V>>⟧.at_each_history self.old (λ settings steps.
-            AllByRecursion (λ w. is_live settings w (latest (Maintained None now ∷ events_in steps)) ≡ true)
+            AllByRecursion
+            (λ w. is_live settings w (latest (Maintained None now ∷ events_in steps)) ≡ true)
             (all_writes self.new)) }
         ensures within { IfSome self.new.settings.max_capacity (λ capacity.
             total (λ w. w.policy_weight) (all_writes self.new) ≤ capacity) }
-        ensures count { ⟦<C as StateView<K, V>>⟧.at_each_history self.old (λ settings steps. WeighsOnes settings →
-            IfSome self.new.settings.max_capacity (λ capacity. length (all_writes self.new) ≤ capacity)) }
+        ensures count { ⟦<C as StateView<K, V>>⟧.at_each_history self.old (λ settings steps.
+            WeighsOnes settings → IfSome self.new.settings.max_capacity (λ capacity.
+            length (all_writes self.new) ≤ capacity)) }
     {
         let now = self.latest.max(now);
         self.earliest = maintain(
@@ -370,8 +376,9 @@ impl<K: Hash + Drop, V: Clone, C: CacheTypes<K, V>, R: RowStore<K, V>> State<K, 
         ensures counted { result ≡ length (all_writes self.now) }
         ensures reply { ⟦<C as StateView<K, V>>⟧.answers self.now EntryCount (Counted result) }
         ensures stands { ⟦<C as StateView<K, V>>⟧.follows self.now EntryCount self.now }
-        ensures bounded { ⟦<C as StateView<K, V>>⟧.at_each_history self.now (λ settings steps. WeighsOnes settings →
-            IfSome self.now.settings.max_capacity (λ capacity. result ≤ capacity + flush_point)) }
+        ensures bounded { ⟦<C as StateView<K, V>>⟧.at_each_history self.now (λ settings steps.
+            WeighsOnes settings → IfSome self.now.settings.max_capacity (λ capacity.
+            result ≤ capacity + flush_point)) }
     {
         self.table.len() as u64
     }
@@ -379,7 +386,8 @@ impl<K: Hash + Drop, V: Clone, C: CacheTypes<K, V>, R: RowStore<K, V>> State<K, 
     /// How heavy all that is stored is, with what waits and what is expired; where that is more than `u64::MAX`, this is
     /// `u64::MAX`.
     pub fn weighted_size(&self) -> u64
-        ensures counted { result ≡ min (total (λ w. w.policy_weight) (all_writes self.now)) greatest_number }
+        ensures counted { result
+            ≡ min (total (λ w. w.policy_weight) (all_writes self.now)) greatest_number }
         ensures reply { ⟦<C as StateView<K, V>>⟧.answers self.now WeightedSize (Counted result) }
         ensures stands { ⟦<C as StateView<K, V>>⟧.follows self.now WeightedSize self.now }
     {

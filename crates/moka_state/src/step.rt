@@ -101,7 +101,8 @@ impl<K: Hash + Drop, V: Clone, C: CacheTypes<K, V>, R: RowStore<K, V>> State<K, 
             ⟦<C as StateView<K, V>>⟧.stands_for settings self.new
             (after_all K.eq settings steps.items replies.items before))) }
         ensures bounded { IfOk result (λ _.
-            ⟦<C as StateView<K, V>>⟧.at_each_history self.old (λ settings before. WeighsOnes settings →
+            ⟦<C as StateView<K, V>>⟧.at_each_history self.old (λ settings before.
+            WeighsOnes settings →
             IfSome self.new.settings.max_capacity (λ capacity.
             length (all_writes self.new) ≤ capacity + flush_point))) }
         ensures refused { OnErr result (self.new ≡ self.old) }

@@ -94,7 +94,8 @@ impl<K: Hash + Drop, V: Clone, R: RowStore<K, V>> Table<K, V, R> {
         lives: &Lives,
     ) -> EntryInfo
         requires { HasTarget target.now self.now }
-        ensures { IsInfoOf (⟦<C as BehaviourView<K, V>>⟧.behaviour behaviour.now) lives.now target.now value.now weight now self.now result }
+        ensures { IsInfoOf (⟦<C as BehaviourView<K, V>>⟧.behaviour behaviour.now) lives.now
+            target.now value.now weight now self.now result }
     {
         let own_life = match target {
             Target::Over { number, key } => {
