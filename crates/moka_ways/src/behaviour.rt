@@ -1,5 +1,5 @@
-//! The behaviour of a cache: its policy, how its keys are hashed, what its values weigh, and the lives of their own that
-//! they get.
+//! The behaviour of a cache: its policy, how its keys are hashed, what its values weigh, and the
+//! lives of their own that they get.
 ghost use Rattle.std.specs.Prelude.{◌≡◌, true, not, if◌then◌else◌, option_map, IfSome};
 ghost use Rattle.std.specs.Arc.{arc_value};
 ghost use Rattle.moka_model.specs.Lives.{rest, given};
@@ -15,8 +15,8 @@ use std::hash::{BuildHasher, Hash, Hasher};
 use std::marker::Model;
 use std::sync::Arc;
 
-/// What a cache asks of its keys and values. Without a weigher each value weighs 1, and without an expiry no value has a
-/// life of its own.
+/// What a cache asks of its keys and values. Without a weigher each value weighs 1, and without an
+/// expiry no value has a life of its own.
 #[derive(Drop)]
 pub struct Behaviour<K: Hash + Drop, V: Clone, C: CacheTypes<K, V>> {
     policy: EvictionPolicy,
@@ -43,7 +43,8 @@ impl<K: Hash + Drop, V: Clone, C: CacheTypes<K, V>> Model for Behaviour<K, V, C>
 }
 
 impl<K: Hash + Drop, V: Clone, C: CacheTypes<K, V>> Behaviour<K, V, C> {
-    /// A behaviour by these. The weigher and the expiry, where they are given, do what the cache's types say of them.
+    /// A behaviour by these. The weigher and the expiry, where they are given, do what the cache's
+    /// types say of them.
     pub fn new(
         policy: EvictionPolicy,
         hasher: Arc<C::Hasher>,
@@ -111,7 +112,8 @@ impl<K: Hash + Drop, V: Clone, C: CacheTypes<K, V>> Behaviour<K, V, C> {
         }
     }
 
-    /// The life of its own of a value that is written at a moment over another one, which is expired or not.
+    /// The life of its own of a value that is written at a moment over another one, which is
+    /// expired or not.
     pub fn life_over(
         &self,
         key: &K,
