@@ -42,7 +42,8 @@ abbrev pub frequencies : {K V : Type 0} → Settings K V → List (Event K V) �
 frequencies settings h ws = total (λ u. frequency settings h u.hash) ws
 
 -- One write waits alone before a maintenance, live, beside live admitted ones that are within the capacity.
-pub record WaitsAlone {K V : Type 0} (eq : K → K → Bool) (settings : Settings K V) (at : ℕ) (h : List (Event K V)) (capacity : ℕ) (w : Write K V) : Type 0 where
+pub record WaitsAlone {K V : Type 0} (eq : K → K → Bool) (settings : Settings K V) (at : ℕ) (h : List (Event K V)) (capacity : ℕ)
+    (w : Write K V) : Type 0 where
   pub capacity_is : settings.max_capacity ≡ Some capacity
   pub alone : (orders eq settings h).waiting ≡ w ∷ []
   pub all_live : AllByRecursion (λ u. lives eq settings at h u ≡ true) (w ∷ (orders eq settings h).admitted)

@@ -19,7 +19,15 @@ plain_behaviour = record { is_lru = true; hash = λ k. k; weight = λ k v. 1; li
 
 -- no life ends
 abbrev pub without_lives : Settings ℕ ℕ
-without_lives = record { time_to_live = None; time_to_idle = None; max_capacity = None; first_number = 0; behaviour = plain_behaviour; frequency = estimate_after 6 }
+without_lives =
+    record {
+      time_to_live = None;
+      time_to_idle = None;
+      max_capacity = None;
+      first_number = 0;
+      behaviour = plain_behaviour;
+      frequency = estimate_after 6;
+    }
 
 -- ten seconds to live
 abbrev pub ten_to_live : Settings ℕ ℕ

@@ -20,7 +20,8 @@ weighed = record without_lives { behaviour = record plain_behaviour { weight = �
 
 -- five seconds from the creation on, and three from each hit on
 abbrev pub five_and_three : Lifetimes ℕ ℕ
-five_and_three = record { created = λ k v at. Some (seconds 5); read = λ k v at left written. Some (seconds 3); updated = λ k v at left. left }
+five_and_three =
+    record { created = λ k v at. Some (seconds 5); read = λ k v at left written. Some (seconds 3); updated = λ k v at left. left }
 
 -- five seconds from the creation on, which no hit and no update changes
 abbrev pub five_alone : Lifetimes ℕ ℕ
@@ -56,7 +57,9 @@ asked_twice = Written 4 42 17 ∷ Looked 4 16 ∷ Maintained None 15 ∷ asked_o
 
 -- three keys of weights 10, 15 and 5 in their order of use: 3, 1, 2
 abbrev pub three_weighed : List (Event ℕ ℕ)
-three_weighed = Maintained None 10 ∷ Looked 2 9 ∷ Looked 1 8 ∷ Maintained None 7 ∷ Looked 3 6 ∷ Written 3 5 5 ∷ Maintained None 4 ∷ Looked 2 3 ∷ Looked 1 2 ∷ Written 2 15 1 ∷ Written 1 10 0 ∷ []
+three_weighed =
+    Maintained None 10 ∷ Looked 2 9 ∷ Looked 1 8 ∷ Maintained None 7 ∷ Looked 3 6 ∷ Written 3 5 5 ∷ Maintained None 4 ∷ Looked 2 3
+    ∷ Looked 1 2 ∷ Written 2 15 1 ∷ Written 1 10 0 ∷ []
 
 -- a fourth of weight 15 comes so many times, each time followed by a maintenance and a look for it
 abbrev pub fourth_tries : ℕ → List (Event ℕ ℕ)

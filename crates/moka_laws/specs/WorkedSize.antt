@@ -21,7 +21,9 @@ third_comes = Written 3 30 4 ∷ Looked 1 3 ∷ Maintained None 2 ∷ Written 2 
 
 -- two keys come, are hit and are admitted; a third comes, is hit and is admitted; and the first two are hit again
 abbrev pub three_used : List (Event ℕ ℕ)
-three_used = Maintained None 10 ∷ Looked 2 9 ∷ Looked 1 8 ∷ Maintained None 7 ∷ Looked 3 6 ∷ Written 3 30 5 ∷ Maintained None 4 ∷ Looked 2 3 ∷ Looked 1 2 ∷ Written 2 20 1 ∷ Written 1 10 0 ∷ []
+three_used =
+    Maintained None 10 ∷ Looked 2 9 ∷ Looked 1 8 ∷ Maintained None 7 ∷ Looked 3 6 ∷ Written 3 30 5 ∷ Maintained None 4 ∷ Looked 2 3
+    ∷ Looked 1 2 ∷ Written 2 20 1 ∷ Written 1 10 0 ∷ []
 
 -- and a fourth comes
 abbrev pub fourth_comes : List (Event ℕ ℕ)
