@@ -1,7 +1,6 @@
 -- The words of the laws over lists of events and of accepted steps.
 use Rattle.std.specs.Prelude.{⊤, ◌≡◌, ◌⊎◌, ℕ, ◌+◌, ◌≤◌, ◌++◌, ◌&&◌, ◌||◌, max, Bool, true, false, if◌then◌else◌, Option, Some, None, List}
-use Rattle.std.specs.Prelude.{[], ◌∷◌}
-use Rattle.std.specs.Prelude.{filter, is_some, option_to_list, slice_get}
+use Rattle.std.specs.Prelude.{[], ◌∷◌, filter, is_some, option_to_list, slice_get}
 use Rattle.moka_model.specs.declared.notification.RemovalCause.{RemovalCause}
 use Rattle.moka_model.specs.declared.notification.RemovalCause.TheVariants.{Explicit, Expired}
 use Rattle.moka_model.specs.Lives.{Settings, OwnLife, Write, has_come, deadline, life_given, hidden_by}
@@ -9,7 +8,8 @@ use Rattle.moka_model.specs.Events.{Event, Looked, Written, Invalidated, Hidden,
 use Rattle.moka_model.specs.Orders.{is_evicted, standing, live}
 use Rattle.moka_model.specs.Removals.{Removal, notices_left}
 use Rattle.moka_model.specs.Steps.{AcceptedStep}
-use Rattle.moka_model.specs.Calls.{Call, Get, ContainsKey, Insert, Invalidate, RunPendingTasks, EntryCount, WeightedSize, Answer, accepted, answer_of}
+use Rattle.moka_model.specs.Calls.{Call, Get, ContainsKey, Insert, Invalidate, RunPendingTasks, EntryCount, WeightedSize}
+use Rattle.moka_model.specs.Calls.{Answer, accepted, answer_of}
 
 -- what a call is answered after some accepted steps
 abbrev pub answer : {K V E : Type 0} → (K → K → Bool) → Settings K V → Call K V → List (AcceptedStep K V E) → Option (Answer K V E)

@@ -10,9 +10,9 @@ ghost use Rattle.moka_model.specs.OrderLaws.{is_admitted};
 ghost use Rattle.moka_model.specs.SizeLaws.{gone};
 ghost use Rattle.moka_laws.specs.AdmissionLaws.{looked_for, all_looked_for, victims, others, admitted_weight, frequencies, WaitsAlone};
 
-/// Each recorded look, hit or miss, notes the hash of its key once, in order, and nothing else notes
-/// any. So no write, removal, hiding or maintenance changes how often a hash was noted; nor does a
-/// question, which is no event.
+/// Each recorded look, hit or miss, notes the hash of its key once, in order, and nothing else
+/// notes any. So no write, removal, hiding or maintenance changes how often a hash was noted; nor
+/// does a question, which is no event.
 pub fn recorded_looks_alone_are_noted<K, V>()
     ensures hashes { (settings : Settings K V) (h : List (Event K V)) → notes settings h ≡ map settings.behaviour.hash (all_looked_for h) }
     ensures more { (settings : Settings K V) (later h : List (Event K V)) → notes settings (later ++ h) ≡ notes settings h ++ map settings.behaviour.hash (all_looked_for later) }
@@ -29,8 +29,9 @@ pub fn what_stands_has_its_keys_hash<K: Eq, V>()
         → standing K.eq settings k h ≡ Some w → w.hash ≡ settings.behaviour.hash w.key }
 {}
 
-/// By either policy a key that waits alone, beside others that live within the capacity, is admitted
-/// behind them in a maintenance where there is room, and leaves where it is heavier than the capacity.
+/// By either policy a key that waits alone, beside others that live within the capacity, is
+/// admitted behind them in a maintenance where there is room, and leaves where it is heavier than
+/// the capacity.
 pub fn where_there_is_room_a_key_is_admitted<K: Eq, V>()
     ensures room { (settings : Settings K V) (h : List (Event K V)) (at capacity : ℕ) (w : Write K V) → WaitsAlone K.eq settings at h capacity w
         → w.policy_weight + admitted_weight K.eq settings h capacity ≤ capacity
@@ -40,17 +41,17 @@ pub fn where_there_is_room_a_key_is_admitted<K: Eq, V>()
         → (gone K.eq settings at h ≡ w ∷ []) × (orders K.eq settings (Maintained None at ∷ h) ≡ two_queues (orders K.eq settings h).admitted []) }
 {}
 
-/// Under least recently used a key that waits alone, and is no heavier than the capacity, is admitted:
-/// just as many of the least recently used leave as have to make room for it.
+/// Under least recently used a key that waits alone, and is no heavier than the capacity, is
+/// admitted: just as many of the least recently used leave as have to make room for it.
 pub fn least_recently_used_admits_each<K: Eq, V>()
     ensures { (settings : Settings K V) (h : List (Event K V)) (at capacity : ℕ) (w : Write K V) → WaitsAlone K.eq settings at h capacity w
         → settings.behaviour.is_lru ≡ true → w.policy_weight ≤ capacity
         → (gone K.eq settings at h ≡ victims K.eq settings h capacity w) × (orders K.eq settings (Maintained None at ∷ h) ≡ two_queues (others K.eq settings h capacity w ++ w ∷ []) []) }
 {}
 
-/// Under TinyLFU a key that waits alone is admitted exactly where there is room, or where it was looked
-/// for more often than all together that would have to leave for it. Then those leave; and else it
-/// leaves itself, also where it was looked for just as often.
+/// Under TinyLFU a key that waits alone is admitted exactly where there is room, or where it was
+/// looked for more often than all together that would have to leave for it. Then those leave; and
+/// else it leaves itself, also where it was looked for just as often.
 pub fn greater_frequency_is_admitted<K: Eq, V>()
     ensures exactly { (settings : Settings K V) (h : List (Event K V)) (at capacity : ℕ) (w : Write K V) → WaitsAlone K.eq settings at h capacity w
         → settings.behaviour.is_lru ≡ false

@@ -1,5 +1,6 @@
-//! The laws of the definitions over the list of events, and over the list of accepted steps, in the words of the subject. Each
-//! stands as the contract of a function that does nothing, so that the check proves it for every such list.
+//! The laws of the definitions over the list of events, and over the list of accepted steps, in the
+//! words of the subject. Each stands as the contract of a function that does nothing, so that the
+//! check proves it for every such list.
 ghost use Rattle.std.specs.Prelude.{◌≡◌, ◌≢◌, ◌⊎◌, ◌↔◌, ℕ, ◌+◌, ◌<◌, ◌≤◌, max, Bool, not, if◌then◌else◌, Option, Some, None, option_to_list, true, false, List, [], ◌∷◌, ◌++◌, length, filter, slice_get, ◌^◌, fold};
 ghost use Rattle.moka_model.specs.declared.notification.RemovalCause.TheVariants.{Explicit, Replaced, Size};
 ghost use Rattle.moka_model.specs.Lives.{Settings, Write, is_expired, is_live};
@@ -16,8 +17,8 @@ ghost use Rattle.std.specs.Hash.{u64 as number_writes};
 
 /// After a write a look at the same moment, or at an earlier one, finds its value; with a life of
 /// nothing, be it one of all values or its own, no look finds it at any moment. The value of an
-/// accepted write is found alike, whether a maintenance came before it or not; but where the capacity
-/// is 0 no look finds anything.
+/// accepted write is found alike, whether a maintenance came before it or not; but where the
+/// capacity is 0 no look finds anything.
 pub fn get_after_insert<K: Eq, V, E>()
     ensures found { (settings : Settings K V) (steps : List (AcceptedStep K V E)) (k q : K) (v : V) (at now : ℕ) → K.eq k q ≡ true → now ≤ at
         → settings.time_to_live ≢ Some 0 → settings.time_to_idle ≢ Some 0 → life_by_write K.eq settings k v at (events_in steps) ≢ Some 0
@@ -56,8 +57,8 @@ pub fn a_question_changes_nothing<K: Eq, V, E>()
         → frequency settings (events_in (later ++ and_then [] steps)) hash ≡ frequency settings (events_in (later ++ steps)) hash }
 {}
 
-/// No value is lost or doubled: the values that were written to a key are, in this order, those that
-/// left under it, and then the one that stands.
+/// No value is lost or doubled: the values that were written to a key are, in this order, those
+/// that left under it, and then the one that stands.
 pub fn each_write_stands_or_left<K: Eq, V>()
     ensures in_order { (settings : Settings K V) (h : List (Event K V)) (k : K)
         → values_written K.eq k h ≡ values_left K.eq k (removals K.eq settings h) ++ value_standing (standing K.eq settings k h) }
@@ -65,9 +66,9 @@ pub fn each_write_stands_or_left<K: Eq, V>()
         → length (filter p (values_written K.eq k h)) ≡ length (filter p (value_standing (standing K.eq settings k h))) + length (filter p (values_left K.eq k (removals K.eq settings h))) }
 {}
 
-/// Each removal is given out once and in order: those that the notices gave out, and then those that
-/// are left to give out, are all that left. What a call that takes a notice is answered is the next
-/// of them, and it gives out just that.
+/// Each removal is given out once and in order: those that the notices gave out, and then those
+/// that are left to give out, are all that left. What a call that takes a notice is answered is the
+/// next of them, and it gives out just that.
 pub fn each_removal_is_noticed_once<K: Eq, V, E>()
     ensures in_order { (settings : Settings K V) (h : List (Event K V))
         → given_out K.eq settings h ++ notices_left K.eq settings h ≡ removals K.eq settings h }
@@ -83,8 +84,9 @@ pub fn each_removal_is_noticed_once<K: Eq, V, E>()
 {}
 
 /// What stands for a key is its last write, if nothing later writes or removes the key: with that
-/// value, its weight and that moment, used at the greatest moment among that one and the hits since,
-/// hidden where an event since hid it, and stored under the key of the write that found it not stored.
+/// value, its weight and that moment, used at the greatest moment among that one and the hits
+/// since, hidden where an event since hid it, and stored under the key of the write that found it
+/// not stored.
 pub fn standing_is_the_last_write<K: Eq, V>()
     ensures stands { (settings : Settings K V) (h : List (Event K V)) (k : K) (last : LastWrite K.eq settings k h)
         → (w : Write K V) × (standing K.eq settings k h ≡ Some w) × IsAsWritten last w }
@@ -100,8 +102,8 @@ pub fn standing_is_the_last_write<K: Eq, V>()
         → (a.later ≡ b.later) × (up_to_write a ≡ up_to_write b) }
 {}
 
-/// A look answers the value of the last write until that is hidden or its deadline has come, and where
-/// nothing stands it answers none. It uses the greater of its moment and the latest one.
+/// A look answers the value of the last write until that is hidden or its deadline has come, and
+/// where nothing stands it answers none. It uses the greater of its moment and the latest one.
 pub fn looks_answer_the_last_write<K: Eq, V, E>()
     ensures found { (settings : Settings K V) (steps : List (AcceptedStep K V E)) (k : K) (at : ℕ) (last : LastWrite K.eq settings k (events_in steps))
         → (w : Write K V) × IsAsWritten last w
@@ -113,8 +115,8 @@ pub fn looks_answer_the_last_write<K: Eq, V, E>()
         → (answer K.eq settings (Get k at) steps ≡ Some (Found None)) × (answer K.eq settings (ContainsKey k at) steps ≡ Some (Contains false)) }
 {}
 
-/// A write is expired exactly where its time to live has passed since it was written, or its time to idle since it was
-/// last used, or the life of its own since it was given.
+/// A write is expired exactly where its time to live has passed since it was written, or its time
+/// to idle since it was last used, or the life of its own since it was given.
 pub fn expired_where_a_life_has_ended<K, V>()
     ensures { (settings : Settings K V) (w : Write K V) (at : ℕ)
         → (is_expired settings w at ≡ true) ↔ (HasEnded settings.time_to_live w.last_modified at ⊎ HasEnded settings.time_to_idle w.last_accessed at ⊎ OwnHasEnded w.own_life at) }
@@ -130,8 +132,8 @@ pub fn equal_keys_are_one_key<K: Eq, V, E>()
 {}
 
 /// A write leaves once: at the first later event that writes or removes its key, of which there is
-/// one or none, and nothing else ever leaves. It leaves with its value, for that event's cause, or as
-/// removed where it was hidden, or as expired where its deadline had come.
+/// one or none, and nothing else ever leaves. It leaves with its value, for that event's cause, or
+/// as removed where it was hidden, or as expired where its deadline had come.
 pub fn what_leaves_leaves_once<K: Eq, V>()
     ensures replaced { (settings : Settings K V) (h : List (Event K V)) (k q : K) (v : V) (at : ℕ) (last : LastWrite K.eq settings k h) → K.eq q k ≡ true
         → (l : Removal K V) × (removals_at K.eq settings (Written q v at) h ≡ l ∷ []) × IsRemovalOf last Replaced (latest (Written q v at ∷ h)) l }
@@ -154,8 +156,8 @@ pub fn what_leaves_leaves_once<K: Eq, V>()
 
 /// The latest moment never falls, and no end is undone: a deadline that has come has come at each
 /// later moment; a write that is hidden or whose deadline has come stays as it is until its key is
-/// written or removed, but that it may be hidden; and after a `get` that finds nothing, no look finds
-/// anything until the key is written.
+/// written or removed, but that it may be hidden; and after a `get` that finds nothing, no look
+/// finds anything until the key is written.
 pub fn expiry_is_final<K: Eq, V, E>()
     ensures latest { (later h : List (Event K V)) → latest h ≤ latest (later ++ h) }
     ensures deadline { (settings : Settings K V) (w : Write K V) (at later : ℕ)
@@ -183,8 +185,8 @@ pub fn numbers_never_come_again<K, V>()
         → next_number settings h < next_number settings (later ++ e ∷ h) }
 {}
 
-/// A `u64` key hashes to itself under `NumberHash`: its eight bytes, the least first, leave that number,
-/// whatever was there before.
+/// A `u64` key hashes to itself under `NumberHash`: its eight bytes, the least first, leave that
+/// number, whatever was there before.
 pub fn a_number_hashes_to_itself()
     ensures { (hash number : ℕ) → hash < 2 ^ 64 → number < 2 ^ 64 → fold number_hash hash (number_writes number) ≡ number }
 {}

@@ -1,5 +1,5 @@
-//! The laws of the definitions, in the words of the subject, and worked cases of them. A law stands as
-//! the contract of a function that does nothing, and so does a case, but where it asks closures.
+//! The laws of the definitions, in the words of the subject, and worked cases of them. A law stands
+//! as the contract of a function that does nothing, and so does a case, but where it asks closures.
 #![tactic(auto)]
 
 pub mod admission_laws;

@@ -1,6 +1,6 @@
-//! The laws of a maintenance of two queues, in the words of the subject. Each stands as the contract
-//! of a function that does nothing, so that the check proves it for every weight, capacity, test for
-//! live, admission rule and pair of queues.
+//! The laws of a maintenance of two queues, in the words of the subject. Each stands as the
+//! contract of a function that does nothing, so that the check proves it for every weight,
+//! capacity, test for live, admission rule and pair of queues.
 ghost use Rattle.std.specs.Prelude.{◌≡◌, ◌⊎◌, ℕ, ◌+◌, ◌-◌, ◌<◌, ◌≤◌, Bool, true, false, Option, Some, None, List, [], ◌∷◌, ◌++◌, length, take, drop, filter};
 ghost use Rattle.std.specs.List.{AllByRecursion};
 ghost use Rattle.moka_model.specs.Maintenance.{Queues, Part, total, fits, front, parts, done, evicted_in, after_parts};
@@ -74,8 +74,9 @@ pub fn the_order_of_use_decides<X>()
         → (after_within weight (Some capacity) is_live wins None q).admitted ≡ drop (front weight (Some capacity) 0 (the_living is_live q)) (the_living is_live q) }
 {}
 
-/// By whatever rule of who wins, and whatever the weights, the order of use says which of the admitted leave for size: a
-/// front of it, where those that joined stand behind. The weights and the rule say how many, and who joins.
+/// By whatever rule of who wins, and whatever the weights, the order of use says which of the
+/// admitted leave for size: a front of it, where those that joined stand behind. The weights and
+/// the rule say how many, and who joins.
 pub fn a_front_of_the_order_of_use_leaves<X>()
     ensures { (weight : X → ℕ) (capacity : Option ℕ) (is_live : X → Bool) (wins : X → List X → Bool) (q : Queues X)
         → (n : ℕ) × (joined : List X) × AreAmong joined (filter is_live q.waiting)
@@ -138,8 +139,9 @@ pub fn one_that_waits_is_judged<X>()
         → parts weight (Some capacity) is_live wins (queues admitted (x ∷ [])) ≡ record { evicted = x ∷ []; after = queues admitted [] } ∷ [] }
 {}
 
-/// Those that wait are judged one by one: where all are live, and the admitted within the capacity, the first that waits
-/// is judged as if it waited alone, and the rest is the maintenance of what that leaves.
+/// Those that wait are judged one by one: where all are live, and the admitted within the capacity,
+/// the first that waits is judged as if it waited alone, and the rest is the maintenance of what
+/// that leaves.
 pub fn those_that_wait_are_judged_one_by_one<X>()
     ensures { (weight : X → ℕ) (capacity : Option ℕ) (is_live : X → Bool) (wins : X → List X → Bool) (admitted : List X) (x : X) (xs : List X)
         → AllByRecursion (λ y. is_live y ≡ true) (x ∷ admitted) → AllByRecursion (λ y. is_live y ≡ true) xs

@@ -10,8 +10,8 @@ ghost use Rattle.moka_model.specs.OrderLaws.{writes_of, keys, held, HasOneEach, 
 ghost use Rattle.moka_laws.specs.Worked.{without_lives, five_to_idle, seconds};
 ghost use Rattle.moka_laws.specs.WorkedOrder.{three_come, first_again, second_hit, first_removed, first_anew, three_admitted};
 
-/// The two orders hold just what stands: the write that stands for a key is in one of them, once, and
-/// nothing else is in either.
+/// The two orders hold just what stands: the write that stands for a key is in one of them, once,
+/// and nothing else is in either.
 pub fn the_queues_hold_what_stands<K: Eq, V>()
     ensures held { (settings : Settings K V) (h : List (Event K V)) (k : K)
         → held K.eq k (orders K.eq settings h) ≡ option_to_list (standing K.eq settings k h) }
@@ -24,9 +24,10 @@ pub fn the_queues_hold_what_stands<K: Eq, V>()
         ⊎ ((writes_of K.eq k (orders K.eq settings h).admitted ≡ []) × (writes_of K.eq k (orders K.eq settings h).waiting ≡ w ∷ [])) }
 {}
 
-/// A key that waits keeps its place until it is removed. A look, whether it hits or not, a hiding, and a
-/// write over a key that stands leave the waiting keys in their order; a removal takes out its own key; a
-/// write of a key that does not stand puts it behind all others. So in any two orders.
+/// A key that waits keeps its place until it is removed. A look, whether it hits or not, a hiding,
+/// and a write over a key that stands leave the waiting keys in their order; a removal takes out
+/// its own key; a write of a key that does not stand puts it behind all others. So in any two
+/// orders.
 pub fn a_hit_leaves_the_waiting_order_alone<K: Eq, V>()
     ensures look { (settings : Settings K V) (q : Queues (Write K V)) (k : K) (at : ℕ)
         → keys (used_where K.eq settings (is_hit K.eq settings k at) (after_look settings at) q).waiting ≡ keys q.waiting }
@@ -50,8 +51,8 @@ pub fn a_hit_leaves_the_waiting_order_alone<K: Eq, V>()
 {}
 
 /// An admitted key that is used goes behind all others: at a look that hits it, and at a write over
-/// it, its write is taken from its place and stands last. A look that hits nothing leaves both orders
-/// as they are, and so does a removal of a key that has no write. So in any two orders.
+/// it, its write is taken from its place and stands last. A look that hits nothing leaves both
+/// orders as they are, and so does a removal of a key that has no write. So in any two orders.
 pub fn a_use_moves_an_admitted_key_behind_all_others<K: Eq, V>()
     ensures hit { (settings : Settings K V) (q : Queues (Write K V)) (k : K) (at : ℕ) (before after : List (Write K V)) (w : Write K V)
         → HasOneEach K.eq q → K.eq w.key k ≡ true → q.admitted ≡ before ++ w ∷ after → is_live settings w at ≡ true
@@ -79,8 +80,8 @@ pub fn waiting_is_the_order_of_arrival<K: Eq, V>()
 {}
 
 /// What is admitted stands in the order of use: the admitted keys are the used ones, each at the
-/// place of its last use, of those that are admitted. So each has a last use, and of two the one whose
-/// last use is older stands before the other.
+/// place of its last use, of those that are admitted. So each has a last use, and of two the one
+/// whose last use is older stands before the other.
 pub fn admitted_is_the_order_of_use<K: Eq, V>()
     ensures in_order { (settings : Settings K V) (h : List (Event K V))
         → keys (orders K.eq settings h).admitted ≡ filter (is_admitted K.eq settings h) (lasts K.eq (uses K.eq settings h)) }

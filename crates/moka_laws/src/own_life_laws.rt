@@ -6,11 +6,11 @@ ghost use Rattle.moka_model.specs.Orders.{standing, live};
 ghost use Rattle.moka_laws.specs.Laws.{hidden_since};
 ghost use Rattle.moka_laws.specs.OwnLifeLaws.{asks};
 
-/// The expiry is asked at just three kinds of events: after a write where no live value stood, after one
-/// over a live value, and after a recorded look that hits; each time of the stored key, the value that
-/// stands, the moment, and what is left of the life before, where there was one. What it answers takes
-/// the place of that life, and counts from the moment. At every other event what stands stays as it was,
-/// but that it may be hidden.
+/// The expiry is asked at just three kinds of events: after a write where no live value stood,
+/// after one over a live value, and after a recorded look that hits; each time of the stored key,
+/// the value that stands, the moment, and what is left of the life before, where there was one.
+/// What it answers takes the place of that life, and counts from the moment. At every other event
+/// what stands stays as it was, but that it may be hidden.
 pub fn the_expiry_is_asked_at_writes_and_hits<K: Eq, V>()
     ensures created { (settings : Settings K V) (h : List (Event K V)) (k q : K) (v : V) (at : ℕ) (w : Write K V) → K.eq q k ≡ true
         → live K.eq settings k (latest (Written q v at ∷ h)) h ≡ None → standing K.eq settings k (Written q v at ∷ h) ≡ Some w
@@ -26,7 +26,8 @@ pub fn the_expiry_is_asked_at_writes_and_hits<K: Eq, V>()
 {}
 
 /// A life counts from no later than the latest moment. So at a moment that is no earlier than that,
-/// what is left of it is its end without the moment, which is more than nothing while the value lives.
+/// what is left of it is its end without the moment, which is more than nothing while the value
+/// lives.
 pub fn what_is_left_of_a_life<K: Eq, V>()
     ensures from { (settings : Settings K V) (h : List (Event K V)) (k : K) (w : Write K V) (it : OwnLife)
         → standing K.eq settings k h ≡ Some w → w.own_life ≡ Some it → it.from ≤ latest h }

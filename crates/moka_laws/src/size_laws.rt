@@ -1,4 +1,5 @@
-//! The laws of a bounded size, over every list of events, and over every legal list of accepted steps.
+//! The laws of a bounded size, over every list of events, and over every legal list of accepted
+//! steps.
 ghost use Rattle.std.specs.Prelude.{◌≡◌, ◌≢◌, ◌↔◌, ℕ, Option, ◌+◌, ◌≤◌, true, false, Some, None, List, [], ◌∷◌, ◌++◌, length, take, drop, map, filter};
 ghost use Rattle.std.specs.List.{AllByRecursion};
 ghost use Rattle.moka_model.specs.declared.notification.RemovalCause.TheVariants.{Size};
@@ -16,7 +17,8 @@ ghost use Rattle.moka_laws.specs.Laws.{answer};
 
 use moka_policy::policy::{CacheTypes, NoWeigher, Weigher};
 
-/// Equal keys weigh alike with each value: it does not matter under which of them a value is written.
+/// Equal keys weigh alike with each value: it does not matter under which of them a value is
+/// written.
 pub fn equal_keys_weigh_alike<K: Eq, V: Clone, C: CacheTypes<K, V>>()
     ensures { (weigher : C.Weigher) (a b : K) (v : V) → K.eq a b ≡ true → C.weight weigher a v ≡ C.weight weigher b v }
 {}
@@ -26,8 +28,8 @@ pub fn without_a_weigher_each_weighs_one<K, V>()
     ensures { (settings : Settings K V) (weigher : _) → ⟦<NoWeigher as Weigher<K, V>>⟧.weighs weigher settings.behaviour.weight → WeighsOnes settings }
 {}
 
-/// After a maintenance nothing waits, all that stands is live at its moment, and its weight is within the capacity. Where
-/// each key weighs one, no more stand than the capacity allows.
+/// After a maintenance nothing waits, all that stands is live at its moment, and its weight is
+/// within the capacity. Where each key weighs one, no more stand than the capacity allows.
 pub fn after_a_maintenance<K: Eq, V>()
     ensures none_waits { (settings : Settings K V) (h : List (Event K V)) (at : ℕ) → (orders K.eq settings (Maintained None at ∷ h)).waiting ≡ [] }
     ensures all_live { (settings : Settings K V) (h : List (Event K V)) (at : ℕ) (k : K) (w : Write K V)
@@ -38,8 +40,9 @@ pub fn after_a_maintenance<K: Eq, V>()
         → entry_count K.eq settings (Maintained None at ∷ h) ≤ capacity }
 {}
 
-/// Where each key weighs one the size stays bounded between maintenances too: no more are admitted than the capacity
-/// allows, whatever happens. No more wait than the flush point says, and so no more stand than both together.
+/// Where each key weighs one the size stays bounded between maintenances too: no more are admitted
+/// than the capacity allows, whatever happens. No more wait than the flush point says, and so no
+/// more stand than both together.
 pub fn the_size_stays_bounded<K: Eq, V, E>()
     ensures admitted { (settings : Settings K V) (h : List (Event K V)) (capacity : ℕ) → WeighsOnes settings → settings.max_capacity ≡ Some capacity
         → length (orders K.eq settings h).admitted ≤ capacity }
@@ -49,7 +52,8 @@ pub fn the_size_stays_bounded<K: Eq, V, E>()
         → entry_count K.eq settings (events_in steps) ≤ capacity + flush_point }
 {}
 
-/// A maintenance within any limit lets no key that waits wait anew, and where the admitted were within the capacity they stay so.
+/// A maintenance within any limit lets no key that waits wait anew, and where the admitted were
+/// within the capacity they stay so.
 pub fn within_any_limit<K: Eq, V>()
     ensures waiting { (settings : Settings K V) (h : List (Event K V)) (limit : Option ℕ) (at : ℕ)
         → length (orders K.eq settings (Maintained limit at ∷ h)).waiting ≤ length (orders K.eq settings h).waiting }
@@ -86,8 +90,9 @@ pub fn a_capacity_of_0_stores_nothing<K: Eq, V, E>()
         → next_number settings (events_in steps) ≡ settings.first_number }
 {}
 
-/// By either policy the dead leave first in a maintenance, as removed where they were hidden and else as expired, the
-/// admitted before those that wait; and all that leaves behind them leaves for size.
+/// By either policy the dead leave first in a maintenance, as removed where they were hidden and
+/// else as expired, the admitted before those that wait; and all that leaves behind them leaves for
+/// size.
 pub fn the_dead_leave_as_expired<K: Eq, V>()
     ensures dead_first { (settings : Settings K V) (h : List (Event K V)) (at : ℕ)
         → gone K.eq settings at h ≡ dead K.eq settings at h ++ gone_behind K.eq settings at h }
@@ -95,9 +100,10 @@ pub fn the_dead_leave_as_expired<K: Eq, V>()
         → removals_at K.eq settings (Maintained None at) h ≡ map dead_removal (dead K.eq settings at h) ++ map (removal_as Size) (gone_behind K.eq settings at h) }
 {}
 
-/// Under least recently used, where each key weighs one, the order of use alone says what leaves in a maintenance: the
-/// dead leave first, the admitted before those that wait; then, of the living in their order of use, those that waited
-/// last, just as many leave from the front as pass the capacity, for size, and the rest are admitted in that order.
+/// Under least recently used, where each key weighs one, the order of use alone says what leaves in
+/// a maintenance: the dead leave first, the admitted before those that wait; then, of the living in
+/// their order of use, those that waited last, just as many leave from the front as pass the
+/// capacity, for size, and the rest are admitted in that order.
 pub fn what_is_least_recently_used_leaves<K: Eq, V>()
     ensures leaving { (settings : Settings K V) (h : List (Event K V)) (at capacity : ℕ)
         → settings.behaviour.is_lru ≡ true → WeighsOnes settings → settings.max_capacity ≡ Some capacity
@@ -112,9 +118,9 @@ pub fn what_is_least_recently_used_leaves<K: Eq, V>()
         → (orders K.eq settings (Maintained None at ∷ h)).admitted ≡ living K.eq settings at h }
 {}
 
-/// Under least recently used, whatever the weights, the shortest front of the living in their order of use leaves behind
-/// the dead that brings them within the capacity, and the rest is admitted in that order: so where no live key that waits
-/// is heavier than the capacity.
+/// Under least recently used, whatever the weights, the shortest front of the living in their order
+/// of use leaves behind the dead that brings them within the capacity, and the rest is admitted in
+/// that order: so where no live key that waits is heavier than the capacity.
 pub fn the_shortest_front_leaves<K: Eq, V>()
     ensures leaving { (settings : Settings K V) (h : List (Event K V)) (at capacity : ℕ) → settings.behaviour.is_lru ≡ true → settings.max_capacity ≡ Some capacity
         → AllByRecursion (λ w. w.policy_weight ≤ capacity) (filter (lives K.eq settings at h) (orders K.eq settings h).waiting)
@@ -124,8 +130,9 @@ pub fn the_shortest_front_leaves<K: Eq, V>()
         → (orders K.eq settings (Maintained None at ∷ h)).admitted ≡ drop (overweight K.eq settings at h capacity) (living K.eq settings at h) }
 {}
 
-/// By either policy, and whatever the weights, the order of use says which of the admitted leave in a maintenance as the
-/// least recently used: a front of it, where those that are admitted just now stand behind.
+/// By either policy, and whatever the weights, the order of use says which of the admitted leave in
+/// a maintenance as the least recently used: a front of it, where those that are admitted just now
+/// stand behind.
 pub fn a_front_of_the_order_of_use_leaves<K: Eq, V>()
     ensures { (settings : Settings K V) (h : List (Event K V)) (at : ℕ)
         → (n : ℕ) × (joined : List (Write K V)) × AreAmong joined (filter (lives K.eq settings at h) (orders K.eq settings h).waiting)

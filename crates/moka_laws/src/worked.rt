@@ -67,7 +67,8 @@ pub fn notices()
     ensures none_counts { answer_after nat_eq without_lives TakeNotice (Invalidated 1 1 ∷ Taken ∷ written) ≡ noticed (Some (left_as 1 7 Explicit)) }
 {}
 
-/// Each write draws a number, also one that overwrites. Once the greatest is next, none can be drawn.
+/// Each write draws a number, also one that overwrites. Once the greatest is next, none can be
+/// drawn.
 pub fn numbers()
     ensures drawn { next_number without_lives (Looked 1 3 ∷ Invalidated 1 2 ∷ Written 1 8 1 ∷ written) ≡ 2 }
     ensures used_up { next_number at_the_last_number written ≡ greatest_number }

@@ -1,4 +1,5 @@
-//! Worked cases of admission by frequency and by weight, and of lives of single values, at numbers: each computes.
+//! Worked cases of admission by frequency and by weight, and of lives of single values, at numbers:
+//! each computes.
 ghost use Rattle.std.specs.Prelude.{◌≡◌, true, false, nat_eq, Some, None, [], ◌∷◌};
 ghost use Rattle.moka_model.specs.declared.notification.RemovalCause.TheVariants.{Expired, Explicit, Replaced, Size};
 ghost use Rattle.moka_model.specs.Events.{Looked, Written, Invalidated, Maintained};
@@ -11,9 +12,9 @@ ghost use Rattle.moka_laws.specs.Worked.{seconds, written, left_as, stepped, ans
 ghost use Rattle.moka_laws.specs.WorkedSize.{three_used, fourth_comes};
 ghost use Rattle.moka_laws.specs.WorkedAdmission.{by_frequency, by_weight, weighed, five_and_three, five_alone, from_a_hit, until_a_hit, as_long_again, with_lives, asked_once, asked_twice, fourth_tries, fourth_again, second_heavier, second_lighter, third_of_four, two_contend, two_heaviest, hit_twice};
 
-/// Three keys were looked for twice, twice and once, and the third is the least recently used. A fourth is not
-/// admitted before it was looked for, nor after one look, since one is not greater than one; after two it is, and
-/// the third leaves.
+/// Three keys were looked for twice, twice and once, and the third is the least recently used. A
+/// fourth is not admitted before it was looked for, nor after one look, since one is not greater
+/// than one; after two it is, and the third leaves.
 pub fn a_key_enters_that_is_asked_for_more_often()
     ensures first { frequency (by_frequency 3) three_used 1 ≡ 2 }
     ensures second { frequency (by_frequency 3) three_used 2 ≡ 2 }
@@ -27,9 +28,9 @@ pub fn a_key_enters_that_is_asked_for_more_often()
     ensures invalidated { removals_at nat_eq (by_frequency 3) (Invalidated 2 20) (Maintained None 18 ∷ asked_twice) ≡ left_as 2 20 Explicit ∷ [] }
 {}
 
-/// Weights of 10, 15 and 5 at a capacity of 31. A fourth of 15 needs the room of the third and the first, and is not
-/// admitted until it was looked for more often than both together. An overwrite that is heavier, or lighter, changes
-/// what fits.
+/// Weights of 10, 15 and 5 at a capacity of 31. A fourth of 15 needs the room of the third and the
+/// first, and is not admitted until it was looked for more often than both together. An overwrite
+/// that is heavier, or lighter, changes what fits.
 pub fn a_key_enters_by_its_weight()
     ensures four_times { removals nat_eq (by_weight 31) (fourth_tries 4) ≡ left_as 4 15 Size ∷ left_as 4 15 Size ∷ left_as 4 15 Size ∷ left_as 4 15 Size ∷ [] }
     ensures misses { answer_after nat_eq (by_weight 31) (Get 4 11) (fourth_tries 4) ≡ found None }
@@ -45,8 +46,8 @@ pub fn a_key_enters_by_its_weight()
     ensures weight { answer_after nat_eq (by_weight 31) WeightedSize (Maintained None 17 ∷ second_lighter) ≡ counted 25 }
 {}
 
-/// A third key of weight four needs the room of both others, which were looked for once each: two looks for it are not
-/// enough, and three are.
+/// A third key of weight four needs the room of both others, which were looked for once each: two
+/// looks for it are not enough, and three are.
 pub fn more_often_than_both_together()
     ensures twice { removals_at nat_eq (by_weight 5) (Maintained None 8) third_of_four ≡ left_as 3 4 Size ∷ [] }
     ensures weight_then { answer_after nat_eq (by_weight 5) WeightedSize (Maintained None 8 ∷ third_of_four) ≡ counted 5 }
@@ -54,8 +55,9 @@ pub fn more_often_than_both_together()
     ensures weight { answer_after nat_eq (by_weight 5) WeightedSize (Maintained None 9 ∷ Looked 3 8 ∷ third_of_four) ≡ counted 4 }
 {}
 
-/// Two keys stand at a capacity of two, the first looked for twice and the second once, and two others wait. Each of
-/// these is judged by its own looks, in order, and the second against what the first left.
+/// Two keys stand at a capacity of two, the first looked for twice and the second once, and two
+/// others wait. Each of these is judged by its own looks, in order, and the second against what the
+/// first left.
 pub fn two_contend_for_the_place()
     ensures order { keys (orders nat_eq (by_frequency 2) (two_contend 2 2)).admitted ≡ 1 ∷ 2 ∷ [] }
     ensures waiting { keys (orders nat_eq (by_frequency 2) (two_contend 2 2)).waiting ≡ 3 ∷ 4 ∷ [] }
@@ -73,8 +75,9 @@ pub fn two_of_the_greatest_weight()
     ensures left { removals nat_eq weighed (Maintained None 0 ∷ two_heaviest) ≡ [] }
 {}
 
-/// Five seconds from the creation on, and three from each hit on; or no hit changes it; or a hit takes it away; or a hit
-/// gives as long again as the value had stood, from the moment of the hit. An update asks for itself over a live value alone: over an expired one the value is created.
+/// Five seconds from the creation on, and three from each hit on; or no hit changes it; or a hit
+/// takes it away; or a hit gives as long again as the value had stood, from the moment of the hit.
+/// An update asks for itself over a live value alone: over an expired one the value is created.
 pub fn own_lives()
     ensures at_four { answer_after nat_eq (with_lives five_and_three) (Get 1 (seconds 4)) written ≡ found (Some 7) }
     ensures at_six { answer_after nat_eq (with_lives five_and_three) (Get 1 (seconds 6)) (Looked 1 (seconds 4) ∷ written) ≡ found (Some 7) }

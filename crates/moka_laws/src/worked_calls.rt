@@ -1,5 +1,6 @@
-//! Worked cases of calls in order, each with its answer, and of events that no call makes yet: a hiding, a maintenance
-//! within a limit, a look that is turned down, and a number that is drawn alone. Each computes, but for the flush.
+//! Worked cases of calls in order, each with its answer, and of events that no call makes yet: a
+//! hiding, a maintenance within a limit, a look that is turned down, and a number that is drawn
+//! alone. Each computes, but for the flush.
 ghost use Rattle.std.specs.Prelude.{◌≡◌, ℕ, true, false, nat_eq, Some, None, [], ◌∷◌};
 ghost use Rattle.moka_model.specs.declared.notification.RemovalCause.TheVariants.{Explicit, Expired, Size};
 ghost use Rattle.moka_model.specs.Events.{Written, Invalidated, Maintained, Passed, Drawn, latest};
@@ -14,19 +15,21 @@ ghost use Rattle.moka_laws.specs.WorkedSize.{at_capacity};
 ghost use Rattle.moka_laws.specs.WorkedAdmission.{by_frequency};
 ghost use Rattle.moka_laws.specs.WorkedCalls.{session, behind_64, steps_come, two_and_two, one_leaves, another_leaves, two_hidden, turned_down};
 
-/// A session at a capacity of two. The first of two keys is hit, so a third takes the place of the second.
+/// A session at a capacity of two. The first of two keys is hit, so a third takes the place of the
+/// second.
 pub fn a_session()
     ensures { answers nat_eq (at_capacity 2) session [] ≡ is_done ∷ is_done ∷ is_done ∷ found (Some 10) ∷ is_done ∷ contains true ∷ counted 3
         ∷ is_done ∷ noticed (Some (left_as 2 20 Size)) ∷ noticed None ∷ found None ∷ is_done ∷ counted 1 ∷ noticed (Some (left_as 1 10 Explicit)) ∷ [] }
 {}
 
-/// At a capacity of ten 64 keys come. The write of the next one runs a maintenance first, so that eleven stand.
+/// At a capacity of ten 64 keys come. The write of the next one runs a maintenance first, so that
+/// eleven stand.
 pub fn a_session_with_a_flush()
     ensures { answers nat_eq (at_capacity 10) behind_64 (steps_come 64) ≡ is_done ∷ counted 11 ∷ found (Some 65) ∷ [] }
 {}
 
-/// A maintenance within a limit: it ends before the first part in which more would leave, and another goes on there. At a
-/// capacity of two each key that waits takes the place of another.
+/// A maintenance within a limit: it ends before the first part in which more would leave, and
+/// another goes on there. At a capacity of two each key that waits takes the place of another.
 pub fn a_maintenance_within_a_limit()
     ensures nothing { removals_at nat_eq (at_capacity 2) (Maintained (Some 0) 5) two_and_two ≡ [] }
     ensures nothing_moves { keys (orders nat_eq (at_capacity 2) (Maintained (Some 0) 5 ∷ two_and_two)).waiting ≡ 3 ∷ 4 ∷ [] }
@@ -39,8 +42,8 @@ pub fn a_maintenance_within_a_limit()
     ensures all_at_once { removals nat_eq (at_capacity 2) (Maintained None 5 ∷ two_and_two) ≡ removals nat_eq (at_capacity 2) another_leaves }
 {}
 
-/// What is hidden stands, and is counted, but no look finds it; it leaves as removed, also where its life has ended too. A
-/// write brings the key back.
+/// What is hidden stands, and is counted, but no look finds it; it leaves as removed, also where
+/// its life has ended too. A write brings the key back.
 pub fn what_is_hidden()
     ensures not_found { answer_after nat_eq without_lives (Get 2 3) two_hidden ≡ found None }
     ensures not_there { answer_after nat_eq without_lives (ContainsKey 3 3) two_hidden ≡ contains false }

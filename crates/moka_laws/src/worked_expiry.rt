@@ -1,4 +1,5 @@
-//! Worked cases of an expiry that asks closures: each is told what it is to be told, each thing in its place.
+//! Worked cases of an expiry that asks closures: each is told what it is to be told, each thing in
+//! its place.
 ghost use Rattle.std.specs.Prelude.{◌≡◌, ℕ, Some, None, option_map};
 ghost use Rattle.std.specs.Duration.{as_nanos};
 ghost use Rattle.moka_model.specs.Lives.{Lifetimes};
@@ -6,8 +7,8 @@ ghost use Rattle.moka_model.specs.Lives.{Lifetimes};
 use moka_policy::expiry::{ExpireBy, Expiry};
 use std::time::Duration;
 
-/// The lives after a creation at 3, after a look at 10 for a value that was written at 4, and after an update at 8, each
-/// with this rest.
+/// The lives after a creation at 3, after a look at 10 for a value that was written at 4, and after
+/// an update at 8, each with this rest.
 fn lives<E: Expiry<u64, u64>>(
     expiry: &E,
     rest: Option<Duration>,
@@ -25,8 +26,8 @@ fn lives<E: Expiry<u64, u64>>(
     )
 }
 
-/// Closures that answer by moments: a creation at 3 and an update at 8 give as many nanoseconds, and a look at 10 gives the
-/// 6 that the value has stood since 4.
+/// Closures that answer by moments: a creation at 3 and an update at 8 give as many nanoseconds,
+/// and a look at 10 gives the 6 that the value has stood since 4.
 pub fn closures_are_told_the_moments() -> (Option<Duration>, Option<Duration>, Option<Duration>)
     ensures { (option_map as_nanos result.0 ≡ Some 3) × (option_map as_nanos result.1 ≡ Some 6) × (option_map as_nanos result.2 ≡ Some 8) }
 {

@@ -3,8 +3,8 @@ ghost use Rattle.std.specs.Prelude.{◌≡◌, Some, None, [], ◌∷◌};
 ghost use Rattle.moka_model.specs.MaintenanceLaws.{queues, evicted_within, after_within};
 ghost use Rattle.moka_laws.specs.WorkedMaintenance.{one, all_live, two_and_five_dead, least_recently_used, by_count, of_four, twelve_wait, four_waits, two_wait, three_wait};
 
-/// Least recently used, where each weighs one: of twelve that wait at a capacity of ten the first two
-/// leave; and one that waits at a full cache takes the place of the least recently used.
+/// Least recently used, where each weighs one: of twelve that wait at a capacity of ten the first
+/// two leave; and one that waits at a full cache takes the place of the least recently used.
 pub fn least_recently_used_leaves()
     ensures two_leave { evicted_within one (Some 10) all_live least_recently_used None twelve_wait ≡ 1 ∷ 2 ∷ [] }
     ensures ten_stay { after_within one (Some 10) all_live least_recently_used None twelve_wait ≡ queues (3 ∷ 4 ∷ 5 ∷ 6 ∷ 7 ∷ 8 ∷ 9 ∷ 10 ∷ 11 ∷ 12 ∷ []) [] }
@@ -22,8 +22,9 @@ pub fn greater_count_wins()
     ensures room { evicted_within one (Some 4) all_live (by_count (of_four 2 2 1 0)) None four_waits ≡ [] }
 {}
 
-/// By counts, where two wait: each is judged by itself, in order, the second against what the first left. So the second
-/// takes the place of the key that the first did not win against, or of the next one, or of the first itself.
+/// By counts, where two wait: each is judged by itself, in order, the second against what the first
+/// left. So the second takes the place of the key that the first did not win against, or of the
+/// next one, or of the first itself.
 pub fn each_is_judged_by_itself()
     ensures neither { evicted_within one (Some 2) all_live (by_count (of_four 2 1 2 2)) None two_wait ≡ 3 ∷ 4 ∷ [] }
     ensures both { evicted_within one (Some 2) all_live (by_count (of_four 2 1 3 2)) None two_wait ≡ 1 ∷ 2 ∷ [] }
@@ -57,8 +58,9 @@ pub fn dead_leave_before()
     ensures no_capacity { evicted_within one None two_and_five_dead least_recently_used None three_wait ≡ 2 ∷ 5 ∷ [] }
 {}
 
-/// Within a limit the first parts are done, and what the next one would move stays where it was. One
-/// that waits and its victims are one part: at a limit below the number of its victims it still waits.
+/// Within a limit the first parts are done, and what the next one would move stays where it was.
+/// One that waits and its victims are one part: at a limit below the number of its victims it still
+/// waits.
 pub fn limits()
     ensures none { after_within one (Some 3) two_and_five_dead least_recently_used (Some 0) three_wait ≡ three_wait }
     ensures first { evicted_within one (Some 3) two_and_five_dead least_recently_used (Some 1) three_wait ≡ 2 ∷ [] }

@@ -1,5 +1,5 @@
-//! Worked cases of a bounded size, at numbers: each computes, but for the maintenance of 64 keys, where
-//! the laws of the size take the step.
+//! Worked cases of a bounded size, at numbers: each computes, but for the maintenance of 64 keys,
+//! where the laws of the size take the step.
 ghost use Rattle.std.specs.Prelude.{◌≡◌, true, false, nat_eq, Some, None, [], ◌∷◌};
 ghost use Rattle.moka_model.specs.declared.notification.RemovalCause.TheVariants.{Expired, Size};
 ghost use Rattle.moka_model.specs.Events.{Looked, Written, Maintained, Passed};
@@ -49,7 +49,8 @@ pub fn a_capacity_of_0()
     ensures none_drawn { next_number (at_capacity 0) skipped ≡ 0 }
 {}
 
-/// At a capacity of 1 a write is stored, as it is without a capacity, and one key stands after a maintenance.
+/// At a capacity of 1 a write is stored, as it is without a capacity, and one key stands after a
+/// maintenance.
 pub fn a_capacity_of_1()
     ensures stores { stores_nothing (Some 1) ≡ false }
     ensures unbounded { stores_nothing None ≡ false }

@@ -15,8 +15,7 @@ notes settings (e ∷ h) = notes settings h
 abbrev pub frequency : {K V : Type 0} → Settings K V → List (Event K V) → ℕ → ℕ
 frequency settings h hash = settings.frequency (notes settings h) hash
 
--- Under least recently used each that waits wins against its victims. Else it wins where its frequency is greater than
--- those of its victims together.
+-- Under least recently used each wins against its victims; else one whose frequency is greater than all of theirs together.
 abbrev pub wins : {K V : Type 0} → Settings K V → (ℕ → ℕ) → Write K V → List (Write K V) → Bool
 wins settings frequency_of w victims =
     settings.behaviour.is_lru || nat_le (total (λ v. frequency_of v.hash) victims + 1) (frequency_of w.hash)

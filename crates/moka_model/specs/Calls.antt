@@ -8,8 +8,7 @@ use Rattle.moka_model.specs.Removals.{Removal, notices_left}
 use Rattle.moka_model.specs.Numbers.{drawn_in, next_number, greatest_number, entry_count, weighted_size, stores_nothing, is_flush_due}
 use Rattle.moka_model.specs.Steps.{AcceptedStep, events_in}
 
--- A call, with what it hands in; the last of that is its moment, if it has one.
-pub data Call (K V : Type 0) : Type 0 where
+pub data Call (K V : Type 0) : Type 0 where  -- A call, with what it hands in; the last of that is its moment, if it has one.
   Get : K → ℕ → Call K V
   ContainsKey : K → ℕ → Call K V
   Insert : K → V → ℕ → Call K V
@@ -19,31 +18,26 @@ pub data Call (K V : Type 0) : Type 0 where
   WeightedSize : Call K V
   TakeNotice : Call K V
 
--- An answer, with the values themselves. What a call hands out is a copy of them.
-pub data Answer (K V E : Type 0) : Type 0 where
+pub data Answer (K V E : Type 0) : Type 0 where  -- An answer, with the values themselves. What a call hands out is a copy of them.
   Found : Option V → Answer K V E
   Contains : Bool → Answer K V E
   Done : Answer K V E
   Counted : ℕ → Answer K V E
   Noticed : Option (Removal K V) → Answer K V E
 
--- What an accepted call answers, and the step that it is.
-pub record Accepted (K V E : Type 0) : Type 0 where
+pub record Accepted (K V E : Type 0) : Type 0 where  -- What an accepted call answers, and the step that it is.
   pub answer : Answer K V E
   pub step : AcceptedStep K V E
 
--- an accepted call that moves no turn
-abbrev pub without_move : {K V E : Type 0} → Answer K V E → List (Event K V) → Accepted K V E
+abbrev pub without_move : {K V E : Type 0} → Answer K V E → List (Event K V) → Accepted K V E  -- an accepted call that moves no turn
 without_move answer events = record { answer = answer; step = record { events = events; move = None } }
 
--- The words of calls after some events.
 module _ {K V : Type 0} (eq : K → K → Bool) (settings : Settings K V) where
   -- the live write of a key where a call looks at a moment: at the greater of that and the latest recorded one
   abbrev pub live_at : K → ℕ → List (Event K V) → Option (Write K V)
   live_at k at h = live eq settings k (max (latest h) at) h
 
-  -- the maintenance before a write, where one is due
-  abbrev pub flush : ℕ → List (Event K V) → List (Event K V)
+  abbrev pub flush : ℕ → List (Event K V) → List (Event K V)  -- the maintenance before a write, where one is due
   flush at h = if is_flush_due eq settings h then Maintained None at ∷ [] else []
 
   -- the events of a write, the newest first; where the capacity is 0 just its moment is recorded
@@ -51,8 +45,7 @@ module _ {K V : Type 0} (eq : K → K → Bool) (settings : Settings K V) where
   write_events k v at h = if stores_nothing settings.max_capacity then Passed at ∷ [] else Written k v at ∷ flush at h
 
 module _ {K V E : Type 0} (eq : K → K → Bool) (settings : Settings K V) (steps : List (AcceptedStep K V E)) where
-  -- What a call answers and which accepted step it is, after these; none where it is refused by its name, as no call is
-  -- yet. "Live" is live just before the call. A count stops at the greatest number.
+  -- What a call answers and which step it is, after these; none where it is refused by its name, as none is yet.
   abbrev pub accepted : Call K V → Option (Accepted K V E)
   accepted (Get k at) =
       Some (without_move (Found (option_map (λ w. w.value) (live_at eq settings k at (events_in steps)))) (Looked k at ∷ []))
@@ -70,13 +63,11 @@ module _ {K V E : Type 0} where
   with_step None steps = steps
   with_step (Some it) steps = it.step ∷ steps
 
-  -- how many numbers an accepted call draws
-  abbrev pub drawn_by : Option (Accepted K V E) → ℕ
+  abbrev pub drawn_by : Option (Accepted K V E) → ℕ  -- how many numbers an accepted call draws
   drawn_by None = 0
   drawn_by (Some it) = drawn_in it.step.events
 
-  -- what is answered, if a call is accepted
-  abbrev pub answer_of : Option (Accepted K V E) → Option (Answer K V E)
+  abbrev pub answer_of : Option (Accepted K V E) → Option (Answer K V E)  -- what is answered, if a call is accepted
   answer_of it = option_map (λ a. a.answer) it
 
 module _ {K V E : Type 0} (eq : K → K → Bool) (settings : Settings K V) where
@@ -90,24 +81,22 @@ module _ {K V E : Type 0} (eq : K → K → Bool) (settings : Settings K V) wher
   IsLegal (step ∷ steps) =
       ((call : Call K V) × (it : Accepted K V E) × (accepted eq settings steps call ≡ Some it) × (it.step ≡ step)) × IsLegal steps
 
-  -- Memory may be refused to a call only where it copies a value or grows: a `get` that finds one, and a write.
-  abbrev pub MayTakeMemory : List (AcceptedStep K V E) → Call K V → Type 0
+  abbrev pub MayTakeMemory : List (AcceptedStep K V E) → Call K V → Type 0  -- It copies a value or grows: no other call is refused memory.
   MayTakeMemory steps (Get k at) = IsSome (live_at eq settings k at (events_in steps))
   MayTakeMemory steps (Insert k v at) = stores_nothing settings.max_capacity ≡ false
   MayTakeMemory steps call = ⊥
 
   -- A call is refused for want of numbers exactly where it would draw one and none is left.
   abbrev pub IsOutOfNumbers : List (AcceptedStep K V E) → Call K V → Type 0
-  IsOutOfNumbers steps call =
-      (0 < drawn_by (accepted eq settings steps call)) × (next_number settings (events_in steps) ≡ greatest_number)
+  IsOutOfNumbers steps call = (0 < drawn_by (accepted eq settings steps call)) × (next_number settings (events_in steps) ≡ greatest_number)
 
--- One value is there where the other is, and is a copy of it.
-abbrev pub IsCopyOf : {V : Type 0} → (V → V → Type 0) → Option V → Option V → Type 0
-IsCopyOf is_clone None None = ⊤
-IsCopyOf is_clone (Some v) (Some w) = is_clone v w
-IsCopyOf is_clone v w = ⊥
+module _ {V : Type 0} (is_clone : V → V → Type 0) where
+  abbrev pub IsCopyOf : Option V → Option V → Type 0  -- One value is there where the other is, and is a copy of it.
+  IsCopyOf None None = ⊤
+  IsCopyOf (Some v) (Some w) = is_clone v w
+  IsCopyOf v w = ⊥
 
--- An answer that is handed out: a value is a copy of the definition's, and all else is the definition's own.
-abbrev pub IsAnswer : {K V E : Type 0} → (V → V → Type 0) → Answer K V E → Answer K V E → Type 0
-IsAnswer is_clone (Found v) (Found w) = IsCopyOf is_clone v w
-IsAnswer is_clone a b = b ≡ a
+  -- An answer that is handed out: a value is a copy of the definition's, and all else is the definition's own.
+  abbrev pub IsAnswer : {K E : Type 0} → Answer K V E → Answer K V E → Type 0
+  IsAnswer (Found v) (Found w) = IsCopyOf v w
+  IsAnswer a b = b ≡ a

@@ -1,5 +1,4 @@
--- What stands after a list of events: the write of each key, and all of them in their two orders. Keys are compared by
--- `eq`, the `Eq` of their type, and never by identity.
+-- What stands after a list of events, by key and in two orders. Keys are compared by `eq`, their `Eq`, and never by identity.
 use Rattle.std.specs.Prelude.{ℕ, Bool, not, ◌&&◌, if◌then◌else◌, Option, Some, None, List, [], ◌∷◌, ◌++◌, option_map, map, filter}
 use Rattle.std.specs.List.{list_any}
 use Rattle.moka_model.specs.Maintenance.{Queues, Part, parts, done, evicted_in, after_parts}
@@ -8,12 +7,10 @@ use Rattle.moka_model.specs.Events.{Event, Looked, TurnedDown, Written, Invalida
 use Rattle.moka_model.specs.Admission.{frequency, wins}
 
 module _ {A : Type 0} where
-  -- those that pass a test change, and stay in their places
-  abbrev pub changed_where : (A → Bool) → (A → A) → List A → List A
+  abbrev pub changed_where : (A → Bool) → (A → A) → List A → List A  -- those that pass a test change, and stay in their places
   changed_where p change xs = map (λ x. if p x then change x else x) xs
 
-  -- those that pass a test change, and go behind all others
-  abbrev pub moved_last : (A → Bool) → (A → A) → List A → List A
+  abbrev pub moved_last : (A → Bool) → (A → A) → List A → List A  -- those that pass a test change, and go behind all others
   moved_last p change xs = filter (λ x. not (p x)) xs ++ map change (filter p xs)
 
 -- all that passes a test is hidden, and stays in its place
@@ -26,25 +23,20 @@ module _ {K V : Type 0} (settings : Settings K V) (frequency_of : ℕ → ℕ) w
   maintenance limit at q =
       done limit (parts (λ w. w.policy_weight) settings.max_capacity (λ w. is_live settings w at) (wins settings frequency_of) q)
 
-  -- what leaves in it, in order
-  abbrev pub evicted : Option ℕ → ℕ → Queues (Write K V) → List (Write K V)
+  abbrev pub evicted : Option ℕ → ℕ → Queues (Write K V) → List (Write K V)  -- what leaves in it, in order
   evicted limit at q = evicted_in (maintenance limit at q)
 
-  -- the orders after it
-  abbrev pub maintained : Option ℕ → ℕ → Queues (Write K V) → Queues (Write K V)
+  abbrev pub maintained : Option ℕ → ℕ → Queues (Write K V) → Queues (Write K V)  -- the orders after it
   maintained limit at q = after_parts q (maintenance limit at q)
 
 module _ {K V : Type 0} (eq : K → K → Bool) (settings : Settings K V) where
-  -- the write is that of the key
-  abbrev pub is_of : K → Write K V → Bool
+  abbrev pub is_of : K → Write K V → Bool  -- the write is that of the key
   is_of k w = eq w.key k
 
-  -- a look at the key at a moment hits the write
-  abbrev pub is_hit : K → ℕ → Write K V → Bool
+  abbrev pub is_hit : K → ℕ → Write K V → Bool  -- a look at the key at a moment hits the write
   is_hit k at w = eq w.key k && is_live settings w at
 
-  -- A write that passes the test is used, and changes so: where it waits it keeps its place, and where it is admitted it
-  -- goes behind all others.
+  -- A write that passes the test is used, and changes so: where it waits it stays, where it is admitted it goes behind all others.
   abbrev pub used_where : (Write K V → Bool) → (Write K V → Write K V) → Queues (Write K V) → Queues (Write K V)
   used_where p change q = record { admitted = moved_last p change q.admitted; waiting = changed_where p change q.waiting }
 
@@ -58,12 +50,10 @@ module _ {K V : Type 0} (eq : K → K → Bool) (settings : Settings K V) where
       opened_by (after_write settings k v at None) (filter (is_of k) (q.admitted ++ q.waiting))
       (used_where (is_of k) (λ w. after_write settings k v at (Some w)) q)
 
-  -- a key that is removed is in neither order
-  abbrev pub removed_in : K → Queues (Write K V) → Queues (Write K V)
+  abbrev pub removed_in : K → Queues (Write K V) → Queues (Write K V)  -- a key that is removed is in neither order
   removed_in k q = record { admitted = filter (λ w. not (is_of k w)) q.admitted; waiting = filter (λ w. not (is_of k w)) q.waiting }
 
-  -- What stands after a list of events, in its two orders.
-  abbrev pub orders : List (Event K V) → Queues (Write K V)
+  abbrev pub orders : List (Event K V) → Queues (Write K V)  -- What stands after a list of events, in its two orders.
   orders [] = record { admitted = []; waiting = [] }
   orders (Looked k at ∷ h) = let now = latest (Looked k at ∷ h) in used_where (is_hit k now) (after_look settings now) (orders h)
   orders (TurnedDown k at ∷ h) = orders h
@@ -75,16 +65,13 @@ module _ {K V : Type 0} (eq : K → K → Bool) (settings : Settings K V) where
   orders (Drawn ∷ h) = orders h
   orders (Taken ∷ h) = orders h
 
-  -- what leaves in a maintenance, the events before it being h
-  abbrev pub evicted_at : Option ℕ → ℕ → List (Event K V) → List (Write K V)
+  abbrev pub evicted_at : Option ℕ → ℕ → List (Event K V) → List (Write K V)  -- what leaves in a maintenance, the events before it being h
   evicted_at limit at h = evicted settings (frequency settings h) limit (latest (Maintained limit at ∷ h)) (orders h)
 
-  -- whether the write that stands for a key leaves in it
-  abbrev pub is_evicted : K → Option ℕ → ℕ → List (Event K V) → Bool
+  abbrev pub is_evicted : K → Option ℕ → ℕ → List (Event K V) → Bool  -- whether the write that stands for a key leaves in it
   is_evicted k limit at h = list_any (λ w. eq w.key k) (evicted_at limit at h)
 
-  -- The write that stands for a key.
-  abbrev pub standing : K → List (Event K V) → Option (Write K V)
+  abbrev pub standing : K → List (Event K V) → Option (Write K V)  -- The write that stands for a key.
   standing k [] = None
   standing k (Looked q at ∷ h) =
       if eq q k then option_map (after_look settings (latest (Looked q at ∷ h))) (standing k h) else standing k h
@@ -98,6 +85,5 @@ module _ {K V : Type 0} (eq : K → K → Bool) (settings : Settings K V) where
   standing k (Drawn ∷ h) = standing k h
   standing k (Taken ∷ h) = standing k h
 
-  -- The live write for a key, in a look at a moment.
-  abbrev pub live : K → ℕ → List (Event K V) → Option (Write K V)
+  abbrev pub live : K → ℕ → List (Event K V) → Option (Write K V)  -- The live write for a key, in a look at a moment.
   live k at h = live_one settings at (standing k h)

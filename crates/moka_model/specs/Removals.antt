@@ -6,8 +6,7 @@ use Rattle.moka_model.specs.Lives.{Settings, Write, is_expired}
 use Rattle.moka_model.specs.Events.{Event, Looked, TurnedDown, Written, Invalidated, Hidden, Maintained, Passed, Drawn, Taken, latest}
 use Rattle.moka_model.specs.Orders.{evicted_at, standing}
 
--- A value that left, under the key that it was stored under, with its cause.
-pub record Removal (K V : Type 0) : Type 0 where
+pub record Removal (K V : Type 0) : Type 0 where  -- A value that left, under the key that it was stored under, with its cause.
   pub key : K
   pub value : V
   pub cause : RemovalCause
@@ -17,18 +16,15 @@ module _ {K V : Type 0} (settings : Settings K V) where
   abbrev pub cause_of : RemovalCause → Write K V → ℕ → RemovalCause
   cause_of own w at = if w.is_hidden then Explicit else (if is_expired settings w at then Expired else own)
 
-  -- a write that leaves at a moment
-  abbrev pub removal_of : RemovalCause → ℕ → Write K V → Removal K V
+  abbrev pub removal_of : RemovalCause → ℕ → Write K V → Removal K V  -- a write that leaves at a moment
   removal_of own at w = record { key = w.key; value = w.value; cause = cause_of own w at }
 
-  -- what leaves where a write stands, at a moment
-  abbrev pub removals_of : RemovalCause → ℕ → Option (Write K V) → List (Removal K V)
+  abbrev pub removals_of : RemovalCause → ℕ → Option (Write K V) → List (Removal K V)  -- what leaves where a write stands, at a moment
   removals_of own at None = []
   removals_of own at (Some w) = removal_of own at w ∷ []
 
 module _ {K V : Type 0} (eq : K → K → Bool) (settings : Settings K V) where
-  -- What leaves at an event, the events before it being h: the write that stands for the key that it writes or removes,
-  -- and what a maintenance evicts.
+  -- What leaves at an event behind h: the write that stands for the key that it writes or removes, and what a maintenance evicts.
   abbrev pub removals_at : Event K V → List (Event K V) → List (Removal K V)
   removals_at (Looked k at) h = []
   removals_at (TurnedDown k at) h = []
@@ -41,8 +37,7 @@ module _ {K V : Type 0} (eq : K → K → Bool) (settings : Settings K V) where
   removals_at Drawn h = []
   removals_at Taken h = []
 
-  -- All that left, in the order of leaving.
-  abbrev pub removals : List (Event K V) → List (Removal K V)
+  abbrev pub removals : List (Event K V) → List (Removal K V)  -- All that left, in the order of leaving.
   removals [] = []
   removals (e ∷ h) = removals h ++ removals_at e h
 
@@ -52,6 +47,5 @@ module _ {K V : Type 0} (eq : K → K → Bool) (settings : Settings K V) where
   taken (Taken ∷ h) = min (taken h + 1) (length (removals h))
   taken (e ∷ h) = taken h
 
-  -- Those that were not given out yet, in order.
-  abbrev pub notices_left : List (Event K V) → List (Removal K V)
+  abbrev pub notices_left : List (Event K V) → List (Removal K V)  -- Those that were not given out yet, in order.
   notices_left h = drop (taken h) (removals h)

@@ -2,8 +2,7 @@
 use Rattle.std.specs.Prelude.{Option, List, [], ◌∷◌, ◌++◌}
 use Rattle.moka_model.specs.Events.{Event}
 
--- What an accepted step does to the turns of those who compute one value at a time, with their errors. There are no turns
--- yet, and so no moves. No definition over events looks at moves.
+-- What an accepted step does to turns. There are none yet, and so no moves; no definition over events looks at moves.
 pub data Move (K V E : Type 0) : Type 0 where
 
 -- One accepted step: its events, the newest first, all at one moment, and its move, if it has one.
