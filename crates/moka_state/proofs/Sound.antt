@@ -7,8 +7,8 @@ use Rattle.moka_state.specs.State.{IsSound}
 use Rattle.std.specs.List.{AllByRecursion}
 use Rattle.moka_rows.specs.declared.rows.Row.{Row}
 use Rattle.moka_model.specs.declared.notification.RemovalCause.{RemovalCause}
-use Rattle.moka_model.specs.History.{earlier, has_come}
-use Rattle.moka_model.specs.Maintenance.{leaving_in, after_parts}
+use Rattle.moka_model.specs.Lives.{earlier, has_come}
+use Rattle.moka_model.specs.Maintenance.{evicted_in, after_parts}
 use Rattle.moka_ways.specs.declared.lives.Lives.{Lives}
 use Rattle.moka_ways.specs.Lives.{deadline_of}
 use Rattle.moka_maintain.specs.Maintain.{is_alive, notice_at, rows_of, row_wins, row_parts, IsDueFrom, IsMaintained}
@@ -18,7 +18,7 @@ use Rattle.moka_ways.proofs.Callers.{has_come-earlier_right}
 use Rattle.moka_rows.proofs.Callers.{all-append, all-front}
 use Rattle.moka_table.proofs.Callers.{of-row, of-used, of-taken, of-used-admitted, of-taken-admitted}
 use Rattle.moka_maintain.proofs.Callers.{due-left}
-use Rattle.moka_state.proofs.Elements.{all-kept, all-leaving}
+use Rattle.moka_state.proofs.Elements.{all-kept, all-evicted}
 
 -- the same rows keep all
 pub IsSound-same : {K V : Type 0} (keeps : K → V → Type 0) (hash_of : K → ℕ) (lives : Lives) (earliest : Option ℕ) (old new : Contents K V) → SameRows old new → IsSound keeps hash_of lives earliest old → IsSound keeps hash_of lives earliest new
@@ -30,7 +30,7 @@ IsSound-same keeps hash_of lives earliest old new same sound = record {
 }
 
 module _ {K V : Type 0} (keeps : K → V → Type 0) (hash_of : K → ℕ) (lives : Lives) (earliest : Option ℕ) (old new : Contents K V) (sound : IsSound keeps hash_of lives earliest old) where
-  -- A value that is kept for a row's key takes the place of the one before, which is noticed under an equal key. The
+  -- A value that is kept for a row's key takes the lookup of the one before, which is noticed under an equal key. The
   -- deadline of the new one counts too.
   pub IsSound-overwritten : (n : ℕ) (row : Row K V) (v : V) (info : EntryInfo) (notice : Notice K V) → row_under n (entries old) ≡ Some row → keeps (arc_value row.key) v
       → (keeps (arc_value row.key) row.value → keeps (arc_value notice.key) notice.value) → UsesRow n (overwritten v info) old new → new.notices ≡ old.notices ++ notice ∷ []
@@ -87,12 +87,12 @@ module _ {K V : Type 0} (keeps : K → V → Type 0) (hash_of : K → ℕ) (live
       let Noticed : Notice K V → Type 0 = λ m. keeps (arc_value m.key) m.value in
       let wins : ℕ × Row K V → List (ℕ × Row K V) → Bool = row_wins is_lru frequency_of in
       let left : List (ℕ × Row K V) = (after_parts (rows_of old) (row_parts lives is_lru frequency_of capacity at old)).admitted in
-      let gone : List (ℕ × Row K V) = leaving_in (row_parts lives is_lru frequency_of capacity at old) in
+      let gone : List (ℕ × Row K V) = evicted_in (row_parts lives is_lru frequency_of capacity at old) in
       record {
         due = all-front (λ (p : ℕ × Row K V). (t : ℕ) → has_come (deadline_of lives p.1.info) t ≡ true → has_come due t ≡ true) new.admitted new.waiting bound;
         hashed = rw (is.waiting, is.admitted) (all-append Hashed left [] (all-kept Hashed weight_of capacity wins (is_alive lives at) (rows_of old) sound.hashed) tt);
         kept = rw (is.waiting, is.admitted) (all-append Keeps left [] (all-kept Keeps weight_of capacity wins (is_alive lives at) (rows_of old) sound.kept) tt);
-        notices_kept = rw is.notices (all-append Noticed old.notices _ sound.notices_kept (kept-noticed gone (all-leaving Keeps weight_of capacity wins (is_alive lives at) (rows_of old) sound.kept)));
+        notices_kept = rw is.notices (all-append Noticed old.notices _ sound.notices_kept (kept-noticed gone (all-evicted Keeps weight_of capacity wins (is_alive lives at) (rows_of old) sound.kept)));
       }
     where
       kept-noticed : (rows : List (ℕ × Row K V)) → AllByRecursion (λ (p : ℕ × Row K V). keeps (arc_value p.1.key) p.1.value) rows → AllByRecursion (λ (m : Notice K V). keeps (arc_value m.key) m.value) (map (notice_at lives at) rows)

@@ -1,61 +1,42 @@
--- What a state holds, and what its fields keep.
+-- What a state keeps, by its fields.
 use Rattle.std.specs.Prelude.{◌≡◌, ℕ, List, ◌++◌, map, option_map, Option}
 use Rattle.std.specs.Arc.{arc_value}
 use Rattle.std.specs.List.{AllByRecursion}
 use Rattle.std.specs.Duration.{as_nanos}
 use Rattle.std.specs.declared.time.Duration.{Duration}
-use Rattle.moka_model.specs.History.{Rules, Ways, Write}
-use Rattle.moka_model.specs.StandsFor.{Holdings}
+use Rattle.moka_model.specs.Lives.{Write}
+use Rattle.moka_model.specs.Maintenance.{Queues}
+use Rattle.moka_model.specs.StandsFor.{Books}
 use Rattle.moka_ways.specs.declared.lives.Lives.{Lives}
+use Rattle.moka_ways.specs.Behaviour.{BehaviourData}
+use Rattle.moka_table.specs.Table.{Contents, entries, stored_writes, removal_of}
 use Rattle.moka_maintain.specs.Maintain.{IsDueFrom}
-use Rattle.moka_table.specs.Table.{Contents, entries, stored_writes, leaving_of}
-use Rattle.moka_ways.specs.Ways.{WaysData}
-pub use Rattle.moka_ways.specs.Means.{Kept, held_by, estimates}
+pub use Rattle.moka_ways.specs.StateData.{SettingsData, StateData}
 
--- the rules of a cache that is built with these settings
-abbrev pub rules_of : {K V : Type 0} → Option ℕ → Option Duration → Option Duration → ℕ → Ways K V → (List ℕ → ℕ → ℕ) → Rules K V
-rules_of max_capacity time_to_live time_to_idle first_number ways frequency =
-    record {
-      time_to_live = option_map as_nanos time_to_live;
-      time_to_idle = option_map as_nanos time_to_idle;
-      max_capacity = max_capacity;
-      first_number = first_number;
-      ways = ways;
-      frequency = frequency;
-    }
+-- the settings of a state that is built with these
+abbrev pub settings_of : {H W X : Type 0} → Option Duration → Option Duration → Option ℕ → ℕ → BehaviourData H W X → SettingsData H W X
+settings_of time_to_live time_to_idle max_capacity first_number behaviour = record {
+  time_to_live = option_map as_nanos time_to_live;
+  time_to_idle = option_map as_nanos time_to_idle;
+  max_capacity = max_capacity;
+  first_number = first_number;
+  behaviour = behaviour;
+}
 
-module _ {K V H F : Type 0} where
-  -- what a state keeps, by its fields
-  abbrev pub kept_by : WaysData H → Lives → Option ℕ → Contents K V → F → ℕ → ℕ → Kept K V H F
-  kept_by ways lives max_capacity contents source latest next_number = record {
-    ways = ways;
-    source = source;
-    time_to_live = option_map as_nanos lives.time_to_live;
-    time_to_idle = option_map as_nanos lives.time_to_idle;
-    max_capacity = max_capacity;
-    admitted = stored_writes contents.admitted;
-    waiting = stored_writes contents.waiting;
-    notices = map leaving_of contents.notices;
-    latest = latest;
-    next_number = next_number;
-  }
-
-  -- all stored writes
-  abbrev pub all_writes : Kept K V H F → List (Write K V)
-  all_writes state = state.admitted ++ state.waiting
+-- all stored writes
+abbrev pub all_writes : {K V H W X F : Type 0} → StateData K V H W X F → List (Write K V)
+all_writes state = state.books.orders.admitted ++ state.books.orders.waiting
 
 module _ {K V : Type 0} where
-  -- what a state holds, by its fields and what they mean
-  abbrev pub holdings : Ways K V → Lives → Option ℕ → Contents K V → (List ℕ → ℕ → ℕ) → ℕ → ℕ → Holdings K V
-  holdings ways lives max_capacity contents frequency latest next_number = record {
-    time_to_live = option_map as_nanos lives.time_to_live;
-    time_to_idle = option_map as_nanos lives.time_to_idle;
-    max_capacity = max_capacity;
-    ways = ways;
-    frequency = frequency;
-    admitted = stored_writes contents.admitted;
-    waiting = stored_writes contents.waiting;
-    notices = map leaving_of contents.notices;
+  -- the writes that the rows of a table store, in their two orders
+  abbrev pub stored_orders : Contents K V → Queues (Write K V)
+  stored_orders contents = record { admitted = stored_writes contents.admitted; waiting = stored_writes contents.waiting }
+
+  -- the books, by a table, the latest moment and the next number
+  abbrev pub books_by : Contents K V → ℕ → ℕ → Books K V
+  books_by contents latest next_number = record {
+    orders = stored_orders contents;
+    notices = map removal_of contents.notices;
     latest = latest;
     next_number = next_number;
   }

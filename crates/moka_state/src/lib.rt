@@ -5,4 +5,4 @@ pub mod state;
 pub mod step;
 
 pub use moka_rows::{list_rows, rows};
-pub use moka_ways::means;
+pub use moka_ways::view;
