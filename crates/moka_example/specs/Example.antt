@@ -2,7 +2,7 @@
 use Rattle.std.specs.Prelude.{ℕ, min, length, Some, String}
 use Rattle.std.specs.String.{string_bytes}
 use Rattle.std.specs.declared.alloc.Global.{Global}
-use Rattle.moka.specs.History.{Lifetimes}
+use Rattle.moka.specs.Lives.{Lifetimes}
 
 -- the weight of a name: its length in bytes, or the greatest weight where it is longer
 abbrev pub length_of : ℕ → String Global → ℕ

@@ -2,8 +2,9 @@
 #![tactic(auto)]
 
 ghost use Rattle.std.specs.Prelude.{◌≡◌, refl};
+ghost use Rattle.std.proofs.Math.Path.{◌∙◌};
 ghost use Rattle.moka_example.specs.Example.{length_of, a_minute};
-ghost use Rattle.moka.specs.History.{no_lifetimes};
+ghost use Rattle.moka.specs.Lives.{no_lifetimes};
 
 use moka::notification::RemovalCause;
 use moka::policy::{
@@ -12,6 +13,7 @@ use moka::policy::{
 };
 use moka::state::{CacheState, InsertRefused, Reply, Settings, Step};
 use std::alloc::{AllocError, Global};
+use std::convert::Infallible;
 use std::hash::BuildHasherDefault;
 use std::marker::PhantomData;
 use std::sync::Arc;
@@ -29,17 +31,21 @@ impl CacheTypes<u64, String> for Names {
 
     type Frequency = CountTable<10>;
 
-    ghost weight = { λ _ _. 1 };
+    type Error = Infallible;
 
-    ghost equal_keys_weigh = { λ _ _ _ _. refl };
+    ghost weight = { λ _ _ _. 1 };
 
-    ghost lifetimes = { no_lifetimes };
+    ghost equal_keys_weigh = { λ _ _ _ _ _. refl };
+
+    ghost lifetimes = { λ _. no_lifetimes };
 
     ghost keeps = { λ _ _. Unit {0} };
 
     ghost equal_keys_keep = { λ _ _ _ _ _. tt };
 
     ghost copies_keep = { λ _ _ _ _ _. tt };
+
+    ghost copies_compose = { λ _ _ _ a b. b ∙ a };
 }
 
 fn ten_seconds(alloc: Global) -> Result<CacheState<u64, String, Names>, Refused> {
@@ -168,17 +174,21 @@ where
 
     type Frequency = CountTable<10>;
 
-    ghost weight = { length_of };
+    type Error = Infallible;
 
-    ghost equal_keys_weigh = { λ _ _ _ _. refl };
+    ghost weight = { λ _. length_of };
 
-    ghost lifetimes = { a_minute };
+    ghost equal_keys_weigh = { λ _ _ _ _ _. refl };
+
+    ghost lifetimes = { λ _. a_minute };
 
     ghost keeps = { λ _ _. Unit {0} };
 
     ghost equal_keys_keep = { λ _ _ _ _ _. tt };
 
     ghost copies_keep = { λ _ _ _ _ _. tt };
+
+    ghost copies_compose = { λ _ _ _ a b. b ∙ a };
 }
 
 fn weighed<W, E>(

@@ -31,14 +31,15 @@ module _ {K V E : Type 0} (eq : K → K → Bool) (is_clone : V → V → Type 0
   IsAccepted call answer = IsAnswerOf is_clone (accepted eq settings steps call) answer × ¬ (IsOutOfNumbers eq settings steps call)
 
   -- An accepted call answers what the definitions give, and one that draws a number is accepted only where one is left. A
-  -- refused one says for want of what it was refused, and that is so.
+  -- refused one says for want of what it was refused, and that is so: for want of memory only where it was not for want of
+  -- numbers.
   abbrev pub IsReplyTo : Call K V → Reply K V → Type 0
   IsReplyTo call (Found v) = IsAccepted call (Answer.Found v)
   IsReplyTo call (Contains b) = IsAccepted call (Answer.Contains b)
   IsReplyTo call Done = IsAccepted call Answer.Done
   IsReplyTo call (Counted n) = IsAccepted call (Answer.Counted n)
   IsReplyTo call (Noticed n) = IsAccepted call (Answer.Noticed (option_map removal_of n))
-  IsReplyTo call (Refused OutOfMemory) = MayTakeMemory eq settings steps call
+  IsReplyTo call (Refused OutOfMemory) = MayTakeMemory eq settings steps call × ¬ (IsOutOfNumbers eq settings steps call)
   IsReplyTo call (Refused NumbersUsedUp) = IsOutOfNumbers eq settings steps call
 
 module _ {K V E : Type 0} (eq : K → K → Bool) (settings : Settings K V) where

@@ -6,6 +6,7 @@ use crate::keys::Key;
 use moka::policy::{CacheTypes, CountTable, Expiry, Weigher};
 use std::alloc::AllocError;
 use std::cell::Cell;
+use std::convert::Infallible;
 use std::hash::BuildHasher;
 use std::sync::Arc;
 use std::time::Duration;
@@ -192,11 +193,13 @@ impl<K: Key, H: BuildHasher + Drop> CacheTypes<K, Value> for Types<H> {
 
     type Frequency = CountTable<6>;
 
-    ghost weight = { λ _ value. value.given.weight };
+    type Error = Infallible;
 
-    ghost equal_keys_weigh = { λ _ _ _ _. refl };
+    ghost weight = { λ _ _ value. value.given.weight };
 
-    ghost lifetimes = { record {
+    ghost equal_keys_weigh = { λ _ _ _ _ _. refl };
+
+    ghost lifetimes = { λ _. record {
       created = λ _ value _. option_map (λ seconds. seconds * 1000000000) value.given.life;
       read = λ _ value read_at left written_at. if value.given.doubles then Some (read_at - written_at) else option_or (option_map (λ seconds. seconds * 1000000000) value.given.life_after_look) left;
       updated = λ _ _ _ left. left;
@@ -207,4 +210,6 @@ impl<K: Key, H: BuildHasher + Drop> CacheTypes<K, Value> for Types<H> {
     ghost equal_keys_keep = { λ _ _ _ _ _. tt };
 
     ghost copies_keep = { λ _ _ _ _ _. tt };
+
+    ghost copies_compose = { λ _ _ _ _ _. tt };
 }

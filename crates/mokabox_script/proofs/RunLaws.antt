@@ -10,36 +10,36 @@ use Rattle.mokabox_lines.specs.declared.answer.Answer.TheVariants as answers
 use Rattle.mokabox_lines.specs.declared.answer.BuildRefusal.{BuildRefusal}
 use Rattle.mokabox_lines.specs.declared.answer.BuildRefusal.TheVariants as builds
 use Rattle.mokabox_lines.specs.declared.settings.Settings.{Settings}
-use Rattle.mokabox_script.specs.Script.{ScriptRules, Course, LinePrints, LinesPrint, FirstPrints, ScriptPrints, lines_of, lines_text, rules_by, beginning, status_of}
-use Rattle.mokabox_script.specs.Session.{ScriptCache, IsAt, Prints, DoesLine}
+use Rattle.mokabox_script.specs.Script.{CacheSettings, Course, LinePrints, LinesPrint, FirstPrints, ScriptPrints, lines_of, lines_text, cache_settings, beginning, status_of}
+use Rattle.mokabox_script.specs.Session.{CacheData, IsAt, Prints, DoesLine}
 use Rattle.mokabox_lines.specs.Settings.{settings_by}
 
 -- a bad line is done
-pub bad_line_done : (cache : ScriptCache) (moment : ℕ) (line : List ℕ) (held held_after : Option (List ℕ)) → None ≡ command_by_line line → Appends held held_after (answer_line answers.BadLine) → DoesLine cache moment line true cache moment held held_after
-bad_line_done cache moment line held held_after bad written rules before is =
-    (codes "bad line" ∷ [], before, subst (λ o. LinePrints rules before o (codes "bad line" ∷ []) before true) bad (refl, refl, refl), is, one_written held held_after (codes "bad line") written)
+pub bad_line_done : (cache : CacheData) (moment : ℕ) (line : List ℕ) (held held_after : Option (List ℕ)) → None ≡ command_by_line line → Appends held held_after (answer_line answers.BadLine) → DoesLine cache moment line true cache moment held held_after
+bad_line_done cache moment line held held_after bad written settings before is =
+    (codes "bad line" ∷ [], before, subst (λ o. LinePrints settings before o (codes "bad line" ∷ []) before true) bad (refl, refl, refl), is, one_written held held_after (codes "bad line") written)
 
 -- a command is done
-pub command_done : (cache cache_after : ScriptCache) (moment moment_after : ℕ) (line : List ℕ) (command : PlainCommand) (printed : List (List ℕ)) (held held_after : Option (List ℕ)) → Some command ≡ command_by_line line → Prints cache moment command printed cache_after moment_after → Appends held held_after (lines_text printed) → DoesLine cache moment line false cache_after moment_after held held_after
-command_done cache cache_after moment moment_after line command printed held held_after is_said prints written rules before is =
-    let done = prints rules before is in
-    (printed, done.0, subst (λ o. LinePrints rules before o printed done.0 false) is_said (done.1, refl), done.2, written)
+pub command_done : (cache cache_after : CacheData) (moment moment_after : ℕ) (line : List ℕ) (command : PlainCommand) (printed : List (List ℕ)) (held held_after : Option (List ℕ)) → Some command ≡ command_by_line line → Prints cache moment command printed cache_after moment_after → Appends held held_after (lines_text printed) → DoesLine cache moment line false cache_after moment_after held held_after
+command_done cache cache_after moment moment_after line command printed held held_after is_said prints written settings before is =
+    let done = prints settings before is in
+    (printed, done.0, subst (λ o. LinePrints settings before o printed done.0 false) is_said (done.1, refl), done.2, written)
 
 -- the next line of a run
-next_line : {A E : Type 0} (items : A → List ℕ) (item : Result A E) (line : A) (bytes : List ℕ) (known_before known known_after : Option (List ℕ)) (cache_before cache cache_after : ScriptCache) (moment_before moment moment_after : ℕ) (bad bad_line : Bool) (byte byte_after : ℕ) (held_before held held_after : Option (List ℕ)) → IsRunning known_before known cache_before moment_before cache moment bad byte held_before held → byte_after ≡ byte → IfOk item (λ x. IfSome known (λ xs. (0 < length xs) × (items x ≡ first_piece byte xs)) × DropsThrough known known_after byte) → item ≡ Ok line → bytes ≡ items line → DoesLine cache moment bytes bad_line cache_after moment_after held held_after → IsRunning known_before known_after cache_before moment_before cache_after moment_after (bad || bad_line) byte_after held_before held_after
+next_line : {A E : Type 0} (items : A → List ℕ) (item : Result A E) (line : A) (bytes : List ℕ) (known_before known known_after : Option (List ℕ)) (cache_before cache cache_after : CacheData) (moment_before moment moment_after : ℕ) (bad bad_line : Bool) (byte byte_after : ℕ) (held_before held held_after : Option (List ℕ)) → IsRunning known_before known cache_before moment_before cache moment bad byte held_before held → byte_after ≡ byte → IfOk item (λ x. IfSome known (λ xs. (0 < length xs) × (items x ≡ first_piece byte xs)) × DropsThrough known known_after byte) → item ≡ Ok line → bytes ≡ items line → DoesLine cache moment bytes bad_line cache_after moment_after held held_after → IsRunning known_before known_after cache_before moment_before cache_after moment_after (bad || bad_line) byte_after held_before held_after
 next_line items item line bytes known_before known known_after cache_before cache cache_after moment_before moment moment_after bad bad_line byte byte_after held_before held held_after running same_byte piece is_ok same does =
     let parts : IfSome known (λ xs. (0 < length xs) × (items line ≡ first_piece byte xs)) × DropsThrough known known_after byte = subst (λ r. IfOk r (λ x. IfSome known (λ xs. (0 < length xs) × (items x ≡ first_piece byte xs)) × DropsThrough known known_after byte)) is_ok piece in
     let done : DoesLine cache moment (items line) bad_line cache_after moment_after held held_after = subst (λ b. DoesLine cache moment b bad_line cache_after moment_after held held_after) same does in
     run_step items known_before known known_after cache_before cache cache_after moment_before moment moment_after bad bad_line byte byte_after held_before held held_after line running same_byte parts.0 parts.1 done
 
 -- the next line where one was bad before
-pub next_after_bad : {A E : Type 0} (items : A → List ℕ) (item : Result A E) (line : A) (bytes : List ℕ) (known_before known known_after : Option (List ℕ)) (cache_before cache cache_after : ScriptCache) (moment_before moment moment_after : ℕ) (bad bad_line : Bool) (byte byte_after : ℕ) (held_before held held_after : Option (List ℕ)) → IsRunning known_before known cache_before moment_before cache moment bad byte held_before held → byte_after ≡ byte → IfOk item (λ x. IfSome known (λ xs. (0 < length xs) × (items x ≡ first_piece byte xs)) × DropsThrough known known_after byte) → item ≡ Ok line → bytes ≡ items line → DoesLine cache moment bytes bad_line cache_after moment_after held held_after → bad ≡ true → IsRunning known_before known_after cache_before moment_before cache_after moment_after bad byte_after held_before held_after
+pub next_after_bad : {A E : Type 0} (items : A → List ℕ) (item : Result A E) (line : A) (bytes : List ℕ) (known_before known known_after : Option (List ℕ)) (cache_before cache cache_after : CacheData) (moment_before moment moment_after : ℕ) (bad bad_line : Bool) (byte byte_after : ℕ) (held_before held held_after : Option (List ℕ)) → IsRunning known_before known cache_before moment_before cache moment bad byte held_before held → byte_after ≡ byte → IfOk item (λ x. IfSome known (λ xs. (0 < length xs) × (items x ≡ first_piece byte xs)) × DropsThrough known known_after byte) → item ≡ Ok line → bytes ≡ items line → DoesLine cache moment bytes bad_line cache_after moment_after held held_after → bad ≡ true → IsRunning known_before known_after cache_before moment_before cache_after moment_after bad byte_after held_before held_after
 next_after_bad items item line bytes known_before known known_after cache_before cache cache_after moment_before moment moment_after bad bad_line byte byte_after held_before held held_after running same_byte piece is_ok same does was_bad =
     subst (λ b. IsRunning known_before known_after cache_before moment_before cache_after moment_after b byte_after held_before held_after) (or_when_true bad bad_line was_bad)
     (next_line items item line bytes known_before known known_after cache_before cache cache_after moment_before moment moment_after bad bad_line byte byte_after held_before held held_after running same_byte piece is_ok same does)
 
 -- the next line where none was bad before
-pub next_after_good : {A E : Type 0} (items : A → List ℕ) (item : Result A E) (line : A) (bytes : List ℕ) (known_before known known_after : Option (List ℕ)) (cache_before cache cache_after : ScriptCache) (moment_before moment moment_after : ℕ) (bad bad_line : Bool) (byte byte_after : ℕ) (held_before held held_after : Option (List ℕ)) → IsRunning known_before known cache_before moment_before cache moment bad byte held_before held → byte_after ≡ byte → IfOk item (λ x. IfSome known (λ xs. (0 < length xs) × (items x ≡ first_piece byte xs)) × DropsThrough known known_after byte) → item ≡ Ok line → bytes ≡ items line → DoesLine cache moment bytes bad_line cache_after moment_after held held_after → bad ≡ false → IsRunning known_before known_after cache_before moment_before cache_after moment_after bad_line byte_after held_before held_after
+pub next_after_good : {A E : Type 0} (items : A → List ℕ) (item : Result A E) (line : A) (bytes : List ℕ) (known_before known known_after : Option (List ℕ)) (cache_before cache cache_after : CacheData) (moment_before moment moment_after : ℕ) (bad bad_line : Bool) (byte byte_after : ℕ) (held_before held held_after : Option (List ℕ)) → IsRunning known_before known cache_before moment_before cache moment bad byte held_before held → byte_after ≡ byte → IfOk item (λ x. IfSome known (λ xs. (0 < length xs) × (items x ≡ first_piece byte xs)) × DropsThrough known known_after byte) → item ≡ Ok line → bytes ≡ items line → DoesLine cache moment bytes bad_line cache_after moment_after held held_after → bad ≡ false → IsRunning known_before known_after cache_before moment_before cache_after moment_after bad_line byte_after held_before held_after
 next_after_good items item line bytes known_before known known_after cache_before cache cache_after moment_before moment moment_after bad bad_line byte byte_after held_before held held_after running same_byte piece is_ok same does was_good =
     subst (λ b. IsRunning known_before known_after cache_before moment_before cache_after moment_after b byte_after held_before held_after) (or_when_false bad bad_line was_good)
     (next_line items item line bytes known_before known known_after cache_before cache cache_after moment_before moment moment_after bad bad_line byte byte_after held_before held held_after running same_byte piece is_ok same does)
@@ -60,10 +60,10 @@ first_not_built settings given refusal known held held_after some written = if_s
     (codes "refused build 5" ∷ [], subst (λ o. FirstPrints o (lines_of input) (codes "refused build 5" ∷ []) 2) (sym some) (inr (refl, refl)), one_written held held_after (codes "refused build 5") line))
 
 -- a first line that is done, and the lines after it
-pub first_done : (settings : Option Settings) (given : Settings) (known held held_mid held_after : Option (List ℕ)) (cache : ScriptCache) (moment : ℕ) (bad : Bool) (code : ℕ) → settings ≡ Some given → IsAt cache moment (rules_by given) beginning → Appends held held_mid (answer_line answers.Done) → ((rules : ScriptRules) (before : Course) → IsAt cache moment rules before → IfSome known (λ input. (printed : List (List ℕ)) × LinesPrint rules before (lines_of input) printed bad × Appends held_mid held_after (lines_text printed))) → code ≡ status_of bad → IfSome known (λ input. (printed : List (List ℕ)) × FirstPrints settings (lines_of input) printed code × Appends held held_after (lines_text printed))
+pub first_done : (settings : Option Settings) (given : Settings) (known held held_mid held_after : Option (List ℕ)) (cache : CacheData) (moment : ℕ) (bad : Bool) (code : ℕ) → settings ≡ Some given → IsAt cache moment (cache_settings given) beginning → Appends held held_mid (answer_line answers.Done) → ((cached : CacheSettings) (before : Course) → IsAt cache moment cached before → IfSome known (λ input. (printed : List (List ℕ)) × LinesPrint cached before (lines_of input) printed bad × Appends held_mid held_after (lines_text printed))) → code ≡ status_of bad → IfSome known (λ input. (printed : List (List ℕ)) × FirstPrints settings (lines_of input) printed code × Appends held held_after (lines_text printed))
 first_done settings given None held held_mid held_after cache moment bad code some begins written rest is_code = tt
 first_done settings given (Some input) held held_mid held_after cache moment bad code some begins written rest is_code =
-    let later = rest (rules_by given) beginning begins in (
+    let later = rest (cache_settings given) beginning begins in (
       codes "ok" ∷ later.0,
       subst (λ o. FirstPrints o (lines_of input) (codes "ok" ∷ later.0) code) (sym some) (inl (later.0, bad, refl, later.1, is_code)),
       appends-appends held held_mid held_after (codes "ok" ∷ []) later.0 (one_written held held_mid (codes "ok") written) later.2,

@@ -2,7 +2,6 @@
 pub use Rattle.mokabox_lines.specs.Answer
 pub use Rattle.mokabox_lines.specs.Command
 pub use Rattle.mokabox_lines.specs.Settings
-pub mod Events
 pub mod Program
 pub mod Script
 pub mod Session

@@ -1,114 +1,107 @@
--- What a script prints, by the events of its cache.
-use Rattle.std.specs.Prelude.{◌≡◌, ℕ, ◌*◌, ◌%◌, ◌^◌, max, Bool, true, false, ◌||◌, IsSome, List, [], ◌∷◌, ◌++◌, map, flat_map, Option, Some}
-use Rattle.std.specs.Prelude.{None, option_map, unwrap_or, nat_eq, codes, ◌⊎◌, if◌then◌else◌}
-use Rattle.std.specs.Fmt.{decimal}
+-- What a script prints, by the calls of its cache.
+use Rattle.std.specs.Prelude.{◌≡◌, ℕ, ◌+◌, ◌*◌, ◌%◌, ◌^◌, Bool, true, false, ◌||◌, List, [], ◌∷◌, ◌++◌, length, flat_map, replicate, Option}
+use Rattle.std.specs.Prelude.{Some, None, String, option_map, unwrap_or, nat_eq, codes, ◌⊎◌, if◌then◌else◌}
+use Rattle.std.specs.Arc.{arc_value}
 use Rattle.std.specs.List.{onto_first}
-use Rattle.moka_model.specs.History as history
-use Rattle.moka_model.specs.History.{Event, Rules, Leaving, no_lifetimes, latest, live, noticed, stores_nothing, after_insert}
+use Rattle.std.specs.String.{string_bytes}
+use Rattle.std.specs.declared.alloc.Global.{Global}
+use Rattle.std.specs.declared.convert.Infallible.{Infallible}
+use Rattle.moka_model.specs.Lives as lives
+use Rattle.moka_model.specs.Lives.{no_lifetimes}
+use Rattle.moka_model.specs.Removals.{notices_left}
+use Rattle.moka_model.specs.Steps.{AcceptedStep, events_in}
+use Rattle.moka_model.specs.Calls as calls
+use Rattle.moka_model.specs.Calls.{Call}
 use Rattle.moka_policy.specs.Frequency.{estimate_after}
-use Rattle.moka_model.specs.Replies as replies
-use Rattle.moka_model.specs.Replies.{Answer, answer, IsOutOfNumbers, MayTakeMemory}
-use Rattle.mokabox_lines.specs.Answer.{cause_text}
+use Rattle.moka_state.specs.Step.{IsReplyTo, after_reply}
+use Rattle.moka_state.specs.declared.step.Reply.{Reply}
+use Rattle.moka_state.specs.declared.step.Reply.TheVariants as replies
+use Rattle.mokabox_lines.specs.Answer.{answer_text}
+use Rattle.mokabox_lines.specs.declared.answer.Answer.{Answer}
+use Rattle.mokabox_lines.specs.declared.answer.Answer.TheVariants as answers
 use Rattle.mokabox_lines.specs.Command.{PlainCommand, command_by_line}
 use Rattle.mokabox_lines.specs.Settings.{settings_by, byte_weight}
-use Rattle.mokabox_lines.specs.declared.command.Command.TheVariants as commands
+use Rattle.mokabox_lines.specs.declared.command.Command.TheVariants.{At, Insert, Get, Has, Invalidate, Tasks, Count, Weight, Notices}
 use Rattle.mokabox_lines.specs.declared.settings.Eviction.{Eviction}
 use Rattle.mokabox_lines.specs.declared.settings.Eviction.TheVariants.{Lru, TinyLfu}
 use Rattle.mokabox_lines.specs.declared.settings.Settings.{Settings}
 use Rattle.mokabox_lines.specs.declared.settings.Weighing.{Weighing}
 use Rattle.mokabox_lines.specs.declared.settings.Weighing.TheVariants.{Bytes}
 
--- an event of the script's cache: its keys are numbers, and its values are bytes
-abbrev pub ScriptEvent : Type 0
-ScriptEvent = Event ℕ (List ℕ)
+-- the values of the script's cache; its keys are numbers
+abbrev pub Text : Type 0
+Text = String Global
 
--- the rules of the script's cache
-abbrev pub ScriptRules : Type 0
-ScriptRules = Rules ℕ (List ℕ)
+-- a copy of a text has its bytes
+abbrev pub is_copy : Text → Text → Type 0
+is_copy text copy = string_bytes copy ≡ string_bytes text
 
--- how far a script has come: the events of its cache, the newest first, and the moment of its commands
+-- what the script's cache is built with
+abbrev pub CacheSettings : Type 0
+CacheSettings = lives.Settings ℕ Text
+
+-- an accepted step of the script's cache, which computes no value
+abbrev pub CacheStep : Type 0
+CacheStep = AcceptedStep ℕ Text Infallible
+
+-- how far a script has come: the accepted steps of its cache, the newest first, and the moment of its commands
 pub record Course : Type 0 where
-  pub events : List ScriptEvent
+  pub steps : List CacheStep
   pub moment : ℕ
 
--- the events and one more
-abbrev pub course_with : Course → ScriptEvent → Course
-course_with course event = record course { events = event ∷ course.events }
+-- The calls that a command makes at a moment, when this many notices are left. A text that it hands in has the command's
+-- bytes. All notices are taken, and then once more, when there is none.
+abbrev pub Makes : ℕ → ℕ → PlainCommand → List (Call ℕ Text) → Type 0
+Makes notices moment (At later) made = made ≡ []
+Makes notices moment (Insert key value) made = (text : Text) × (string_bytes text ≡ value) × (made ≡ calls.Insert key text moment ∷ [])
+Makes notices moment (Get key) made = made ≡ calls.Get key moment ∷ []
+Makes notices moment (Has key) made = made ≡ calls.ContainsKey key moment ∷ []
+Makes notices moment (Invalidate key) made = made ≡ calls.Invalidate key moment ∷ []
+Makes notices moment Tasks made = made ≡ calls.RunPendingTasks moment ∷ []
+Makes notices moment Count made = made ≡ calls.EntryCount ∷ []
+Makes notices moment Weight made = made ≡ calls.WeightedSize ∷ []
+Makes notices moment Notices made = made ≡ replicate (notices + 1) calls.TakeNotice
 
--- the line of a value that left
-abbrev pub notice_text : Leaving ℕ (List ℕ) → List ℕ
-notice_text left = codes "notice " ++ (decimal left.key ++ (32 ∷ (left.value ++ (32 ∷ cause_text left.cause))))
+-- the moment of the commands after a command
+abbrev pub moment_after : PlainCommand → ℕ → ℕ
+moment_after (At later) moment = later
+moment_after command moment = moment
 
--- the line of an answer
-abbrev pub reply_text : Answer ℕ (List ℕ) → List ℕ
-reply_text (replies.Found None) = codes "none"
-reply_text (replies.Found (Some value)) = codes "some " ++ value
-reply_text (replies.Contains true) = codes "true"
-reply_text (replies.Contains false) = codes "false"
-reply_text replies.Done = codes "ok"
-reply_text (replies.Counted count) = decimal count
-reply_text (replies.Noticed None) = codes "end"
-reply_text (replies.Noticed (Some left)) = notice_text left
+-- what the reply to a call is printed as
+abbrev pub answer_of : Reply ℕ Text → Answer
+answer_of (replies.Found None) = answers.NotFound
+answer_of (replies.Found (Some text)) = answers.Found text
+answer_of (replies.Contains is_there) = answers.Whether is_there
+answer_of replies.Done = answers.Done
+answer_of (replies.Counted count) = answers.Counted count
+answer_of (replies.Noticed None) = answers.End
+answer_of (replies.Noticed (Some notice)) = answers.Left (arc_value notice.key) notice.value notice.cause
+answer_of (replies.Refused cause) = answers.Refused cause
 
--- The event is accepted, and its answer is printed.
-pub record Accepts (rules : ScriptRules) (before : Course) (event : ScriptEvent) (lines : List (List ℕ)) (course : Course) : Type 0 where
-  pub printed : lines ≡ reply_text (answer nat_eq rules event before.events) ∷ []
-  pub after : course ≡ course_with before event
-
--- the event that a write is: with a capacity of 0 it writes nothing
-abbrev pub write_event : ScriptRules → ℕ → List ℕ → ℕ → ScriptEvent
-write_event rules key value at = if stores_nothing rules.max_capacity then history.Skip at else history.Insert key value at
-
--- The write is accepted, and its answer is printed. Where a flush is due, a maintenance comes before it.
-pub record AcceptsWrite (rules : ScriptRules) (before : Course) (key : ℕ) (value : List ℕ) (lines : List (List ℕ))
-    (course : Course) : Type 0 where
-  pub printed : lines ≡ reply_text (answer nat_eq rules (write_event rules key value before.moment) before.events) ∷ []
-  pub after : course ≡ record before { events = after_insert nat_eq rules key value before.moment before.events }
-
--- The step is refused, which changes nothing.
-pub record Refuses (before : Course) (number : List ℕ) (lines : List (List ℕ)) (course : Course) : Type 0 where
-  pub printed : lines ≡ (codes "refused " ++ number) ∷ []
-  pub after : course ≡ before
-
--- the events after as many notices were taken
-abbrev pub events_taking : {A : Type 0} → List A → List ScriptEvent → List ScriptEvent
-events_taking [] events = events
-events_taking (left ∷ more) events = events_taking more (history.TakeNotice ∷ events)
+-- What calls print, a line for the reply to each, and the accepted steps after them: a refused call leaves them as they are.
+abbrev pub CallsPrint : CacheSettings → List CacheStep → List (Call ℕ Text) → List (List ℕ) → List CacheStep → Type 0
+CallsPrint settings steps [] printed after = (printed ≡ []) × (after ≡ steps)
+CallsPrint settings steps (call ∷ more) printed after =
+    (reply : Reply ℕ Text) × (rest : List (List ℕ)) × IsReplyTo nat_eq is_copy settings steps call reply
+    × (printed ≡ answer_text (answer_of reply) ∷ rest) × CallsPrint settings (after_reply nat_eq settings call reply steps) more rest after
 
 -- What a command prints, and how far the script has come then.
-abbrev pub CommandPrints : ScriptRules → Course → PlainCommand → List (List ℕ) → Course → Type 0
-CommandPrints rules before (commands.At moment) printed after = (printed ≡ []) × (after ≡ record before { moment = moment })
--- a write is refused where no number is left to draw, or for want of memory, and with a capacity of 0 never
-CommandPrints rules before (commands.Insert key value) printed after = (let event = write_event rules key value before.moment in
-    ((IsOutOfNumbers rules event before.events → ⊥) × AcceptsWrite rules before key value printed after)
-    ⊎ (IsOutOfNumbers rules event before.events × Refuses before (codes "2") printed after)
-    ⊎ (MayTakeMemory nat_eq rules event before.events × (IsOutOfNumbers rules event before.events → ⊥)
-    × Refuses before (codes "1") printed after))
--- a look that finds a value is refused for want of memory for its copy
-CommandPrints rules before (commands.Get key) printed after =
-    Accepts rules before (history.Get key before.moment) printed after
-    ⊎ (IsSome (live nat_eq rules key (max (latest before.events) before.moment) before.events) × Refuses before (codes "1") printed after)
-CommandPrints rules before (commands.Has key) printed after = Accepts rules before (history.ContainsKey key before.moment) printed after
-CommandPrints rules before (commands.Invalidate key) printed after =
-    Accepts rules before (history.Invalidate key before.moment) printed after
-CommandPrints rules before commands.Tasks printed after = Accepts rules before (history.Maintain before.moment) printed after
-CommandPrints rules before commands.Count printed after = Accepts rules before (history.Measure history.EntryCount) printed after
-CommandPrints rules before commands.Weight printed after = Accepts rules before (history.Measure history.WeightedSize) printed after
-CommandPrints rules before commands.Notices printed after =
-    (printed ≡ map notice_text (noticed nat_eq rules before.events) ++ codes "end" ∷ [])
-    × (after ≡ record before { events = events_taking (noticed nat_eq rules before.events) before.events })
+abbrev pub CommandPrints : CacheSettings → Course → PlainCommand → List (List ℕ) → Course → Type 0
+CommandPrints settings before command printed after =
+    (made : List (Call ℕ Text)) × Makes (length (notices_left nat_eq settings (events_in before.steps))) before.moment command made
+    × CallsPrint settings before.steps made printed after.steps × (after.moment ≡ moment_after command before.moment)
 
 -- What a line prints, how far the script has come then, and whether the line is bad.
-abbrev pub LinePrints : ScriptRules → Course → Option PlainCommand → List (List ℕ) → Course → Bool → Type 0
-LinePrints rules before None printed after bad = (printed ≡ codes "bad line" ∷ []) × (after ≡ before) × (bad ≡ true)
-LinePrints rules before (Some command) printed after bad = CommandPrints rules before command printed after × (bad ≡ false)
+abbrev pub LinePrints : CacheSettings → Course → Option PlainCommand → List (List ℕ) → Course → Bool → Type 0
+LinePrints settings before None printed after bad = (printed ≡ codes "bad line" ∷ []) × (after ≡ before) × (bad ≡ true)
+LinePrints settings before (Some command) printed after bad = CommandPrints settings before command printed after × (bad ≡ false)
 
 -- What the lines print, one after the other, and whether one of them is bad.
-abbrev pub LinesPrint : ScriptRules → Course → List (List ℕ) → List (List ℕ) → Bool → Type 0
-LinesPrint rules before [] printed bad = (printed ≡ []) × (bad ≡ false)
-LinesPrint rules before (line ∷ lines) printed bad =
+abbrev pub LinesPrint : CacheSettings → Course → List (List ℕ) → List (List ℕ) → Bool → Type 0
+LinesPrint settings before [] printed bad = (printed ≡ []) × (bad ≡ false)
+LinesPrint settings before (line ∷ lines) printed bad =
     (first : List (List ℕ)) × (after : Course) × (bad_first : Bool) × (rest : List (List ℕ)) × (bad_rest : Bool)
-    × LinePrints rules before (command_by_line line) first after bad_first × LinesPrint rules after lines rest bad_rest
+    × LinePrints settings before (command_by_line line) first after bad_first × LinesPrint settings after lines rest bad_rest
     × (printed ≡ first ++ rest) × (bad ≡ (bad_first || bad_rest))
 
 -- TinyLFU, where the settings don't say otherwise
@@ -117,22 +110,22 @@ is_lru_by None = false
 is_lru_by (Some Lru) = true
 is_lru_by (Some TinyLfu) = false
 
--- the weight of a value: 1, where the settings don't say otherwise
+-- the weight of a value by its bytes: 1, where the settings don't say otherwise
 abbrev pub weight_by : Option Weighing → List ℕ → ℕ
 weight_by None value = 1
 weight_by (Some Bytes) value = byte_weight value
 
--- The rules of a cache that these settings make, in nanoseconds. A key is its own hash, its keys being below 2 ^ 64.
-abbrev pub rules_by : Settings → ScriptRules
-rules_by settings = record {
+-- What these settings build a cache with, in nanoseconds. A key is its own hash, its keys being below 2 ^ 64.
+abbrev pub cache_settings : Settings → CacheSettings
+cache_settings settings = record {
   time_to_live = option_map (λ seconds. seconds * 1_000_000_000) settings.time_to_live;
   time_to_idle = option_map (λ seconds. seconds * 1_000_000_000) settings.time_to_idle;
   max_capacity = settings.capacity;
   first_number = unwrap_or settings.first_number 0;
-  ways = record {
+  behaviour = record {
     is_lru = is_lru_by settings.policy;
     hash = λ key. key % 2 ^ 64;
-    weight = λ key value. weight_by settings.weigher value;
+    weight = λ key text. weight_by settings.weigher (string_bytes text);
     lifetimes = no_lifetimes;
   };
   frequency = estimate_after 6;
@@ -140,7 +133,7 @@ rules_by settings = record {
 
 -- where a script begins
 abbrev pub beginning : Course
-beginning = record { events = []; moment = 0 }
+beginning = record { steps = []; moment = 0 }
 
 abbrev pub status_of : Bool → ℕ
 status_of bad = if bad then 2 else 0
@@ -149,7 +142,7 @@ status_of bad = if bad then 2 else 0
 abbrev pub FirstPrints : Option Settings → List (List ℕ) → List (List ℕ) → ℕ → Type 0
 FirstPrints None lines printed status = (printed ≡ codes "bad line" ∷ []) × (status ≡ 2)
 FirstPrints (Some settings) lines printed status =
-    ((rest : List (List ℕ)) × (bad : Bool) × (printed ≡ codes "ok" ∷ rest) × LinesPrint (rules_by settings) beginning lines rest bad
+    ((rest : List (List ℕ)) × (bad : Bool) × (printed ≡ codes "ok" ∷ rest) × LinesPrint (cache_settings settings) beginning lines rest bad
     × (status ≡ status_of bad))
     ⊎ ((printed ≡ codes "refused build 5" ∷ []) × (status ≡ 2))
 

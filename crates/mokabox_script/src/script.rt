@@ -3,7 +3,7 @@ ghost use Rattle.std.specs.Prelude.{◌≡◌, ◌≢◌, ℕ, List, map, IfOk, 
 ghost use Rattle.std.specs.Io.Iter.{split_byte, split_known_bytes};
 ghost use Rattle.std.specs.Io.KnownBytes.{Appends};
 ghost use Rattle.mokabox_lines.specs.Answer.{answer_text};
-ghost use Rattle.mokabox_script.specs.Script.{ScriptRules, Course, FirstPrints, LinesPrint, ScriptPrints, lines_of, lines_text};
+ghost use Rattle.mokabox_script.specs.Script.{CacheSettings, Course, FirstPrints, LinesPrint, ScriptPrints, lines_of, lines_text};
 ghost use Rattle.mokabox_script.specs.Session.{DoesLine, IsAt};
 ghost use Rattle.mokabox_script.specs.Status.{code_of};
 
@@ -104,9 +104,9 @@ fn go_on<R: BufRead + Drop, W: Write>(
     writer: &mut W,
 ) -> io::Result<bool>
     requires { split_byte lines ≡ 10 }
-    ensures { IfOk result (λ bad. (rules : ScriptRules) (before : Course) →
-        IsAt session.cache session.moment rules before → IfSome (split_known_bytes R.remaining lines) (λ input.
-        (printed : List (List ℕ)) × LinesPrint rules before (lines_of input) printed bad
+    ensures { IfOk result (λ bad. (settings : CacheSettings) (before : Course) →
+        IsAt session.cache session.moment settings before → IfSome (split_known_bytes R.remaining lines) (λ input.
+        (printed : List (List ℕ)) × LinesPrint settings before (lines_of input) printed bad
         × Appends (W.contents writer.old) (W.contents writer.new) (lines_text printed))) }
 {
     let mut is_bad = false;

@@ -1,22 +1,24 @@
 //! The cache that a script drives.
-ghost use Rattle.std.specs.Prelude.{◌≡◌, refl, [], ◌∷◌, map, is_some, IfOk, IfErr};
+ghost use Rattle.std.specs.Prelude.{◌≡◌, refl, map, is_some, IfOk};
 ghost use Rattle.std.specs.String.{string_bytes};
-ghost use Rattle.moka_model.specs.History.{no_lifetimes};
+ghost use Rattle.std.proofs.Math.Path.{◌∙◌};
+ghost use Rattle.moka_model.specs.Lives.{no_lifetimes};
 ghost use Rattle.moka_policy.specs.Policy.{is_lru};
 ghost use Rattle.mokabox_lines.specs.Answer.{answer_text};
 ghost use Rattle.mokabox_lines.specs.Command.{plain_command};
-ghost use Rattle.mokabox_script.specs.Script.{beginning, is_lru_by, rules_by};
+ghost use Rattle.mokabox_script.specs.Script.{beginning, is_lru_by, cache_settings, answer_of};
 ghost use Rattle.mokabox_script.specs.Session.{IsAt, Prints};
 ghost use Rattle.mokabox_lines.specs.Settings.{byte_weight};
 ghost use Rattle.mokabox_lines.specs.declared.command.Command.TheVariants as commands;
 
 use moka::policy::{CacheTypes, CountTable, EvictionPolicy, NoExpiry, NumberHash, Weigher};
-use moka::state::{CacheState, Settings};
+use moka::state::{CacheState, Reply, Settings, Step};
 use mokabox_lines::answer::{Answer, BuildRefusal};
 use mokabox_lines::command::Command;
 use mokabox_lines::settings;
 use mokabox_lines::settings::{Eviction, Weighing};
 use std::alloc::{AllocError, Global};
+use std::convert::Infallible;
 use std::hash::BuildHasherDefault;
 use std::sync::Arc;
 use std::time::Duration;
@@ -33,17 +35,21 @@ impl CacheTypes<u64, String> for ScriptTypes {
 
     type Frequency = CountTable<6>;
 
-    ghost weight = { λ _ text. byte_weight (string_bytes text) };
+    type Error = Infallible;
 
-    ghost equal_keys_weigh = { λ _ _ _ _. refl };
+    ghost weight = { λ _ _ text. byte_weight (string_bytes text) };
 
-    ghost lifetimes = { no_lifetimes };
+    ghost equal_keys_weigh = { λ _ _ _ _ _. refl };
+
+    ghost lifetimes = { λ _. no_lifetimes };
 
     ghost keeps = { λ _ _. Unit {0} };
 
     ghost equal_keys_keep = { λ _ _ _ _ _. tt };
 
     ghost copies_keep = { λ _ _ _ _ _. tt };
+
+    ghost copies_compose = { λ _ _ _ a b. b ∙ a };
 }
 
 /// Weighs each text by its length in bytes, or by the greatest weight where it is longer than that.
@@ -69,7 +75,7 @@ pub struct Session {
 impl Session {
     /// A cache with these settings, at moment 0.
     pub fn new(alloc: Global, settings: settings::Settings) -> Result<Self, BuildRefusal>
-        ensures { IfOk result (λ session. IsAt session.cache session.moment (rules_by settings) beginning) }
+        ensures { IfOk result (λ session. IsAt session.cache session.moment (cache_settings settings) beginning) }
     {
         let Ok(hasher) = Arc::new(alloc, BuildHasherDefault::default()) else {
             return Err(BuildRefusal::OutOfMemory);
@@ -97,83 +103,73 @@ impl Session {
         }
     }
 
-    /// Does a command, and answers it. An `Err` is want of memory for the answers or for the value that is handed in:
-    /// the command may then be done.
+    /// Does a command, and answers it. An `Err` is want of memory for the answers or for what is handed in: the command
+    /// may then be done.
     pub fn execute(&mut self, command: Command<&str>) -> Result<Vec<Answer>, AllocError>
         ensures { IfOk result (λ answers. Prints self.old.cache self.old.moment (plain_command command.entry)
             (map answer_text answers.items) self.new.cache self.new.moment) }
     {
-        match command {
+        let now = self.moment;
+        let step = match command {
             Command::At(moment) => {
                 self.moment = moment;
-                Ok(Vec::new(self.alloc))
+                return Ok(Vec::new(self.alloc));
             }
-            Command::Insert(key, value) => {
-                let answer = self.insert(key, value)?;
-                one(self.alloc, answer)
-            }
-            Command::Get(key) => {
-                let answer = self.get(key);
-                one(self.alloc, answer)
-            }
-            Command::Has(key) => {
-                let is_there = self.cache.contains_key(&key, self.moment);
-                one(self.alloc, Answer::Whether(is_there))
-            }
-            Command::Invalidate(key) => {
-                self.cache.invalidate(&key, self.moment);
-                one(self.alloc, Answer::Done)
-            }
-            Command::Tasks => {
-                self.cache.run_pending_tasks(self.moment);
-                one(self.alloc, Answer::Done)
-            }
-            Command::Count => {
-                let count = self.cache.entry_count();
-                one(self.alloc, Answer::Counted(count))
-            }
-            Command::Weight => {
-                let weight = self.cache.weighted_size();
-                one(self.alloc, Answer::Counted(weight))
-            }
-            Command::Notices => self.notices(),
-        }
+            Command::Notices => return self.notices(),
+            Command::Insert(key, value) => Step::Insert {
+                key: Arc::new(self.alloc, key)?,
+                value: String::from_str(self.alloc, value)?,
+                now,
+            },
+            Command::Get(key) => Step::Get {
+                key: Arc::new(self.alloc, key)?,
+                now,
+            },
+            Command::Has(key) => Step::ContainsKey {
+                key: Arc::new(self.alloc, key)?,
+                now,
+            },
+            Command::Invalidate(key) => Step::Invalidate {
+                key: Arc::new(self.alloc, key)?,
+                now,
+            },
+            Command::Tasks => Step::RunPendingTasks { now },
+            Command::Count => Step::EntryCount,
+            Command::Weight => Step::WeightedSize,
+        };
+        let answer = answer_of(self.cache.step(step));
+        Ok(vec![in self.alloc; answer]?)
     }
 
-    fn insert(&mut self, key: u64, value: &str) -> Result<Answer, AllocError>
-        ensures { IfOk result (λ answer. Prints self.old.cache self.old.moment (commands.Insert key value.now)
-            (answer_text answer ∷ []) self.new.cache self.new.moment) }
-    {
-        let value = String::from_str(self.alloc, value)?;
-        match self.cache.insert(key, value, self.moment) {
-            Ok(()) => Ok(Answer::Done),
-            Err(refused) => Ok(Answer::Refused(refused.cause)),
-        }
-    }
-
-    fn get(&mut self, key: u64) -> Answer
-        ensures { Prints self.old.cache self.old.moment (commands.Get key)
-            (answer_text result ∷ []) self.new.cache self.new.moment }
-    {
-        match self.cache.get(&key, self.moment) {
-            Ok(Some(value)) => Answer::Found(value),
-            Ok(None) => Answer::NotFound,
-            Err(refused) => Answer::Refused(refused),
-        }
-    }
-
+    // Takes the notices, and then once more, when there is none.
     fn notices(&mut self) -> Result<Vec<Answer>, AllocError>
         ensures { IfOk result (λ answers. Prints self.old.cache self.old.moment commands.Notices
             (map answer_text answers.items) self.new.cache self.new.moment) }
     {
         let mut answers = Vec::new(self.alloc);
         for _ in 0..self.cache.notice_count() {
-            if let Some(notice) = self.cache.take_notice() {
-                answers.push(Answer::Left(*notice.key, notice.value, notice.cause))?;
-            }
+            let answer = answer_of(self.cache.step(Step::TakeNotice));
+            answers.push(answer)?;
         }
-        answers.push(Answer::End)?;
+        let last = answer_of(self.cache.step(Step::TakeNotice));
+        answers.push(last)?;
         Ok(answers)
+    }
+}
+
+// What a reply of the cache is printed as.
+fn answer_of(reply: Reply<u64, String>) -> Answer
+    ensures { result ≡ answer_of reply }
+{
+    match reply {
+        Reply::Found(Some(value)) => Answer::Found(value),
+        Reply::Found(None) => Answer::NotFound,
+        Reply::Contains(is_there) => Answer::Whether(is_there),
+        Reply::Done => Answer::Done,
+        Reply::Counted(count) => Answer::Counted(count),
+        Reply::Noticed(Some(notice)) => Answer::Left(*notice.key, notice.value, notice.cause),
+        Reply::Noticed(None) => Answer::End,
+        Reply::Refused(refused) => Answer::Refused(refused),
     }
 }
 
@@ -195,11 +191,4 @@ fn policy_of(eviction: Option<Eviction>) -> EvictionPolicy
         Some(Eviction::Lru) => EvictionPolicy::lru(),
         Some(Eviction::TinyLfu) | None => EvictionPolicy::tiny_lfu(),
     }
-}
-
-// The answers of a command that has one.
-fn one(alloc: Global, answer: Answer) -> Result<Vec<Answer>, AllocError>
-    ensures { IfOk result (λ answers. answers.items ≡ answer ∷ []) }
-{
-    Ok(vec![in alloc; answer]?)
 }
