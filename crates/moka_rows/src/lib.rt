@@ -3,3 +3,4 @@
 
 pub mod list_rows;
 pub mod rows;
+pub mod shelf;

@@ -5,6 +5,7 @@ ghost use Rattle.moka_rows.specs.Rows.{row_under, is_row_of, first_number};
 ghost use Rattle.moka_rows.specs.Numbers.{number_where, IsNumbered, IsPlaceOf, IsPlaceIn};
 
 use crate::rows::{EntryInfo, Row, RowStore};
+use crate::shelf::Shelved;
 use std::alloc::{AllocError, Global};
 
 /// Where a row stands: at a place among the admitted, or among those that wait.
@@ -20,8 +21,8 @@ enum Place {
 /// without memory.
 #[derive(Drop)]
 pub struct ListRows<K, V> {
-    waiting: Vec<(usize, Row<K, V>)>,
-    admitted: Vec<(usize, Row<K, V>)>,
+    waiting: Vec<(usize, Shelved<Row<K, V>>)>,
+    admitted: Vec<(usize, Shelved<Row<K, V>>)>,
     next: usize,
     ghost numbered: { IsNumbered next (admitted.items ++ waiting.items) },
     ghost can_admit: { vec_len admitted + vec_len waiting ≤ vec_capacity admitted },
@@ -29,7 +30,7 @@ pub struct ListRows<K, V> {
 
 /// The number of the first of these rows that is the key's. Adds one to `reads` for each row that it reads.
 fn number_of<K: Eq, V>(
-    rows: &[(usize, Row<K, V>)],
+    rows: &[(usize, Shelved<Row<K, V>>)],
     key: &K,
     hash: u64,
     reads: &mut u64,
@@ -40,8 +41,8 @@ fn number_of<K: Eq, V>(
     ensures at_least { OnSome result (reads.old < reads.new) }
     ensures all { IfNone result (reads.new ≡ reads.old + length rows.now) }
 {
-    for (number, row) in rows {
-        *reads += 1;
+    for (number, shelved) in rows {
+        let row = shelved.look(reads);
         if row.hash == hash && *row.key == *key {
             return Some(*number);
         }
@@ -50,7 +51,7 @@ fn number_of<K: Eq, V>(
 }
 
 /// The place of the first row under a number.
-fn place_of<K, V>(rows: &[(usize, Row<K, V>)], number: usize) -> Option<usize>
+fn place_of<K, V>(rows: &[(usize, Shelved<Row<K, V>>)], number: usize) -> Option<usize>
     ensures { MatchOption result (row_under number rows.now ≡ None) (λ place. IsPlaceOf number rows.now place) }
 {
     for (place, entry) in rows.iter().enumerate() {
@@ -62,7 +63,7 @@ fn place_of<K, V>(rows: &[(usize, Row<K, V>)], number: usize) -> Option<usize>
 }
 
 /// The number of the row at a place, where the list goes that far.
-fn number_at<K, V>(rows: &[(usize, Row<K, V>)], place: usize) -> Option<usize>
+fn number_at<K, V>(rows: &[(usize, Shelved<Row<K, V>>)], place: usize) -> Option<usize>
     ensures { result ≡ first_number (drop place rows.now) }
 {
     let (number, _) = rows.get(place)?;
@@ -114,8 +115,8 @@ impl<K: Eq + Drop, V: Drop> RowStore<K, V> for ListRows<K, V> {
 
     fn row(&self, number: usize) -> &Row<K, V> {
         match self.place(number) {
-            Place::Admitted(place) => &self.admitted[place].1,
-            Place::Waiting(place) => &self.waiting[place].1,
+            Place::Admitted(place) => self.admitted[place].1.row(),
+            Place::Waiting(place) => self.waiting[place].1.row(),
         }
     }
 
@@ -143,7 +144,7 @@ impl<K: Eq + Drop, V: Drop> RowStore<K, V> for ListRows<K, V> {
         ensures admitted { self.new.admitted.items ≡ self.old.admitted.items }
     {
         let number = self.next;
-        self.waiting.push_reserved((number, row));
+        self.waiting.push_reserved((number, Shelved::new(row)));
         self.next += 1;
         number
     }
@@ -151,10 +152,11 @@ impl<K: Eq + Drop, V: Drop> RowStore<K, V> for ListRows<K, V> {
     fn touch(&mut self, number: usize, info: EntryInfo) {
         match self.place(number) {
             Place::Admitted(place) => {
-                let (_, row) = self.admitted.remove(place);
-                self.admitted.push_reserved((number, Row { info, ..row }));
+                let (_, mut used) = self.admitted.remove(place);
+                used.touch(info);
+                self.admitted.push_reserved((number, used));
             }
-            Place::Waiting(place) => self.waiting[place].1.info = info,
+            Place::Waiting(place) => self.waiting[place].1.touch(info),
         }
     }
 
@@ -200,10 +202,9 @@ impl<K: Eq + Drop, V: Drop> RowStore<K, V> for ListRows<K, V> {
     }
 
     fn remove(&mut self, number: usize) -> Row<K, V> {
-        let (_, row) = match self.place(number) {
-            Place::Admitted(place) => self.admitted.remove(place),
-            Place::Waiting(place) => self.waiting.remove(place),
-        };
-        row
+        match self.place(number) {
+            Place::Admitted(place) => self.admitted.remove(place).1.into_row(),
+            Place::Waiting(place) => self.waiting.remove(place).1.into_row(),
+        }
     }
 }

@@ -17,9 +17,11 @@ invariant_of-self-in-Waiting-clause-numbered g c =
 
 pub returns-in-Admitted-clause-row : goal.returns-in-Admitted-clause-row
 returns-in-Admitted-clause-row g c =
-    row_under-append_left c.args.number c.args.self.now.admitted.items c.args.self.now.waiting.items _ (c.in-Admitted.ensures.row c.remove.result c.remove.ensures.value)
+    rw c.into_row.ensures
+    (row_under-append_left c.args.number c.args.self.now.admitted.items c.args.self.now.waiting.items _ (c.in-Admitted.ensures.row c.remove.result c.remove.ensures.value))
 
 pub returns-in-Waiting-clause-row : goal.returns-in-Waiting-clause-row
 returns-in-Waiting-clause-row g c =
-    row_under-append_right c.args.number c.args.self.now.admitted.items c.args.self.now.waiting.items c.in-Waiting.ensures.0
-    ∙ c.in-Waiting.ensures.1.row c.remove-in-Waiting.result c.remove-in-Waiting.ensures.value
+    rw c.into_row-in-Waiting.ensures
+    (row_under-append_right c.args.number c.args.self.now.admitted.items c.args.self.now.waiting.items c.in-Waiting.ensures.0
+    ∙ c.in-Waiting.ensures.1.row c.remove-in-Waiting.result c.remove-in-Waiting.ensures.value)

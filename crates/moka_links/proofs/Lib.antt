@@ -1,0 +1,7 @@
+pub mod NodeLemmas
+pub mod PathLemmas
+pub mod OrderLemmas
+pub mod ChainLemmas
+pub mod IndexLemmas
+pub mod LinkLemmas
+pub mod Callers

@@ -1,0 +1,34 @@
+-- What a contract says of `Orders`.
+use Rattle.std.specs.Prelude.{◌≡◌, ◌⊎◌, ℕ, List, length}
+use Rattle.moka_links.specs.Paths.{IsAmong}
+use Rattle.moka_links.specs.Nodes.{same_of, hash_of}
+use Rattle.moka_links.specs.Rings.{order}
+use Rattle.moka_links.specs.declared.orders.Orders.{Orders}
+
+-- the admitted numbers, the least recently used first
+abbrev pub admitted_in : Orders → List ℕ
+admitted_in o = order o.nodes.items 0 o.admitted_len
+
+-- the numbers that wait, the first to come first
+abbrev pub waiting_in : Orders → List ℕ
+waiting_in o = order o.nodes.items 1 o.waiting_len
+
+-- the number stands in one of the orders
+abbrev pub Stands : Orders → ℕ → Type 0
+Stands o k = IsAmong k (admitted_in o) ⊎ IsAmong k (waiting_in o)
+
+-- how many nodes there are: each number below has one
+abbrev pub places_in : Orders → ℕ
+places_in o = length o.nodes.items
+
+-- what the nodes say of hashes stays, and so does their number
+pub record KeepsHashes (old new : Orders) : Type 0 where
+  pub same : (k : ℕ) → same_of new.nodes.items k ≡ same_of old.nodes.items k
+  pub hash : (k : ℕ) → hash_of new.nodes.items k ≡ hash_of old.nodes.items k
+  pub places : places_in new ≡ places_in old
+
+-- both orders stay, and so does the number of nodes
+pub record KeepsOrders (old new : Orders) : Type 0 where
+  pub admitted : admitted_in new ≡ admitted_in old
+  pub waiting : waiting_in new ≡ waiting_in old
+  pub places : places_in new ≡ places_in old
