@@ -5,6 +5,8 @@
 #![tactic(auto)]
 
 #[cfg(test)]
+mod by_data;
+#[cfg(test)]
 mod calls;
 #[cfg(test)]
 mod keys;

@@ -4,6 +4,7 @@ use Rattle.std.proofs.Math.Path.{fun_ext}
 use Rattle.std.specs.Arc.{arc_value}
 use Rattle.std.specs.declared.sync.Arc.{Arc}
 use Rattle.std.specs.declared.alloc.Global.{Global}
+use Rattle.std.specs.declared.convert.Infallible.{Infallible}
 use Rattle.std.specs.Duration.{as_nanos}
 use Rattle.std.specs.declared.time.Duration.{Duration}
 use Rattle.std.specs.Hash.BuildHasherDefault.{initial_hasher}
@@ -13,8 +14,8 @@ use Rattle.moka_policy.specs.Frequency.{none_noted, noted, estimated, estimate_a
 use Rattle.moka_model.specs.Lives as lives
 use Rattle.moka_model.specs.Lives.{no_lifetimes}
 use Rattle.moka_model.specs.StandsFor.{StandsFor}
-use Rattle.moka_ways.specs.Behaviour as behaviours
-use Rattle.moka_ways.specs.StateData.{estimates, settings_by}
+use Rattle.moka_state.specs.Behaviour as behaviours
+use Rattle.moka_state.specs.StateData.{estimates, settings_by}
 use Rattle.moka_state.specs.State.{settings_of}
 use Rattle.mokabox_lines.specs.declared.settings.Settings.{Settings}
 use Rattle.mokabox_lines.specs.declared.settings.Weighing.{Weighing}
@@ -59,7 +60,7 @@ settings_with given live idle first is_lru hash weight = record {
 
 -- the cache of a session that was just built
 pub begins : (given : Settings) (cache : CacheData) (live idle : Option Duration) (first : ℕ) (is_lru : Bool) (weigher : Option (Arc Bytes Global)) (hasher : CacheHasher) → option_map as_nanos live ≡ in_nanos given.time_to_live → option_map as_nanos idle ≡ in_nanos given.time_to_idle → first ≡ unwrap_or given.first_number 0 → is_lru ≡ is_lru_by given.policy → is_some weigher ≡ is_some given.weigher → (initial_hasher hasher).hash < 2 ^ 64
-    → StandsFor nat_eq (settings_by cache_behaviour (estimates (noted 6) (estimated 6) (none_noted 6)) (settings_of live idle given.capacity first (record { is_lru = is_lru; hasher = hasher; weigher = option_map arc_value weigher; expiry = None }))) (view cache) [] → IsAt cache 0 (cache_settings given) beginning
+    → StandsFor {E = Infallible} nat_eq (settings_by cache_behaviour (estimates (noted 6) (estimated 6) (none_noted 6)) (settings_of live idle given.capacity first (record { is_lru = is_lru; hasher = hasher; weigher = option_map arc_value weigher; expiry = None }))) (view cache) [] → IsAt cache 0 (cache_settings given) beginning
 begins given cache live idle first is_lru weigher hasher lives idles firsts policy weighed small stands =
     let live_by : Option ℕ = in_nanos given.time_to_live in
     let idle_by : Option ℕ = in_nanos given.time_to_idle in
@@ -72,4 +73,4 @@ begins given cache live idle first is_lru weigher hasher lives idles firsts poli
     ∙ ap (λ b. settings_with given live_by idle_by first_by b (cache_hash hasher) (text_weight weigher)) policy
     ∙ ap (λ h. settings_with given live_by idle_by first_by (is_lru_by given.policy) h (text_weight weigher)) (hashed_by hasher small)
     ∙ ap (λ w. settings_with given live_by idle_by first_by (is_lru_by given.policy) hash w) (weighed_by weigher given.weigher weighed) in
-    record { stands = subst (λ settings. StandsFor nat_eq settings (view cache) []) same stands; now = refl }
+    record { stands = subst (λ settings. StandsFor {E = Infallible} nat_eq settings (view cache) []) same stands; now = refl }

@@ -1,16 +1,12 @@
 -- What a session prints, from what its cache's steps ensure.
-use Rattle.std.proofs.Common.{◌≡◌, ◌+◌, ℕ, zero, suc, List, [], ◌∷◌, ◌++◌, length, map, replicate, nat_eq, refl, sym, ap, ◌∙◌, subst, add-one, Ok, Err, Result, IfOk}
-use Rattle.std.specs.declared.alloc.Global.{Global}
-use Rattle.std.specs.Prelude.{Vec}
-use Rattle.std.specs.String.{string_bytes}
+use Rattle.std.proofs.Common.{◌≡◌, ◌+◌, ℕ, zero, suc, List, [], ◌∷◌, ◌++◌, length, map, replicate, nat_eq, refl, sym, ap, ◌∙◌, subst, add-one}
 use Rattle.std.proofs.lemmas.List.{map-append}
 use Rattle.moka_model.specs.Calls as calls
 use Rattle.moka_model.specs.Calls.{Call}
 use Rattle.moka_model.specs.StandsFor.{StandsFor}
 use Rattle.moka_state.specs.declared.step.Step.{Step}
-use Rattle.moka_state.specs.declared.step.Step.TheVariants.{Get, ContainsKey, Insert, Invalidate, RunPendingTasks, EntryCount, WeightedSize, TakeNotice}
 use Rattle.moka_state.specs.declared.step.Reply.{Reply}
-use Rattle.moka_state.specs.Step.{IsReplyTo, after_reply, StepKeeps}
+use Rattle.moka_state.specs.Step.{call_of, IsReplyTo, after_reply}
 use Rattle.mokabox_lines.specs.Answer.{answer_text}
 use Rattle.mokabox_lines.specs.declared.answer.Answer.{Answer}
 use Rattle.mokabox_lines.specs.Command.{PlainCommand}
@@ -28,13 +24,20 @@ pub moved : (cache : CacheData) (moment later : ℕ) → Prints cache moment (co
 moved cache moment later settings before is =
     (record before { moment = later }, ([], refl, (refl, refl), refl), record { stands = is.stands; now = refl })
 
--- a command that is one call
-pub one_call : (old new : CacheData) (moment : ℕ) (command : PlainCommand) (call : Call ℕ Text) (reply : Reply ℕ Text) → ((notices : ℕ) → Makes notices moment command (call ∷ [])) → ((at : ℕ) → moment_after command at ≡ at) → Goes old new call reply → Prints old moment command (answer_text (answer_of reply) ∷ []) new moment
-one_call old new moment command call reply makes stays goes settings before is =
-    let made = subst (λ at. (notices : ℕ) → Makes notices at command (call ∷ [])) is.now makes in
-    (record { steps = after_reply nat_eq settings call reply before.steps; moment = before.moment },
-    (call ∷ [], made _, (reply, [], goes.reply_is settings before.steps is.stands, refl, (refl, refl)), sym (stays before.moment)),
-    record { stands = goes.stands settings before.steps is.stands; now = is.now })
+-- A command is one call, that of a step.
+pub record IsOneCall (moment : ℕ) (command : PlainCommand) (step : Step ℕ Text) : Type 0 where
+  pub makes : (notices : ℕ) → Makes notices moment command (call_of step ∷ [])
+  pub stays : (at : ℕ) → moment_after command at ≡ at
+
+-- then its line is that of the reply to the step
+pub one_call : (old new : CacheData) (moment : ℕ) (command : PlainCommand) (step : Step ℕ Text) (reply : Reply ℕ Text) (answer : Answer) (items : List Answer) → IsOneCall moment command step → Goes old new (call_of step) reply → answer ≡ answer_of reply → items ≡ answer ∷ [] → Prints old moment command (map answer_text items) new moment
+one_call old new moment command step reply answer items is_one goes is_answer are settings before is =
+    let made : (notices : ℕ) → Makes notices before.moment command (call_of step ∷ []) = subst (λ at. (notices : ℕ) → Makes notices at command (call_of step ∷ [])) is.now is_one.makes in
+    let line : map answer_text items ≡ answer_text (answer_of reply) ∷ [] = ap (map answer_text) are ∙ ap (λ a. answer_text a ∷ []) is_answer in (
+      record { steps = after_reply nat_eq settings (call_of step) reply before.steps; moment = before.moment },
+      (call_of step ∷ [], made _, (reply, [], goes.reply_is settings before.steps is.stands, line, (refl, refl)), sym (is_one.stays before.moment)),
+      record { stands = goes.stands settings before.steps is.stands; now = is.now },
+    )
 
 -- So many notices were taken, or it was seen that none is left, and these lines were printed.
 pub record HasTaken (cache : CacheData) (settings : CacheSettings) (steps : List CacheStep) (count : ℕ) (printed : List (List ℕ)) : Type 0 where
@@ -52,9 +55,13 @@ prints-more settings zero steps after printed reply prints is =
     (reply, [], here, ap (λ lines. lines ++ answer_text (answer_of reply) ∷ []) prints.0, (refl, ap (after_reply nat_eq settings calls.TakeNotice reply) prints.1))
 prints-more settings (suc count) steps after printed reply prints is =
     let first = prints.0 in
-    let rest = prints.1 in
-    (first, rest ++ answer_text (answer_of reply) ∷ [], prints.2, ap (λ lines. lines ++ answer_text (answer_of reply) ∷ []) prints.3,
-    prints-more settings count (after_reply nat_eq settings calls.TakeNotice first steps) after rest reply prints.4 is)
+    let rest = prints.1 in (
+      first,
+      rest ++ answer_text (answer_of reply) ∷ [],
+      prints.2,
+      ap (λ lines. lines ++ answer_text (answer_of reply) ∷ []) prints.3,
+      prints-more settings count (after_reply nat_eq settings calls.TakeNotice first steps) after rest reply prints.4 is,
+    )
 
 -- one notice more
 pub one_taken : (old new : CacheData) (settings : CacheSettings) (steps : List CacheStep) (count : ℕ) (printed : List (List ℕ)) (reply : Reply ℕ Text) → HasTaken old settings steps count printed → Goes old new calls.TakeNotice reply → HasTaken new settings steps (count + 1) (printed ++ answer_text (answer_of reply) ∷ [])
@@ -68,22 +75,14 @@ one_taken old new settings steps count printed reply taken goes = rw add-one (re
 pub all_taken : (old new : CacheData) (moment count : ℕ) (printed : List (List ℕ)) → count ≡ length old.books.notices + 1 → ((settings : CacheSettings) (steps : List CacheStep) → StandsFor nat_eq settings (view old) steps → HasTaken new settings steps count printed) → Prints old moment commands.Notices printed new moment
 all_taken old new moment count printed counted has settings before is =
     let taken = has settings before.steps is.stands in
-    let all = counted ∙ ap (λ b. length b.notices + 1) is.stands.books in
-    (record { steps = taken.after; moment = before.moment },
-    (replicate count calls.TakeNotice, ap (λ n. replicate n calls.TakeNotice) all, taken.prints, refl),
-    record { stands = taken.stands; now = is.now })
+    let all = counted ∙ ap (λ b. length b.notices + 1) is.stands.books in (
+      record { steps = taken.after; moment = before.moment },
+      (replicate count calls.TakeNotice, ap (λ n. replicate n calls.TakeNotice) all, taken.prints, refl),
+      record { stands = taken.stands; now = is.now },
+    )
 
--- the lines after one more answer
-pub one_more : (items more : List Answer) (one : Answer) → more ≡ items ++ one ∷ [] → map answer_text more ≡ map answer_text items ++ answer_text one ∷ []
-one_more items more one e = ap (map answer_text) e ∙ map-append answer_text items (one ∷ [])
-
--- no step owes anything
-pub step-keeps : (step : Step ℕ Text) → StepKeeps (λ key text. Unit {0}) step
-step-keeps (Get key now) = tt
-step-keeps (ContainsKey key now) = tt
-step-keeps (Insert key value now) = tt
-step-keeps (Invalidate key now) = tt
-step-keeps (RunPendingTasks now) = tt
-step-keeps EntryCount = tt
-step-keeps WeightedSize = tt
-step-keeps TakeNotice = tt
+-- a reply more, whose answer is put behind the others
+pub answered_more : (old new : CacheData) (settings : CacheSettings) (steps : List CacheStep) (count : ℕ) (items more : List Answer) (one : Answer) (reply : Reply ℕ Text) → HasTaken old settings steps count (map answer_text items) → Goes old new calls.TakeNotice reply → one ≡ answer_of reply → more ≡ items ++ one ∷ [] → HasTaken new settings steps (count + 1) (map answer_text more)
+answered_more old new settings steps count items more one reply taken goes is_answer is_more =
+    let lines : map answer_text more ≡ map answer_text items ++ answer_text (answer_of reply) ∷ [] = ap (map answer_text) is_more ∙ map-append answer_text items (one ∷ []) ∙ ap (λ a. map answer_text items ++ answer_text a ∷ []) is_answer in
+    subst (HasTaken new settings steps (count + 1)) (sym lines) (one_taken old new settings steps count (map answer_text items) reply taken goes)

@@ -11,8 +11,8 @@ use Rattle.moka_policy.specs.Frequency.{Counts, none_noted, noted, estimated}
 use Rattle.moka_policy.specs.NumberHash.{number_hash}
 use Rattle.moka_model.specs.Lives.{Behaviour, no_lifetimes}
 use Rattle.moka_model.specs.StandsFor.{View, StandsFor}
-use Rattle.moka_ways.specs.Behaviour.{BehaviourData, hash_by, behaviour_by}
-use Rattle.moka_ways.specs.StateData.{StateData, estimates, view_by}
+use Rattle.moka_state.specs.Behaviour.{BehaviourData, hash_by, behaviour_by}
+use Rattle.moka_state.specs.StateData.{StateData, estimates, view_by}
 use Rattle.mokabox_lines.specs.Command.{PlainCommand, command_by_line}
 use Rattle.mokabox_lines.specs.Settings.{byte_weight}
 use Rattle.mokabox_script.specs.Script.{Text, CacheSettings, Course, CommandPrints, LinePrints, lines_text}

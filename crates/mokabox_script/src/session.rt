@@ -1,5 +1,6 @@
 //! The cache that a script drives.
 ghost use Rattle.std.specs.Prelude.{◌≡◌, refl, map, is_some, IfOk};
+ghost use Rattle.std.specs.Arc.{arc_value};
 ghost use Rattle.std.specs.String.{string_bytes};
 ghost use Rattle.std.proofs.Math.Path.{◌∙◌};
 ghost use Rattle.moka_model.specs.Lives.{no_lifetimes};
@@ -117,20 +118,20 @@ impl Session {
             }
             Command::Notices => return self.notices(),
             Command::Insert(key, value) => Step::Insert {
-                key: Arc::new(self.alloc, key)?,
+                key: self.shared(key)?,
                 value: String::from_str(self.alloc, value)?,
                 now,
             },
             Command::Get(key) => Step::Get {
-                key: Arc::new(self.alloc, key)?,
+                key: self.shared(key)?,
                 now,
             },
             Command::Has(key) => Step::ContainsKey {
-                key: Arc::new(self.alloc, key)?,
+                key: self.shared(key)?,
                 now,
             },
             Command::Invalidate(key) => Step::Invalidate {
-                key: Arc::new(self.alloc, key)?,
+                key: self.shared(key)?,
                 now,
             },
             Command::Tasks => Step::RunPendingTasks { now },
@@ -139,6 +140,13 @@ impl Session {
         };
         let answer = answer_of(self.cache.step(step));
         Ok(vec![in self.alloc; answer]?)
+    }
+
+    // A key as a step takes it.
+    fn shared(&self, key: u64) -> Result<Arc<u64>, AllocError>
+        ensures { IfOk result (λ shared. arc_value shared ≡ key) }
+    {
+        Ok(Arc::new(self.alloc, key)?)
     }
 
     // Takes the notices, and then once more, when there is none.
