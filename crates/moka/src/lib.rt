@@ -10,6 +10,7 @@ pub use moka_base::{notification, policy};
 pub mod state {
     pub use moka_state::list_rows::ListRows;
     pub use moka_state::rows::{EntryInfo, OwnLife, Row, RowStore};
+    pub use moka_state::slab_rows::SlabRows;
     pub use moka_state::state::{CacheState, InsertRefused, Settings, State};
     pub use moka_state::step::{Reply, Step};
     pub use moka_state::view::StateView;

@@ -5,4 +5,5 @@ pub mod state;
 pub mod step;
 
 pub use moka_rows::{list_rows, rows};
+pub use moka_slab::slab_rows;
 pub use moka_ways::view;

@@ -18,8 +18,8 @@ ghost use Rattle.moka_state.specs.Write.{WriteEnds};
 use moka_maintain::maintain::maintain;
 use moka_model::notification::{Notice, RemovalCause};
 use moka_policy::policy::{CacheTypes, EvictionPolicy, FrequencySource, Refused};
-use moka_rows::list_rows::ListRows;
 use moka_rows::rows::{EntryInfo, RowStore};
+use moka_slab::slab_rows::SlabRows;
 use moka_table::shared_key::{IntoShared, Owned};
 use moka_table::table::Table;
 use moka_ways::behaviour::Behaviour;
@@ -86,8 +86,8 @@ pub struct State<K: Hash + Drop, V: Clone, C: CacheTypes<K, V>, R: RowStore<K, V
     alloc: Global,
 }
 
-/// A cache over the rows of a list.
-pub type CacheState<K, V, C> = State<K, V, C, ListRows<K, V>>;
+/// A cache over rows in a slab.
+pub type CacheState<K, V, C> = State<K, V, C, SlabRows<K, V>>;
 
 impl<K: Hash + Drop, V: Clone, C: CacheTypes<K, V>, R: RowStore<K, V>> Model for State<K, V, C, R> {
     ghost Value = { StateData K V C.Hasher C.Weigher C.Expiry C.Frequency };
