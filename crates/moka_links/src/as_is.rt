@@ -3,7 +3,8 @@ ghost use Rattle.moka_links.specs.AsIs.{hash_after};
 
 use std::hash::Hasher;
 
-/// Hashes a `u64` to itself. Of other writes it takes the first eight bytes, and those with less it passes over.
+/// Hashes a `u64` to itself. Of other writes it takes the first eight bytes, and those with less it
+/// passes over.
 #[derive(Clone, Copy, Debug, Default, Drop)]
 pub struct AsIs {
     hash: u64,

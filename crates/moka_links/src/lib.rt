@@ -1,4 +1,5 @@
-//! The orders in which the rows of a cache stand, and the chains of the rows of one hash, as links between numbers.
+//! The orders in which the rows of a cache stand, and the chains of the rows of one hash, as links
+//! between numbers.
 #![tactic(auto)]
 
 mod as_is;

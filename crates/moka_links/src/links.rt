@@ -14,11 +14,12 @@ use indexmap::IndexMap;
 use std::alloc::{AllocError, Global};
 use std::hash::BuildHasherDefault;
 
-/// Numbers in two orders, those that wait and those that are admitted, and in a chain for each hash.
+/// Numbers in two orders, those that wait and those that are admitted, and in a chain for each
+/// hash.
 ///
-/// A number is that of a node, of which the first two are the ends of the orders: so numbers begin at 2. Each has 32
-/// bits. Every call takes constant time, but `reserve`, which may have to grow, and `remove`, which follows the links
-/// of the numbers of one hash.
+/// A number is that of a node, of which the first two are the ends of the orders: so numbers begin
+/// at 2. Each has 32 bits. Every call takes constant time, but `reserve`, which may have to grow,
+/// and `remove`, which follows the links of the numbers of one hash.
 #[derive(Drop)]
 pub struct Links {
     orders: Orders,
@@ -145,7 +146,8 @@ impl Links {
         self.firsts.reserve(1)
     }
 
-    /// Puts a new number behind all that wait, and before all others of its hash. It takes no memory.
+    /// Puts a new number behind all that wait, and before all others of its hash. It takes no
+    /// memory.
     pub fn add(&mut self, number: usize, hash: u64)
         requires above { 2 ≤ number }
         requires within { number < places_of self.old }

@@ -7,8 +7,9 @@ use std::alloc::AllocError;
 
 /// The neighbours of a number in its order, the next number of its hash, and its hash.
 ///
-/// The first two nodes are the ends of the two orders. Each order is a ring: the end leads to the first number and
-/// the last number to the end. A number that stands in no order is alone: it leads to itself.
+/// The first two nodes are the ends of the two orders. Each order is a ring: the end leads to the
+/// first number and the last number to the end. A number that stands in no order is alone: it leads
+/// to itself.
 #[derive(Clone, Copy)]
 pub struct Node {
     pub hash: u64,

@@ -7,8 +7,8 @@ use std::marker::Model;
 
 /// A row as it stands in a store.
 ///
-/// A contract sees the row itself. The field is private, so that a store's `find` has no way to a row, its key or its
-/// hash but `look`. The other calls are for a row whose number is known already.
+/// A contract sees the row itself. The field is private: a look-up comes to a row, its key or its
+/// hash by `look`, which counts it, and the other calls are for a row whose number is known already.
 #[derive(Drop)]
 pub struct Shelved<R> {
     row: R,

@@ -47,7 +47,8 @@ pub enum Use {
     Remove,
 }
 
-/// What a call answers. Stores number their rows as they like, so a number is answered as its row's key.
+/// What a call answers. Stores number their rows as they like, so a number is answered as its row's
+/// key.
 #[derive(Clone, Copy, Debug, PartialEq)]
 pub enum Answer {
     Done,
@@ -79,7 +80,8 @@ fn hash_of(hashes: Hashes, key: u64) -> u64 {
     }
 }
 
-/// The row of a number, by the numbers that were given out, the last one first, since numbers may come again.
+/// The row of a number, by the numbers that were given out, the last one first, since numbers may
+/// come again.
 fn row_of(given: &[(usize, u64)], number: Option<usize>) -> Answer {
     for (at, key) in given.iter().rev() {
         if number == Some(*at) {

@@ -61,7 +61,8 @@ fn both_stores_answer_alike(rt: HostRuntime) -> Result<(), Fail> {
     Ok(())
 }
 
-/// How many rows a look-up of each key reads, where the first ten are stored, and the next ten are not.
+/// How many rows a look-up of each key reads, where the first ten are stored, and the next ten are
+/// not.
 fn most_reads<R: RowStore<u64, u64>>(
     alloc: Global,
     hashes: Hashes,

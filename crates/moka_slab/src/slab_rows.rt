@@ -1,5 +1,5 @@
 //! The row store of the caches: rows in a slab, and links between their numbers.
-ghost use Rattle.std.specs.Prelude.{◌≡◌, ◌⊎◌, ℕ, ◌+◌, ◌-◌, ◌<◌, ◌≤◌, ◌==◌, [], ◌∷◌, ◌++◌, length, filter, IsSome, IfSome, IfNone, OnSome};
+ghost use Rattle.std.specs.Prelude.{◌≡◌, ◌⊎◌, ℕ, ◌+◌, ◌-◌, ◌^◌, ◌<◌, ◌≤◌, ◌==◌, [], ◌∷◌, ◌++◌, length, filter, IsSome, IfSome, IfNone, OnSome};
 ghost use Rattle.std.specs.Prelude.{Some, None};
 ghost use Rattle.moka_rows.specs.Rows.{row_under, IsRowOf, NoneIsRowOf};
 ghost use Rattle.moka_links.specs.Links.{IsLinked};
@@ -15,10 +15,12 @@ use std::alloc::{AllocError, Global};
 /// The number of the row under the slab's first key.
 const FIRST: usize = 2;
 
-/// Rows in a slab, linked by their numbers in their two orders, and to the next row of the same hash.
+/// Rows in a slab, linked by their numbers in their two orders, and to the next row of the same
+/// hash.
 ///
-/// Every call takes constant time, but `find`, which reads the rows of one hash, `remove`, which follows the links of
-/// the rows of one hash, and `reserve`, which may have to grow. Numbers of removed rows are given out again.
+/// Every call takes constant time, but `find`, which reads the rows of one hash, `remove`, which
+/// follows the links of the rows of one hash, and `reserve`, which may have to grow. Numbers of
+/// removed rows are given out again.
 #[derive(Drop)]
 pub struct SlabRows<K, V> {
     rows: Slab<Shelved<Row<K, V>>>,
@@ -33,6 +35,16 @@ impl<K, V> SlabRows<K, V> {
         ensures { row_at self.now.rows number ≡ Some result.now }
     {
         &self.rows[number - FIRST]
+    }
+
+    /// Reads the row under a number for a look-up.
+    fn look(&self, number: usize, reads: &mut u64) -> &Row<K, V>
+        requires linked { IsLinked self.now.links number }
+        requires fits { reads.old < 2 ^ 64 - 1 }
+        ensures row { row_at self.now.rows number ≡ Some result.now }
+        ensures counted { reads.new ≡ reads.old + 1 }
+    {
+        self.shelved(number).look(reads)
     }
 }
 
@@ -66,7 +78,7 @@ impl<K: Eq + Drop, V: Drop> RowStore<K, V> for SlabRows<K, V> {
     {
         let mut at = self.links.first(hash);
         while let Some(number) = at {
-            let row = self.shelved(number).look(reads);
+            let row = self.look(number, reads);
             if *row.key == *key {
                 return Some(number);
             }
@@ -99,7 +111,8 @@ impl<K: Eq + Drop, V: Drop> RowStore<K, V> for SlabRows<K, V> {
         ensures admitted { admitted_rows self.new.rows self.new.links ≡ admitted_rows self.old.rows self.old.links }
     {
         let hash = row.hash;
-        let number = self.rows.insert_reserved(Shelved::new(row)) + FIRST;
+        let key = self.rows.insert_reserved(Shelved::new(row));
+        let number = key + FIRST;
         self.links.add(number, hash);
         number
     }
