@@ -1,5 +1,5 @@
-//! The maintenance of a cache: the expired leave, then what is over the capacity, and then each key that waits is
-//! admitted or leaves.
+//! The maintenance of a cache: the expired leave, then what is over the capacity, and then each key
+//! that waits is admitted or leaves.
 ghost use Rattle.std.specs.Prelude.{◌≡◌, ℕ, ◌+◌, ◌-◌, ◌≤◌, Some, List, [], ◌++◌, length, take, drop};
 ghost use Rattle.moka_model.specs.declared.notification.RemovalCause.TheVariants.{Expired, Size};
 ghost use Rattle.moka_model.specs.Maintenance.{front, evicted_in, after_parts};
@@ -25,13 +25,13 @@ enum Order {
     Waiting,
 }
 
-/// Runs a whole maintenance. Every expired row leaves, then the least recently used rows until those that stay admitted
-/// are within the capacity, and then each waiting row is admitted or leaves, as the policy says. Takes the earliest
-/// deadline of the admitted rows, or an earlier moment, and answers the earliest of those that stay, or an earlier one.
-/// It takes no memory.
+/// Runs a whole maintenance. Every expired row leaves, then the least recently used rows until
+/// those that stay admitted are within the capacity, and then each waiting row is admitted or
+/// leaves, as the policy says. Takes the earliest deadline of the admitted rows, or an earlier
+/// moment, and answers the earliest of those that stay, or an earlier one. It takes no memory.
 ///
-/// It visits the waiting rows, for each of them the rows that would have to leave for it, and those that leave. It visits
-/// the admitted rows only once the earliest deadline has come.
+/// It visits the waiting rows, for each of them the rows that would have to leave for it, and those
+/// that leave. It visits the admitted rows only once the earliest deadline has come.
 pub fn maintain<K: Eq + Drop, V: Drop, R: RowStore<K, V>, F: FrequencySource>(
     table: &mut Table<K, V, R>,
     lives: &Lives,
@@ -42,7 +42,8 @@ pub fn maintain<K: Eq + Drop, V: Drop, R: RowStore<K, V>, F: FrequencySource>(
     now: u64,
 ) -> Option<u128>
     requires { IsDueFrom earliest lives.now table.old.admitted }
-    ensures maintained { IsMaintained lives.now (is_lru policy) (F.count source.now) capacity now table.old table.new }
+    ensures maintained { IsMaintained lives.now (is_lru policy)
+        (F.count source.now) capacity now table.old table.new }
     ensures due { IsDueFrom result lives.now (entries table.new) }
     ensures room { table.old.room ≤ table.new.room }
 {
@@ -53,7 +54,8 @@ pub fn maintain<K: Eq + Drop, V: Drop, R: RowStore<K, V>, F: FrequencySource>(
     earliest
 }
 
-/// Evicts the expired admitted rows. Before the earliest deadline there is none, and no row is visited.
+/// Evicts the expired admitted rows. Before the earliest deadline there is none, and no row is
+/// visited.
 fn sweep_if_due<K: Eq + Drop, V: Drop, R: RowStore<K, V>>(
     table: &mut Table<K, V, R>,
     lives: &Lives,
@@ -63,7 +65,8 @@ fn sweep_if_due<K: Eq + Drop, V: Drop, R: RowStore<K, V>>(
     requires { IsDueFrom earliest lives.now table.old.admitted }
     ensures admitted { table.new.admitted ≡ living lives.now now table.old.admitted }
     ensures waiting { table.new.waiting ≡ table.old.waiting }
-    ensures notices { table.new.notices ≡ table.old.notices ++ notices_for Expired (dead lives.now now table.old.admitted) }
+    ensures notices { table.new.notices ≡ table.old.notices ++ notices_for Expired
+        (dead lives.now now table.old.admitted) }
     ensures due { IsDueFrom result lives.now table.new.admitted }
     ensures room { table.old.room ≤ table.new.room }
 {
@@ -74,8 +77,8 @@ fn sweep_if_due<K: Eq + Drop, V: Drop, R: RowStore<K, V>>(
     }
 }
 
-/// Evicts the expired rows of an order, and answers the earliest deadline of those that stay in it. Visits each row of
-/// the order.
+/// Evicts the expired rows of an order, and answers the earliest deadline of those that stay in it.
+/// Visits each row of the order.
 fn sweep<K: Eq + Drop, V: Drop, R: RowStore<K, V>>(
     table: &mut Table<K, V, R>,
     lives: &Lives,
@@ -84,7 +87,8 @@ fn sweep<K: Eq + Drop, V: Drop, R: RowStore<K, V>>(
 ) -> Option<u128>
     ensures swept { rows_in order table.new ≡ living lives.now now (rows_in order table.old) }
     ensures others { rows_in (other order) table.new ≡ rows_in (other order) table.old }
-    ensures notices { table.new.notices ≡ table.old.notices ++ notices_for Expired (dead lives.now now (rows_in order table.old)) }
+    ensures notices { table.new.notices ≡ table.old.notices ++ notices_for Expired
+        (dead lives.now now (rows_in order table.old)) }
     ensures due { IsDueFrom result lives.now (rows_in order table.new) }
     ensures room { table.old.room ≤ table.new.room }
 {
@@ -116,30 +120,37 @@ fn first_in<K: Eq + Drop, V: Drop, R: RowStore<K, V>>(
     }
 }
 
-/// Evicts the least recently used rows until those that stay admitted are within the capacity. Visits those that leave.
+/// Evicts the least recently used rows until those that stay admitted are within the capacity.
+/// Visits those that leave.
 fn shrink<K: Eq + Drop, V: Drop, R: RowStore<K, V>>(
     table: &mut Table<K, V, R>,
     capacity: Option<u64>,
 )
-    ensures admitted { table.new.admitted ≡ drop (front weight_of capacity 0 table.old.admitted) table.old.admitted }
+    ensures admitted { table.new.admitted ≡ drop
+        (front weight_of capacity 0 table.old.admitted) table.old.admitted }
     ensures waiting { table.new.waiting ≡ table.old.waiting }
-    ensures notices { table.new.notices ≡ table.old.notices ++ notices_for Size (take (front weight_of capacity 0 table.old.admitted) table.old.admitted) }
+    ensures notices { table.new.notices ≡ table.old.notices ++ notices_for Size
+        (take (front weight_of capacity 0 table.old.admitted) table.old.admitted) }
     ensures room { table.old.room ≤ table.new.room }
 {
     let count = victims(table, capacity, 0);
     evict_first(table, count);
 }
 
-/// Judges each waiting row, in order. Visits the waiting rows, and for each the victims that it would take.
+/// Judges each waiting row, in order. Visits the waiting rows, and for each the victims that it
+/// would take.
 fn judge_all<K: Eq + Drop, V: Drop, R: RowStore<K, V>, F: FrequencySource>(
     table: &mut Table<K, V, R>,
     capacity: Option<u64>,
     policy: EvictionPolicy,
     source: &F,
 )
-    ensures admitted { table.new.admitted ≡ (after_parts (rows_of table.old) (judgements (is_lru policy) (F.count source.now) capacity table.old)).admitted }
+    ensures admitted { table.new.admitted ≡
+        (after_parts (rows_of table.old)
+        (judgements (is_lru policy) (F.count source.now) capacity table.old)).admitted }
     ensures waiting { table.new.waiting ≡ [] }
-    ensures notices { table.new.notices ≡ table.old.notices ++ notices_for Size (evicted_in (judgements (is_lru policy) (F.count source.now) capacity table.old)) }
+    ensures notices { table.new.notices ≡ table.old.notices ++ notices_for Size
+        (evicted_in (judgements (is_lru policy) (F.count source.now) capacity table.old)) }
     ensures room { table.old.room ≤ table.new.room }
 {
     while let Some(number) = table.first_waiting() {
@@ -147,9 +158,9 @@ fn judge_all<K: Eq + Drop, V: Drop, R: RowStore<K, V>, F: FrequencySource>(
     }
 }
 
-/// Judges the first row that waits. One that is heavier than the capacity is evicted. Else its victims, the least
-/// recently used rows that have to leave to make room for it, leave and it is admitted, if it needs none or wins against
-/// them; if it does not win, it is evicted itself.
+/// Judges the first row that waits. One that is heavier than the capacity is evicted. Else its
+/// victims, the least recently used rows that have to leave to make room for it, leave and it is
+/// admitted, if it needs none or wins against them; if it does not win, it is evicted itself.
 fn judge<K: Eq + Drop, V: Drop, R: RowStore<K, V>, F: FrequencySource>(
     table: &mut Table<K, V, R>,
     capacity: Option<u64>,
@@ -159,7 +170,8 @@ fn judge<K: Eq + Drop, V: Drop, R: RowStore<K, V>, F: FrequencySource>(
 )
     requires first { Some number ≡ first_number table.old.waiting }
     requires apart { NumbersDiffer (entries table.old) }
-    ensures judged { (first : ℕ × Row K V) × (rest : List (ℕ × Row K V)) × JudgesFirst (is_lru policy) (F.count source.now) capacity first rest table.old table.new }
+    ensures judged { (first : ℕ × Row K V) × (rest : List (ℕ × Row K V)) × JudgesFirst
+        (is_lru policy) (F.count source.now) capacity first rest table.old table.new }
     ensures room { table.old.room ≤ table.new.room }
 {
     let row = table.row(number);
@@ -177,7 +189,8 @@ fn judge<K: Eq + Drop, V: Drop, R: RowStore<K, V>, F: FrequencySource>(
     }
 }
 
-/// How many of the least recently used rows have to leave to make room for this much more weight. Visits them.
+/// How many of the least recently used rows have to leave to make room for this much more weight.
+/// Visits them.
 fn victims<K: Eq + Drop, V: Drop, R: RowStore<K, V>>(
     table: &Table<K, V, R>,
     capacity: Option<u64>,
@@ -213,13 +226,15 @@ fn wins<K: Eq + Drop, V: Drop, R: RowStore<K, V>, F: FrequencySource>(
     count: usize,
 ) -> bool
     requires { count ≤ length table.now.admitted }
-    ensures { result ≡ hash_wins (is_lru policy) (F.count source.now) hash (take count table.now.admitted) }
+    ensures { result ≡ hash_wins (is_lru policy) (F.count source.now) hash
+        (take count table.now.admitted) }
 {
     !policy.is_tiny_lfu()
         || frequency_of_first(table, source, count) < u128::from(source.estimate(hash))
 }
 
-/// How often the hashes of this many of the least recently used rows were noted together. Visits them.
+/// How often the hashes of this many of the least recently used rows were noted together. Visits
+/// them.
 fn frequency_of_first<K: Eq + Drop, V: Drop, R: RowStore<K, V>, F: FrequencySource>(
     table: &Table<K, V, R>,
     source: &F,
@@ -247,7 +262,8 @@ fn evict_first<K: Eq + Drop, V: Drop, R: RowStore<K, V>>(table: &mut Table<K, V,
     requires { count ≤ length table.old.admitted }
     ensures admitted { table.new.admitted ≡ drop count table.old.admitted }
     ensures waiting { table.new.waiting ≡ table.old.waiting }
-    ensures notices { table.new.notices ≡ table.old.notices ++ notices_for Size (take count table.old.admitted) }
+    ensures notices { table.new.notices ≡ table.old.notices ++ notices_for Size
+        (take count table.old.admitted) }
     ensures room { table.old.room ≤ table.new.room }
 {
     for _ in 0..count {

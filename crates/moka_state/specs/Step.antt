@@ -24,7 +24,8 @@ call_of EntryCount = Call.EntryCount
 call_of WeightedSize = Call.WeightedSize
 call_of TakeNotice = Call.TakeNotice
 
-module _ {K V E : Type 0} (eq : K → K → Bool) (is_clone : V → V → Type 0) (settings : Settings K V) (steps : List (AcceptedStep K V E)) where
+module _ {K V E : Type 0} (eq : K → K → Bool) (is_clone : V → V → Type 0) (settings : Settings K V)
+    (steps : List (AcceptedStep K V E)) where
   -- a call is accepted with this answer, and it is not out of numbers
   abbrev pub IsAccepted : Call K V → Answer K V E → Type 0
   IsAccepted call answer = IsAnswerOf is_clone (accepted eq settings steps call) answer × ¬ (IsOutOfNumbers eq settings steps call)

@@ -38,15 +38,16 @@ pub struct Settings<K: Eq, V: Clone, C: CacheTypes<K, V>> {
     pub time_to_live: Option<Duration>,
     /// How long a value lives after its last use: its write, or a recorded look that found it live.
     pub time_to_idle: Option<Duration>,
-    /// How much may stay stored, by the weights of the values; none is no bound. A cache may pass it by the 64 keys that
-    /// may wait for a maintenance. With 0 nothing is stored.
+    /// How much may stay stored, by the weights of the values; none is no bound. A cache may pass
+    /// it by the 64 keys that may wait for a maintenance. With 0 nothing is stored.
     pub max_capacity: Option<u64>,
     /// Which keys leave where the cache has passed its capacity, and which new ones are admitted.
     pub eviction_policy: EvictionPolicy,
-    /// Weighs each value when it is written; without one each weighs 1, so that the capacity is a number of keys.
+    /// Weighs each value when it is written; without one each weighs 1, so that the capacity is a
+    /// number of keys.
     pub weigher: Option<Arc<C::Weigher>>,
-    /// Gives values lives of their own, beside the two lives above: the earliest end counts. Without one no value has
-    /// one.
+    /// Gives values lives of their own, beside the two lives above: the earliest end counts.
+    /// Without one no value has one.
     pub expiry: Option<Arc<C::Expiry>>,
     /// The number that the first write draws.
     pub first_number: u64,
@@ -92,19 +93,21 @@ impl<K: Hash + Drop, V: Clone, C: CacheTypes<K, V>, R: RowStore<K, V>> Model for
     ghost Value = { StateData K V C.Hasher C.Weigher C.Expiry C.Frequency };
 
     ghost view = { λ state. record {
-      settings = settings_of state.lives.time_to_live state.lives.time_to_idle state.max_capacity state.first_number state.behaviour;
+      settings = settings_of state.lives.time_to_live state.lives.time_to_idle state.max_capacity
+          state.first_number state.behaviour;
       books = books_by state.table state.latest state.next_number;
       source = state.source;
     } };
 
     ghost invariant = { λ state. IsSound C.keeps
-        (hash_by C.Hasher.build_hasher C.Hasher.Hasher.write C.Hasher.Hasher.finish K.hash_input state.behaviour.hasher)
+        (hash_by C.Hasher.build_hasher C.Hasher.Hasher.write C.Hasher.Hasher.finish K.hash_input
+        state.behaviour.hasher)
         state.lives state.earliest state.table };
 }
 
 impl<K: Hash + Drop, V: Clone, C: CacheTypes<K, V>, R: RowStore<K, V>> State<K, V, C, R> {
-    /// A cache without values. The weigher and the expiry, where they are given, do what the cache's types say of them.
-    /// It takes the memory of the source of frequencies, and no other.
+    /// A cache without values. The weigher and the expiry, where they are given, do what the
+    /// cache's types say of them. It takes the memory of the source of frequencies, and no other.
     pub fn new(alloc: Global, settings: Settings<K, V, C>) -> Result<Self, Refused>
         requires weighs { IfSome settings.weigher (λ weigher.
             C.Weigher.weighs (arc_value weigher) (C.weight (arc_value weigher))) }
@@ -112,7 +115,8 @@ impl<K: Hash + Drop, V: Clone, C: CacheTypes<K, V>, R: RowStore<K, V>> State<K, 
             C.Expiry.gives (arc_value expiry) (C.lifetimes (arc_value expiry))) }
         ensures empty { IfOk result (λ state. ⟦<C as StateView<K, V>>⟧.stands_for
             (⟦<C as StateView<K, V>>⟧.settings
-            (settings_of settings.time_to_live settings.time_to_idle settings.max_capacity settings.first_number (record {
+            (settings_of settings.time_to_live settings.time_to_idle settings.max_capacity
+            settings.first_number (record {
               is_lru = is_lru settings.eviction_policy;
               hasher = arc_value settings.hasher;
               weigher = option_map arc_value settings.weigher;
@@ -144,11 +148,12 @@ impl<K: Hash + Drop, V: Clone, C: CacheTypes<K, V>, R: RowStore<K, V>> State<K, 
         })
     }
 
-    /// The live value of a key, which is then used at this moment: a recorded look. The key's hash is noted, whether there
-    /// is a value or not. A value that is found may get another life of its own.
+    /// The live value of a key, which is then used at this moment: a recorded look. The key's hash
+    /// is noted, whether there is a value or not. A value that is found may get another life of its
+    /// own.
     ///
-    /// Refused for want of memory for the value's copy alone: a look that finds no live value takes none and succeeds.
-    /// Reads the rows that have the key's hash.
+    /// Refused for want of memory for the value's copy alone: a look that finds no live value takes
+    /// none and succeeds. Reads the rows that have the key's hash.
     pub fn get(&mut self, key: &K, now: u64) -> Result<Option<V>, Refused>
         ensures reply { IfOk result (λ found.
             ⟦<C as StateView<K, V>>⟧.answers self.old (Get key.now now) (Found found)) }
@@ -197,12 +202,14 @@ impl<K: Hash + Drop, V: Clone, C: CacheTypes<K, V>, R: RowStore<K, V>> State<K, 
         Ok(Some(value))
     }
 
-    /// Writes a value for a key. The value that stands for the key, live or expired, leaves and is noticed. Where 64 or
-    /// more keys wait, a maintenance comes first, at the same moment. Where the capacity is 0 nothing is written.
+    /// Writes a value for a key. The value that stands for the key, live or expired, leaves and is
+    /// noticed. Where 64 or more keys wait, a maintenance comes first, at the same moment. Where
+    /// the capacity is 0 nothing is written.
     ///
-    /// Refused with `NumbersUsedUp` exactly where a number is to be drawn and none is left, and else with `OutOfMemory`
-    /// alone. A refused write hands back the key and the value, and changes nothing. Where the capacity is 0 it succeeds
-    /// without memory. Reads the rows that have the key's hash, beside a maintenance.
+    /// Refused with `NumbersUsedUp` exactly where a number is to be drawn and none is left, and
+    /// else with `OutOfMemory` alone. A refused write hands back the key and the value, and changes
+    /// nothing. Where the capacity is 0 it succeeds without memory. Reads the rows that have the
+    /// key's hash, beside a maintenance.
     pub fn insert(&mut self, key: K, value: V, now: u64) -> Result<(), InsertRefused<K, V>>
         requires { C.keeps key value }
         ensures { WriteEnds
@@ -324,32 +331,36 @@ impl<K: Hash + Drop, V: Clone, C: CacheTypes<K, V>, R: RowStore<K, V>> State<K, 
 
     /// The first notice that has not been taken, in the order of leaving. It takes no memory.
     pub fn take_notice(&mut self) -> Option<Notice<K, V>>
-        ensures reply { ⟦<C as StateView<K, V>>⟧.answers self.old TakeNotice (Noticed (option_map removal_of result)) }
+        ensures reply { ⟦<C as StateView<K, V>>⟧.answers self.old TakeNotice
+            (Noticed (option_map removal_of result)) }
         ensures stands { ⟦<C as StateView<K, V>>⟧.follows self.old TakeNotice self.new }
         ensures kept { IfSome result (λ notice. C.keeps (arc_value notice.key) notice.value) }
     {
         self.table.take_notice()
     }
 
-    /// Runs a maintenance: the expired values leave, and where the admitted pass the capacity the least recently used
-    /// leave. Then each that waits, in their order, is admitted, where need be in place of the least recently used, or it
-    /// leaves, as the policy wants it. Each that leaves is noticed. It takes no memory.
+    /// Runs a maintenance: the expired values leave, and where the admitted pass the capacity the
+    /// least recently used leave. Then each that waits, in their order, is admitted, where need be
+    /// in place of the least recently used, or it leaves, as the policy wants it. Each that leaves
+    /// is noticed. It takes no memory.
     ///
-    /// Visits the waiting rows, for each the admitted ones that would have to leave for it, and the others only where one
-    /// may have expired.
+    /// Visits the waiting rows, for each the admitted ones that would have to leave for it, and the
+    /// others only where one may have expired.
     pub fn run_pending_tasks(&mut self, now: u64)
         ensures stands { ⟦<C as StateView<K, V>>⟧.follows self.old (RunPendingTasks now) self.new }
 
-        // Nothing waits then, what is stored is live, and it is within the capacity, by its weight and so by its number where
-        // each value weighs 1.
+        // Nothing waits then, what is stored is live, and it is within the capacity, by its weight
+        // and so by its number where each value weighs 1.
         ensures none_waits { self.new.books.orders.waiting ≡ [] }
         ensures all_live { ⟦<C as StateView<K, V>>⟧.at_each_history self.old (λ settings steps.
-            AllByRecursion (λ w. is_live settings w (latest (Maintained None now ∷ events_in steps)) ≡ true)
+            AllByRecursion
+            (λ w. is_live settings w (latest (Maintained None now ∷ events_in steps)) ≡ true)
             (all_writes self.new)) }
         ensures within { IfSome self.new.settings.max_capacity (λ capacity.
             total (λ w. w.policy_weight) (all_writes self.new) ≤ capacity) }
-        ensures count { ⟦<C as StateView<K, V>>⟧.at_each_history self.old (λ settings steps. WeighsOnes settings →
-            IfSome self.new.settings.max_capacity (λ capacity. length (all_writes self.new) ≤ capacity)) }
+        ensures count { ⟦<C as StateView<K, V>>⟧.at_each_history self.old (λ settings steps.
+            WeighsOnes settings → IfSome self.new.settings.max_capacity (λ capacity.
+            length (all_writes self.new) ≤ capacity)) }
     {
         let now = self.latest.max(now);
         self.earliest = maintain(
@@ -364,22 +375,24 @@ impl<K: Hash + Drop, V: Clone, C: CacheTypes<K, V>, R: RowStore<K, V>> State<K, 
         self.latest = now;
     }
 
-    /// How many keys are stored, with those that wait and those whose values are expired. With a capacity, and where each
-    /// value weighs 1, it is at most the capacity and 64 more.
+    /// How many keys are stored, with those that wait and those whose values are expired. With a
+    /// capacity, and where each value weighs 1, it is at most the capacity and 64 more.
     pub fn entry_count(&self) -> u64
         ensures counted { result ≡ length (all_writes self.now) }
         ensures reply { ⟦<C as StateView<K, V>>⟧.answers self.now EntryCount (Counted result) }
         ensures stands { ⟦<C as StateView<K, V>>⟧.follows self.now EntryCount self.now }
-        ensures bounded { ⟦<C as StateView<K, V>>⟧.at_each_history self.now (λ settings steps. WeighsOnes settings →
-            IfSome self.now.settings.max_capacity (λ capacity. result ≤ capacity + flush_point)) }
+        ensures bounded { ⟦<C as StateView<K, V>>⟧.at_each_history self.now (λ settings steps.
+            WeighsOnes settings → IfSome self.now.settings.max_capacity (λ capacity.
+            result ≤ capacity + flush_point)) }
     {
         self.table.len() as u64
     }
 
-    /// How heavy all that is stored is, with what waits and what is expired; where that is more than `u64::MAX`, this is
-    /// `u64::MAX`.
+    /// How heavy all that is stored is, with what waits and what is expired; where that is more
+    /// than `u64::MAX`, this is `u64::MAX`.
     pub fn weighted_size(&self) -> u64
-        ensures counted { result ≡ min (total (λ w. w.policy_weight) (all_writes self.now)) greatest_number }
+        ensures counted { result
+            ≡ min (total (λ w. w.policy_weight) (all_writes self.now)) greatest_number }
         ensures reply { ⟦<C as StateView<K, V>>⟧.answers self.now WeightedSize (Counted result) }
         ensures stands { ⟦<C as StateView<K, V>>⟧.follows self.now WeightedSize self.now }
     {

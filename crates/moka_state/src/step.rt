@@ -54,8 +54,8 @@ pub enum Reply<K, V> {
 }
 
 impl<K: Hash + Drop, V: Clone, C: CacheTypes<K, V>, R: RowStore<K, V>> State<K, V, C, R> {
-    /// Does one step. A step and the call that it stands for answer the same. A refused step has changed nothing, and
-    /// what it carried is dropped.
+    /// Does one step. A step and the call that it stands for answer the same. A refused step has
+    /// changed nothing, and what it carried is dropped.
     pub fn step(&mut self, step: Step<K, V>) -> Reply<K, V>
         requires { StepKeeps C.keeps step }
         ensures reply { ⟦<C as StateView<K, V>>⟧.at_each_history self.old (λ settings steps.
@@ -89,8 +89,9 @@ impl<K: Hash + Drop, V: Clone, C: CacheTypes<K, V>, R: RowStore<K, V>> State<K, 
         }
     }
 
-    /// Does steps in order, and answers their replies. With a capacity, and where each value weighs 1, no more keys are
-    /// stored then than it allows, and 64. Where the list of replies finds no room, no step was done.
+    /// Does steps in order, and answers their replies. With a capacity, and where each value weighs
+    /// 1, no more keys are stored then than it allows, and 64. Where the list of replies finds no
+    /// room, no step was done.
     pub fn run(&mut self, steps: Vec<Step<K, V>>) -> Result<Vec<Reply<K, V>>, Refused>
         requires { AllByRecursion (StepKeeps C.keeps) steps.items }
         ensures replies { IfOk result (λ replies.
@@ -101,7 +102,8 @@ impl<K: Hash + Drop, V: Clone, C: CacheTypes<K, V>, R: RowStore<K, V>> State<K, 
             ⟦<C as StateView<K, V>>⟧.stands_for settings self.new
             (after_all K.eq settings steps.items replies.items before))) }
         ensures bounded { IfOk result (λ _.
-            ⟦<C as StateView<K, V>>⟧.at_each_history self.old (λ settings before. WeighsOnes settings →
+            ⟦<C as StateView<K, V>>⟧.at_each_history self.old (λ settings before.
+            WeighsOnes settings →
             IfSome self.new.settings.max_capacity (λ capacity.
             length (all_writes self.new) ≤ capacity + flush_point))) }
         ensures refused { OnErr result (self.new ≡ self.old) }

@@ -45,10 +45,13 @@ impl<K: Eq + Drop, V: Drop, R: RowStore<K, V>> Model for Table<K, V, R> {
       admitted = R.admitted table.rows;
       waiting = R.waiting table.rows;
       notices = table.notices.items;
-      room = min (R.room table.rows) (deque_capacity table.notices - (length (R.admitted table.rows ++ R.waiting table.rows) + deque_len table.notices));
+      room = min (R.room table.rows)
+          (deque_capacity table.notices -
+          (length (R.admitted table.rows ++ R.waiting table.rows) + deque_len table.notices));
     } };
 
-    ghost invariant = { λ table. IsKept (R.admitted table.rows) (R.waiting table.rows) table.weights (deque_len table.notices) (deque_capacity table.notices) };
+    ghost invariant = { λ table. IsKept (R.admitted table.rows) (R.waiting table.rows) table.weights
+        (deque_len table.notices) (deque_capacity table.notices) };
 }
 
 impl<K: Eq + Drop, V: Drop, R: RowStore<K, V>> Table<K, V, R> {
@@ -76,7 +79,8 @@ impl<K: Eq + Drop, V: Drop, R: RowStore<K, V>> Table<K, V, R> {
 
     /// The number of the row of a key, given the key's hash.
     pub fn find(&self, key: &K, hash: u64) -> Option<usize>
-        ensures found { IfSome result (λ number. IfSome (row_under number (entries self.now)) (IsRowOf K.eq key.now hash)) }
+        ensures found { IfSome result
+            (λ number. IfSome (row_under number (entries self.now)) (IsRowOf K.eq key.now hash)) }
         ensures stored { IfSome result (λ number. IsSome (row_under number (entries self.now))) }
         ensures absent { IfNone result (NoneIsRowOf K.eq key.now hash (entries self.now)) }
     {
@@ -162,7 +166,8 @@ impl<K: Eq + Drop, V: Drop, R: RowStore<K, V>> Table<K, V, R> {
         self.rows.first_waiting()
     }
 
-    /// The number of the row behind this one, in the order in which this one stands. No two rows have one number.
+    /// The number of the row behind this one, in the order in which this one stands. No two rows
+    /// have one number.
     pub fn next(&self, number: usize) -> Option<usize>
         requires { IsSome (row_under number (entries self.now)) }
         ensures behind { MatchOption (row_under number self.now.admitted)
@@ -173,7 +178,8 @@ impl<K: Eq + Drop, V: Drop, R: RowStore<K, V>> Table<K, V, R> {
         self.rows.next(number)
     }
 
-    /// Makes room for one more row and for one more notice. Where memory is refused, nothing has changed.
+    /// Makes room for one more row and for one more notice. Where memory is refused, nothing has
+    /// changed.
     pub fn reserve(&mut self) -> Result<(), AllocError>
         ensures room { OnOk result (0 < self.new.room) }
         ensures same { SameRows self.old self.new }
@@ -183,7 +189,8 @@ impl<K: Eq + Drop, V: Drop, R: RowStore<K, V>> Table<K, V, R> {
         self.rows.reserve()
     }
 
-    /// Makes room for a write of a key, and looks where its row is. Where memory is refused, nothing has changed.
+    /// Makes room for a write of a key, and looks where its row is. Where memory is refused,
+    /// nothing has changed.
     pub fn lookup(&mut self, key: &K, hash: u64) -> Result<Lookup<K>, AllocError>
         ensures lookup { IfOk result (IsLookupOf K.eq key.now hash (entries self.new)) }
         ensures room { OnOk result (0 < self.new.room) }
@@ -203,7 +210,8 @@ impl<K: Eq + Drop, V: Drop, R: RowStore<K, V>> Table<K, V, R> {
     pub fn add(&mut self, row: Row<K, V>)
         requires { 0 < self.old.room }
         ensures admitted { self.new.admitted ≡ self.old.admitted }
-        ensures waiting { (number : ℕ) × (self.new.waiting ≡ self.old.waiting ++ (number, row) ∷ []) }
+        ensures waiting { (number : ℕ) ×
+            (self.new.waiting ≡ self.old.waiting ++ (number, row) ∷ []) }
         ensures notices { self.new.notices ≡ self.old.notices }
     {
         self.weights.waiting += u128::from(row.info.policy_weight);
@@ -234,7 +242,8 @@ impl<K: Eq + Drop, V: Drop, R: RowStore<K, V>> Table<K, V, R> {
         requires room { 0 < self.old.room }
         ensures rows { UsesRow number (overwritten value info) self.old self.new }
         ensures notices { IfSome (row_under number (entries self.old)) (λ row.
-            self.new.notices ≡ self.old.notices ++ record { key = key; value = row.value; cause = cause } ∷ []) }
+            self.new.notices ≡ self.old.notices
+            ++ record { key = key; value = row.value; cause = cause } ∷ []) }
     {
         let weights = self.weights_with(number, info.policy_weight);
         let before = self.rows.overwrite(number, value, info);
@@ -249,11 +258,13 @@ impl<K: Eq + Drop, V: Drop, R: RowStore<K, V>> Table<K, V, R> {
         }
     }
 
-    /// Admits a row that waits, as the most recently used. It takes no memory, and none of the room.
+    /// Admits a row that waits, as the most recently used. It takes no memory, and none of the
+    /// room.
     pub fn admit(&mut self, number: usize)
         requires { IsSome (row_under number self.old.waiting) }
         ensures waiting { self.new.waiting ≡ without_row number self.old.waiting }
-        ensures admitted { IfSome (row_under number self.old.waiting) (λ row. self.new.admitted ≡ self.old.admitted ++ (number, row) ∷ []) }
+        ensures admitted { IfSome (row_under number self.old.waiting)
+            (λ row. self.new.admitted ≡ self.old.admitted ++ (number, row) ∷ []) }
         ensures notices { self.new.notices ≡ self.old.notices }
         ensures room { self.old.room ≤ self.new.room }
     {
@@ -268,7 +279,8 @@ impl<K: Eq + Drop, V: Drop, R: RowStore<K, V>> Table<K, V, R> {
         requires { IsSome (row_under number (entries self.old)) }
         ensures rows { TakesRow number self.old self.new }
         ensures notices { IfSome (row_under number (entries self.old)) (λ row.
-            self.new.notices ≡ self.old.notices ++ record { key = row.key; value = row.value; cause = cause } ∷ []) }
+            self.new.notices ≡ self.old.notices
+            ++ record { key = row.key; value = row.value; cause = cause } ∷ []) }
         ensures room { self.old.room ≤ self.new.room }
     {
         let weights = self.weights_with(number, 0);

@@ -25,8 +25,8 @@ pub enum Target<K> {
 }
 
 impl<K: Drop> Lookup<K> {
-    /// The target of a write of a key that was looked for. A key that has no row is shared; where memory is refused it is
-    /// handed back.
+    /// The target of a write of a key that was looked for. A key that has no row is shared; where
+    /// memory is refused it is handed back.
     pub fn target<S: IntoShared<K>>(self, key: S, alloc: Global) -> Result<Target<K>, S>
         ensures target { IfOk result (IsTargetFor (S.key_of key) self) }
         ensures handed_back { IfErr result (λ back. back ≡ key) }
@@ -42,8 +42,8 @@ impl<K: Drop> Lookup<K> {
 }
 
 impl<K: Eq + Drop, V: Drop, R: RowStore<K, V>> Table<K, V, R> {
-    /// The target of a write of a key that was looked for before some rows left: its own row may be one of them.
-    /// It takes no memory.
+    /// The target of a write of a key that was looked for before some rows left: its own row may be
+    /// one of them. It takes no memory.
     pub fn target_now(&self, lookup: Lookup<K>, key: Arc<K>, hash: u64) -> Target<K>
         ensures { IsTargetNow K.eq hash lookup key (entries self.now) result }
     {
@@ -59,7 +59,8 @@ impl<K: Eq + Drop, V: Drop, R: RowStore<K, V>> Table<K, V, R> {
         }
     }
 
-    /// Puts a value to a target, at the moments of a write. It takes none of the memory that was not made room for.
+    /// Puts a value to a target, at the moments of a write. It takes none of the memory that was
+    /// not made room for.
     pub fn put(&mut self, target: Target<K>, hash: u64, value: V, info: EntryInfo, lives: &Lives)
         requires stored { HasTarget target self.old }
         requires room { 0 < self.old.room }
@@ -82,8 +83,8 @@ impl<K: Eq + Drop, V: Drop, R: RowStore<K, V>> Table<K, V, R> {
 }
 
 impl<K: Hash + Drop, V: Clone, R: RowStore<K, V>> Table<K, V, R> {
-    /// What is to be kept of a value of this weight that a write puts to a target at a moment. The expiry is asked here
-    /// for the life of its own.
+    /// What is to be kept of a value of this weight that a write puts to a target at a moment. The
+    /// expiry is asked here for the life of its own.
     pub fn info_of<C: CacheTypes<K, V>>(
         &self,
         target: &Target<K>,
@@ -94,7 +95,8 @@ impl<K: Hash + Drop, V: Clone, R: RowStore<K, V>> Table<K, V, R> {
         lives: &Lives,
     ) -> EntryInfo
         requires { HasTarget target.now self.now }
-        ensures { IsInfoOf (⟦<C as BehaviourView<K, V>>⟧.behaviour behaviour.now) lives.now target.now value.now weight now self.now result }
+        ensures { IsInfoOf (⟦<C as BehaviourView<K, V>>⟧.behaviour behaviour.now) lives.now
+            target.now value.now weight now self.now result }
     {
         let own_life = match target {
             Target::Over { number, key } => {

@@ -18,7 +18,8 @@ pub struct Lives {
 }
 
 impl Lives {
-    /// The moment from which a value with these moments and this life of its own is expired, in nanoseconds.
+    /// The moment from which a value with these moments and this life of its own is expired, in
+    /// nanoseconds.
     pub fn deadline(&self, info: EntryInfo) -> Option<u128>
         ensures { result ≡ deadline_of self.now info }
     {
@@ -36,10 +37,11 @@ impl Lives {
         has_come(self.deadline(info), now)
     }
 
-    /// The cause under which such a value leaves: expired, where its deadline has come, and else the
-    /// caller's own.
+    /// The cause under which such a value leaves: expired, where its deadline has come, and else
+    /// the caller's own.
     pub fn cause(&self, info: EntryInfo, now: u64, own: RemovalCause) -> RemovalCause
-        ensures { result ≡ (if has_come (deadline_of self.now info) now then RemovalCause.Expired else own) }
+        ensures { result ≡
+            (if has_come (deadline_of self.now info) now then RemovalCause.Expired else own) }
     {
         if self.is_expired(info, now) {
             RemovalCause::Expired
@@ -49,7 +51,8 @@ impl Lives {
     }
 }
 
-// A life that begins at a moment ends at their sum, which fits: a life has less than 2^94 nanoseconds.
+// A life that begins at a moment ends at their sum, which fits: a life has less than 2^94
+// nanoseconds.
 fn ends_at(life: Option<Duration>, from: u64) -> Option<u128>
     ensures { result ≡ ends_at (option_map as_nanos life) from }
 {

@@ -27,8 +27,8 @@ impl<K: Hash, V: Clone, C: CacheTypes<K, V>> BehaviourView<K, V> for C {
     ghost frequency = { estimates C.Frequency.noted C.Frequency.count };
 }
 
-/// What a state of these types is, by the data that it keeps, and the relations in which its calls stand. It follows from
-/// the types, and nothing more is to be said of them.
+/// What a state of these types is, by the data that it keeps, and the relations in which its calls
+/// stand. It follows from the types, and nothing more is to be said of them.
 pub trait StateView<K: Hash, V: Clone>: CacheTypes<K, V> {
     ghost use Rattle.std.specs.Prelude.{List};
     ghost use Rattle.moka_model.specs.Lives.{Settings};
@@ -60,7 +60,8 @@ pub trait StateView<K: Hash, V: Clone>: CacheTypes<K, V> {
         → StateData K V Self.Hasher Self.Weigher Self.Expiry Self.Frequency
         → Type 0 };
 
-    /// This, when it is handed out, is the answer to the call, after whatever steps the state stands for.
+    /// This, when it is handed out, is the answer to the call, after whatever steps the state
+    /// stands for.
     ghost answers: { StateData K V Self.Hasher Self.Weigher Self.Expiry Self.Frequency
         → Call K V
         → Answer K V Self.Error
