@@ -11,7 +11,6 @@ use Rattle.std.specs.Hash.BuildHasherDefault.{initial_hasher}
 use Rattle.std.specs.String.{string_bytes}
 use Rattle.moka_policy.proofs.Callers.{number_hash-remainder}
 use Rattle.moka_policy.specs.Frequency.{none_noted, noted, estimated, estimate_after}
-use Rattle.moka_model.specs.Lives as lives
 use Rattle.moka_model.specs.Lives.{no_lifetimes}
 use Rattle.moka_model.specs.StandsFor.{StandsFor}
 use Rattle.moka_state.specs.Behaviour as behaviours

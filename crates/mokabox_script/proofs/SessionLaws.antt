@@ -11,8 +11,8 @@ use Rattle.mokabox_lines.specs.Answer.{answer_text}
 use Rattle.mokabox_lines.specs.declared.answer.Answer.{Answer}
 use Rattle.mokabox_lines.specs.Command.{PlainCommand}
 use Rattle.mokabox_lines.specs.declared.command.Command.TheVariants as commands
-use Rattle.mokabox_script.specs.Script.{Text, is_copy, CacheSettings, CacheStep, Course, Makes, moment_after, answer_of, CallsPrint, CommandPrints}
-use Rattle.mokabox_script.specs.Session.{CacheData, view, IsAt, Prints}
+use Rattle.mokabox_script.specs.Script.{Text, is_copy, CacheSettings, CacheStep, Makes, moment_after, answer_of, CallsPrint}
+use Rattle.mokabox_script.specs.Session.{CacheData, view, Prints}
 
 -- The cache goes from one state to another by a call with this reply.
 pub record Goes (old new : CacheData) (call : Call ℕ Text) (reply : Reply ℕ Text) : Type 0 where

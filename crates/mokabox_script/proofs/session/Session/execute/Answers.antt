@@ -1,6 +1,5 @@
-use Rattle.std.proofs.Common.{[], ◌∷◌, refl, ap, ◌∙◌}
+use Rattle.std.proofs.Common.{[], ◌∷◌, refl, ap}
 use Rattle.moka_model.specs.Calls as calls
-use Rattle.moka_state.specs.Step.{call_of}
 use Rattle.mokabox_lines.specs.Command.{plain_command}
 use Rattle.mokabox_script.proofs.SessionLaws.{IsOneCall, moved, one_call}
 use Rattle.mokabox_script.proofs.session.Session.execute.Goals as goal
