@@ -97,11 +97,7 @@ impl CacheTypes<u64, u32> for ByData {
     ghost copies_compose = { λ _ _ _ a b. b ∙ a };
 }
 
-fn cache(
-    alloc: Global,
-    scale: u32,
-    seconds: u64,
-) -> Result<CacheState<u64, u32, ByData>, Refused> {
+fn cache(alloc: Global, scale: u32, seconds: u64) -> Result<CacheState<u64, u32, ByData>, Refused> {
     let Ok(hasher) = Arc::new(alloc, ByNumber::default()) else {
         return Err(Refused::OutOfMemory);
     };
