@@ -1,11 +1,12 @@
 -- What the crates above may use of the proofs here: numbers in lists, links one by one, and what holds of all that stand.
-pub use Rattle.moka_links.proofs.PathLemmas.{IsApart, apart-counted, absent-without, among-push, among-without, among-others, without-here, without-there, without-absent, among-front, among-back, among-parts, no-more}
-pub use Rattle.moka_links.proofs.ChainLemmas.{IsLine}
+pub use Rattle.moka_orders.proofs.Callers.{IsApart, apart-counted, absent-without, among-push, among-without, among-others}
+pub use Rattle.moka_orders.proofs.Callers.{without-here, without-there, without-absent, among-front, among-back, among-parts, no-more}
+pub use Rattle.moka_orders.proofs.Callers.{IsLine}
 use Rattle.std.proofs.Common.{◌≡◌, ℕ, ◌<◌, ◌≤◌, ◌^◌, Bool, true, false, length, arith}
-use Rattle.moka_links.specs.Paths.{IsAmong, IsAbsent}
+use Rattle.moka_orders.specs.Paths.{IsAmong, IsAbsent}
 use Rattle.moka_links.specs.Links.{IsLinked, admitted_of, waiting_of, numbers_of, hash_at, first_at, same_at, chain_of, places_of}
 use Rattle.moka_links.specs.declared.links.Links.{Links}
-use Rattle.moka_links.proofs.OrderLemmas.{not-both, few-ordered, in-admitted as among-admitted, in-waiting as among-waiting}
+use Rattle.moka_orders.proofs.Callers.{not-both, few-ordered, in-admitted as among-admitted, in-waiting as among-waiting}
 use Rattle.moka_links.proofs.IndexLemmas.{Chained, chained-in, stands-among, among-stands, number-within, number-above}
 
 -- what is linked is a row's number and has a place
@@ -44,8 +45,10 @@ few-linked l =
     (omega (arith, few, first), omega (arith, few, second))
 
 -- which order a number stands in, by what `is_admitted` says
-pub in-admitted : (l : Links) (k : ℕ) (said : Bool) → IsLinked l k → (IsAmong k (waiting_of l) → said ≡ false) → said ≡ true → IsAmong k (admitted_of l)
+pub in-admitted : (l : Links) (k : ℕ) (said : Bool) → IsLinked l k
+    → (IsAmong k (waiting_of l) → said ≡ false) → said ≡ true → IsAmong k (admitted_of l)
 in-admitted l k said there waits is = among-admitted (admitted_of l) (waiting_of l) k said there waits is
 
-pub in-waiting : (l : Links) (k : ℕ) (said : Bool) → IsLinked l k → (IsAmong k (admitted_of l) → said ≡ true) → said ≡ false → IsAmong k (waiting_of l)
+pub in-waiting : (l : Links) (k : ℕ) (said : Bool) → IsLinked l k
+    → (IsAmong k (admitted_of l) → said ≡ true) → said ≡ false → IsAmong k (waiting_of l)
 in-waiting l k said there admitted is = among-waiting (admitted_of l) (waiting_of l) k said there admitted is

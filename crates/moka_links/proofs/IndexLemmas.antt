@@ -3,15 +3,16 @@ use Rattle.std.proofs.Common.{◌≡◌, ◌≢◌, ℕ, ◌<◌, ◌≤◌, ◌
 use Rattle.std.specs.Prelude.{◌⊎◌}
 use Rattle.std.proofs.lemmas.Bool.{cases_eq, ne_eqb}
 use Rattle.indexmap.specs.IndexMap.{IndexMap}
-use Rattle.moka_links.specs.Paths.{IsAmong, IsAbsent, without, IsChain}
-use Rattle.moka_links.specs.Nodes.{same_of, hash_of}
+use Rattle.moka_orders.specs.Paths.{IsAmong, IsAbsent, without, IsChain}
+use Rattle.moka_orders.specs.Nodes.{same_of, hash_of}
 use Rattle.moka_links.specs.Firsts.{first_in}
-use Rattle.moka_links.specs.Orders.{admitted_in, waiting_in, places_in, Stands}
-use Rattle.moka_links.specs.Chains.{IsChained, LeadsTo, numbers_in, chain_from, chain_in, IsIndexed}
-use Rattle.moka_links.specs.declared.orders.Orders.{Orders}
-use Rattle.moka_links.proofs.PathLemmas.{IsApart, apart-counted, counted-apart, among-counted, counted-among, among-without, among-others, apart-without, absent-without, without-absent, without-here, among-front, among-back, among-parts, few-below}
-use Rattle.moka_links.proofs.ChainLemmas.{IsLine, chain-line, line-chase, line-chain, line-frame, line-passed, without-behind}
-use Rattle.moka_links.proofs.OrderLemmas.{stands-within, stands-above}
+use Rattle.moka_orders.specs.Orders.{admitted_in, waiting_in, places_in, Stands}
+use Rattle.moka_links.specs.Chains.{IsChained, numbers_in, chain_in, IsIndexed}
+use Rattle.moka_orders.specs.Orders.{LeadsTo, chain_from}
+use Rattle.moka_orders.specs.declared.orders.Orders.{Orders}
+use Rattle.moka_orders.proofs.Callers.{IsApart, apart-counted, counted-apart, among-counted, counted-among, among-without, among-others, apart-without, absent-without, without-absent, without-here, among-front, among-back, among-parts, few-below}
+use Rattle.moka_orders.proofs.Callers.{IsLine, chain-line, line-chase, line-chain, line-frame, line-passed, without-behind}
+use Rattle.moka_orders.proofs.Callers.{stands-within, stands-above}
 
 -- the same with the links one by one
 pub record Chained (same : ℕ → Option ℕ) (hash : ℕ → ℕ) (first : ℕ → Option ℕ) (numbers : List ℕ) (chain : ℕ → List ℕ) : Type 0 where

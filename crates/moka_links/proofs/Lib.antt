@@ -1,7 +1,3 @@
-pub mod NodeLemmas
-pub mod PathLemmas
-pub mod OrderLemmas
-pub mod ChainLemmas
+pub mod Callers
 pub mod IndexLemmas
 pub mod LinkLemmas
-pub mod Callers

@@ -3,14 +3,14 @@ use Rattle.std.proofs.Common.{◌≡◌, ◌≢◌, ℕ, [], ◌∷◌, ◌++◌
 use Rattle.std.specs.Prelude.{◌⊎◌}
 use Rattle.std.proofs.lemmas.Bool.{cases_eq}
 use Rattle.indexmap.specs.IndexMap.{IndexMap}
-use Rattle.moka_links.specs.Paths.{IsAmong, IsAbsent, without, IsChain}
-use Rattle.moka_links.specs.Nodes.{same_of, hash_of, row_of}
+use Rattle.moka_orders.specs.Paths.{IsAmong, IsAbsent, without, IsChain}
+use Rattle.moka_orders.specs.Nodes.{same_of, hash_of, row_of}
 use Rattle.moka_links.specs.Firsts.{first_in}
-use Rattle.moka_links.specs.Orders.{admitted_in, waiting_in, Stands, KeepsOrders, KeepsHashes}
+use Rattle.moka_orders.specs.Orders.{admitted_in, waiting_in, Stands, KeepsOrders, KeepsHashes}
 use Rattle.moka_links.specs.Chains.{numbers_in, chain_in, IsIndexed}
-use Rattle.moka_links.specs.declared.orders.Orders.{Orders}
-use Rattle.moka_links.proofs.PathLemmas.{apart-counted, among-without, among-others, absent-without, among-front, among-back, among-push, row_of-row, row_of-end}
-use Rattle.moka_links.proofs.ChainLemmas.{chain-line, line-chain, line-frame}
+use Rattle.moka_orders.specs.declared.orders.Orders.{Orders}
+use Rattle.moka_orders.proofs.Callers.{apart-counted, among-without, among-others, absent-without, among-front, among-back, among-push, row_of-row, row_of-end}
+use Rattle.moka_orders.proofs.Callers.{chain-line, line-chain, line-frame}
 use Rattle.moka_links.proofs.IndexLemmas.{Chained, chained-in, indexed, stands-among, among-stands, number-above, first-among, chained-moved, chained-left, chained-came, chain_with}
 
 -- a number that left stands nowhere

@@ -1,11 +1,11 @@
 -- The chains of the numbers of one hash.
-use Rattle.std.specs.Prelude.{◌≡◌, ℕ, ◌<◌, ◌≤◌, Option, List, ◌++◌, ◌∷◌}
+use Rattle.std.specs.Prelude.{◌≡◌, ℕ, ◌<◌, ◌≤◌, Option, List, ◌++◌}
 use Rattle.indexmap.specs.IndexMap.{IndexMap}
-use Rattle.moka_links.specs.Paths.{IsAmong, count_of, IsChain, chase}
-use Rattle.moka_links.specs.Nodes.{same_of, hash_of}
+use Rattle.moka_orders.specs.Paths.{IsAmong, count_of, IsChain}
+use Rattle.moka_orders.specs.Nodes.{same_of, hash_of}
 use Rattle.moka_links.specs.Firsts.{first_in}
-use Rattle.moka_links.specs.Orders.{admitted_in, waiting_in, places_in}
-use Rattle.moka_links.specs.declared.orders.Orders.{Orders}
+use Rattle.moka_orders.specs.Orders.{admitted_in, waiting_in, chain_from}
+use Rattle.moka_orders.specs.declared.orders.Orders.{Orders}
 
 -- each hash has a chain of all its numbers
 pub record IsChained (same : ℕ → Option ℕ) (hash : ℕ → ℕ) (first : ℕ → Option ℕ) (numbers : List ℕ)
@@ -18,16 +18,6 @@ pub record IsChained (same : ℕ → Option ℕ) (hash : ℕ → ℕ) (first : �
 -- all numbers, the admitted ones first
 abbrev pub numbers_in : Orders → List ℕ
 numbers_in o = admitted_in o ++ waiting_in o
-
--- the numbers that a link leads to, one after another
-abbrev pub chain_from : Orders → Option ℕ → List ℕ
-chain_from o first = chase (same_of o.nodes.items) (places_in o) first
-
--- this number leads to that one in the chain
-pub record LeadsTo (chain : List ℕ) (at to : ℕ) : Type 0 where
-  pub front : List ℕ
-  pub back : List ℕ
-  pub is : chain ≡ front ++ at ∷ to ∷ back
 
 module _ {S : Type 0} where
   -- the numbers of a hash

@@ -1,9 +1,9 @@
 -- What a contract says of `Links`.
 use Rattle.std.specs.Prelude.{◌≡◌, ℕ, ◌≤◌, Option, List, ◌++◌}
 use Rattle.indexmap.specs.IndexMap.{spare}
-use Rattle.moka_links.specs.Nodes.{same_of, hash_of}
+use Rattle.moka_orders.specs.Nodes.{same_of, hash_of}
 use Rattle.moka_links.specs.Firsts.{first_in}
-use Rattle.moka_links.specs.Orders.{admitted_in, waiting_in, places_in, Stands}
+use Rattle.moka_orders.specs.Orders.{admitted_in, waiting_in, places_in, Stands}
 use Rattle.moka_links.specs.Chains.{chain_in}
 use Rattle.moka_links.specs.declared.links.Links.{Links}
 

@@ -21,11 +21,13 @@ impl Hasher for AsIs {
 
     fn write(&mut self, bytes: &[u8]) {
         if let Some(word) = bytes.first_chunk::<8>() {
-            self.hash = u64::from_le_bytes(*word);
+            *self = AsIs {
+                hash: u64::from_le_bytes(*word),
+            };
         }
     }
 
     fn write_u64(&mut self, number: u64) {
-        self.hash = number;
+        *self = AsIs { hash: number };
     }
 }

@@ -5,5 +5,3 @@
 mod as_is;
 mod firsts;
 pub mod links;
-mod nodes;
-mod orders;

@@ -1,16 +1,15 @@
 //! The rows of a cache by their numbers: two orders, and for each hash a chain.
 ghost use Rattle.std.specs.Prelude.{◌≡◌, ◌≢◌, ◌⊎◌, ℕ, ◌+◌, ◌<◌, ◌≤◌, [], ◌∷◌, ◌++◌, true, false, length, OnOk, Some};
-ghost use Rattle.moka_links.specs.Paths.{IsAmong, IsAbsent, IsChain, without, first_of, number_behind};
-ghost use Rattle.moka_links.specs.Nodes.{hash_of, same_of, row_of};
-ghost use Rattle.moka_links.specs.Orders.{admitted_in, waiting_in, places_in, Stands, KeepsOrders};
+ghost use Rattle.moka_orders.specs.Paths.{IsAmong, IsAbsent, IsChain, without, first_of, number_behind};
+ghost use Rattle.moka_orders.specs.Nodes.{hash_of, same_of, row_of};
+ghost use Rattle.moka_orders.specs.Orders.{admitted_in, waiting_in, places_in, Stands, KeepsOrders};
 ghost use Rattle.moka_links.specs.Chains.{IsIndexed, chain_in};
 ghost use Rattle.moka_links.specs.Firsts.{first_in};
 ghost use Rattle.indexmap.specs.IndexMap.{spare};
 
 use crate::firsts::{self, Firsts, change_first, drop_first, place, put_first};
-use crate::nodes::row;
-use crate::orders::Orders;
 use indexmap::IndexMap;
+use moka_orders::orders::Orders;
 use std::alloc::{AllocError, Global};
 use std::hash::BuildHasherDefault;
 
@@ -33,11 +32,12 @@ fn unchain(orders: &mut Orders, firsts: &mut Firsts, number: u32)
     requires indexed { IsIndexed orders.old firsts.old }
     ensures kept { KeepsOrders orders.old orders.new }
     ensures hash { (k : ℕ) → hash_of orders.new.nodes.items k ≡ hash_of orders.old.nodes.items k }
-    ensures linked { (h : ℕ) → IsChain (same_of orders.new.nodes.items) (first_in firsts.new h) (without number (chain_in orders.old firsts.old h)) }
+    ensures linked { (h : ℕ) → IsChain (same_of orders.new.nodes.items) (first_in firsts.new h)
+        (without number (chain_in orders.old firsts.old h)) }
     ensures room { spare firsts.old ≤ spare firsts.new }
 {
     let hash = orders.hash(number);
-    let same = orders.same(number);
+    let same = orders.same_link(number);
     let Some((place, first)) = place(firsts, hash) else {
         unreachable!()
     };
@@ -77,14 +77,14 @@ impl Links {
     pub fn admitted_len(&self) -> usize
         ensures { result ≡ length (admitted_of self.now) }
     {
-        self.orders.admitted_len()
+        self.orders.lens().0
     }
 
     /// How many numbers wait.
     pub fn waiting_len(&self) -> usize
         ensures { result ≡ length (waiting_of self.now) }
     {
-        self.orders.waiting_len()
+        self.orders.lens().1
     }
 
     /// The least recently used admitted number.
@@ -131,7 +131,7 @@ impl Links {
         requires { IsLinked self.now number }
         ensures { result ≡ same_at self.now number }
     {
-        row(self.orders.same(link(&self.orders, number)))
+        self.orders.same(link(&self.orders, number))
     }
 
     /// Makes room for a number, and for its hash. Numbers of more than 32 bits are refused.

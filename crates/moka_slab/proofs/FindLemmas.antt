@@ -5,7 +5,7 @@ use Rattle.std.proofs.lemmas.Bool.{cases_eq, ne_eqb, eq-eqb}
 use Rattle.slab.specs.Slab.{Slab}
 use Rattle.moka_rows.specs.Rows.{row_under, is_row_of, IsRowOf, NoneIsRowOf}
 use Rattle.moka_rows.specs.declared.rows.Row.{Row}
-use Rattle.moka_links.specs.Paths.{IsAmong}
+use Rattle.moka_orders.specs.Paths.{IsAmong}
 use Rattle.moka_links.specs.Links.{IsLinked, admitted_of, waiting_of, numbers_of, hash_at, first_at, same_at, chain_of}
 use Rattle.moka_links.specs.declared.links.Links.{Links}
 use Rattle.moka_links.proofs.Callers.{IsLine, among-back, among-parts, no-more, few-linked, linked-chains, linked-among, among-linked}

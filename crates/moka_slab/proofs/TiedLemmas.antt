@@ -6,7 +6,7 @@ use Rattle.std.proofs.lemmas.List.{get_or-set_same, get_or-set_other, get_or_pas
 use Rattle.slab.specs.Slab.{Slab, get, Updates, with_value}
 use Rattle.moka_rows.specs.Rows.{row_under, with_row, without_row, NumbersDiffer, count_under}
 use Rattle.moka_rows.specs.declared.rows.Row.{Row}
-use Rattle.moka_links.specs.Paths.{IsAmong, IsAbsent, without}
+use Rattle.moka_orders.specs.Paths.{IsAmong, IsAbsent, without}
 use Rattle.moka_links.specs.Links.{IsLinked, admitted_of, waiting_of, numbers_of, hash_at}
 use Rattle.moka_links.specs.declared.links.Links.{Links}
 use Rattle.moka_links.proofs.Callers.{IsApart, absent-without, among-without, among-push, without-absent, among-parts, linked-above, linked-among, among-linked, linked-once, admitted-apart, waiting-apart}

@@ -1,6 +1,6 @@
 //! The row store of the caches: rows in a slab, and links between their numbers.
-ghost use Rattle.std.specs.Prelude.{◌≡◌, ◌⊎◌, ℕ, ◌+◌, ◌-◌, ◌^◌, ◌<◌, ◌≤◌, ◌==◌, [], ◌∷◌, ◌++◌, length, filter, IsSome, IfSome, IfNone, OnSome};
-ghost use Rattle.std.specs.Prelude.{Some, None};
+ghost use Rattle.std.specs.Prelude.{◌≡◌, ◌⊎◌, ℕ, ◌+◌, ◌-◌, ◌^◌, ◌<◌, ◌≤◌, ◌==◌, [], ◌∷◌, ◌++◌, length, filter};
+ghost use Rattle.std.specs.Prelude.{IsSome, IfSome, IfNone, OnSome, Some, None};
 ghost use Rattle.moka_rows.specs.Rows.{row_under, IsRowOf, NoneIsRowOf};
 ghost use Rattle.moka_links.specs.Links.{IsLinked};
 ghost use Rattle.moka_slab.specs.Kept.{row_at};
@@ -69,7 +69,8 @@ impl<K: Eq + Drop, V: Drop> RowStore<K, V> for SlabRows<K, V> {
     /// Reads no row of another hash.
     fn find(&self, key: &K, hash: u64, reads: &mut u64) -> Option<usize>
         requires { reads.old ≡ 0 }
-        ensures found { IfSome result (λ number. IfSome (row_under number (all_rows self.now.rows self.now.links)) (IsRowOf K.eq key.now hash)) }
+        ensures found { IfSome result
+            (λ number. IfSome (row_under number (all_rows self.now.rows self.now.links)) (IsRowOf K.eq key.now hash)) }
         ensures stored { IfSome result (λ number. IsSome (row_under number (all_rows self.now.rows self.now.links))) }
         ensures absent { IfNone result (NoneIsRowOf K.eq key.now hash (all_rows self.now.rows self.now.links)) }
         ensures counted { reads.new ≤ length (all_rows self.now.rows self.now.links) }

@@ -1,16 +1,16 @@
 use Rattle.std.proofs.Common.{sym, ap, ◌∙◌}
 use Rattle.std.proofs.lemmas.Bool.{cases_eq}
 use Rattle.std.proofs.Common.{⊎_elim}
-use Rattle.moka_links.specs.Nodes.{same_of, hash_of}
-use Rattle.moka_links.proofs.PathLemmas.{row_of-row, row_of-end}
+use Rattle.moka_orders.specs.Nodes.{same_of, hash_of}
+use Rattle.moka_orders.proofs.Callers.{row_of-row, row_of-end}
 use Rattle.moka_links.proofs.IndexLemmas.{number-within, has-first, within-places, within-chain, before-hash, before-within, passed-by, dropped}
 use Rattle.moka_links.proofs.links.unchain.Goals as goal
 
 pub hash-hash-requires : goal.hash-hash-requires
 hash-hash-requires c = number-within c.args.orders.now c.args.number c.requires.stands
 
-pub same-same-requires : goal.same-same-requires
-same-same-requires c = number-within c.args.orders.now c.args.number c.requires.stands
+pub same_link-same-requires : goal.same_link-same-requires
+same_link-same-requires c = number-within c.args.orders.now c.args.number c.requires.stands
 
 pub unreachable-requires : goal.unreachable-requires
 unreachable-requires c = has-first c.args.orders.now c.args.firsts.now c.args.number c.requires.stands c.requires.indexed c.hash-hash.result c.hash-hash.ensures (c.in_default.ensures).first
@@ -34,14 +34,14 @@ returns-then-first-number-clause-hash c = λ k.
 pub returns-then-first-number-clause-linked : goal.returns-then-first-number-clause-linked
 returns-then-first-number-clause-linked c =
     passed-by c.args.orders.now c.args.firsts.now c.args.number c.requires.stands c.requires.indexed c.hash-hash.result c.in-Some.first c.hash-hash.ensures (c.in-Some.ensures).first c.before-before.result c.before-before.ensures
-    (same_of c.set_same.new.self.nodes.items) (c.set_same.ensures.changed ∙ c.same-same.ensures) c.set_same.ensures.others
+    (same_of c.set_same.new.self.nodes.items) (c.set_same.ensures.changed ∙ c.same_link-same.ensures) c.set_same.ensures.others
 
 pub returns-then-same-lt2-clause-linked : goal.returns-then-same-lt2-clause-linked
 returns-then-same-lt2-clause-linked c =
     dropped c.args.orders.now c.args.firsts.now c.args.number c.requires.stands c.requires.indexed c.hash-hash.result c.in-Some.first c.hash-hash.ensures (c.in-Some.ensures).first _ c.if-first-number.false
-    (c.drop_first.ensures.changed ∙ sym (row_of-end c.same-same.result c.if-same-lt2.true) ∙ c.same-same.ensures) c.drop_first.ensures.others
+    (c.drop_first.ensures.changed ∙ sym (row_of-end c.same_link-same.result c.if-same-lt2.true) ∙ c.same_link-same.ensures) c.drop_first.ensures.others
 
 pub returns-else-same-lt2-clause-linked : goal.returns-else-same-lt2-clause-linked
 returns-else-same-lt2-clause-linked c =
     dropped c.args.orders.now c.args.firsts.now c.args.number c.requires.stands c.requires.indexed c.hash-hash.result c.in-Some.first c.hash-hash.ensures (c.in-Some.ensures).first _ c.if-first-number.false
-    (c.change_first.ensures.changed ∙ sym (row_of-row c.same-same.result c.if-same-lt2.false) ∙ c.same-same.ensures) c.change_first.ensures.others
+    (c.change_first.ensures.changed ∙ sym (row_of-row c.same_link-same.result c.if-same-lt2.false) ∙ c.same_link-same.ensures) c.change_first.ensures.others

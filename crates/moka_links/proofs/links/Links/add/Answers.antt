@@ -1,5 +1,5 @@
 use Rattle.std.proofs.Common.{subst}
-use Rattle.moka_links.specs.Orders.{Stands}
+use Rattle.moka_orders.specs.Orders.{Stands}
 use Rattle.moka_links.proofs.LinkLemmas.{indexed-added, link-first}
 use Rattle.moka_links.proofs.links.Links.add.Goals as goal
 

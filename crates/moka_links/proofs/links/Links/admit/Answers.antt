@@ -1,7 +1,7 @@
 use Rattle.std.proofs.Common.{◌++◌, ◌∷◌, [], sym, ap, ◌∙◌, subst}
 use Rattle.moka_links.proofs.IndexLemmas.{number-within, number-above}
 use Rattle.moka_links.proofs.LinkLemmas.{absent-left, indexed-admitted}
-use Rattle.moka_links.specs.Orders.{Stands}
+use Rattle.moka_orders.specs.Orders.{Stands}
 use Rattle.moka_links.proofs.links.Links.admit.Goals as goal
 
 pub link-used-requires : goal.link-used-requires
