@@ -1,6 +1,22 @@
--- The definitions, passed on to the crates above.
-pub use Rattle.moka_base.specs.History
-pub use Rattle.moka_base.specs.Replies
+-- The definitions that a caller's clauses need, passed on to the crates above.
+pub use Rattle.moka_base.specs.Admission
+pub use Rattle.moka_base.specs.Calls
+pub use Rattle.moka_base.specs.Events
+pub use Rattle.moka_base.specs.Frequency
+pub use Rattle.moka_base.specs.Lives
+pub use Rattle.moka_base.specs.Maintenance
+pub use Rattle.moka_base.specs.NumberHash
+pub use Rattle.moka_base.specs.Numbers
+pub use Rattle.moka_base.specs.Orders
+pub use Rattle.moka_base.specs.Policy
+pub use Rattle.moka_base.specs.Removals
+pub use Rattle.moka_base.specs.SizeLaws
 pub use Rattle.moka_base.specs.StandsFor
+pub use Rattle.moka_base.specs.Steps
+pub use Rattle.moka_state.specs.Behaviour
+pub use Rattle.moka_state.specs.Rows
+pub use Rattle.moka_state.specs.State
+pub use Rattle.moka_state.specs.StateData
 pub use Rattle.moka_state.specs.Step
-pub mod Example
+pub use Rattle.moka_state.specs.Table
+pub use Rattle.moka_state.specs.Write

@@ -9,11 +9,9 @@ pub use moka_base::{notification, policy};
 /// The cache as a plain value.
 pub mod state {
     pub use moka_state::list_rows::ListRows;
-    pub use moka_state::means::Means;
-    pub use moka_state::rows::{EntryInfo, Row, RowStore};
+    pub use moka_state::rows::{EntryInfo, OwnLife, Row, RowStore};
+    pub use moka_state::slab_rows::SlabRows;
     pub use moka_state::state::{CacheState, InsertRefused, Settings, State};
     pub use moka_state::step::{Reply, Step};
+    pub use moka_state::view::StateView;
 }
-
-#[cfg(test)]
-mod example;

@@ -1,65 +1,62 @@
--- How many rows a state may hold, and what they weigh.
-use Rattle.std.proofs.Common.{◌≡◌, ℕ, ◌+◌, ◌≤◌, Bool, List, ◌∷◌, ◌++◌, length, Option, Some, None, refl, sym, ap, ◌∙◌, arith, length-append}
+-- How many writes a state may store, and what they weigh.
+use Rattle.std.proofs.Common.{◌≡◌, ℕ, ◌+◌, ◌≤◌, Bool, List, ◌++◌, length, Option, Some, None, refl, sym, ap, ◌∙◌, arith, length-append}
 use Rattle.std.specs.Option.{IfSome}
 use Rattle.std.proofs.lemmas.List.{length-map, map-append}
-use Rattle.moka_base.specs.History.{Event, Maintain, Rules, Ways, Write, queues, flush_point, entry_count, weighted_size}
-use Rattle.moka_base.specs.Maintenance.{total}
-use Rattle.moka_base.specs.SizeLaws.{WeighsOnes}
-use Rattle.moka_base.specs.StandsFor.{Holdings, StandsFor, writes}
-use Rattle.moka_base.proofs.Sizes.{entry_count-le, maintained-entry_count-le}
-use Rattle.moka_state.specs.declared.lives.Lives.{Lives}
-use Rattle.moka_state.specs.declared.rows.Row.{Row}
-use Rattle.moka_state.specs.Table.{Contents, entries, weight_of, stored_write, stored_writes}
-use Rattle.moka_state.specs.State.{holdings}
+use Rattle.moka_model.specs.Lives.{Settings, Write}
+use Rattle.moka_model.specs.Maintenance.{total}
+use Rattle.moka_model.specs.Numbers.{flush_point, entry_count, weighted_size}
+use Rattle.moka_model.specs.SizeLaws.{WeighsOnes}
+use Rattle.moka_model.specs.Steps.{AcceptedStep, events_in}
+use Rattle.moka_model.specs.Calls.{RunPendingTasks, after}
+use Rattle.moka_model.specs.StandsFor.{Books, View, StandsFor}
+use Rattle.moka_model.proofs.Callers.{entry_count-le, maintained-entry_count-le}
+use Rattle.moka_rows.specs.declared.rows.Row.{Row}
+use Rattle.moka_table.specs.Table.{Contents, entries, weight_of, stored_write, stored_writes}
 use Rattle.moka_state.proofs.Maintained.{total-stored}
 
--- a state stores as many writes as stand
-writes-counted : {K V : Type 0} (eq : K → K → Bool) (rules : Rules K V) (state : Holdings K V) (h : List (Event K V)) → StandsFor eq rules state h → length (writes state) ≡ entry_count eq rules h
-writes-counted eq rules state h stands = ap (λ a. length (a ++ state.waiting)) stands.admitted ∙ ap (λ w. length ((queues eq rules h).admitted ++ w)) stands.waiting
+-- the writes of a view
+abbrev pub writes_in : {K V : Type 0} → View K V → List (Write K V)
+writes_in view = view.books.orders.admitted ++ view.books.orders.waiting
+
+module _ {K V E : Type 0} (eq : K → K → Bool) (settings : Settings K V) (view : View K V) (steps : List (AcceptedStep K V E)) (stands : StandsFor eq settings view steps) where
+  -- a state stores as many writes as stand,
+  pub writes-counted : length (writes_in view) ≡ entry_count eq settings (events_in steps)
+  writes-counted = ap (λ (b : Books K V). length (b.orders.admitted ++ b.orders.waiting)) stands.books
+
+  -- and they weigh as much
+  pub writes-weighed : total (λ (w : Write K V). w.policy_weight) (writes_in view) ≡ weighted_size eq settings (events_in steps)
+  writes-weighed = ap (λ (b : Books K V). total (λ (w : Write K V). w.policy_weight) (b.orders.admitted ++ b.orders.waiting)) stands.books
+
+  -- where each weighs one, with a capacity, there are as many at most as it says and the flush point together
+  pub writes-bounded : WeighsOnes settings → IfSome view.settings.max_capacity (λ capacity. length (writes_in view) ≤ capacity + flush_point)
+  writes-bounded ones = go view.settings.max_capacity refl
+    where
+      go : (o : Option ℕ) → view.settings.max_capacity ≡ o → IfSome o (λ capacity. length (writes_in view) ≤ capacity + flush_point)
+      go None none = tt
+      go (Some capacity) some =
+          let few = entry_count-le eq settings ones steps capacity (sym (ap (λ (s : Settings K V). s.max_capacity) stands.settings) ∙ some) stands.legal in
+          omega (arith, writes-counted)
 
 -- where each weighs one, with a capacity, no more after a maintenance than it says
-pub writes-within : {K V : Type 0} (eq : K → K → Bool) (rules : Rules K V) (state : Holdings K V) (at : ℕ) (h : List (Event K V)) → WeighsOnes rules → StandsFor eq rules state (Maintain at ∷ h) → IfSome state.max_capacity (λ capacity. length (writes state) ≤ capacity)
-writes-within eq rules state at h ones stands = go state.max_capacity refl
+pub writes-within : {K V E : Type 0} (eq : K → K → Bool) (settings : Settings K V) (view : View K V) (at : ℕ) (steps : List (AcceptedStep K V E)) → WeighsOnes settings → StandsFor eq settings view (after eq settings (RunPendingTasks at) steps)
+    → IfSome view.settings.max_capacity (λ capacity. length (writes_in view) ≤ capacity)
+writes-within eq settings view at steps ones stands = go view.settings.max_capacity refl
   where
-    counted : length (writes state) ≡ entry_count eq rules (Maintain at ∷ h)
-    counted = writes-counted eq rules state (Maintain at ∷ h) stands
-
-    go : (o : Option ℕ) → state.max_capacity ≡ o → IfSome o (λ capacity. length (writes state) ≤ capacity)
+    go : (o : Option ℕ) → view.settings.max_capacity ≡ o → IfSome o (λ capacity. length (writes_in view) ≤ capacity)
     go None none = tt
-    go (Some capacity) some = let few = maintained-entry_count-le eq rules ones h at capacity (sym stands.max_capacity ∙ some) in omega (arith, counted)
+    go (Some capacity) some =
+        let few = maintained-entry_count-le eq settings ones (events_in steps) at capacity (sym (ap (λ (s : Settings _ _). s.max_capacity) stands.settings) ∙ some) in
+        let counted = writes-counted eq settings view (after eq settings (RunPendingTasks at) steps) stands in
+        omega arith
 
--- where each weighs one, with a capacity, as many as it says and the flush point together
-pub writes-bounded : {K V : Type 0} (eq : K → K → Bool) (rules : Rules K V) (state : Holdings K V) (h : List (Event K V)) → WeighsOnes rules → StandsFor eq rules state h → IfSome state.max_capacity (λ capacity. length (writes state) ≤ capacity + flush_point)
-writes-bounded eq rules state h ones stands = go state.max_capacity refl
-  where
-    counted : length (writes state) ≡ entry_count eq rules h
-    counted = writes-counted eq rules state h stands
+module _ {K V : Type 0} (contents : Contents K V) where
+  -- as many writes are stored as there are rows,
+  pub rows-counted : length (stored_writes contents.admitted ++ stored_writes contents.waiting) ≡ length (entries contents)
+  rows-counted =
+      let front = length-map contents.admitted (λ p. stored_write {K = K} {V = V} p.1) in
+      let back = length-map contents.waiting (λ p. stored_write {K = K} {V = V} p.1) in
+      omega (arith, length-append contents.admitted contents.waiting, length-append (stored_writes contents.admitted) (stored_writes contents.waiting))
 
-    go : (o : Option ℕ) → state.max_capacity ≡ o → IfSome o (λ capacity. length (writes state) ≤ capacity + flush_point)
-    go None none = tt
-    go (Some capacity) some = let few = entry_count-le eq rules ones h capacity (sym stands.max_capacity ∙ some) stands.history in omega (arith, counted)
-
-module _ {K V : Type 0} (eq : K → K → Bool) (rules : Rules K V) (ways : Ways K V) (lives : Lives) (capacity : Option ℕ) (contents : Contents K V) (said : List ℕ → ℕ → ℕ) (moment number : ℕ) (h : List (Event K V)) (stands : StandsFor eq rules (holdings ways lives capacity contents said moment number) h) where
-  -- so it is with the rows that store them
-  pub entries-bounded : WeighsOnes rules → (count : ℕ) → count ≡ length (entries contents) → IfSome capacity (λ c. count ≤ c + flush_point)
-  entries-bounded ones count is = go capacity (writes-bounded eq rules (holdings ways lives capacity contents said moment number) h ones stands)
-    where
-      stored : length (stored_writes contents.admitted ++ stored_writes contents.waiting) ≡ count
-      stored =
-          let front = length-map contents.admitted (λ p. stored_write {K = K} {V = V} p.1) in
-          let back = length-map contents.waiting (λ p. stored_write {K = K} {V = V} p.1) in
-          omega (arith, is, length-append contents.admitted contents.waiting, length-append (stored_writes contents.admitted) (stored_writes contents.waiting))
-
-      go : (o : Option ℕ) → IfSome o (λ c. length (stored_writes contents.admitted ++ stored_writes contents.waiting) ≤ c + flush_point) → IfSome o (λ c. count ≤ c + flush_point)
-      go None few = tt
-      go (Some c) few = omega (arith, stored)
-
-  -- the rows weigh what their writes do,
-  pub weighed-stored : total weight_of (entries contents) ≡ total (λ w. w.weight) (stored_writes contents.admitted ++ stored_writes contents.waiting)
-  weighed-stored = sym (total-stored (entries contents)) ∙ ap (total (λ (w : Write K V). w.weight)) (map-append (λ (p : ℕ × Row K V). stored_write p.1) contents.admitted contents.waiting)
-
-  -- and that is the weight of all that stand
-  pub weighed-same : total weight_of (entries contents) ≡ weighted_size eq rules h
-  weighed-same = weighed-stored
-      ∙ ap (λ a. total (λ (w : Write K V). w.weight) (a ++ stored_writes contents.waiting)) stands.admitted
-      ∙ ap (λ ws. total (λ (w : Write K V). w.weight) ((queues eq rules h).admitted ++ ws)) stands.waiting
+  -- and they weigh what these do
+  pub rows-weighed : total weight_of (entries contents) ≡ total (λ w. w.policy_weight) (stored_writes contents.admitted ++ stored_writes contents.waiting)
+  rows-weighed = sym (total-stored (entries contents)) ∙ ap (total (λ (w : Write K V). w.policy_weight)) (map-append (λ (p : ℕ × Row K V). stored_write p.1) contents.admitted contents.waiting)

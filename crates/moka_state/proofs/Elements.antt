@@ -1,23 +1,11 @@
--- What holds of each element of a list, and of each that a maintenance finds.
-use Rattle.std.proofs.Common.{ℕ, Bool, Option, List, [], ◌∷◌, ◌++◌}
+-- What holds of each element that a maintenance finds.
+use Rattle.std.proofs.Common.{ℕ, Bool, Option, List}
 use Rattle.std.specs.List.{All, AllByRecursion}
 use Rattle.std.proofs.lemmas.List.Elements.{recursion_from_All, All-from_recursion}
-use Rattle.moka_base.specs.Maintenance.{Queues, Part, parts, leaving_in, after_parts}
-use Rattle.moka_base.specs.MaintenanceLaws.{everything}
-use Rattle.moka_base.proofs.MaintenanceKept.{InParts, InParts-parts, All-leaving_in, All-after_parts}
-
-module _ {A : Type 0} (P : A → Type 0) where
-  pub all-append : (xs ys : List A) → AllByRecursion P xs → AllByRecursion P ys → AllByRecursion P (xs ++ ys)
-  all-append [] ys a b = b
-  all-append (x ∷ xs) ys a b = (a.0, all-append xs ys a.1 b)
-
-  pub all-front : (xs ys : List A) → AllByRecursion P (xs ++ ys) → AllByRecursion P xs
-  all-front [] ys a = tt
-  all-front (x ∷ xs) ys a = (a.0, all-front xs ys a.1)
-
-  pub all-back : (xs ys : List A) → AllByRecursion P (xs ++ ys) → AllByRecursion P ys
-  all-back [] ys a = a
-  all-back (x ∷ xs) ys a = all-back xs ys a.1
+use Rattle.moka_model.specs.Maintenance.{Queues, Part, parts, evicted_in, after_parts}
+use Rattle.moka_model.specs.MaintenanceLaws.{everything}
+use Rattle.moka_model.proofs.Callers.{InParts, InParts-parts, All-evicted_in, All-after_parts}
+use Rattle.moka_rows.proofs.Callers.{all-front, all-back}
 
 module _ {X : Type 0} (P : X → Type 0) (weight : X → ℕ) (capacity : Option ℕ) (wins : X → List X → Bool) (is_live : X → Bool) (q : Queues X) (all : AllByRecursion P (everything q)) where
   abbrev of_parts : List (Part X)
@@ -33,8 +21,8 @@ module _ {X : Type 0} (P : X → Type 0) (weight : X → ℕ) (capacity : Option
   in_parts = InParts-parts P weight capacity wins is_live q of_admitted of_waiting
 
   -- of all that a maintenance lets go
-  pub all-leaving : AllByRecursion P (leaving_in of_parts)
-  all-leaving = recursion_from_All P (leaving_in of_parts) (All-leaving_in P of_parts in_parts)
+  pub all-evicted : AllByRecursion P (evicted_in of_parts)
+  all-evicted = recursion_from_All P (evicted_in of_parts) (All-evicted_in P of_parts in_parts)
 
   -- of all that it leaves admitted
   pub all-kept : AllByRecursion P (after_parts q of_parts).admitted

@@ -1,32 +1,33 @@
 -- Runs that go on by one step.
 use Rattle.std.proofs.Common.{◌≡◌, Bool, List, [], ◌∷◌, ◌++◌, suc, length, drop, refl, sym, ap, subst, arith}
-use Rattle.moka_base.specs.History.{Event, Rules}
-use Rattle.moka_base.specs.StandsFor.{Holdings, StandsFor}
+use Rattle.moka_model.specs.Lives.{Settings}
+use Rattle.moka_model.specs.Steps.{AcceptedStep}
+use Rattle.moka_model.specs.StandsFor.{View, StandsFor}
 use Rattle.moka_state.specs.declared.step.Step.{Step}
 use Rattle.moka_state.specs.declared.step.Reply.{Reply}
-use Rattle.moka_state.specs.Step.{IsReplyTo, IsRun, after, after_all}
+use Rattle.moka_state.specs.Step.{call_of, IsReplyTo, IsRun, after_reply, after_all}
 
-module _ {K V : Type 0} (eq : K → K → Bool) (is_clone : V → V → Type 0) (rules : Rules K V) where
+module _ {K V E : Type 0} (eq : K → K → Bool) (is_clone : V → V → Type 0) (settings : Settings K V) where
   -- a reply to the step after a run makes a longer run
-  pub IsRun-more : (h : List (Event K V)) (steps : List (Step K V)) (replies : List (Reply K V)) (step : Step K V) (reply : Reply K V)
-      → IsRun eq is_clone rules h steps replies → IsReplyTo eq is_clone rules (after_all eq rules steps replies h) step reply → IsRun eq is_clone rules h (steps ++ step ∷ []) (replies ++ reply ∷ [])
-  IsRun-more h [] [] step reply run is = (is, tt)
-  IsRun-more h [] (r ∷ rs) step reply run is = absurd run
-  IsRun-more h (s ∷ ss) [] step reply run is = absurd run
-  IsRun-more h (s ∷ ss) (r ∷ rs) step reply run is = (run.0, IsRun-more (after eq rules s r h) ss rs step reply run.1 is)
+  pub IsRun-more : (before : List (AcceptedStep K V E)) (calls : List (Step K V)) (replies : List (Reply K V)) (step : Step K V) (reply : Reply K V)
+      → IsRun eq settings is_clone before calls replies → IsReplyTo eq is_clone settings (after_all eq settings calls replies before) (call_of step) reply → IsRun eq settings is_clone before (calls ++ step ∷ []) (replies ++ reply ∷ [])
+  IsRun-more before [] [] step reply run is = (is, tt)
+  IsRun-more before [] (r ∷ rs) step reply run is = absurd run
+  IsRun-more before (s ∷ ss) [] step reply run is = absurd run
+  IsRun-more before (s ∷ ss) (r ∷ rs) step reply run is = (run.0, IsRun-more (after_reply eq settings (call_of s) r before) ss rs step reply run.1 is)
 
-  -- and leaves the events of that step too
-  pub after_all-more : (h : List (Event K V)) (steps : List (Step K V)) (replies : List (Reply K V)) (step : Step K V) (reply : Reply K V)
-      → IsRun eq is_clone rules h steps replies → after_all eq rules (steps ++ step ∷ []) (replies ++ reply ∷ []) h ≡ after eq rules step reply (after_all eq rules steps replies h)
-  after_all-more h [] [] step reply run = refl
-  after_all-more h [] (r ∷ rs) step reply run = absurd run
-  after_all-more h (s ∷ ss) [] step reply run = absurd run
-  after_all-more h (s ∷ ss) (r ∷ rs) step reply run = after_all-more (after eq rules s r h) ss rs step reply run.1
+  -- and leaves what that step accepts too
+  after_all-more : (before : List (AcceptedStep K V E)) (calls : List (Step K V)) (replies : List (Reply K V)) (step : Step K V) (reply : Reply K V)
+      → IsRun eq settings is_clone before calls replies → after_all eq settings (calls ++ step ∷ []) (replies ++ reply ∷ []) before ≡ after_reply eq settings (call_of step) reply (after_all eq settings calls replies before)
+  after_all-more before [] [] step reply run = refl
+  after_all-more before [] (r ∷ rs) step reply run = absurd run
+  after_all-more before (s ∷ ss) [] step reply run = absurd run
+  after_all-more before (s ∷ ss) (r ∷ rs) step reply run = after_all-more (after_reply eq settings (call_of s) r before) ss rs step reply run.1
 
   -- so what a state stands for after that step it stands for after the longer run
-  pub stands-more : (state : Holdings K V) (h : List (Event K V)) (steps : List (Step K V)) (replies : List (Reply K V)) (step : Step K V) (reply : Reply K V)
-      → IsRun eq is_clone rules h steps replies → StandsFor eq rules state (after eq rules step reply (after_all eq rules steps replies h)) → StandsFor eq rules state (after_all eq rules (steps ++ step ∷ []) (replies ++ reply ∷ []) h)
-  stands-more state h steps replies step reply run stands = subst (StandsFor eq rules state) (sym (after_all-more h steps replies step reply run)) stands
+  pub stands-more : (view : View K V) (before : List (AcceptedStep K V E)) (calls : List (Step K V)) (replies : List (Reply K V)) (step : Step K V) (reply : Reply K V)
+      → IsRun eq settings is_clone before calls replies → StandsFor eq settings view (after_reply eq settings (call_of step) reply (after_all eq settings calls replies before)) → StandsFor eq settings view (after_all eq settings (calls ++ step ∷ []) (replies ++ reply ∷ []) before)
+  stands-more view before calls replies step reply run stands = subst (StandsFor eq settings view) (sym (after_all-more before calls replies step reply run)) stands
 
 -- a list that is itself without its first element is empty
 pub same_as_rest-empty : {A : Type 0} (xs : List A) → xs ≡ drop 1 xs → xs ≡ []

@@ -1,92 +1,50 @@
--- What a state holds, and what its fields keep.
+-- What a state keeps, by its fields.
 use Rattle.std.specs.Prelude.{◌≡◌, ℕ, List, ◌++◌, map, option_map, Option}
 use Rattle.std.specs.Arc.{arc_value}
 use Rattle.std.specs.List.{AllByRecursion}
 use Rattle.std.specs.Duration.{as_nanos}
 use Rattle.std.specs.declared.time.Duration.{Duration}
-use Rattle.moka_base.specs.Frequency.{after_notes}
-use Rattle.moka_base.specs.History.{Rules, Ways, Write, Leaving}
-use Rattle.moka_base.specs.StandsFor.{Holdings}
-use Rattle.moka_state.specs.declared.lives.Lives.{Lives}
-use Rattle.moka_state.specs.Maintain.{IsDueFrom}
-use Rattle.moka_state.specs.Table.{Contents, entries, stored_writes, leaving_of}
-use Rattle.moka_state.specs.Ways.{WaysData}
+use Rattle.moka_model.specs.Lives.{Write}
+use Rattle.moka_model.specs.Maintenance.{Queues}
+use Rattle.moka_model.specs.StandsFor.{Books}
+use Rattle.moka_ways.specs.declared.lives.Lives.{Lives}
+use Rattle.moka_ways.specs.Behaviour.{BehaviourData}
+use Rattle.moka_table.specs.Table.{Contents, entries, stored_writes, removal_of}
+use Rattle.moka_maintain.specs.Maintain.{IsDueFrom}
+pub use Rattle.moka_ways.specs.StateData.{SettingsData, StateData}
 
--- the rules of a cache that is built with these settings
-abbrev pub rules_of : {K V : Type 0} → Option ℕ → Option Duration → Option Duration → ℕ → Ways K V → (List ℕ → ℕ → ℕ) → Rules K V
-rules_of max_capacity time_to_live time_to_idle first_number ways frequency = record { time_to_live = option_map as_nanos time_to_live; time_to_idle = option_map as_nanos time_to_idle; max_capacity = max_capacity; first_number = first_number; ways = ways; frequency = frequency }
+-- the settings of a state that is built with these
+abbrev pub settings_of : {H W X : Type 0} → Option Duration → Option Duration → Option ℕ → ℕ → BehaviourData H W X → SettingsData H W X
+settings_of time_to_live time_to_idle max_capacity first_number behaviour = record {
+  time_to_live = option_map as_nanos time_to_live;
+  time_to_idle = option_map as_nanos time_to_idle;
+  max_capacity = max_capacity;
+  first_number = first_number;
+  behaviour = behaviour;
+}
 
--- what a source estimates of a hash, once it has noted these hashes more
-abbrev pub estimates : {F : Type 0} → (F → ℕ → F) → (F → ℕ → ℕ) → F → List ℕ → ℕ → ℕ
-estimates noted count source more hash = count (after_notes source noted more) hash
-
--- What a state keeps, as data. What it holds is what the types of the cache mean by it.
-pub record Kept (K V H F : Type 0) : Type 0 where
-  pub ways : WaysData H
-  pub source : F
-  pub time_to_live : Option ℕ
-  pub time_to_idle : Option ℕ
-  pub max_capacity : Option ℕ
-  pub admitted : List (Write K V)
-  pub waiting : List (Write K V)
-  pub notices : List (Leaving K V)
-  pub latest : ℕ
-  pub next_number : ℕ
-
-module _ {K V H F : Type 0} where
-  -- what a state holds, by what it keeps, and by the ways and the frequencies that this means
-  abbrev pub held_by : (WaysData H → Ways K V) → (F → List ℕ → ℕ → ℕ) → Kept K V H F → Holdings K V
-  held_by ways_in frequency_by state = record {
-    time_to_live = state.time_to_live;
-    time_to_idle = state.time_to_idle;
-    max_capacity = state.max_capacity;
-    ways = ways_in state.ways;
-    frequency = frequency_by state.source;
-    admitted = state.admitted;
-    waiting = state.waiting;
-    notices = state.notices;
-    latest = state.latest;
-    next_number = state.next_number;
-  }
-
-  -- what a state keeps, by its fields
-  abbrev pub kept_by : WaysData H → Lives → Option ℕ → Contents K V → F → ℕ → ℕ → Kept K V H F
-  kept_by ways lives max_capacity contents source latest next_number = record {
-    ways = ways;
-    source = source;
-    time_to_live = option_map as_nanos lives.time_to_live;
-    time_to_idle = option_map as_nanos lives.time_to_idle;
-    max_capacity = max_capacity;
-    admitted = stored_writes contents.admitted;
-    waiting = stored_writes contents.waiting;
-    notices = map leaving_of contents.notices;
-    latest = latest;
-    next_number = next_number;
-  }
-
-  -- all stored writes
-  abbrev pub all_writes : Kept K V H F → List (Write K V)
-  all_writes state = state.admitted ++ state.waiting
+-- all stored writes
+abbrev pub all_writes : {K V H W X F : Type 0} → StateData K V H W X F → List (Write K V)
+all_writes state = state.books.orders.admitted ++ state.books.orders.waiting
 
 module _ {K V : Type 0} where
-  -- what a state holds, by its fields and what they mean
-  abbrev pub holdings : Ways K V → Lives → Option ℕ → Contents K V → (List ℕ → ℕ → ℕ) → ℕ → ℕ → Holdings K V
-  holdings ways lives max_capacity contents frequency latest next_number = record {
-    time_to_live = option_map as_nanos lives.time_to_live;
-    time_to_idle = option_map as_nanos lives.time_to_idle;
-    max_capacity = max_capacity;
-    ways = ways;
-    frequency = frequency;
-    admitted = stored_writes contents.admitted;
-    waiting = stored_writes contents.waiting;
-    notices = map leaving_of contents.notices;
+  -- the writes that the rows of a table store, in their two orders
+  abbrev pub stored_orders : Contents K V → Queues (Write K V)
+  stored_orders contents = record { admitted = stored_writes contents.admitted; waiting = stored_writes contents.waiting }
+
+  -- the books, by a table, the latest moment and the next number
+  abbrev pub books_by : Contents K V → ℕ → ℕ → Books K V
+  books_by contents latest next_number = record {
+    orders = stored_orders contents;
+    notices = map removal_of contents.notices;
     latest = latest;
     next_number = next_number;
   }
 
   -- Each row has the hash of its key; each key and value, stored or noticed, are in the relation that the cache keeps;
   -- and no admitted value's deadline comes before the earliest.
-  pub record IsSound (keeps : K → V → Type 0) (hash_of : K → ℕ) (lives : Lives) (earliest : Option ℕ) (contents : Contents K V) : Type 0 where
+  pub record IsSound (keeps : K → V → Type 0) (hash_of : K → ℕ) (lives : Lives) (earliest : Option ℕ)
+      (contents : Contents K V) : Type 0 where
     pub due : IsDueFrom earliest lives contents.admitted
     pub hashed : AllByRecursion (λ p. p.1.hash ≡ hash_of (arc_value p.1.key)) (entries contents)
     pub kept : AllByRecursion (λ p. keeps (arc_value p.1.key) p.1.value) (entries contents)

@@ -1,81 +1,71 @@
 -- Steps and replies as data, and what a run of steps answers.
-use Rattle.std.specs.Prelude.{⊤, Bool, if◌then◌else◌, List, [], ◌∷◌, Some, option_map}
+use Rattle.std.specs.Prelude.{⊤, Bool, List, [], ◌∷◌, Some, option_map}
 use Rattle.std.specs.Arc.{arc_value}
-use Rattle.moka_base.specs.declared.policy.Refused.TheVariants.{OutOfMemory, NumbersUsedUp}
-use Rattle.moka_base.specs.History.{Event, Quantity, Rules, stores_nothing, after_insert}
-use Rattle.moka_base.specs.Replies.{Answer, answer, IsAnswer, MayTakeMemory, IsOutOfNumbers}
+use Rattle.moka_policy.specs.declared.policy.Refused.TheVariants.{OutOfMemory, NumbersUsedUp}
+use Rattle.moka_model.specs.Lives.{Settings}
+use Rattle.moka_model.specs.Steps.{AcceptedStep}
+use Rattle.moka_model.specs.Calls.{Call, Answer, accepted, after, MayTakeMemory, IsOutOfNumbers}
+use Rattle.moka_model.specs.StandsFor.{IsAnswerOf}
 use Rattle.moka_state.specs.declared.step.Step.{Step}
-use Rattle.moka_state.specs.declared.step.Step.TheVariants.{Get, ContainsKey, Insert, Invalidate, RunPendingTasks, EntryCount, WeightedSize, TakeNotice}
+use Rattle.moka_state.specs.declared.step.Step.TheVariants.{Get, ContainsKey, Insert, Invalidate, RunPendingTasks, EntryCount, WeightedSize}
+use Rattle.moka_state.specs.declared.step.Step.TheVariants.{TakeNotice}
 use Rattle.moka_state.specs.declared.step.Reply.{Reply}
 use Rattle.moka_state.specs.declared.step.Reply.TheVariants.{Found, Contains, Done, Counted, Noticed, Refused}
-use Rattle.moka_state.specs.Table.{leaving_of}
+use Rattle.moka_table.specs.Table.{removal_of}
 
--- The event that a step is, where it is accepted, and the last of them where it is more than one. Where the capacity
--- is 0 an insert writes nothing.
-abbrev pub event_of : {K V : Type 0} → Rules K V → Step K V → Event K V
-event_of rules (Get key now) = Event.Get (arc_value key) now
-event_of rules (ContainsKey key now) = Event.ContainsKey (arc_value key) now
-event_of rules (Insert key value now) = if stores_nothing rules.max_capacity then Event.Skip now else Event.Insert (arc_value key) value now
-event_of rules (Invalidate key now) = Event.Invalidate (arc_value key) now
-event_of rules (RunPendingTasks now) = Event.Maintain now
-event_of rules EntryCount = Event.Measure Quantity.EntryCount
-event_of rules WeightedSize = Event.Measure Quantity.WeightedSize
-event_of rules TakeNotice = Event.TakeNotice
+-- The call that a step is.
+abbrev pub call_of : {K V : Type 0} → Step K V → Call K V
+call_of (Get key now) = Call.Get (arc_value key) now
+call_of (ContainsKey key now) = Call.ContainsKey (arc_value key) now
+call_of (Insert key value now) = Call.Insert (arc_value key) value now
+call_of (Invalidate key now) = Call.Invalidate (arc_value key) now
+call_of (RunPendingTasks now) = Call.RunPendingTasks now
+call_of EntryCount = Call.EntryCount
+call_of WeightedSize = Call.WeightedSize
+call_of TakeNotice = Call.TakeNotice
 
--- An accepted step answers what the definition gives, and a step that draws a number is accepted only where one is
--- left. A refused one says for want of what it was refused, and that is so.
-abbrev pub IsReplyTo : {K V : Type 0} → (K → K → Bool) → (V → V → Type 0) → Rules K V → List (Event K V) → Step K V → Reply K V → Type 0
-IsReplyTo eq is_clone rules h step (Refused OutOfMemory) = MayTakeMemory eq rules (event_of rules step) h
-IsReplyTo eq is_clone rules h step (Refused NumbersUsedUp) = IsOutOfNumbers rules (event_of rules step) h
-IsReplyTo eq is_clone rules h step (Found v) = IsAnswer is_clone (answer eq rules (event_of rules step) h) (Answer.Found v) × ¬ (IsOutOfNumbers rules (event_of rules step) h)
-IsReplyTo eq is_clone rules h step (Contains b) = IsAnswer is_clone (answer eq rules (event_of rules step) h) (Answer.Contains b) × ¬ (IsOutOfNumbers rules (event_of rules step) h)
-IsReplyTo eq is_clone rules h step Done = IsAnswer is_clone (answer eq rules (event_of rules step) h) Answer.Done × ¬ (IsOutOfNumbers rules (event_of rules step) h)
-IsReplyTo eq is_clone rules h step (Counted n) = IsAnswer is_clone (answer eq rules (event_of rules step) h) (Answer.Counted n) × ¬ (IsOutOfNumbers rules (event_of rules step) h)
-IsReplyTo eq is_clone rules h step (Noticed n) = IsAnswer is_clone (answer eq rules (event_of rules step) h) (Answer.Noticed (option_map leaving_of n)) × ¬ (IsOutOfNumbers rules (event_of rules step) h)
+module _ {K V E : Type 0} (eq : K → K → Bool) (is_clone : V → V → Type 0) (settings : Settings K V)
+    (steps : List (AcceptedStep K V E)) where
+  -- a call is accepted with this answer, and it is not out of numbers
+  abbrev pub IsAccepted : Call K V → Answer K V E → Type 0
+  IsAccepted call answer = IsAnswerOf is_clone (accepted eq settings steps call) answer × ¬ (IsOutOfNumbers eq settings steps call)
 
--- The events after an accepted step: one more, but where an insert flushes a maintenance comes first.
-abbrev pub accepted : {K V : Type 0} → (K → K → Bool) → Rules K V → Step K V → List (Event K V) → List (Event K V)
-accepted eq rules (Insert key value now) h = after_insert eq rules (arc_value key) value now h
-accepted eq rules (Get key now) h = Event.Get (arc_value key) now ∷ h
-accepted eq rules (ContainsKey key now) h = Event.ContainsKey (arc_value key) now ∷ h
-accepted eq rules (Invalidate key now) h = Event.Invalidate (arc_value key) now ∷ h
-accepted eq rules (RunPendingTasks now) h = Event.Maintain now ∷ h
-accepted eq rules EntryCount h = Event.Measure Quantity.EntryCount ∷ h
-accepted eq rules WeightedSize h = Event.Measure Quantity.WeightedSize ∷ h
-accepted eq rules TakeNotice h = Event.TakeNotice ∷ h
+  -- An accepted call answers what the definitions give, and one that draws a number is accepted only where one is left. A
+  -- refused one says for want of what it was refused, and that is so: for want of memory only where it was not for want of
+  -- numbers.
+  abbrev pub IsReplyTo : Call K V → Reply K V → Type 0
+  IsReplyTo call (Found v) = IsAccepted call (Answer.Found v)
+  IsReplyTo call (Contains b) = IsAccepted call (Answer.Contains b)
+  IsReplyTo call Done = IsAccepted call Answer.Done
+  IsReplyTo call (Counted n) = IsAccepted call (Answer.Counted n)
+  IsReplyTo call (Noticed n) = IsAccepted call (Answer.Noticed (option_map removal_of n))
+  IsReplyTo call (Refused OutOfMemory) = MayTakeMemory eq settings steps call × ¬ (IsOutOfNumbers eq settings steps call)
+  IsReplyTo call (Refused NumbersUsedUp) = IsOutOfNumbers eq settings steps call
 
--- The events after a step: a refused one leaves them as they are.
-abbrev pub after : {K V : Type 0} → (K → K → Bool) → Rules K V → Step K V → Reply K V → List (Event K V) → List (Event K V)
-after eq rules step (Refused cause) h = h
-after eq rules step (Found v) h = accepted eq rules step h
-after eq rules step (Contains b) h = accepted eq rules step h
-after eq rules step Done h = accepted eq rules step h
-after eq rules step (Counted n) h = accepted eq rules step h
-after eq rules step (Noticed n) h = accepted eq rules step h
+module _ {K V E : Type 0} (eq : K → K → Bool) (settings : Settings K V) where
+  -- The accepted steps after a reply to a call: a refused call leaves them as they are.
+  abbrev pub after_reply : Call K V → Reply K V → List (AcceptedStep K V E) → List (AcceptedStep K V E)
+  after_reply call (Refused cause) steps = steps
+  after_reply call reply steps = after eq settings call steps
 
--- Each reply is the step's, after the accepted steps before it, and there are as many replies as steps.
-abbrev pub IsRun : {K V : Type 0} → (K → K → Bool) → (V → V → Type 0) → Rules K V → List (Event K V) → List (Step K V) → List (Reply K V) → Type 0
-IsRun eq is_clone rules h [] [] = ⊤
-IsRun eq is_clone rules h (step ∷ steps) (reply ∷ replies) = IsReplyTo eq is_clone rules h step reply × IsRun eq is_clone rules (after eq rules step reply h) steps replies
-IsRun eq is_clone rules h [] (reply ∷ replies) = ⊥
-IsRun eq is_clone rules h (step ∷ steps) [] = ⊥
+  -- those after a run, on those before it
+  abbrev pub after_all : List (Step K V) → List (Reply K V) → List (AcceptedStep K V E) → List (AcceptedStep K V E)
+  after_all [] replies steps = steps
+  after_all (call ∷ calls) [] steps = steps
+  after_all (call ∷ calls) (reply ∷ replies) steps = after_all calls replies (after_reply (call_of call) reply steps)
 
--- the events after a run: its accepted steps, on those before it
-abbrev pub after_all : {K V : Type 0} → (K → K → Bool) → Rules K V → List (Step K V) → List (Reply K V) → List (Event K V) → List (Event K V)
-after_all eq rules [] replies h = h
-after_all eq rules (step ∷ steps) [] h = h
-after_all eq rules (step ∷ steps) (reply ∷ replies) h = after_all eq rules steps replies (after eq rules step reply h)
+  -- Each reply is the step's, after the accepted steps before it, and there are as many replies as steps.
+  abbrev pub IsRun : (V → V → Type 0) → List (AcceptedStep K V E) → List (Step K V) → List (Reply K V) → Type 0
+  IsRun is_clone steps [] [] = ⊤
+  IsRun is_clone steps (call ∷ calls) (reply ∷ replies) =
+      IsReplyTo eq is_clone settings steps (call_of call) reply × IsRun is_clone (after_reply (call_of call) reply steps) calls replies
+  IsRun is_clone steps [] (reply ∷ replies) = ⊥
+  IsRun is_clone steps (call ∷ calls) [] = ⊥
 
 -- what a writer owes
 abbrev pub StepKeeps : {K V : Type 0} → (K → V → Type 0) → Step K V → Type 0
 StepKeeps keeps (Insert key value now) = keeps (arc_value key) value
-StepKeeps keeps (Get key now) = ⊤
-StepKeeps keeps (ContainsKey key now) = ⊤
-StepKeeps keeps (Invalidate key now) = ⊤
-StepKeeps keeps (RunPendingTasks now) = ⊤
-StepKeeps keeps EntryCount = ⊤
-StepKeeps keeps WeightedSize = ⊤
-StepKeeps keeps TakeNotice = ⊤
+StepKeeps keeps step = ⊤
 
 -- what a reader gets
 abbrev pub ReplyKeeps : {K V : Type 0} → (K → V → Type 0) → Step K V → Reply K V → Type 0

@@ -1,14 +1,9 @@
 //! The cache as a plain value: its rows, its state, and its calls.
 #![tactic(auto)]
 
-pub mod list_rows;
-mod lives;
-mod maintain;
-pub mod means;
-pub mod rows;
-mod shared_key;
-mod slot;
 pub mod state;
 pub mod step;
-mod table;
-mod ways;
+
+pub use moka_rows::{list_rows, rows};
+pub use moka_slab::slab_rows;
+pub use moka_ways::view;

@@ -1,30 +1,30 @@
 //! The cache as a plain value, lent with `&mut`, with every moment handed in.
-ghost use Rattle.std.specs.Prelude.{◌≡◌, ◌≢◌, ◌+◌, ◌≤◌, ℕ, true, false, ◌↔◌, ◌∷◌, [], length, min, map, option_map, is_some, IsOk, IfOk, IfErr, IfSome, OnOk, OnErr, None, Some, IsErrAnd};
+ghost use Rattle.std.specs.Prelude.{◌≡◌, ◌≢◌, ◌+◌, ◌≤◌, true, false, [], ◌++◌, length, min, map, option_map, IsOk, IfOk, IfErr, IfSome, OnOk, OnErr, None, IsErrAnd, ◌∷◌};
 ghost use Rattle.std.specs.Arc.{arc_value};
 ghost use Rattle.std.specs.List.{AllByRecursion};
-ghost use Rattle.moka_base.specs.History.{Event, Get, ContainsKey, Invalidate, Maintain, Measure, EntryCount, WeightedSize, TakeNotice, latest, is_live, live, noticed, greatest_number, flush_point, stores_nothing, after_insert};
-ghost use Rattle.moka_base.specs.Maintenance.{total};
-ghost use Rattle.moka_base.specs.Replies.{answer, Found, Contains, Done, Counted, Noticed, IsAnswer};
-ghost use Rattle.moka_base.specs.SizeLaws.{WeighsOnes};
-ghost use Rattle.moka_base.specs.StandsFor.{StandsFor, Follows, AtEachHistory};
-ghost use Rattle.moka_base.specs.Policy.{is_lru};
-ghost use Rattle.moka_state.specs.Table.{leaving_of};
-ghost use Rattle.moka_state.specs.State.{Kept, kept_by, all_writes, rules_of, IsSound};
-ghost use Rattle.moka_state.specs.Ways.{hash_by};
+ghost use Rattle.moka_model.specs.Lives.{is_live};
+ghost use Rattle.moka_model.specs.Events.{Maintained, latest};
+ghost use Rattle.moka_model.specs.Maintenance.{total};
+ghost use Rattle.moka_model.specs.Numbers.{greatest_number, flush_point, stores_nothing};
+ghost use Rattle.moka_model.specs.Steps.{events_in};
+ghost use Rattle.moka_model.specs.Calls.{Get, ContainsKey, Insert, Invalidate, RunPendingTasks, EntryCount, WeightedSize, TakeNotice, Found, Contains, Counted, Noticed, live_at};
+ghost use Rattle.moka_model.specs.SizeLaws.{WeighsOnes};
+ghost use Rattle.moka_policy.specs.Policy.{is_lru};
+ghost use Rattle.moka_table.specs.Table.{removal_of};
+ghost use Rattle.moka_ways.specs.Behaviour.{hash_by};
+ghost use Rattle.moka_state.specs.State.{StateData, settings_of, books_by, all_writes, IsSound};
+ghost use Rattle.moka_state.specs.Write.{WriteEnds};
 
-#[cfg(test)]
-pub(crate) mod tests;
-
-use crate::list_rows::ListRows;
-use crate::lives::{Lives, earlier};
-use crate::maintain::maintain;
-use crate::means::Means;
-use crate::rows::{EntryInfo, RowStore};
-use crate::shared_key::{IntoShared, Owned};
-use crate::table::Table;
-use crate::ways::Ways;
-use moka_base::notification::{Notice, RemovalCause};
-use moka_base::policy::{CacheTypes, EvictionPolicy, FrequencySource, Refused};
+use moka_maintain::maintain::maintain;
+use moka_model::notification::{Notice, RemovalCause};
+use moka_policy::policy::{CacheTypes, EvictionPolicy, FrequencySource, Refused};
+use moka_rows::rows::{EntryInfo, RowStore};
+use moka_slab::slab_rows::SlabRows;
+use moka_table::shared_key::{IntoShared, Owned};
+use moka_table::table::Table;
+use moka_ways::behaviour::Behaviour;
+use moka_ways::lives::{Lives, earlier};
+use moka_ways::view::StateView;
 use std::alloc::Global;
 use std::hash::Hash;
 use std::marker::Model;
@@ -38,15 +38,16 @@ pub struct Settings<K: Eq, V: Clone, C: CacheTypes<K, V>> {
     pub time_to_live: Option<Duration>,
     /// How long a value lives after its last use: its write, or a recorded look that found it live.
     pub time_to_idle: Option<Duration>,
-    /// How much may stay stored, by the weights of the values; none is no bound. A cache may pass it by the 64 keys that
-    /// may wait for a maintenance. With 0 nothing is stored.
+    /// How much may stay stored, by the weights of the values; none is no bound. A cache may pass
+    /// it by the 64 keys that may wait for a maintenance. With 0 nothing is stored.
     pub max_capacity: Option<u64>,
     /// Which keys leave where the cache has passed its capacity, and which new ones are admitted.
     pub eviction_policy: EvictionPolicy,
-    /// Weighs each value when it is written; without one each weighs 1, so that the capacity is a number of keys.
+    /// Weighs each value when it is written; without one each weighs 1, so that the capacity is a
+    /// number of keys.
     pub weigher: Option<Arc<C::Weigher>>,
-    /// Gives values lives of their own, beside the two lives above: the earliest end counts. Without one no value has
-    /// one.
+    /// Gives values lives of their own, beside the two lives above: the earliest end counts.
+    /// Without one no value has one.
     pub expiry: Option<Arc<C::Expiry>>,
     /// The number that the first write draws.
     pub first_number: u64,
@@ -77,40 +78,51 @@ pub struct State<K: Hash + Drop, V: Clone, C: CacheTypes<K, V>, R: RowStore<K, V
     // No admitted value's deadline comes before it; without it none comes.
     earliest: Option<u128>,
     latest: u64,
+    first_number: u64,
     next_number: u64,
-    ways: Ways<K, V, C>,
+    behaviour: Behaviour<K, V, C>,
     // It has noted the hash of each key that `get` looked for.
     source: C::Frequency,
     alloc: Global,
 }
 
-/// A cache over the rows of a list.
-pub type CacheState<K, V, C> = State<K, V, C, ListRows<K, V>>;
+/// A cache over rows in a slab.
+pub type CacheState<K, V, C> = State<K, V, C, SlabRows<K, V>>;
 
 impl<K: Hash + Drop, V: Clone, C: CacheTypes<K, V>, R: RowStore<K, V>> Model for State<K, V, C, R> {
-    ghost Value = { Kept K V C.Hasher C.Frequency };
+    ghost Value = { StateData K V C.Hasher C.Weigher C.Expiry C.Frequency };
 
-    ghost view = { λ state. kept_by state.ways state.lives state.max_capacity state.table state.source state.latest state.next_number };
+    ghost view = { λ state. record {
+      settings = settings_of state.lives.time_to_live state.lives.time_to_idle state.max_capacity
+          state.first_number state.behaviour;
+      books = books_by state.table state.latest state.next_number;
+      source = state.source;
+    } };
 
     ghost invariant = { λ state. IsSound C.keeps
-        (hash_by C.Hasher.build_hasher C.Hasher.Hasher.write C.Hasher.Hasher.finish K.hash_input state.ways.hasher)
+        (hash_by C.Hasher.build_hasher C.Hasher.Hasher.write C.Hasher.Hasher.finish K.hash_input
+        state.behaviour.hasher)
         state.lives state.earliest state.table };
 }
 
 impl<K: Hash + Drop, V: Clone, C: CacheTypes<K, V>, R: RowStore<K, V>> State<K, V, C, R> {
-    /// A cache without values. The weigher and the expiry, where they are given, do what the cache's types say of them.
-    /// It takes the memory of the source of frequencies, and no other.
+    /// A cache without values. The weigher and the expiry, where they are given, do what the
+    /// cache's types say of them. It takes the memory of the source of frequencies, and no other.
     pub fn new(alloc: Global, settings: Settings<K, V, C>) -> Result<Self, Refused>
-        requires weighs { IfSome settings.weigher (λ weigher. C.Weigher.weighs (arc_value weigher) C.weight) }
-        requires gives { IfSome settings.expiry (λ expiry. C.Expiry.gives (arc_value expiry) C.lifetimes) }
-        ensures empty { IfOk result (λ state. StandsFor K.eq (rules_of settings.max_capacity settings.time_to_live settings.time_to_idle settings.first_number
-            (⟦<C as Means<K, V>>⟧.ways (record {
+        requires weighs { IfSome settings.weigher (λ weigher.
+            C.Weigher.weighs (arc_value weigher) (C.weight (arc_value weigher))) }
+        requires gives { IfSome settings.expiry (λ expiry.
+            C.Expiry.gives (arc_value expiry) (C.lifetimes (arc_value expiry))) }
+        ensures empty { IfOk result (λ state. ⟦<C as StateView<K, V>>⟧.stands_for
+            (⟦<C as StateView<K, V>>⟧.settings
+            (settings_of settings.time_to_live settings.time_to_idle settings.max_capacity
+            settings.first_number (record {
               is_lru = is_lru settings.eviction_policy;
               hasher = arc_value settings.hasher;
-              is_weighed = is_some settings.weigher;
-              may_expire = is_some settings.expiry;
-            }))
-            (⟦<C as Means<K, V>>⟧.frequency C.Frequency.opened)) (⟦<C as Means<K, V>>⟧.held state) []) }
+              weigher = option_map arc_value settings.weigher;
+              expiry = option_map arc_value settings.expiry;
+            })))
+            state []) }
         ensures cause { IfErr result (λ cause. cause ≡ Refused.OutOfMemory) }
     {
         let source = C::Frequency::opening(alloc)?;
@@ -123,8 +135,9 @@ impl<K: Hash + Drop, V: Clone, C: CacheTypes<K, V>, R: RowStore<K, V>> State<K, 
             max_capacity: settings.max_capacity,
             earliest: None,
             latest: 0,
+            first_number: settings.first_number,
             next_number: settings.first_number,
-            ways: Ways::new(
+            behaviour: Behaviour::new(
                 settings.eviction_policy,
                 settings.hasher,
                 settings.weigher,
@@ -135,25 +148,32 @@ impl<K: Hash + Drop, V: Clone, C: CacheTypes<K, V>, R: RowStore<K, V>> State<K, 
         })
     }
 
-    /// The live value of a key, which is then used at this moment: a recorded look. The key's hash is noted, whether there
-    /// is a value or not. A value that is found may get another life of its own.
+    /// The live value of a key, which is then used at this moment: a recorded look. The key's hash
+    /// is noted, whether there is a value or not. A value that is found may get another life of its
+    /// own.
     ///
-    /// Refused for want of memory for the value's copy alone: a look that finds no live value takes none and succeeds.
-    /// Reads the rows that have the key's hash.
+    /// Refused for want of memory for the value's copy alone: a look that finds no live value takes
+    /// none and succeeds. Reads the rows that have the key's hash.
     pub fn get(&mut self, key: &K, now: u64) -> Result<Option<V>, Refused>
-        ensures reply { IfOk result (λ found. AtEachHistory K.eq (⟦<C as Means<K, V>>⟧.held self.old) (λ rules h.
-            IsAnswer V.is_clone (answer K.eq rules (Get key.now now) h) (Found found))) }
-        ensures stands { OnOk result (Follows K.eq (⟦<C as Means<K, V>>⟧.held self.old) (Get key.now now) (⟦<C as Means<K, V>>⟧.held self.new)) }
+        ensures reply { IfOk result (λ found.
+            ⟦<C as StateView<K, V>>⟧.answers self.old (Get key.now now) (Found found)) }
+        ensures stands { OnOk result
+            (⟦<C as StateView<K, V>>⟧.follows self.old (Get key.now now) self.new) }
         ensures kept { IfOk result (λ found. IfSome found (C.keeps key.now)) }
 
         // Only the copy can be refused, and then nothing has changed.
         ensures refused { OnErr result (self.new ≡ self.old) }
         ensures cause { IfErr result (λ cause. cause ≡ Refused.OutOfMemory) }
-        ensures miss { AtEachHistory K.eq (⟦<C as Means<K, V>>⟧.held self.old) (λ rules h.
-            answer K.eq rules (Get key.now now) h ≡ Found None → IsOk result) }
+
+        // It is not where nothing is live, nor where the copies of the live value never fail.
+        ensures miss { ⟦<C as StateView<K, V>>⟧.at_each_history self.old (λ settings steps.
+            live_at K.eq settings key.now now (events_in steps) ≡ None → IsOk result) }
+        ensures copied { ⟦<C as StateView<K, V>>⟧.at_each_history self.old (λ settings steps.
+            IfSome (live_at K.eq settings key.now now (events_in steps)) (λ live.
+            V.is_infallible live.value → IsOk result)) }
     {
         let now = self.latest.max(now);
-        let hash = self.ways.hash(key);
+        let hash = self.behaviour.hash(key);
         let Some(number) = self.table.find(key, hash) else {
             self.source.note(hash);
             self.latest = now;
@@ -171,7 +191,7 @@ impl<K: Hash + Drop, V: Clone, C: CacheTypes<K, V>, R: RowStore<K, V>> State<K, 
         };
         let info = EntryInfo {
             last_accessed: info.last_accessed.max(now),
-            own_life: self.ways.life_of_hit(&row.key, &row.value, info, now),
+            own_life: self.behaviour.life_of_hit(&row.key, &row.value, info, now),
             ..info
         };
         self.table.touch(number, info);
@@ -182,23 +202,19 @@ impl<K: Hash + Drop, V: Clone, C: CacheTypes<K, V>, R: RowStore<K, V>> State<K, 
         Ok(Some(value))
     }
 
-    /// Writes a value for a key. The value that stands for the key, live or expired, leaves and is noticed. Where 64 or
-    /// more keys wait, a maintenance comes first, at the same moment. Where the capacity is 0 nothing is written.
+    /// Writes a value for a key. The value that stands for the key, live or expired, leaves and is
+    /// noticed. Where 64 or more keys wait, a maintenance comes first, at the same moment. Where
+    /// the capacity is 0 nothing is written.
     ///
-    /// Refused with `NumbersUsedUp` exactly where a number is to be drawn and none is left, and else with `OutOfMemory`
-    /// alone. A refused write hands back the key and the value, and changes nothing. Where the capacity is 0 it succeeds
-    /// without memory. Reads the rows that have the key's hash, beside a maintenance.
+    /// Refused with `NumbersUsedUp` exactly where a number is to be drawn and none is left, and
+    /// else with `OutOfMemory` alone. A refused write hands back the key and the value, and changes
+    /// nothing. Where the capacity is 0 it succeeds without memory. Reads the rows that have the
+    /// key's hash, beside a maintenance.
     pub fn insert(&mut self, key: K, value: V, now: u64) -> Result<(), InsertRefused<K, V>>
         requires { C.keeps key value }
-        ensures stands { OnOk result (AtEachHistory K.eq (⟦<C as Means<K, V>>⟧.held self.old) (λ rules h. StandsFor K.eq rules (⟦<C as Means<K, V>>⟧.held self.new) (after_insert K.eq rules key value now h))) }
-
-        // Whatever refuses it, nothing has changed, and what was given comes back.
-        ensures refused { OnErr result (self.new ≡ self.old) }
-        ensures key_back { IfErr result (λ refused. refused.key ≡ key) }
-        ensures value_back { IfErr result (λ refused. refused.value ≡ value) }
-        ensures numbers { IsErrAnd result (λ refused. refused.cause ≡ Refused.NumbersUsedUp)
-            ↔ ((stores_nothing self.old.max_capacity ≡ false) × (self.old.next_number ≡ greatest_number)) }
-        ensures nothing { stores_nothing self.old.max_capacity ≡ true → IsOk result }
+        ensures { WriteEnds
+            (⟦<C as StateView<K, V>>⟧.follows self.old (Insert key value now) self.new)
+            self.old self.new key value result }
     {
         match self.write(Owned(key), value, now) {
             Ok(()) => Ok(()),
@@ -218,13 +234,9 @@ impl<K: Hash + Drop, V: Clone, C: CacheTypes<K, V>, R: RowStore<K, V>> State<K, 
         now: u64,
     ) -> Result<(), InsertRefused<S, V>>
         requires { C.keeps (S.key_of key) value }
-        ensures stands { OnOk result (AtEachHistory K.eq (⟦<C as Means<K, V>>⟧.held self.old) (λ rules h. StandsFor K.eq rules (⟦<C as Means<K, V>>⟧.held self.new) (after_insert K.eq rules (S.key_of key) value now h))) }
-        ensures refused { OnErr result (self.new ≡ self.old) }
-        ensures key_back { IfErr result (λ refused. refused.key ≡ key) }
-        ensures value_back { IfErr result (λ refused. refused.value ≡ value) }
-        ensures numbers { IsErrAnd result (λ refused. refused.cause ≡ Refused.NumbersUsedUp)
-            ↔ ((stores_nothing self.old.max_capacity ≡ false) × (self.old.next_number ≡ greatest_number)) }
-        ensures nothing { stores_nothing self.old.max_capacity ≡ true → IsOk result }
+        ensures { WriteEnds
+            (⟦<C as StateView<K, V>>⟧.follows self.old (Insert (S.key_of key) value now) self.new)
+            self.old self.new key value result }
     {
         if self.max_capacity == Some(0) {
             self.latest = self.latest.max(now);
@@ -245,24 +257,22 @@ impl<K: Hash + Drop, V: Clone, C: CacheTypes<K, V>, R: RowStore<K, V>> State<K, 
         now: u64,
     ) -> Result<(), InsertRefused<S, V>>
         requires kept { C.keeps (S.key_of key) value }
-        requires stores { stores_nothing self.old.max_capacity ≡ false }
-        requires number { self.old.next_number ≢ greatest_number }
-        ensures stands { OnOk result (AtEachHistory K.eq (⟦<C as Means<K, V>>⟧.held self.old) (λ rules h. StandsFor K.eq rules (⟦<C as Means<K, V>>⟧.held self.new) (after_insert K.eq rules (S.key_of key) value now h))) }
-        ensures refused { OnErr result (self.new ≡ self.old) }
-        ensures key_back { IfErr result (λ refused. refused.key ≡ key) }
-        ensures value_back { IfErr result (λ refused. refused.value ≡ value) }
-        ensures cause { IfErr result (λ refused. refused.cause ≡ Refused.OutOfMemory) }
+        requires stores { stores_nothing self.old.settings.max_capacity ≡ false }
+        requires number { self.old.books.next_number ≢ greatest_number }
+        ensures { WriteEnds
+            (⟦<C as StateView<K, V>>⟧.follows self.old (Insert (S.key_of key) value now) self.new)
+            self.old self.new key value result }
     {
         let now = self.latest.max(now);
         let cause = Refused::OutOfMemory;
-        let hash = self.ways.hash(key.key());
-        let weight = self.ways.weight(key.key(), &value);
-        let Ok(place) = self.table.place(key.key(), hash) else {
+        let hash = self.behaviour.hash(key.key());
+        let weight = self.behaviour.weight(key.key(), &value);
+        let Ok(lookup) = self.table.lookup(key.key(), hash) else {
             return Err(InsertRefused { key, value, cause });
         };
-        let slot = if self.table.waiting_len() < FLUSH_POINT {
-            match place.slot(key, self.alloc) {
-                Ok(slot) => slot,
+        let target = if self.table.waiting_len() < FLUSH_POINT {
+            match lookup.target(key, self.alloc) {
+                Ok(target) => target,
                 Err(key) => return Err(InsertRefused { key, value, cause }),
             }
         } else {
@@ -272,20 +282,20 @@ impl<K: Hash + Drop, V: Clone, C: CacheTypes<K, V>, R: RowStore<K, V>> State<K, 
                         &mut self.table,
                         &self.lives,
                         self.max_capacity,
-                        self.ways.policy(),
+                        self.behaviour.policy(),
                         &self.source,
                         self.earliest,
                         now,
                     );
-                    self.table.slot_now(place, key, hash)
+                    self.table.target_now(lookup, key, hash)
                 }
                 Err(key) => return Err(InsertRefused { key, value, cause }),
             }
         };
         let info = self
             .table
-            .info_of(&slot, &value, weight, now, &self.ways, &self.lives);
-        self.table.put(slot, hash, value, info, &self.lives);
+            .info_of(&target, &value, weight, now, &self.behaviour, &self.lives);
+        self.table.put(target, hash, value, info, &self.lives);
         self.earliest = earlier(self.earliest, self.lives.deadline(info));
         self.latest = now;
         self.next_number += 1;
@@ -294,12 +304,11 @@ impl<K: Hash + Drop, V: Clone, C: CacheTypes<K, V>, R: RowStore<K, V>> State<K, 
 
     /// Whether a key has a live value at a moment. It is no use of the value, and records nothing.
     pub fn contains_key(&self, key: &K, now: u64) -> bool
-        ensures reply { AtEachHistory K.eq (⟦<C as Means<K, V>>⟧.held self.now) (λ rules h.
-            answer K.eq rules (ContainsKey key.now now) h ≡ Contains result) }
-        ensures stands { Follows K.eq (⟦<C as Means<K, V>>⟧.held self.now) (ContainsKey key.now now) (⟦<C as Means<K, V>>⟧.held self.now) }
+        ensures reply { ⟦<C as StateView<K, V>>⟧.answers self.now (ContainsKey key.now now) (Contains result) }
+        ensures stands { ⟦<C as StateView<K, V>>⟧.follows self.now (ContainsKey key.now now) self.now }
     {
         let now = self.latest.max(now);
-        let hash = self.ways.hash(key);
+        let hash = self.behaviour.hash(key);
         match self.table.find(key, hash) {
             None => false,
             Some(number) => !self.lives.is_expired(self.table.row(number).info, now),
@@ -308,52 +317,57 @@ impl<K: Hash + Drop, V: Clone, C: CacheTypes<K, V>, R: RowStore<K, V>> State<K, 
 
     /// Removes a key. Its value, live or expired, is noticed. It takes no memory.
     pub fn invalidate(&mut self, key: &K, now: u64)
-        ensures { Follows K.eq (⟦<C as Means<K, V>>⟧.held self.old) (Invalidate key.now now) (⟦<C as Means<K, V>>⟧.held self.new) }
+        ensures { ⟦<C as StateView<K, V>>⟧.follows self.old (Invalidate key.now now) self.new }
     {
         let now = self.latest.max(now);
         self.latest = now;
-        let hash = self.ways.hash(key);
+        let hash = self.behaviour.hash(key);
         if let Some(number) = self.table.find(key, hash) {
             let info = self.table.row(number).info;
             let cause = self.lives.cause(info, now, RemovalCause::Explicit);
-            self.table.let_go(number, cause);
+            self.table.evict(number, cause);
         }
     }
 
     /// The first notice that has not been taken, in the order of leaving. It takes no memory.
     pub fn take_notice(&mut self) -> Option<Notice<K, V>>
-        ensures reply { AtEachHistory K.eq (⟦<C as Means<K, V>>⟧.held self.old) (λ rules h.
-            answer K.eq rules TakeNotice h ≡ Noticed (option_map leaving_of result)) }
-        ensures stands { Follows K.eq (⟦<C as Means<K, V>>⟧.held self.old) TakeNotice (⟦<C as Means<K, V>>⟧.held self.new) }
+        ensures reply { ⟦<C as StateView<K, V>>⟧.answers self.old TakeNotice
+            (Noticed (option_map removal_of result)) }
+        ensures stands { ⟦<C as StateView<K, V>>⟧.follows self.old TakeNotice self.new }
         ensures kept { IfSome result (λ notice. C.keeps (arc_value notice.key) notice.value) }
     {
         self.table.take_notice()
     }
 
-    /// Runs a maintenance: the expired values leave, and where the admitted pass the capacity the least recently used
-    /// leave. Then each that waits, in their order, is admitted, where need be in place of the least recently used, or it
-    /// leaves, as the policy wants it. Each that leaves is noticed. It takes no memory.
+    /// Runs a maintenance: the expired values leave, and where the admitted pass the capacity the
+    /// least recently used leave. Then each that waits, in their order, is admitted, where need be
+    /// in place of the least recently used, or it leaves, as the policy wants it. Each that leaves
+    /// is noticed. It takes no memory.
     ///
-    /// Visits the waiting rows, for each the admitted ones that would have to leave for it, and the others only where one
-    /// may have expired.
+    /// Visits the waiting rows, for each the admitted ones that would have to leave for it, and the
+    /// others only where one may have expired.
     pub fn run_pending_tasks(&mut self, now: u64)
-        ensures stands { Follows K.eq (⟦<C as Means<K, V>>⟧.held self.old) (Maintain now) (⟦<C as Means<K, V>>⟧.held self.new) }
+        ensures stands { ⟦<C as StateView<K, V>>⟧.follows self.old (RunPendingTasks now) self.new }
 
-        // Nothing waits then, what is stored is live, and it is within the capacity, by its weight and so by its number where
-        // each value weighs 1.
-        ensures none_waits { self.new.waiting ≡ [] }
-        ensures all_live { AtEachHistory K.eq (⟦<C as Means<K, V>>⟧.held self.old) (λ rules h.
-            AllByRecursion (λ w. is_live rules w (latest (Maintain now ∷ h)) ≡ true) (all_writes self.new)) }
-        ensures within { IfSome self.new.max_capacity (λ capacity. total (λ w. w.weight) (all_writes self.new) ≤ capacity) }
-        ensures count { AtEachHistory K.eq (⟦<C as Means<K, V>>⟧.held self.old) (λ rules h. WeighsOnes rules →
-            IfSome self.new.max_capacity (λ capacity. length (all_writes self.new) ≤ capacity)) }
+        // Nothing waits then, what is stored is live, and it is within the capacity, by its weight
+        // and so by its number where each value weighs 1.
+        ensures none_waits { self.new.books.orders.waiting ≡ [] }
+        ensures all_live { ⟦<C as StateView<K, V>>⟧.at_each_history self.old (λ settings steps.
+            AllByRecursion
+            (λ w. is_live settings w (latest (Maintained None now ∷ events_in steps)) ≡ true)
+            (all_writes self.new)) }
+        ensures within { IfSome self.new.settings.max_capacity (λ capacity.
+            total (λ w. w.policy_weight) (all_writes self.new) ≤ capacity) }
+        ensures count { ⟦<C as StateView<K, V>>⟧.at_each_history self.old (λ settings steps.
+            WeighsOnes settings → IfSome self.new.settings.max_capacity (λ capacity.
+            length (all_writes self.new) ≤ capacity)) }
     {
         let now = self.latest.max(now);
         self.earliest = maintain(
             &mut self.table,
             &self.lives,
             self.max_capacity,
-            self.ways.policy(),
+            self.behaviour.policy(),
             &self.source,
             self.earliest,
             now,
@@ -361,24 +375,26 @@ impl<K: Hash + Drop, V: Clone, C: CacheTypes<K, V>, R: RowStore<K, V>> State<K, 
         self.latest = now;
     }
 
-    /// How many keys are stored, with those that wait and those whose values are expired. With a capacity, and where each
-    /// value weighs 1, it is at most the capacity and 64 more.
+    /// How many keys are stored, with those that wait and those whose values are expired. With a
+    /// capacity, and where each value weighs 1, it is at most the capacity and 64 more.
     pub fn entry_count(&self) -> u64
         ensures counted { result ≡ length (all_writes self.now) }
-        ensures reply { AtEachHistory K.eq (⟦<C as Means<K, V>>⟧.held self.now) (λ rules h. answer K.eq rules (Measure EntryCount) h ≡ Counted result) }
-        ensures stands { Follows K.eq (⟦<C as Means<K, V>>⟧.held self.now) (Measure EntryCount) (⟦<C as Means<K, V>>⟧.held self.now) }
-        ensures bounded { AtEachHistory K.eq (⟦<C as Means<K, V>>⟧.held self.now) (λ rules h. WeighsOnes rules →
-            IfSome self.now.max_capacity (λ capacity. result ≤ capacity + flush_point)) }
+        ensures reply { ⟦<C as StateView<K, V>>⟧.answers self.now EntryCount (Counted result) }
+        ensures stands { ⟦<C as StateView<K, V>>⟧.follows self.now EntryCount self.now }
+        ensures bounded { ⟦<C as StateView<K, V>>⟧.at_each_history self.now (λ settings steps.
+            WeighsOnes settings → IfSome self.now.settings.max_capacity (λ capacity.
+            result ≤ capacity + flush_point)) }
     {
         self.table.len() as u64
     }
 
-    /// How heavy all that is stored is, with what waits and what is expired; where that is more than `u64::MAX`, this is
-    /// `u64::MAX`.
+    /// How heavy all that is stored is, with what waits and what is expired; where that is more
+    /// than `u64::MAX`, this is `u64::MAX`.
     pub fn weighted_size(&self) -> u64
-        ensures counted { result ≡ min (total (λ w. w.weight) (all_writes self.now)) greatest_number }
-        ensures reply { AtEachHistory K.eq (⟦<C as Means<K, V>>⟧.held self.now) (λ rules h. answer K.eq rules (Measure WeightedSize) h ≡ Counted result) }
-        ensures stands { Follows K.eq (⟦<C as Means<K, V>>⟧.held self.now) (Measure WeightedSize) (⟦<C as Means<K, V>>⟧.held self.now) }
+        ensures counted { result
+            ≡ min (total (λ w. w.policy_weight) (all_writes self.now)) greatest_number }
+        ensures reply { ⟦<C as StateView<K, V>>⟧.answers self.now WeightedSize (Counted result) }
+        ensures stands { ⟦<C as StateView<K, V>>⟧.follows self.now WeightedSize self.now }
     {
         self.table.weight().min(u128::from(u64::MAX)) as u64
     }
@@ -390,7 +406,7 @@ impl<K: Hash + Drop, V: Clone, C: CacheTypes<K, V>, R: RowStore<K, V>> State<K, 
 
     /// How many notices have not been taken.
     pub fn notice_count(&self) -> usize
-        ensures { result ≡ length self.now.notices }
+        ensures { result ≡ length self.now.books.notices }
     {
         self.table.notice_count()
     }

@@ -1,20 +1,16 @@
 //! Calls and their answers as data, and runs of them.
 ghost use Rattle.std.specs.Prelude.{◌≡◌, ◌+◌, ◌≤◌, length, IfOk, IfErr, IfSome, OnErr};
 ghost use Rattle.std.specs.List.{AllByRecursion};
-ghost use Rattle.moka_base.specs.History.{flush_point};
-ghost use Rattle.moka_base.specs.SizeLaws.{WeighsOnes};
-ghost use Rattle.moka_base.specs.StandsFor.{StandsFor, AtEachHistory};
+ghost use Rattle.moka_model.specs.Numbers.{flush_point};
+ghost use Rattle.moka_model.specs.SizeLaws.{WeighsOnes};
 ghost use Rattle.moka_state.specs.State.{all_writes};
-ghost use Rattle.moka_state.specs.Step.{IsReplyTo, StepKeeps, ReplyKeeps, after, IsRun, after_all};
+ghost use Rattle.moka_state.specs.Step.{call_of, IsReplyTo, StepKeeps, ReplyKeeps, after_reply, IsRun, after_all};
 
-#[cfg(test)]
-mod tests;
-
-use crate::means::Means;
-use crate::rows::RowStore;
 use crate::state::{InsertRefused, State};
-use moka_base::notification::Notice;
-use moka_base::policy::{CacheTypes, Refused};
+use moka_model::notification::Notice;
+use moka_policy::policy::{CacheTypes, Refused};
+use moka_rows::rows::RowStore;
+use moka_ways::view::StateView;
 use std::collections::VecDeque;
 use std::hash::Hash;
 use std::sync::Arc;
@@ -58,12 +54,15 @@ pub enum Reply<K, V> {
 }
 
 impl<K: Hash + Drop, V: Clone, C: CacheTypes<K, V>, R: RowStore<K, V>> State<K, V, C, R> {
-    /// Does one step. A step and the call that it stands for answer the same. A refused step has changed nothing, and
-    /// what it carried is dropped.
+    /// Does one step. A step and the call that it stands for answer the same. A refused step has
+    /// changed nothing, and what it carried is dropped.
     pub fn step(&mut self, step: Step<K, V>) -> Reply<K, V>
         requires { StepKeeps C.keeps step }
-        ensures reply { AtEachHistory K.eq (⟦<C as Means<K, V>>⟧.held self.old) (λ rules h. IsReplyTo K.eq V.is_clone rules h step result) }
-        ensures stands { AtEachHistory K.eq (⟦<C as Means<K, V>>⟧.held self.old) (λ rules h. StandsFor K.eq rules (⟦<C as Means<K, V>>⟧.held self.new) (after K.eq rules step result h)) }
+        ensures reply { ⟦<C as StateView<K, V>>⟧.at_each_history self.old (λ settings steps.
+            IsReplyTo K.eq V.is_clone settings steps (call_of step) result) }
+        ensures stands { ⟦<C as StateView<K, V>>⟧.at_each_history self.old (λ settings steps.
+            ⟦<C as StateView<K, V>>⟧.stands_for settings self.new
+            (after_reply K.eq settings (call_of step) result steps)) }
         ensures kept { ReplyKeeps C.keeps step result }
     {
         match step {
@@ -90,14 +89,23 @@ impl<K: Hash + Drop, V: Clone, C: CacheTypes<K, V>, R: RowStore<K, V>> State<K, 
         }
     }
 
-    /// Does steps in order, and answers their replies. With a capacity, and where each value weighs 1, no more keys are
-    /// stored then than it allows, and 64. Where the list of replies finds no room, no step was done.
+    /// Does steps in order, and answers their replies. With a capacity, and where each value weighs
+    /// 1, no more keys are stored then than it allows, and 64. Where the list of replies finds no
+    /// room, no step was done.
     pub fn run(&mut self, steps: Vec<Step<K, V>>) -> Result<Vec<Reply<K, V>>, Refused>
         requires { AllByRecursion (StepKeeps C.keeps) steps.items }
-        ensures replies { IfOk result (λ replies. AtEachHistory K.eq (⟦<C as Means<K, V>>⟧.held self.old) (λ rules h. IsRun K.eq V.is_clone rules h steps.items replies.items)) }
-        ensures stands { IfOk result (λ replies. AtEachHistory K.eq (⟦<C as Means<K, V>>⟧.held self.old) (λ rules h. StandsFor K.eq rules (⟦<C as Means<K, V>>⟧.held self.new) (after_all K.eq rules steps.items replies.items h))) }
-        ensures bounded { IfOk result (λ _. AtEachHistory K.eq (⟦<C as Means<K, V>>⟧.held self.old) (λ rules h. WeighsOnes rules →
-            IfSome self.new.max_capacity (λ capacity. length (all_writes self.new) ≤ capacity + flush_point))) }
+        ensures replies { IfOk result (λ replies.
+            ⟦<C as StateView<K, V>>⟧.at_each_history self.old (λ settings before.
+            IsRun K.eq settings V.is_clone before steps.items replies.items)) }
+        ensures stands { IfOk result (λ replies.
+            ⟦<C as StateView<K, V>>⟧.at_each_history self.old (λ settings before.
+            ⟦<C as StateView<K, V>>⟧.stands_for settings self.new
+            (after_all K.eq settings steps.items replies.items before))) }
+        ensures bounded { IfOk result (λ _.
+            ⟦<C as StateView<K, V>>⟧.at_each_history self.old (λ settings before.
+            WeighsOnes settings →
+            IfSome self.new.settings.max_capacity (λ capacity.
+            length (all_writes self.new) ≤ capacity + flush_point))) }
         ensures refused { OnErr result (self.new ≡ self.old) }
         ensures cause { IfErr result (λ cause. cause ≡ Refused.OutOfMemory) }
     {

@@ -1,18 +1,20 @@
 use Rattle.std.proofs.Common.{◌≡◌, Bool, true, false, not, cond, max, Some, None, is_some, ◌∙◌, ap, sym, refl}
-use Rattle.moka_base.specs.Replies.{Contains}
-use Rattle.moka_base.specs.History.{has_come}
-use Rattle.moka_state.specs.Lives.{deadline_of}
-use Rattle.moka_state.proofs.Found.{same-key}
-use Rattle.moka_state.proofs.Stands.{live-found, live-absent}
+use Rattle.moka_model.specs.Lives.{has_come}
+use Rattle.moka_model.specs.Calls.{ContainsKey, Contains}
+use Rattle.moka_ways.specs.Lives.{deadline_of}
+use Rattle.moka_state.proofs.Finds.{live-row, live-absent}
+use Rattle.moka_state.proofs.Held.{same-key}
+use Rattle.moka_state.proofs.Views.{follows-question}
 use Rattle.moka_state.proofs.state.State.contains_key.Goals as goal
 
 pub returns-in-None-clause-reply : goal.returns-in-None-clause-reply
-returns-in-None-clause-reply g c rules h stands =
+returns-in-None-clause-reply g c given steps stands =
     let s = c.self.inside in
-    let same = rw (← c.self.view_is) at stands in
-    let none = live-absent g.K.PartialEq.eq g.met.K.Eq.laws rules _ s.lives s.max_capacity s.table _ s.latest s.next_number h same c.self.invariant c.hash-hash.ensures.alike
-    c.args.key.now c.args.now c.hash-hash.result c.hash-hash.ensures.hash c.in-None.ensures.absent in
-    ap (λ o. Contains (is_some o)) none
+    let none = live-absent g.K.PartialEq.eq g.met.K.Eq.laws _ s.table _ s.latest s.next_number given steps (rw (← c.self.view_is) at stands) _ c.hash-hash.ensures.alike c.self.invariant.hashed c.args.key.now c.args.now c.hash-hash.result c.hash-hash.ensures.hash c.in-None.ensures.absent in
+    sym (ap (λ o. Contains (is_some o)) none)
+
+pub returns-in-None-clause-stands : goal.returns-in-None-clause-stands
+returns-in-None-clause-stands g c = follows-question g.K.PartialEq.eq _ (ContainsKey c.args.key.now c.args.now) (λ _ _. refl)
 
 -- a value that is there unless a test holds is there where it does not
 is_some-cond : {A : Type 0} (t : Bool) (x : A) → is_some (cond (not t) (Some x) None) ≡ not t
@@ -20,12 +22,14 @@ is_some-cond true x = refl
 is_some-cond false x = refl
 
 pub returns-in-Some-clause-reply : goal.returns-in-Some-clause-reply
-returns-in-Some-clause-reply g c rules h stands =
+returns-in-Some-clause-reply g c given steps stands =
     let s = c.self.inside in
-    let same = rw (← c.self.view_is) at stands in
     let row = c.row.result.now in
     let key = same-key g.K.PartialEq.eq c.args.key.now c.hash-hash.result row (rw c.row.ensures at c.in-Some.ensures.found) in
-    let it = live-found g.K.PartialEq.eq g.met.K.Eq.laws rules _ s.lives s.max_capacity s.table _ s.latest s.next_number h same c.args.key.now c.args.now c.in-Some.number row c.row.ensures key in
-    ap (λ o. Contains (is_some o)) it
+    let it = live-row g.K.PartialEq.eq g.met.K.Eq.laws _ s.table _ s.latest s.next_number given steps (rw (← c.self.view_is) at stands) s.lives refl c.args.key.now c.args.now c.in-Some.number row c.row.ensures key in
+    sym (ap (λ o. Contains (is_some o)) it
     ∙ ap Contains (is_some-cond (has_come (deadline_of s.lives row.info) (max s.latest c.args.now)) _)
-    ∙ ap (λ t. Contains (not t)) (sym (c.is_expired.ensures ∙ ap (has_come (deadline_of s.lives row.info)) c.max-now.ensures))
+    ∙ ap (λ t. Contains (not t)) (sym (c.is_expired.ensures ∙ ap (has_come (deadline_of s.lives row.info)) c.max-now.ensures)))
+
+pub returns-in-Some-clause-stands : goal.returns-in-Some-clause-stands
+returns-in-Some-clause-stands g c = follows-question g.K.PartialEq.eq _ (ContainsKey c.args.key.now c.args.now) (λ _ _. refl)

@@ -1,8 +1,13 @@
-use Rattle.moka_state.proofs.Counts.{entries-bounded}
+use Rattle.std.proofs.Common.{refl}
+use Rattle.moka_model.specs.Calls.{EntryCount}
+use Rattle.moka_state.proofs.Counts.{writes-bounded, rows-counted}
+use Rattle.moka_state.proofs.Views.{follows-question}
 use Rattle.moka_state.proofs.state.State.entry_count.Goals as goal
 
+pub returns-clause-stands : goal.returns-clause-stands
+returns-clause-stands g c = follows-question g.K.PartialEq.eq _ EntryCount (λ _ _. refl)
+
 pub returns-clause-bounded : goal.returns-clause-bounded
-returns-clause-bounded g c rules h stands ones =
-    let s = c.self.inside in
-    let same = rw (← c.self.view_is) at stands in
-    rw (← c.self.view_is) (entries-bounded g.K.PartialEq.eq rules _ s.lives s.max_capacity s.table _ s.latest s.next_number h same ones c.len.result c.len.ensures)
+returns-clause-bounded g c given steps stands ones =
+    let few = writes-bounded g.K.PartialEq.eq given _ steps (rw (← c.self.view_is) at stands) ones in
+    rw (← c.self.view_is, c.len.ensures, ← rows-counted c.self.inside.table) few

@@ -1,60 +1,67 @@
-use Rattle.std.proofs.Common.{max, ◌∙◌, ap, sym, refl}
+use Rattle.std.proofs.Common.{not, max, ◌∙◌, ap, sym, refl}
 use Rattle.std.specs.Arc.{arc_value}
-use Rattle.moka_base.specs.History.{has_come}
-use Rattle.moka_state.specs.Lives.{deadline_of}
-use Rattle.moka_state.proofs.Found.{same-key}
-use Rattle.moka_state.proofs.Sound.{of-row, IsSound-touched}
-use Rattle.moka_state.proofs.Stands.{standing-absent, live-found, live-absent}
-use Rattle.moka_state.proofs.Cases.{estimates-noted, stands-after-miss, stands-after-expired, stands-after-hit}
+use Rattle.moka_model.specs.Lives.{has_come}
+use Rattle.moka_model.specs.Events.{Looked}
+use Rattle.moka_model.specs.Calls.{Get}
+use Rattle.moka_ways.specs.Lives.{deadline_of}
+use Rattle.moka_rows.specs.Rows.{touched}
+use Rattle.moka_table.proofs.Callers.{of-row}
+use Rattle.moka_state.proofs.Becoming.{estimates-noted, stored-same, becomes-absent, becomes-expired, becomes-hit}
+use Rattle.moka_state.proofs.Finds.{live-row, live-absent}
+use Rattle.moka_state.proofs.Held.{same-key, held-absent}
+use Rattle.moka_state.proofs.Sound.{IsSound-touched}
+use Rattle.moka_state.proofs.Views.{follows-event}
 use Rattle.moka_state.proofs.state.State.get.Goals as goal
 
 pub returns-in_default-clause-reply : goal.returns-in_default-clause-reply
-returns-in_default-clause-reply g c rules h stands =
+returns-in_default-clause-reply g c given steps stands =
     let s = c.self.inside in
-    let same = rw (← c.self.view_is) at stands in
-    let none = live-absent g.K.PartialEq.eq g.met.K.Eq.laws rules _ s.lives s.max_capacity s.table _ s.latest s.next_number h same c.self.invariant c.hash-hash.ensures.alike
-    c.args.key.now c.args.now c.hash-hash.result c.hash-hash.ensures.hash c.in_default.ensures.absent in
+    let none = live-absent g.K.PartialEq.eq g.met.K.Eq.laws _ s.table _ s.latest s.next_number given steps (rw (← c.self.view_is) at stands) _ c.hash-hash.ensures.alike c.self.invariant.hashed c.args.key.now c.args.now c.hash-hash.result c.hash-hash.ensures.hash c.in_default.ensures.absent in
     rw none tt
 
 pub returns-in_default-clause-stands : goal.returns-in_default-clause-stands
-returns-in_default-clause-stands g c rules h stands =
+returns-in_default-clause-stands g c =
     let s = c.self.inside in
-    let same = rw (← c.self.view_is) at stands in
-    let none = standing-absent g.K.PartialEq.eq g.met.K.Eq.laws rules _ s.lives s.max_capacity s.table _ s.latest s.next_number h same c.self.invariant c.hash-hash.ensures.alike
-    c.args.key.now c.hash-hash.result c.hash-hash.ensures.hash c.in_default.ensures.absent in
-    rw c.max-now.ensures (stands-after-miss g.K.PartialEq.eq g.met.K.Eq.laws rules _ s.lives s.max_capacity s.table _ s.latest s.next_number h same _ c.args.key.now c.args.now
-    (estimates-noted g.C.Frequency.FrequencySource.noted g.C.Frequency.FrequencySource.count s.source c.note.new.self c.hash-hash.result _ c.note.ensures c.hash-hash.ensures.hash) none)
+    let none = held-absent g.K.PartialEq.eq s.table _ c.hash-hash.ensures.alike c.self.invariant.hashed c.args.key.now c.hash-hash.result c.hash-hash.ensures.hash c.in_default.ensures.absent in
+    rw (← c.self.view_is, c.max-now.ensures) (follows-event g.K.PartialEq.eq g.met.K.Eq.laws _ _ (Get c.args.key.now c.args.now) (Looked c.args.key.now c.args.now) (λ _ _. refl)
+    (λ _. becomes-absent g.K.PartialEq.eq _ s.table _ s.latest s.next_number _ c.args.key.now c.args.now (estimates-noted g.C.Frequency.FrequencySource.noted g.C.Frequency.FrequencySource.count s.source c.note.new.self c.hash-hash.result _ c.note.ensures c.hash-hash.ensures.hash) none))
 
 pub returns-then-is_expired-clause-reply : goal.returns-then-is_expired-clause-reply
-returns-then-is_expired-clause-reply g c rules h stands =
+returns-then-is_expired-clause-reply g c given steps stands =
     let s = c.self.inside in
-    let same = rw (← c.self.view_is) at stands in
     let row = c.row-row.result.now in
     let key = same-key g.K.PartialEq.eq c.args.key.now c.hash-hash.result row (rw c.row-row.ensures at c.in-Some.ensures.found) in
-    let it = live-found g.K.PartialEq.eq g.met.K.Eq.laws rules _ s.lives s.max_capacity s.table _ s.latest s.next_number h same c.args.key.now c.args.now c.in-Some.number row c.row-row.ensures key in
+    let it = live-row g.K.PartialEq.eq g.met.K.Eq.laws _ s.table _ s.latest s.next_number given steps (rw (← c.self.view_is) at stands) s.lives refl c.args.key.now c.args.now c.in-Some.number row c.row-row.ensures key in
     let late = sym (ap (has_come (deadline_of s.lives row.info)) c.max-now.ensures) ∙ sym c.is_expired.ensures ∙ c.if-is_expired.true in
     rw (it, late) tt
 
 pub returns-then-is_expired-clause-stands : goal.returns-then-is_expired-clause-stands
-returns-then-is_expired-clause-stands g c rules h stands =
+returns-then-is_expired-clause-stands g c =
     let s = c.self.inside in
-    let same = rw (← c.self.view_is) at stands in
     let row = c.row-row.result.now in
     let key = same-key g.K.PartialEq.eq c.args.key.now c.hash-hash.result row (rw c.row-row.ensures at c.in-Some.ensures.found) in
     let late = sym (ap (has_come (deadline_of s.lives row.info)) c.max-now.ensures) ∙ sym c.is_expired.ensures ∙ c.if-is_expired.true in
-    rw c.max-now.ensures (stands-after-expired g.K.PartialEq.eq g.met.K.Eq.laws rules _ s.lives s.max_capacity s.table _ s.latest s.next_number h same _ c.args.key.now c.args.now c.in-Some.number row
-    (estimates-noted g.C.Frequency.FrequencySource.noted g.C.Frequency.FrequencySource.count s.source c.note-then-is_expired.new.self c.hash-hash.result _ c.note-then-is_expired.ensures c.hash-hash.ensures.hash) c.row-row.ensures key late)
+    rw (← c.self.view_is, c.max-now.ensures) (follows-event g.K.PartialEq.eq g.met.K.Eq.laws _ _ (Get c.args.key.now c.args.now) (Looked c.args.key.now c.args.now) (λ _ _. refl)
+    (λ one. becomes-expired g.K.PartialEq.eq _ s.table _ s.latest s.next_number one s.table c.args.key.now c.args.now c.in-Some.number row c.row-row.ensures key _ (estimates-noted g.C.Frequency.FrequencySource.noted g.C.Frequency.FrequencySource.count s.source c.note-then-is_expired.new.self c.hash-hash.result _ c.note-then-is_expired.ensures c.hash-hash.ensures.hash) late))
 
 pub returns-in_default-clone-clause-miss : goal.returns-in_default-clone-clause-miss
-returns-in_default-clone-clause-miss g c rules h stands nothing =
+returns-in_default-clone-clause-miss g c given steps stands nothing =
     let s = c.self.inside in
-    let same = rw (← c.self.view_is) at stands in
     let row = c.row-row.result.now in
     let key = same-key g.K.PartialEq.eq c.args.key.now c.hash-hash.result row (rw c.row-row.ensures at c.in-Some.ensures.found) in
-    let it = live-found g.K.PartialEq.eq g.met.K.Eq.laws rules _ s.lives s.max_capacity s.table _ s.latest s.next_number h same c.args.key.now c.args.now c.in-Some.number row c.row-row.ensures key in
+    let it = live-row g.K.PartialEq.eq g.met.K.Eq.laws _ s.table _ s.latest s.next_number given steps (rw (← c.self.view_is) at stands) s.lives refl c.args.key.now c.args.now c.in-Some.number row c.row-row.ensures key in
     let late = sym (ap (has_come (deadline_of s.lives row.info)) c.max-now.ensures) ∙ sym c.is_expired.ensures ∙ c.if-is_expired.false in
     let found = rw (it, late) at nothing in
     cc
+
+pub returns-in_default-clone-clause-copied : goal.returns-in_default-clone-clause-copied
+returns-in_default-clone-clause-copied g c given steps stands =
+    let s = c.self.inside in
+    let row = c.row-row.result.now in
+    let key = same-key g.K.PartialEq.eq c.args.key.now c.hash-hash.result row (rw c.row-row.ensures at c.in-Some.ensures.found) in
+    let it = live-row g.K.PartialEq.eq g.met.K.Eq.laws _ s.table _ s.latest s.next_number given steps (rw (← c.self.view_is) at stands) s.lives refl c.args.key.now c.args.now c.in-Some.number row c.row-row.ensures key in
+    let late = sym (ap (has_come (deadline_of s.lives row.info)) c.max-now.ensures) ∙ sym c.is_expired.ensures ∙ c.if-is_expired.false in
+    rw (it, late) (λ fine. absurd (c.in_default-clone.ensures.cases fine))
 
 pub invariant_of-self-2 : goal.invariant_of-self-2
 invariant_of-self-2 g c =
@@ -63,25 +70,24 @@ invariant_of-self-2 g c =
     (IsSound-touched _ _ s.lives s.earliest s.table c.touch.new.self c.self.invariant c.in-Some.number c.row-row.result.now _ c.row-row.ensures c.touch.ensures.rows c.touch.ensures.notices)
 
 pub returns-clause-reply : goal.returns-clause-reply
-returns-clause-reply g c rules h stands =
+returns-clause-reply g c given steps stands =
     let s = c.self.inside in
-    let same = rw (← c.self.view_is) at stands in
     let row = c.row-row.result.now in
     let key = same-key g.K.PartialEq.eq c.args.key.now c.hash-hash.result row (rw c.row-row.ensures at c.in-Some.ensures.found) in
-    let it = live-found g.K.PartialEq.eq g.met.K.Eq.laws rules _ s.lives s.max_capacity s.table _ s.latest s.next_number h same c.args.key.now c.args.now c.in-Some.number row c.row-row.ensures key in
+    let it = live-row g.K.PartialEq.eq g.met.K.Eq.laws _ s.table _ s.latest s.next_number given steps (rw (← c.self.view_is) at stands) s.lives refl c.args.key.now c.args.now c.in-Some.number row c.row-row.ensures key in
     let late = sym (ap (has_come (deadline_of s.lives row.info)) c.max-now.ensures) ∙ sym c.is_expired.ensures ∙ c.if-is_expired.false in
     rw (it, late) c.in-Ok.ensures.cases
 
 pub returns-clause-stands : goal.returns-clause-stands
-returns-clause-stands g c rules h stands =
+returns-clause-stands g c =
     let s = c.self.inside in
-    let same = rw (← c.self.view_is) at stands in
     let row = c.row-row.result.now in
     let key = same-key g.K.PartialEq.eq c.args.key.now c.hash-hash.result row (rw c.row-row.ensures at c.in-Some.ensures.found) in
     let late = sym (ap (has_come (deadline_of s.lives row.info)) c.max-now.ensures) ∙ sym c.is_expired.ensures ∙ c.if-is_expired.false in
     let life = rw (c.deref.ensures, c.max-now.ensures) at c.life_of_hit.ensures in
-    rw c.max-now.ensures (stands-after-hit g.K.PartialEq.eq g.met.K.Eq.laws rules _ s.lives s.max_capacity s.table _ s.latest s.next_number h same c.touch.new.self _ c.args.key.now c.args.now c.in-Some.number row _
-    (estimates-noted g.C.Frequency.FrequencySource.noted g.C.Frequency.FrequencySource.count s.source c.note-2.new.self c.hash-hash.result _ c.note-2.ensures c.hash-hash.ensures.hash) c.row-row.ensures key late refl (c.max.ensures ∙ ap (max row.info.last_accessed) c.max-now.ensures) refl life c.touch.ensures.rows c.touch.ensures.notices)
+    rw (← c.self.view_is, c.max-now.ensures) (follows-event g.K.PartialEq.eq g.met.K.Eq.laws _ _ (Get c.args.key.now c.args.now) (Looked c.args.key.now c.args.now) (λ _ _. refl)
+    (λ one. becomes-hit g.K.PartialEq.eq _ s.table _ s.latest s.next_number one c.touch.new.self c.args.key.now c.args.now c.in-Some.number row c.row-row.ensures key _ _ (estimates-noted g.C.Frequency.FrequencySource.noted g.C.Frequency.FrequencySource.count s.source c.note-2.new.self c.hash-hash.result _ c.note-2.ensures c.hash-hash.ensures.hash)
+    (ap not late) (stored-same _ (touched _ row) refl refl refl refl refl (sym (c.max.ensures ∙ ap (max row.info.last_accessed) c.max-now.ensures)) (sym life) refl) c.touch.ensures.rows c.touch.ensures.notices))
 
 pub returns-clause-kept : goal.returns-clause-kept
 returns-clause-kept g c =

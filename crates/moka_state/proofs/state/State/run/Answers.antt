@@ -8,7 +8,7 @@ pub loop-step-init : goal.loop-step-init
 loop-step-init g c = record {
   kept = rw c.from_vec-left.ensures.items c.requires;
   room = omega (arith, c.in-Ok.ensures.len, c.in-Ok.ensures.exact, c.from_vec-left.ensures.len, c.len.ensures);
-  so_far = λ rules h stands. ([], sym c.from_vec-left.ensures.items, rw c.in-Ok.ensures.items tt, stands);
+  so_far = λ given before stands. ([], sym c.from_vec-left.ensures.items, rw c.in-Ok.ensures.items tt, stands);
 }
 
 pub loop-step-preserved : goal.loop-step-preserved
@@ -17,31 +17,31 @@ loop-step-preserved g c =
     record {
       kept = kept.1;
       room = omega (arith, c.loop-step.invariant.room, c.in-Some.ensures.len, c.push_reserved.ensures.len, c.push_reserved.ensures.capacity);
-      so_far = λ rules h stands.
-          let was = c.loop-step.invariant.so_far rules h stands in
-          let reply = c.step-reply.ensures.reply rules _ was.3 in (
+      so_far = λ given before stands.
+          let was = c.loop-step.invariant.so_far given before stands in
+          let reply = c.step-reply.ensures.reply given _ was.3 in (
             was.0 ++ c.in-Some.step ∷ [],
             was.1 ∙ ap (λ l. was.0 ++ l) c.in-Some.ensures.items ∙ sym (append_assoc was.0 (c.in-Some.step ∷ []) c.pop_front.new.self.items),
-            rw c.push_reserved.ensures.items (IsRun-more g.K.PartialEq.eq g.V.Clone.is_clone rules h was.0 c.loop-step.replies.items c.in-Some.step c.step-reply.result was.2 reply),
-            rw c.push_reserved.ensures.items (stands-more g.K.PartialEq.eq g.V.Clone.is_clone rules _ h was.0 c.loop-step.replies.items c.in-Some.step c.step-reply.result was.2 (c.step-reply.ensures.stands rules _ was.3)),
+            rw c.push_reserved.ensures.items (IsRun-more g.K.PartialEq.eq g.V.Clone.is_clone given before was.0 c.loop-step.replies.items c.in-Some.step c.step-reply.result was.2 reply),
+            rw c.push_reserved.ensures.items (stands-more g.K.PartialEq.eq g.V.Clone.is_clone given _ before was.0 c.loop-step.replies.items c.in-Some.step c.step-reply.result was.2 (c.step-reply.ensures.stands given _ was.3)),
           );
     }
 
 pub returns-clause-replies : goal.returns-clause-replies
-returns-clause-replies g c rules h stands =
-    let was = c.loop-step.invariant.so_far rules h stands in
+returns-clause-replies g c given before stands =
+    let was = c.loop-step.invariant.so_far given before stands in
     let empty = same_as_rest-empty c.loop-step.left.items (c.in_default-pop_front.ensures.items ∙ c.in_default-pop_front.ensures.rest) in
     let whole = was.1 ∙ ap (λ l. was.0 ++ l) empty ∙ append-nil was.0 in
     rw whole was.2
 
 pub returns-clause-stands : goal.returns-clause-stands
-returns-clause-stands g c rules h stands =
-    let was = c.loop-step.invariant.so_far rules h stands in
+returns-clause-stands g c given before stands =
+    let was = c.loop-step.invariant.so_far given before stands in
     let empty = same_as_rest-empty c.loop-step.left.items (c.in_default-pop_front.ensures.items ∙ c.in_default-pop_front.ensures.rest) in
     let whole = was.1 ∙ ap (λ l. was.0 ++ l) empty ∙ append-nil was.0 in
     rw whole was.3
 
 pub returns-clause-bounded : goal.returns-clause-bounded
-returns-clause-bounded g c rules h stands ones =
-    let was = c.loop-step.invariant.so_far rules h stands in
-    writes-bounded g.K.PartialEq.eq rules _ _ ones was.3
+returns-clause-bounded g c given before stands ones =
+    let was = c.loop-step.invariant.so_far given before stands in
+    writes-bounded g.K.PartialEq.eq given _ _ was.3 ones

@@ -1,24 +1,20 @@
-use Rattle.std.proofs.Common.{min, ap, sym, ◌∙◌}
-use Rattle.moka_base.specs.History.{Write, greatest_number}
-use Rattle.moka_base.specs.Maintenance.{total}
-use Rattle.moka_base.specs.Replies.{Counted}
-use Rattle.moka_state.specs.Table.{entries}
-use Rattle.moka_state.proofs.Counts.{weighed-same}
-use Rattle.moka_state.proofs.Found.{stored-append}
-use Rattle.moka_state.proofs.Maintained.{total-stored}
+use Rattle.std.proofs.Common.{min, ap, ◌∙◌, refl}
+use Rattle.moka_model.specs.Numbers.{greatest_number}
+use Rattle.moka_model.specs.Calls.{WeightedSize, Counted}
+use Rattle.moka_state.proofs.Counts.{rows-weighed, writes-weighed}
+use Rattle.moka_state.proofs.Views.{follows-question}
 use Rattle.moka_state.proofs.state.State.weighted_size.Goals as goal
 
 pub returns-clause-counted : goal.returns-clause-counted
 returns-clause-counted g c =
-    let table = c.self.inside.table in
-    let both = stored-append g.K.PartialEq.eq g.met.K.Eq.laws table.admitted table.waiting in
     rw (← c.self.view_is) (c.min.ensures ∙ ap (min c.weight.result) c.from.ensures
-    ∙ ap (λ n. min n greatest_number) (c.weight.ensures ∙ sym (total-stored (entries table)) ∙ ap (total (λ (w : Write _ _). w.weight)) both))
+    ∙ ap (λ n. min n greatest_number) (c.weight.ensures ∙ rows-weighed c.self.inside.table))
 
 pub returns-clause-reply : goal.returns-clause-reply
-returns-clause-reply g c rules h stands =
-    let s = c.self.inside in
-    let same = rw (← c.self.view_is) at stands in
-    let weighed = weighed-same g.K.PartialEq.eq rules _ s.lives s.max_capacity s.table _ s.latest s.next_number h same in
-    ap (λ n. Counted (min n greatest_number)) (sym weighed ∙ sym c.weight.ensures)
-    ∙ ap Counted (sym (c.min.ensures ∙ ap (min c.weight.result) c.from.ensures))
+returns-clause-reply g c given steps stands =
+    let weighed = writes-weighed g.K.PartialEq.eq given _ steps (rw (← c.self.view_is) at stands) in
+    ap Counted (c.min.ensures ∙ ap (min c.weight.result) c.from.ensures)
+    ∙ ap (λ n. Counted (min n greatest_number)) (c.weight.ensures ∙ rows-weighed c.self.inside.table ∙ weighed)
+
+pub returns-clause-stands : goal.returns-clause-stands
+returns-clause-stands g c = follows-question g.K.PartialEq.eq _ WeightedSize (λ _ _. refl)

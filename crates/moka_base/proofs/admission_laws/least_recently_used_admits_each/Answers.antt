@@ -1,5 +1,0 @@
-use Rattle.moka_base.proofs.Admissions.{alone-lru}
-use Rattle.moka_base.proofs.admission_laws.least_recently_used_admits_each.Goals as goal
-
-pub returns : goal.returns
-returns g c rules h at capacity w waits lru light = alone-lru g.K.PartialEq.eq rules at h capacity w waits lru light

@@ -1,6 +1,0 @@
-use Rattle.std.proofs.Common.{◌≡◌, refl}
-use Rattle.moka_base.proofs.EachWrite.{standing-holds}
-use Rattle.moka_base.proofs.admission_laws.what_stands_has_its_keys_hash.Goals as goal
-
-pub returns : goal.returns
-returns g c rules h k w stands = standing-holds g.K.PartialEq.eq rules (λ u. u.hash ≡ rules.ways.hash u.key) (λ p v at. refl) (λ p v at u same. same) (λ at u same. same) g.met.K.Eq.laws k h w stands

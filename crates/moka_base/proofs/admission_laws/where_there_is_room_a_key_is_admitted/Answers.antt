@@ -1,8 +1,0 @@
-use Rattle.moka_base.proofs.Admissions.{alone-room, alone-too_heavy}
-use Rattle.moka_base.proofs.admission_laws.where_there_is_room_a_key_is_admitted.Goals as goal
-
-pub returns-clause-room : goal.returns-clause-room
-returns-clause-room g c rules h at capacity w waits room = alone-room g.K.PartialEq.eq rules at h capacity w waits room
-
-pub returns-clause-too_heavy : goal.returns-clause-too_heavy
-returns-clause-too_heavy g c rules h at capacity w waits heavy = alone-too_heavy g.K.PartialEq.eq rules at h capacity w waits heavy

@@ -1,8 +1,0 @@
-use Rattle.moka_base.proofs.Conserved.{values_conserved, values_counted}
-use Rattle.moka_base.proofs.laws.each_write_stands_or_left.Goals as goal
-
-pub returns-clause-in_order : goal.returns-clause-in_order
-returns-clause-in_order g c rules h k = values_conserved g.K.PartialEq.eq rules g.met.K.Eq.laws k h
-
-pub returns-clause-counted : goal.returns-clause-counted
-returns-clause-counted g c rules h k p = values_counted g.K.PartialEq.eq rules g.met.K.Eq.laws k p h

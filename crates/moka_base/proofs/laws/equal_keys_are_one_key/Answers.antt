@@ -1,8 +1,0 @@
-use Rattle.moka_base.proofs.Standing.{standing_congr}
-use Rattle.moka_base.proofs.laws.equal_keys_are_one_key.Goals as goal
-
-pub returns-clause-standing : goal.returns-clause-standing
-returns-clause-standing g c rules h k q same = standing_congr g.K.PartialEq.eq rules g.met.K.Eq.laws k q h same
-
-pub returns-clause-looks : goal.returns-clause-looks
-returns-clause-looks g c rules h k q at same = (rw (standing_congr g.K.PartialEq.eq rules g.met.K.Eq.laws k q h same), rw (standing_congr g.K.PartialEq.eq rules g.met.K.Eq.laws k q h same))

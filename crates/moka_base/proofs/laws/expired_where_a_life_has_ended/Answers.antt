@@ -1,5 +1,0 @@
-use Rattle.moka_base.proofs.Deadlines.{is_expired-ended}
-use Rattle.moka_base.proofs.laws.expired_where_a_life_has_ended.Goals as goal
-
-pub returns : goal.returns
-returns g c rules w at = is_expired-ended rules w at

@@ -1,5 +1,0 @@
-use Rattle.moka_base.proofs.MaintenanceCounted.{count-maintenance}
-use Rattle.moka_base.proofs.maintenance_laws.nothing_is_lost.Goals as goal
-
-pub returns : goal.returns
-returns g c weight capacity is_live wins limit q test = count-maintenance test weight capacity is_live wins limit q

@@ -1,5 +1,0 @@
-use Rattle.moka_base.proofs.OwnLives.{own-none}
-use Rattle.moka_base.proofs.own_life_laws.without_an_expiry_no_value_has_its_own_life.Goals as goal
-
-pub returns : goal.returns
-returns g c rules h k w none stands = own-none g.K.PartialEq.eq rules g.met.K.Eq.laws none k h w stands

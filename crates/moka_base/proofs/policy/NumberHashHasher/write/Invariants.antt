@@ -1,7 +1,0 @@
-use Rattle.std.proofs.Common.{◌≡◌, take}
-use Rattle.moka_base.specs.NumberHash.{number_hash}
-use Rattle.moka_base.proofs.policy.NumberHashHasher.write.Given as goal
-
--- the hash so far is that of the bytes so far
-abbrev pub invariant-loop-byte : goal.invariant-loop-byte
-invariant-loop-byte l = l.self.hash ≡ number_hash l.initial.self.hash (take l.byte-index l.bytes)

@@ -1,8 +1,0 @@
-use Rattle.moka_base.proofs.Departures.{gone-dead_first, leaving-dead_first}
-use Rattle.moka_base.proofs.size_laws.the_dead_leave_as_expired.Goals as goal
-
-pub returns-clause-dead_first : goal.returns-clause-dead_first
-returns-clause-dead_first g c rules h at = gone-dead_first g.K.PartialEq.eq rules at h
-
-pub returns-clause-causes : goal.returns-clause-causes
-returns-clause-causes g c rules h at = leaving-dead_first g.K.PartialEq.eq rules at h

@@ -1,0 +1,220 @@
+-- The words of the laws over lists of events and of accepted steps.
+use Rattle.std.specs.Prelude.{⊤, ◌≡◌, ◌⊎◌, ℕ, ◌+◌, ◌≤◌, ◌++◌, ◌&&◌, ◌||◌, max, Bool, true, false, if◌then◌else◌, Option, Some, None, List}
+use Rattle.std.specs.Prelude.{[], ◌∷◌, filter, is_some, option_to_list, slice_get}
+use Rattle.moka_model.specs.declared.notification.RemovalCause.{RemovalCause}
+use Rattle.moka_model.specs.declared.notification.RemovalCause.TheVariants.{Explicit, Expired}
+use Rattle.moka_model.specs.Lives.{Settings, OwnLife, Write, has_come, deadline, life_given, hidden_by}
+use Rattle.moka_model.specs.Events.{Event, Looked, Written, Invalidated, Hidden, Maintained, Drawn, Taken, latest}
+use Rattle.moka_model.specs.Orders.{is_evicted, standing, live}
+use Rattle.moka_model.specs.Removals.{Removal, notices_left}
+use Rattle.moka_model.specs.Steps.{AcceptedStep}
+use Rattle.moka_model.specs.Calls.{Call, Get, ContainsKey, Insert, Invalidate, RunPendingTasks, EntryCount, WeightedSize}
+use Rattle.moka_model.specs.Calls.{Answer, accepted, answer_of}
+
+-- what a call is answered after some accepted steps
+abbrev pub answer : {K V E : Type 0} → (K → K → Bool) → Settings K V → Call K V → List (AcceptedStep K V E) → Option (Answer K V E)
+answer eq settings call steps = answer_of (accepted eq settings steps call)
+
+-- some accepted steps, and these events as one more
+abbrev pub and_then : {K V E : Type 0} → List (Event K V) → List (AcceptedStep K V E) → List (AcceptedStep K V E)
+and_then events steps = record { events = events; move = None } ∷ steps
+
+-- the moment that a call hands in to be recorded, 0 where it hands in none
+abbrev pub moment_of : {K V : Type 0} → Call K V → ℕ
+moment_of (Get k at) = at
+moment_of (Insert k v at) = at
+moment_of (Invalidate k at) = at
+moment_of (RunPendingTasks at) = at
+moment_of call = 0
+
+-- a call that writes
+abbrev pub IsWrite : {K V : Type 0} → Call K V → Type 0
+IsWrite (Insert k v at) = ⊤
+IsWrite call = ⊥
+
+-- a call that only asks
+abbrev pub IsQuestion : {K V : Type 0} → Call K V → Type 0
+IsQuestion (ContainsKey k at) = ⊤
+IsQuestion EntryCount = ⊤
+IsQuestion WeightedSize = ⊤
+IsQuestion call = ⊥
+
+-- whether an event writes a key
+abbrev pub writes : {K V : Type 0} → (K → K → Bool) → K → Event K V → Bool
+writes eq k (Written q v at) = eq q k
+writes eq k e = false
+
+-- whether an event removes a key, the events before it being h: by its name, or as a maintenance that evicts its write
+abbrev pub removes : {K V : Type 0} → (K → K → Bool) → Settings K V → K → Event K V → List (Event K V) → Bool
+removes eq settings k (Invalidated q at) h = eq q k
+removes eq settings k (Maintained limit at) h = is_evicted eq settings k limit at h
+removes eq settings k e h = false
+
+-- whether an event writes or removes a key: what stood for it ends
+abbrev pub ends : {K V : Type 0} → (K → K → Bool) → Settings K V → K → Event K V → List (Event K V) → Bool
+ends eq settings k (Written q v at) h = eq q k
+ends eq settings k (Invalidated q at) h = eq q k
+ends eq settings k (Maintained limit at) h = is_evicted eq settings k limit at h
+ends eq settings k e h = false
+
+-- none of these events writes a key
+abbrev pub IsUnwritten : {K V : Type 0} → (K → K → Bool) → K → List (Event K V) → Type 0
+IsUnwritten eq k [] = Unit {0}
+IsUnwritten eq k (e ∷ h) = (writes eq k e ≡ false) × IsUnwritten eq k h
+
+-- none of these events, which come after those of a list, removes a key
+abbrev pub IsUnremoved : {K V : Type 0} → (K → K → Bool) → Settings K V → K → List (Event K V) → List (Event K V) → Type 0
+IsUnremoved eq settings k [] h = Unit {0}
+IsUnremoved eq settings k (e ∷ later) h = (removes eq settings k e (later ++ h) ≡ false) × IsUnremoved eq settings k later h
+
+-- none of them does either
+abbrev pub IsUntouched : {K V : Type 0} → (K → K → Bool) → Settings K V → K → List (Event K V) → List (Event K V) → Type 0
+IsUntouched eq settings k [] h = Unit {0}
+IsUntouched eq settings k (e ∷ later) h = (ends eq settings k e (later ++ h) ≡ false) × IsUntouched eq settings k later h
+
+-- The last write to a key, at its place: nothing later writes or removes the key.
+pub record LastWrite {K V : Type 0} (eq : K → K → Bool) (settings : Settings K V) (k : K) (h : List (Event K V)) : Type 0 where
+  pub later : List (Event K V)
+  pub key : K
+  pub value : V
+  pub at : ℕ
+  pub before : List (Event K V)
+  pub place : h ≡ later ++ Written key value at ∷ before
+  pub same_key : eq key k ≡ true
+  pub untouched : IsUntouched eq settings k later (Written key value at ∷ before)
+
+-- The first of these events, which come after those of a list, that writes or removes a key, at its place.
+pub record FirstEnd {K V : Type 0} (eq : K → K → Bool) (settings : Settings K V) (k : K) (those h : List (Event K V)) : Type 0 where
+  pub later : List (Event K V)
+  pub event : Event K V
+  pub before : List (Event K V)
+  pub place : those ≡ later ++ event ∷ before
+  pub ends_it : ends eq settings k event (before ++ h) ≡ true
+  pub untouched : IsUntouched eq settings k before h
+
+-- The last removal of a key, after its last write, at its place.
+pub record LastRemoval {K V : Type 0} (eq : K → K → Bool) (settings : Settings K V) (k : K) (h : List (Event K V)) : Type 0 where
+  pub later : List (Event K V)
+  pub event : Event K V
+  pub before : List (Event K V)
+  pub place : h ≡ later ++ event ∷ before
+  pub removes_it : removes eq settings k event before ≡ true
+  pub unwritten : IsUnwritten eq k later
+
+-- no write to a key has come, or after the last one the key was removed
+abbrev pub NothingStands : {K V : Type 0} → (K → K → Bool) → Settings K V → K → List (Event K V) → Type 0
+NothingStands eq settings k h = IsUnwritten eq k h ⊎ LastRemoval eq settings k h
+
+-- The write that found a key not stored, at its place: nothing stood before it, and nothing later removes the key.
+pub record FirstWrite {K V : Type 0} (eq : K → K → Bool) (settings : Settings K V) (k : K) (h : List (Event K V)) : Type 0 where
+  pub later : List (Event K V)
+  pub key : K
+  pub value : V
+  pub at : ℕ
+  pub before : List (Event K V)
+  pub place : h ≡ later ++ Written key value at ∷ before
+  pub same_key : eq key k ≡ true
+  pub absent : NothingStands eq settings k before
+  pub kept : IsUnremoved eq settings k later (Written key value at ∷ before)
+
+-- the events up to the last write, with it
+abbrev pub up_to_write : {K V : Type 0} {eq : K → K → Bool} {settings : Settings K V} {k : K} {h : List (Event K V)}
+    → LastWrite eq settings k h → List (Event K V)
+up_to_write last = Written last.key last.value last.at ∷ last.before
+
+-- The moments of the hits on a key among the events after `before`: its recorded looks that found its write live.
+abbrev pub hits : {K V : Type 0} → (K → K → Bool) → Settings K V → K → List (Event K V) → List (Event K V) → List ℕ
+hits eq settings k [] before = []
+hits eq settings k (Looked q at ∷ later) before =
+    let now = latest (Looked q at ∷ later ++ before) in
+    if eq q k && is_some (live eq settings k now (later ++ before))
+    then now ∷ hits eq settings k later before
+    else hits eq settings k later before
+hits eq settings k (e ∷ later) before = hits eq settings k later before
+
+-- the greatest of some moments
+abbrev pub greatest : List ℕ → ℕ
+greatest [] = 0
+greatest (m ∷ ms) = max m (greatest ms)
+
+-- whether one of these events hides a value under a key
+abbrev pub hides : {K V : Type 0} → K → V → List (Event K V) → Bool
+hides k v [] = false
+hides k v (Hidden test ∷ later) = hides k v later || test k v
+hides k v (e ∷ later) = hides k v later
+
+-- What stands has the value, the weight and the moment of the last write, was used at the greatest moment among that one
+-- and the hits since, and is hidden where an event since hid its value under its stored key.
+pub record IsAsWritten {K V : Type 0} {eq : K → K → Bool} {settings : Settings K V} {k : K} {h : List (Event K V)}
+    (last : LastWrite eq settings k h) (w : Write K V) : Type 0 where
+  pub value : w.value ≡ last.value
+  pub weight : w.policy_weight ≡ settings.behaviour.weight last.key last.value
+  pub written : w.last_modified ≡ latest (up_to_write last)
+  pub used : w.last_accessed ≡ greatest (latest (up_to_write last) ∷ hits eq settings k last.later (up_to_write last))
+  pub hidden : w.is_hidden ≡ hides w.key w.value last.later
+
+-- a write, hidden by what hides its value among these events
+abbrev pub hidden_since : {K V : Type 0} → List (Event K V) → Write K V → Write K V
+hidden_since [] w = w
+hidden_since (Hidden test ∷ later) w = hidden_by test (hidden_since later w)
+hidden_since (e ∷ later) w = hidden_since later w
+
+-- A removal is that of the last write: with its value, under an equal key, and for the event's own cause; but as removed
+-- where what stood was hidden, and as expired where at that moment its deadline had come.
+pub record IsRemovalOf {K V : Type 0} {eq : K → K → Bool} {settings : Settings K V} {k : K} {h : List (Event K V)}
+    (last : LastWrite eq settings k h) (own : RemovalCause) (at : ℕ) (l : Removal K V) : Type 0 where
+  pub stood : Write K V
+  pub stands : standing eq settings k h ≡ Some stood
+  pub as_written : IsAsWritten last stood
+  pub key : l.key ≡ stood.key
+  pub same_key : eq l.key k ≡ true
+  pub value : l.value ≡ last.value
+  pub cause : l.cause ≡ (if stood.is_hidden then Explicit else (if has_come (deadline settings stood) at then Expired else own))
+
+-- the life of its own that a write gives to its value, the events before it being h
+abbrev pub life_by_write : {K V : Type 0} → (K → K → Bool) → Settings K V → K → V → ℕ → List (Event K V) → Option ℕ
+life_by_write eq settings k v at h = life_given settings k v (latest (Written k v at ∷ h)) (standing eq settings k h)
+
+-- a life from a moment on has ended at a moment
+abbrev pub HasEnded : Option ℕ → ℕ → ℕ → Type 0
+HasEnded life from at = (nanoseconds : ℕ) × (life ≡ Some nanoseconds) × (from + nanoseconds ≤ at)
+
+-- a life of its own has ended at a moment
+abbrev pub OwnHasEnded : Option OwnLife → ℕ → Type 0
+OwnHasEnded own at = (it : OwnLife) × (own ≡ Some it) × (it.from + it.life ≤ at)
+
+-- whether an event draws a number: a write does, and what draws one alone
+abbrev pub draws : {K V : Type 0} → Event K V → Bool
+draws (Written q v at) = true
+draws Drawn = true
+draws e = false
+
+-- the values that were written to a key, in order
+abbrev pub values_written : {K V : Type 0} → (K → K → Bool) → K → List (Event K V) → List V
+values_written eq k [] = []
+values_written eq k (Written q v at ∷ h) = values_written eq k h ++ (if eq q k then v ∷ [] else [])
+values_written eq k (e ∷ h) = values_written eq k h
+
+-- the values that left under a key, in order
+abbrev pub values_left : {K V : Type 0} → (K → K → Bool) → K → List (Removal K V) → List V
+values_left eq k [] = []
+values_left eq k (l ∷ ls) = if eq l.key k then l.value ∷ values_left eq k ls else values_left eq k ls
+
+-- the removals of a key, in order
+abbrev pub removals_under : {K V : Type 0} → (K → K → Bool) → K → List (Removal K V) → List (Removal K V)
+removals_under eq k ls = filter (λ l. eq l.key k) ls
+
+-- the value of the write that stands, if one does
+abbrev pub value_standing : {K V : Type 0} → Option (Write K V) → List V
+value_standing None = []
+value_standing (Some w) = w.value ∷ []
+
+-- what an event gives out, the events before it being h: a notice that is taken, where one is left
+abbrev pub given_by : {K V : Type 0} → (K → K → Bool) → Settings K V → Event K V → List (Event K V) → List (Removal K V)
+given_by eq settings Taken h = option_to_list (slice_get (notices_left eq settings h) 0)
+given_by eq settings e h = []
+
+-- what was given out, in order
+abbrev pub given_out : {K V : Type 0} → (K → K → Bool) → Settings K V → List (Event K V) → List (Removal K V)
+given_out eq settings [] = []
+given_out eq settings (e ∷ h) = given_out eq settings h ++ given_by eq settings e h

@@ -1,0 +1,87 @@
+-- The settings and the events of the worked cases. Keys and values are numbers.
+use Rattle.std.specs.Prelude.{ℕ, ◌*◌, ◌%◌, Bool, true, nat_eq, Option, Some, None, List, [], ◌∷◌}
+use Rattle.moka_model.specs.declared.notification.RemovalCause.{RemovalCause}
+use Rattle.moka_model.specs.Lives.{Settings, Behaviour, no_lifetimes}
+use Rattle.moka_model.specs.Events.{Event, Written}
+use Rattle.moka_model.specs.Removals.{Removal}
+use Rattle.moka_model.specs.Steps.{AcceptedStep}
+use Rattle.moka_model.specs.Calls.{Call, Answer, Done, Found, Contains, Counted, Noticed, after}
+use Rattle.moka_laws.specs.Laws.{answer, and_then}
+use Rattle.moka_policy.specs.Frequency.{estimate_after}
+
+-- some seconds, in nanoseconds
+abbrev pub seconds : ℕ → ℕ
+seconds n = n * 1_000_000_000
+
+-- Least recently used, each key its own hash, each weight one, no value with a life of its own.
+abbrev pub plain_behaviour : Behaviour ℕ ℕ
+plain_behaviour = record { is_lru = true; hash = λ k. k; weight = λ k v. 1; lifetimes = no_lifetimes }
+
+-- no life ends
+abbrev pub without_lives : Settings ℕ ℕ
+without_lives =
+    record {
+      time_to_live = None;
+      time_to_idle = None;
+      max_capacity = None;
+      first_number = 0;
+      behaviour = plain_behaviour;
+      frequency = estimate_after 6;
+    }
+
+-- ten seconds to live
+abbrev pub ten_to_live : Settings ℕ ℕ
+ten_to_live = record without_lives { time_to_live = Some (seconds 10) }
+
+-- five seconds to idle
+abbrev pub five_to_idle : Settings ℕ ℕ
+five_to_idle = record without_lives { time_to_idle = Some (seconds 5) }
+
+-- ten seconds to live, and five to idle
+abbrev pub both_lives : Settings ℕ ℕ
+both_lives = record without_lives { time_to_live = Some (seconds 10); time_to_idle = Some (seconds 5) }
+
+-- one number is left to draw
+abbrev pub at_the_last_number : Settings ℕ ℕ
+at_the_last_number = record without_lives { first_number = 18446744073709551614 }
+
+-- the value 7 is written to the key 1 at 0
+abbrev pub written : List (Event ℕ ℕ)
+written = Written 1 7 0 ∷ []
+
+-- numbers that are equal as keys where their last digits are
+abbrev pub same_last_digit : ℕ → ℕ → Bool
+same_last_digit a b = nat_eq (a % 10) (b % 10)
+
+-- some events as one accepted step
+abbrev pub stepped : List (Event ℕ ℕ) → List (AcceptedStep ℕ ℕ ℕ)
+stepped h = and_then h []
+
+-- what a call is answered after some events
+abbrev pub answer_after : (ℕ → ℕ → Bool) → Settings ℕ ℕ → Call ℕ ℕ → List (Event ℕ ℕ) → Option (Answer ℕ ℕ ℕ)
+answer_after eq settings call h = answer eq settings call (stepped h)
+
+-- what calls are answered, in order, after some accepted steps
+abbrev pub answers : (ℕ → ℕ → Bool) → Settings ℕ ℕ → List (Call ℕ ℕ) → List (AcceptedStep ℕ ℕ ℕ) → List (Option (Answer ℕ ℕ ℕ))
+answers eq settings [] steps = []
+answers eq settings (call ∷ calls) steps = answer eq settings call steps ∷ answers eq settings calls (after eq settings call steps)
+
+-- the answers, each to an accepted call
+abbrev pub found : Option ℕ → Option (Answer ℕ ℕ ℕ)
+found value = Some (Found value)
+
+abbrev pub contains : Bool → Option (Answer ℕ ℕ ℕ)
+contains is_there = Some (Contains is_there)
+
+abbrev pub is_done : Option (Answer ℕ ℕ ℕ)
+is_done = Some Done
+
+abbrev pub counted : ℕ → Option (Answer ℕ ℕ ℕ)
+counted n = Some (Counted n)
+
+abbrev pub noticed : Option (Removal ℕ ℕ) → Option (Answer ℕ ℕ ℕ)
+noticed removal = Some (Noticed removal)
+
+-- a value that left, under its key
+abbrev pub left_as : ℕ → ℕ → RemovalCause → Removal ℕ ℕ
+left_as k v cause = record { key = k; value = v; cause = cause }

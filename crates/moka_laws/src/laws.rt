@@ -1,0 +1,192 @@
+//! The laws of the definitions over the list of events, and over the list of accepted steps, in the
+//! words of the subject. Each stands as the contract of a function that does nothing, so that the
+//! check proves it for every such list.
+ghost use Rattle.std.specs.Prelude.{◌≡◌, ◌≢◌, ◌⊎◌, ◌↔◌, ℕ, ◌+◌, ◌<◌, ◌≤◌, max, Bool, not, if◌then◌else◌, Option, Some, None, option_to_list, true, false, List, [], ◌∷◌, ◌++◌, length, filter, slice_get, ◌^◌, fold};
+ghost use Rattle.moka_model.specs.declared.notification.RemovalCause.TheVariants.{Explicit, Replaced, Size};
+ghost use Rattle.moka_model.specs.Lives.{Settings, Write, is_expired, is_live};
+ghost use Rattle.moka_model.specs.Events.{Event, Written, Invalidated, Maintained, Drawn, latest};
+ghost use Rattle.moka_model.specs.Admission.{frequency};
+ghost use Rattle.moka_model.specs.Orders.{is_evicted, orders, standing};
+ghost use Rattle.moka_model.specs.Removals.{Removal, removals_at, removals, taken, notices_left};
+ghost use Rattle.moka_model.specs.Numbers.{next_number, stores_nothing, is_flush_due};
+ghost use Rattle.moka_model.specs.Steps.{AcceptedStep, events_in};
+ghost use Rattle.moka_model.specs.Calls.{Call, Get, ContainsKey, Insert, TakeNotice, Found, Contains, Noticed, flush, after, IsLegal};
+ghost use Rattle.moka_laws.specs.Laws.{answer, and_then, IsQuestion, ends, IsUnwritten, IsUntouched, LastWrite, FirstWrite, FirstEnd, NothingStands, up_to_write, IsAsWritten, hidden_since, IsRemovalOf, HasEnded, OwnHasEnded, draws, life_by_write, values_written, values_left, removals_under, value_standing, given_out};
+ghost use Rattle.moka_policy.specs.NumberHash.{number_hash};
+ghost use Rattle.std.specs.Hash.{u64 as number_writes};
+
+/// After a write a look at the same moment, or at an earlier one, finds its value; with a life of
+/// nothing, be it one of all values or its own, no look finds it at any moment. The value of an
+/// accepted write is found alike, whether a maintenance came before it or not; but where the
+/// capacity is 0 no look finds anything.
+pub fn get_after_insert<K: Eq, V, E>()
+    ensures found { (settings : Settings K V) (steps : List (AcceptedStep K V E)) (k q : K) (v : V) (at now : ℕ) → K.eq k q ≡ true → now ≤ at
+        → settings.time_to_live ≢ Some 0 → settings.time_to_idle ≢ Some 0 → life_by_write K.eq settings k v at (events_in steps) ≢ Some 0
+        → answer K.eq settings (Get q now) (and_then (Written k v at ∷ []) steps) ≡ Some (Found (Some v)) }
+    ensures expired { (settings : Settings K V) (steps : List (AcceptedStep K V E)) (k q : K) (v : V) (at now : ℕ) → K.eq k q ≡ true
+        → (settings.time_to_live ≡ Some 0) ⊎ (settings.time_to_idle ≡ Some 0) ⊎ (life_by_write K.eq settings k v at (events_in steps) ≡ Some 0)
+        → answer K.eq settings (Get q now) (and_then (Written k v at ∷ []) steps) ≡ Some (Found None) }
+    ensures accepted { (settings : Settings K V) (steps : List (AcceptedStep K V E)) (k q : K) (v : V) (at now : ℕ) → K.eq k q ≡ true → now ≤ at
+        → stores_nothing settings.max_capacity ≡ false → settings.time_to_live ≢ Some 0 → settings.time_to_idle ≢ Some 0
+        → life_by_write K.eq settings k v at (flush K.eq settings at (events_in steps) ++ events_in steps) ≢ Some 0
+        → answer K.eq settings (Get q now) (after K.eq settings (Insert k v at) steps) ≡ Some (Found (Some v)) }
+    ensures not_stored { (settings : Settings K V) (steps : List (AcceptedStep K V E)) (k q : K) (v : V) (at now : ℕ)
+        → stores_nothing settings.max_capacity ≡ true → IsLegal K.eq settings steps
+        → answer K.eq settings (Get q now) (after K.eq settings (Insert k v at) steps) ≡ Some (Found None) }
+{}
+
+/// A question is a step without events, and such a step, where it moves no turn either, changes
+/// nothing: every later answer is as if it had not been made, and so are the two orders, whether a
+/// flush is due, what was not given out yet, and how often each hash was noted.
+pub fn a_question_changes_nothing<K: Eq, V, E>()
+    ensures step { (settings : Settings K V) (steps : List (AcceptedStep K V E)) (call : Call K V) → IsQuestion call
+        → after K.eq settings call steps ≡ and_then [] steps }
+    ensures answer { (settings : Settings K V) (later steps : List (AcceptedStep K V E)) (call : Call K V)
+        → answer K.eq settings call (later ++ and_then [] steps) ≡ answer K.eq settings call (later ++ steps) }
+    ensures standing { (settings : Settings K V) (later steps : List (AcceptedStep K V E)) (k : K)
+        → standing K.eq settings k (events_in (later ++ and_then [] steps)) ≡ standing K.eq settings k (events_in (later ++ steps)) }
+    ensures orders { (settings : Settings K V) (later steps : List (AcceptedStep K V E))
+        → orders K.eq settings (events_in (later ++ and_then [] steps)) ≡ orders K.eq settings (events_in (later ++ steps)) }
+    ensures flush { (settings : Settings K V) (later steps : List (AcceptedStep K V E))
+        → is_flush_due K.eq settings (events_in (later ++ and_then [] steps)) ≡ is_flush_due K.eq settings (events_in (later ++ steps)) }
+    ensures notices { (settings : Settings K V) (later steps : List (AcceptedStep K V E))
+        → notices_left K.eq settings (events_in (later ++ and_then [] steps)) ≡ notices_left K.eq settings (events_in (later ++ steps)) }
+    ensures next_number { (settings : Settings K V) (later steps : List (AcceptedStep K V E))
+        → next_number settings (events_in (later ++ and_then [] steps)) ≡ next_number settings (events_in (later ++ steps)) }
+    ensures frequency { (settings : Settings K V) (later steps : List (AcceptedStep K V E)) (hash : ℕ)
+        → frequency settings (events_in (later ++ and_then [] steps)) hash ≡ frequency settings (events_in (later ++ steps)) hash }
+{}
+
+/// No value is lost or doubled: the values that were written to a key are, in this order, those
+/// that left under it, and then the one that stands.
+pub fn each_write_stands_or_left<K: Eq, V>()
+    ensures in_order { (settings : Settings K V) (h : List (Event K V)) (k : K)
+        → values_written K.eq k h ≡ values_left K.eq k (removals K.eq settings h) ++ value_standing (standing K.eq settings k h) }
+    ensures counted { (settings : Settings K V) (h : List (Event K V)) (k : K) (p : V → Bool)
+        → length (filter p (values_written K.eq k h)) ≡ length (filter p (value_standing (standing K.eq settings k h))) + length (filter p (values_left K.eq k (removals K.eq settings h))) }
+{}
+
+/// Each removal is given out once and in order: those that the notices gave out, and then those
+/// that are left to give out, are all that left. What a call that takes a notice is answered is the
+/// next of them, and it gives out just that.
+pub fn each_removal_is_noticed_once<K: Eq, V, E>()
+    ensures in_order { (settings : Settings K V) (h : List (Event K V))
+        → given_out K.eq settings h ++ notices_left K.eq settings h ≡ removals K.eq settings h }
+    ensures counted { (settings : Settings K V) (h : List (Event K V))
+        → (length (given_out K.eq settings h) ≡ taken K.eq settings h) × (taken K.eq settings h ≤ length (removals K.eq settings h)) }
+    ensures next { (settings : Settings K V) (steps : List (AcceptedStep K V E))
+        → answer K.eq settings TakeNotice steps ≡ Some (Noticed (slice_get (removals K.eq settings (events_in steps)) (taken K.eq settings (events_in steps)))) }
+    ensures gives { (settings : Settings K V) (steps : List (AcceptedStep K V E)) (o : Option (Removal K V))
+        → answer K.eq settings TakeNotice steps ≡ Some (Noticed o)
+        → given_out K.eq settings (events_in (after K.eq settings TakeNotice steps)) ≡ given_out K.eq settings (events_in steps) ++ option_to_list o }
+    ensures none { (settings : Settings K V) (steps : List (AcceptedStep K V E))
+        → (answer K.eq settings TakeNotice steps ≡ Some (Noticed None)) ↔ (given_out K.eq settings (events_in steps) ≡ removals K.eq settings (events_in steps)) }
+{}
+
+/// What stands for a key is its last write, if nothing later writes or removes the key: with that
+/// value, its weight and that moment, used at the greatest moment among that one and the hits
+/// since, hidden where an event since hid it, and stored under the key of the write that found it
+/// not stored.
+pub fn standing_is_the_last_write<K: Eq, V>()
+    ensures stands { (settings : Settings K V) (h : List (Event K V)) (k : K) (last : LastWrite K.eq settings k h)
+        → (w : Write K V) × (standing K.eq settings k h ≡ Some w) × IsAsWritten last w }
+    ensures alone { (settings : Settings K V) (h : List (Event K V)) (k : K) (w : Write K V)
+        → standing K.eq settings k h ≡ Some w → (last : LastWrite K.eq settings k h) × IsAsWritten last w }
+    ensures nothing { (settings : Settings K V) (h : List (Event K V)) (k : K)
+        → (standing K.eq settings k h ≡ None) ↔ NothingStands K.eq settings k h }
+    ensures stored { (settings : Settings K V) (h : List (Event K V)) (k : K) (first : FirstWrite K.eq settings k h)
+        → (w : Write K V) × (standing K.eq settings k h ≡ Some w) × (w.key ≡ first.key) }
+    ensures stored_alone { (settings : Settings K V) (h : List (Event K V)) (k : K) (w : Write K V)
+        → standing K.eq settings k h ≡ Some w → (first : FirstWrite K.eq settings k h) × (w.key ≡ first.key) }
+    ensures one_place { (settings : Settings K V) (h : List (Event K V)) (k : K) (a b : LastWrite K.eq settings k h)
+        → (a.later ≡ b.later) × (up_to_write a ≡ up_to_write b) }
+{}
+
+/// A look answers the value of the last write until that is hidden or its deadline has come, and
+/// where nothing stands it answers none. It uses the greater of its moment and the latest one.
+pub fn looks_answer_the_last_write<K: Eq, V, E>()
+    ensures found { (settings : Settings K V) (steps : List (AcceptedStep K V E)) (k : K) (at : ℕ) (last : LastWrite K.eq settings k (events_in steps))
+        → (w : Write K V) × IsAsWritten last w
+        × (answer K.eq settings (Get k at) steps ≡ Some (Found (if is_live settings w (max (latest (events_in steps)) at) then Some last.value else None)))
+        × (answer K.eq settings (ContainsKey k at) steps ≡ Some (Contains (is_live settings w (max (latest (events_in steps)) at)))) }
+    ensures live { (settings : Settings K V) (w : Write K V) (at : ℕ)
+        → (is_live settings w at ≡ true) ↔ ((w.is_hidden ≡ false) × (is_expired settings w at ≡ false)) }
+    ensures nothing { (settings : Settings K V) (steps : List (AcceptedStep K V E)) (k : K) (at : ℕ) → NothingStands K.eq settings k (events_in steps)
+        → (answer K.eq settings (Get k at) steps ≡ Some (Found None)) × (answer K.eq settings (ContainsKey k at) steps ≡ Some (Contains false)) }
+{}
+
+/// A write is expired exactly where its time to live has passed since it was written, or its time
+/// to idle since it was last used, or the life of its own since it was given.
+pub fn expired_where_a_life_has_ended<K, V>()
+    ensures { (settings : Settings K V) (w : Write K V) (at : ℕ)
+        → (is_expired settings w at ≡ true) ↔ (HasEnded settings.time_to_live w.last_modified at ⊎ HasEnded settings.time_to_idle w.last_accessed at ⊎ OwnHasEnded w.own_life at) }
+{}
+
+/// Equal keys are one key: the same write stands for them, and looks answer the same of them.
+pub fn equal_keys_are_one_key<K: Eq, V, E>()
+    ensures standing { (settings : Settings K V) (h : List (Event K V)) (k q : K) → K.eq k q ≡ true
+        → standing K.eq settings k h ≡ standing K.eq settings q h }
+    ensures looks { (settings : Settings K V) (steps : List (AcceptedStep K V E)) (k q : K) (at : ℕ) → K.eq k q ≡ true
+        → (answer K.eq settings (Get k at) steps ≡ answer K.eq settings (Get q at) steps)
+        × (answer K.eq settings (ContainsKey k at) steps ≡ answer K.eq settings (ContainsKey q at) steps) }
+{}
+
+/// A write leaves once: at the first later event that writes or removes its key, of which there is
+/// one or none, and nothing else ever leaves. It leaves with its value, for that event's cause, or
+/// as removed where it was hidden, or as expired where its deadline had come.
+pub fn what_leaves_leaves_once<K: Eq, V>()
+    ensures replaced { (settings : Settings K V) (h : List (Event K V)) (k q : K) (v : V) (at : ℕ) (last : LastWrite K.eq settings k h) → K.eq q k ≡ true
+        → (l : Removal K V) × (removals_at K.eq settings (Written q v at) h ≡ l ∷ []) × IsRemovalOf last Replaced (latest (Written q v at ∷ h)) l }
+    ensures removed { (settings : Settings K V) (h : List (Event K V)) (k q : K) (at : ℕ) (last : LastWrite K.eq settings k h) → K.eq q k ≡ true
+        → (l : Removal K V) × (removals_at K.eq settings (Invalidated q at) h ≡ l ∷ []) × IsRemovalOf last Explicit (latest (Invalidated q at ∷ h)) l }
+    ensures evicted { (settings : Settings K V) (h : List (Event K V)) (k : K) (limit : Option ℕ) (at : ℕ) (last : LastWrite K.eq settings k h) → is_evicted K.eq settings k limit at h ≡ true
+        → (l : Removal K V) × (removals_under K.eq k (removals_at K.eq settings (Maintained limit at) h) ≡ l ∷ []) × IsRemovalOf last Size (latest (Maintained limit at ∷ h)) l }
+    ensures not_evicted { (settings : Settings K V) (h : List (Event K V)) (k : K) (limit : Option ℕ) (at : ℕ) → is_evicted K.eq settings k limit at h ≡ false
+        → removals_under K.eq k (removals_at K.eq settings (Maintained limit at) h) ≡ [] }
+    ensures alone { (settings : Settings K V) (h : List (Event K V)) (e : Event K V)
+        → removals_at K.eq settings e h ≢ [] → (k : K) × (ends K.eq settings k e h ≡ true) × LastWrite K.eq settings k h }
+    ensures nothing { (settings : Settings K V) (h : List (Event K V)) (e : Event K V) (k : K)
+        → ends K.eq settings k e h ≡ true → NothingStands K.eq settings k h → removals_at K.eq settings e h ≡ [] }
+    ensures first { (settings : Settings K V) (later h : List (Event K V)) (k : K) → IsUntouched K.eq settings k later h ⊎ FirstEnd K.eq settings k later h }
+    ensures one_place { (settings : Settings K V) (later h : List (Event K V)) (k : K) (a b : FirstEnd K.eq settings k later h)
+        → (a.later ≡ b.later) × ((a.event ∷ a.before) ≡ (b.event ∷ b.before)) }
+    ensures looks { (settings : Settings K V) (h : List (Event K V)) (e : Event K V)
+        → ((k : K) → ends K.eq settings k e h ≡ false) → removals_at K.eq settings e h ≡ [] }
+{}
+
+/// The latest moment never falls, and no end is undone: a deadline that has come has come at each
+/// later moment; a write that is hidden or whose deadline has come stays as it is until its key is
+/// written or removed, but that it may be hidden; and after a `get` that finds nothing, no look
+/// finds anything until the key is written.
+pub fn expiry_is_final<K: Eq, V, E>()
+    ensures latest { (later h : List (Event K V)) → latest h ≤ latest (later ++ h) }
+    ensures deadline { (settings : Settings K V) (w : Write K V) (at later : ℕ)
+        → at ≤ later → is_expired settings w at ≡ true → is_expired settings w later ≡ true }
+    ensures dead { (settings : Settings K V) (w : Write K V) (at later : ℕ)
+        → at ≤ later → is_live settings w at ≡ false → is_live settings w later ≡ false }
+    ensures stays { (settings : Settings K V) (later h : List (Event K V)) (k : K) (w : Write K V)
+        → standing K.eq settings k h ≡ Some w → is_live settings w (latest h) ≡ false → IsUntouched K.eq settings k later h
+        → standing K.eq settings k (later ++ h) ≡ Some (hidden_since later w) }
+    ensures missed { (settings : Settings K V) (later steps : List (AcceptedStep K V E)) (k : K) (at now : ℕ)
+        → answer K.eq settings (Get k at) steps ≡ Some (Found None) → IsUnwritten K.eq k (events_in later)
+        → (answer K.eq settings (Get k now) (later ++ after K.eq settings (Get k at) steps) ≡ Some (Found None))
+        × (answer K.eq settings (ContainsKey k now) (later ++ after K.eq settings (Get k at) steps) ≡ Some (Contains false)) }
+{}
+
+/// No number is drawn twice: each write, and what draws one alone, draws the next one, which is the
+/// first plus as many as there were of these, and never falls.
+pub fn numbers_never_come_again<K, V>()
+    ensures counted { (settings : Settings K V) (h : List (Event K V))
+        → next_number settings h ≡ settings.first_number + length (filter draws h) }
+    ensures drawn { (settings : Settings K V) (h : List (Event K V)) (k : K) (v : V) (at : ℕ)
+        → (next_number settings (Written k v at ∷ h) ≡ next_number settings h + 1) × (next_number settings (Drawn ∷ h) ≡ next_number settings h + 1) }
+    ensures never_falls { (settings : Settings K V) (later h : List (Event K V)) → next_number settings h ≤ next_number settings (later ++ h) }
+    ensures greater { (settings : Settings K V) (later h : List (Event K V)) (e : Event K V) → draws e ≡ true
+        → next_number settings h < next_number settings (later ++ e ∷ h) }
+{}
+
+/// A `u64` key hashes to itself under `NumberHash`: its eight bytes, the least first, leave that
+/// number, whatever was there before.
+pub fn a_number_hashes_to_itself()
+    ensures { (hash number : ℕ) → hash < 2 ^ 64 → number < 2 ^ 64 → fold number_hash hash (number_writes number) ≡ number }
+{}

@@ -1,0 +1,75 @@
+//! Worked cases of calls in order, each with its answer, and of events that no call makes yet: a
+//! hiding, a maintenance within a limit, a look that is turned down, and a number that is drawn
+//! alone. Each computes, but for the flush.
+ghost use Rattle.std.specs.Prelude.{◌≡◌, ℕ, true, false, nat_eq, Some, None, [], ◌∷◌};
+ghost use Rattle.moka_model.specs.declared.notification.RemovalCause.TheVariants.{Explicit, Expired, Size};
+ghost use Rattle.moka_model.specs.Events.{Written, Invalidated, Maintained, Passed, Drawn, latest};
+ghost use Rattle.moka_model.specs.Admission.{notes, frequency};
+ghost use Rattle.moka_model.specs.Orders.{orders};
+ghost use Rattle.moka_model.specs.Removals.{removals_at, removals};
+ghost use Rattle.moka_model.specs.Numbers.{next_number, entry_count};
+ghost use Rattle.moka_model.specs.Calls.{Get, ContainsKey};
+ghost use Rattle.moka_model.specs.OrderLaws.{keys};
+ghost use Rattle.moka_laws.specs.Worked.{seconds, without_lives, ten_to_live, five_to_idle, left_as, answer_after, answers, found, contains, is_done, counted, noticed};
+ghost use Rattle.moka_laws.specs.WorkedSize.{at_capacity};
+ghost use Rattle.moka_laws.specs.WorkedAdmission.{by_frequency};
+ghost use Rattle.moka_laws.specs.WorkedCalls.{session, behind_64, steps_come, two_and_two, one_leaves, another_leaves, two_hidden, turned_down};
+
+/// A session at a capacity of two. The first of two keys is hit, so a third takes the place of the
+/// second.
+pub fn a_session()
+    ensures { answers nat_eq (at_capacity 2) session [] ≡ is_done ∷ is_done ∷ is_done ∷ found (Some 10) ∷ is_done ∷ contains true ∷ counted 3
+        ∷ is_done ∷ noticed (Some (left_as 2 20 Size)) ∷ noticed None ∷ found None ∷ is_done ∷ counted 1 ∷ noticed (Some (left_as 1 10 Explicit)) ∷ [] }
+{}
+
+/// At a capacity of ten 64 keys come. The write of the next one runs a maintenance first, so that
+/// eleven stand.
+pub fn a_session_with_a_flush()
+    ensures { answers nat_eq (at_capacity 10) behind_64 (steps_come 64) ≡ is_done ∷ counted 11 ∷ found (Some 65) ∷ [] }
+{}
+
+/// A maintenance within a limit: it ends before the first part in which more would leave, and
+/// another goes on there. At a capacity of two each key that waits takes the place of another.
+pub fn a_maintenance_within_a_limit()
+    ensures nothing { removals_at nat_eq (at_capacity 2) (Maintained (Some 0) 5) two_and_two ≡ [] }
+    ensures nothing_moves { keys (orders nat_eq (at_capacity 2) (Maintained (Some 0) 5 ∷ two_and_two)).waiting ≡ 3 ∷ 4 ∷ [] }
+    ensures one { removals nat_eq (at_capacity 2) one_leaves ≡ left_as 1 10 Size ∷ [] }
+    ensures admitted { keys (orders nat_eq (at_capacity 2) one_leaves).admitted ≡ 2 ∷ 3 ∷ [] }
+    ensures waiting { keys (orders nat_eq (at_capacity 2) one_leaves).waiting ≡ 4 ∷ [] }
+    ensures found { answer_after nat_eq (at_capacity 2) (Get 4 6) one_leaves ≡ found (Some 40) }
+    ensures another { removals nat_eq (at_capacity 2) another_leaves ≡ left_as 1 10 Size ∷ left_as 2 20 Size ∷ [] }
+    ensures admitted_then { keys (orders nat_eq (at_capacity 2) another_leaves).admitted ≡ 3 ∷ 4 ∷ [] }
+    ensures all_at_once { removals nat_eq (at_capacity 2) (Maintained None 5 ∷ two_and_two) ≡ removals nat_eq (at_capacity 2) another_leaves }
+{}
+
+/// What is hidden stands, and is counted, but no look finds it; it leaves as removed, also where
+/// its life has ended too. A write brings the key back.
+pub fn what_is_hidden()
+    ensures not_found { answer_after nat_eq without_lives (Get 2 3) two_hidden ≡ found None }
+    ensures not_there { answer_after nat_eq without_lives (ContainsKey 3 3) two_hidden ≡ contains false }
+    ensures another { answer_after nat_eq without_lives (Get 1 3) two_hidden ≡ found (Some 10) }
+    ensures counted { entry_count nat_eq without_lives two_hidden ≡ 3 }
+    ensures none_leaves { removals nat_eq without_lives two_hidden ≡ [] }
+    ensures leaves { removals nat_eq without_lives (Maintained None 3 ∷ two_hidden) ≡ left_as 2 20 Explicit ∷ left_as 3 30 Explicit ∷ [] }
+    ensures overwritten { removals_at nat_eq without_lives (Written 2 21 3) two_hidden ≡ left_as 2 20 Explicit ∷ [] }
+    ensures expired_too { removals_at nat_eq ten_to_live (Invalidated 2 (seconds 20)) two_hidden ≡ left_as 2 20 Explicit ∷ [] }
+    ensures expired { removals_at nat_eq ten_to_live (Invalidated 1 (seconds 20)) two_hidden ≡ left_as 1 10 Expired ∷ [] }
+    ensures anew { answer_after nat_eq without_lives (Get 2 4) (Written 2 20 3 ∷ two_hidden) ≡ found (Some 20) }
+{}
+
+/// A look that is turned down is noted and records its moment, but it is no use of the value.
+pub fn a_look_that_is_turned_down()
+    ensures noted { notes without_lives turned_down ≡ 1 ∷ [] }
+    ensures frequency { frequency (by_frequency 3) turned_down 1 ≡ 1 }
+    ensures recorded { latest turned_down ≡ seconds 4 }
+    ensures stands { answer_after nat_eq five_to_idle (Get 1 (seconds 4)) turned_down ≡ found (Some 7) }
+    ensures not_extended { answer_after nat_eq five_to_idle (Get 1 (seconds 5)) turned_down ≡ found None }
+{}
+
+/// A number that is drawn alone, and a moment that passes.
+pub fn a_number_and_a_moment()
+    ensures drawn { next_number without_lives (Drawn ∷ turned_down) ≡ 2 }
+    ensures stands { answer_after nat_eq without_lives (Get 1 0) (Drawn ∷ turned_down) ≡ found (Some 7) }
+    ensures passed { answer_after nat_eq ten_to_live (Get 1 0) (Passed (seconds 10) ∷ turned_down) ≡ found None }
+    ensures none_drawn { next_number without_lives (Passed (seconds 10) ∷ turned_down) ≡ 1 }
+{}

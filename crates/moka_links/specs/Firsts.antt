@@ -1,0 +1,14 @@
+-- The first number of each hash.
+use Rattle.std.specs.Prelude.{◌≡◌, ◌≢◌, ℕ, ◌≤◌, Option, nat_eq}
+use Rattle.indexmap.specs.IndexMap.{IndexMap, get, spare}
+
+module _ {S : Type 0} where
+  -- the first number of a hash
+  abbrev pub first_in : IndexMap ℕ ℕ S → ℕ → Option ℕ
+  first_in firsts hash = get nat_eq firsts hash
+
+  -- the hash has this first number, or none, all others have what they had, and no room is gone
+  pub record Leads (old new : IndexMap ℕ ℕ S) (hash : ℕ) (first : Option ℕ) : Type 0 where
+    pub changed : first_in new hash ≡ first
+    pub others : (other : ℕ) → other ≢ hash → first_in new other ≡ first_in old other
+    pub room : spare old ≤ spare new

@@ -1,0 +1,33 @@
+//! A hasher for keys that are hashes already.
+ghost use Rattle.moka_links.specs.AsIs.{hash_after};
+
+use std::hash::Hasher;
+
+/// Hashes a `u64` to itself. Of other writes it takes the first eight bytes, and those with less it
+/// passes over.
+#[derive(Clone, Copy, Debug, Default, Drop)]
+pub struct AsIs {
+    hash: u64,
+}
+
+impl Hasher for AsIs {
+    ghost write = { λ hasher bytes. record { hash = hash_after hasher.hash bytes } };
+
+    ghost finish = { λ hasher. hasher.hash };
+
+    fn finish(&self) -> u64 {
+        self.hash
+    }
+
+    fn write(&mut self, bytes: &[u8]) {
+        if let Some(word) = bytes.first_chunk::<8>() {
+            *self = AsIs {
+                hash: u64::from_le_bytes(*word),
+            };
+        }
+    }
+
+    fn write_u64(&mut self, number: u64) {
+        *self = AsIs { hash: number };
+    }
+}

@@ -1,0 +1,7 @@
+//! The orders in which the rows of a cache stand, and the chains of the rows of one hash, as links
+//! between numbers.
+#![tactic(auto)]
+
+mod as_is;
+mod firsts;
+pub mod links;

@@ -1,0 +1,190 @@
+//! The rows of a cache by their numbers: two orders, and for each hash a chain.
+ghost use Rattle.std.specs.Prelude.{◌≡◌, ◌≢◌, ◌⊎◌, ℕ, ◌+◌, ◌<◌, ◌≤◌, [], ◌∷◌, ◌++◌, true, false, length, OnOk, Some};
+ghost use Rattle.moka_orders.specs.Paths.{IsAmong, IsAbsent, IsChain, without, first_of, number_behind};
+ghost use Rattle.moka_orders.specs.Nodes.{hash_of, same_of, row_of};
+ghost use Rattle.moka_orders.specs.Orders.{admitted_in, waiting_in, places_in, Stands, KeepsOrders};
+ghost use Rattle.moka_links.specs.Chains.{IsIndexed, chain_in};
+ghost use Rattle.moka_links.specs.Firsts.{first_in};
+ghost use Rattle.indexmap.specs.IndexMap.{spare};
+
+use crate::firsts::{self, Firsts, change_first, drop_first, place, put_first};
+use indexmap::IndexMap;
+use moka_orders::orders::Orders;
+use std::alloc::{AllocError, Global};
+use std::hash::BuildHasherDefault;
+
+/// Numbers in two orders, those that wait and those that are admitted, and in a chain for each
+/// hash.
+///
+/// A number is that of a node, of which the first two are the ends of the orders: so numbers begin
+/// at 2. Each has 32 bits. Every call takes constant time, but `reserve`, which may have to grow,
+/// and `remove`, which follows the links of the numbers of one hash.
+#[derive(Drop)]
+pub struct Links {
+    orders: Orders,
+    firsts: Firsts,
+    ghost indexed: { IsIndexed orders firsts },
+}
+
+/// Takes a number out of the chain of its hash.
+fn unchain(orders: &mut Orders, firsts: &mut Firsts, number: u32)
+    requires stands { Stands orders.old number }
+    requires indexed { IsIndexed orders.old firsts.old }
+    ensures kept { KeepsOrders orders.old orders.new }
+    ensures hash { (k : ℕ) → hash_of orders.new.nodes.items k ≡ hash_of orders.old.nodes.items k }
+    ensures linked { (h : ℕ) → IsChain (same_of orders.new.nodes.items) (first_in firsts.new h)
+        (without number (chain_in orders.old firsts.old h)) }
+    ensures room { spare firsts.old ≤ spare firsts.new }
+{
+    let hash = orders.hash(number);
+    let same = orders.same_link(number);
+    let Some((place, first)) = place(firsts, hash) else {
+        unreachable!()
+    };
+    if first != number {
+        let before = orders.before(first, number);
+        orders.set_same(before, hash, same);
+    } else if same < 2 {
+        drop_first(firsts, place, hash, first);
+    } else {
+        change_first(firsts, place, hash, first, same);
+    }
+}
+
+/// A number as a link keeps it.
+fn link(orders: &Orders, number: usize) -> u32
+    requires { number < places_in orders.now }
+    ensures { result ≡ number }
+{
+    number as u32
+}
+
+impl Links {
+    ghost use Rattle.moka_links.specs.Links.{admitted_of, waiting_of, IsLinked, hash_at, first_at, same_at, places_of, spare_of, KeepsRoom};
+
+    /// No numbers. It takes no memory.
+    pub fn new(alloc: Global) -> Self
+        ensures admitted { admitted_of result ≡ [] }
+        ensures waiting { waiting_of result ≡ [] }
+    {
+        Links {
+            orders: Orders::new(alloc),
+            firsts: IndexMap::with_hasher(alloc, BuildHasherDefault::new()),
+        }
+    }
+
+    /// How many numbers are admitted.
+    pub fn admitted_len(&self) -> usize
+        ensures { result ≡ length (admitted_of self.now) }
+    {
+        self.orders.lens().0
+    }
+
+    /// How many numbers wait.
+    pub fn waiting_len(&self) -> usize
+        ensures { result ≡ length (waiting_of self.now) }
+    {
+        self.orders.lens().1
+    }
+
+    /// The least recently used admitted number.
+    pub fn first_admitted(&self) -> Option<usize>
+        ensures { result ≡ first_of (admitted_of self.now) }
+    {
+        self.orders.first_admitted()
+    }
+
+    /// The number that has waited longest.
+    pub fn first_waiting(&self) -> Option<usize>
+        ensures { result ≡ first_of (waiting_of self.now) }
+    {
+        self.orders.first_waiting()
+    }
+
+    /// The number behind this one, in the order in which this one stands.
+    pub fn next(&self, number: usize) -> Option<usize>
+        requires { IsLinked self.now number }
+        ensures admitted { IsAmong number (admitted_of self.now) → result ≡ number_behind number (admitted_of self.now) }
+        ensures waiting { IsAmong number (waiting_of self.now) → result ≡ number_behind number (waiting_of self.now) }
+    {
+        self.orders.next(link(&self.orders, number))
+    }
+
+    /// Whether a number is admitted.
+    pub fn is_admitted(&self, number: usize) -> bool
+        requires { IsLinked self.now number }
+        ensures admitted { IsAmong number (admitted_of self.now) → result ≡ true }
+        ensures waiting { IsAmong number (waiting_of self.now) → result ≡ false }
+    {
+        self.orders.is_admitted(link(&self.orders, number))
+    }
+
+    /// The first number of a hash.
+    pub fn first(&self, hash: u64) -> Option<usize>
+        ensures { result ≡ first_at self.now hash }
+    {
+        firsts::first(&self.firsts, hash)
+    }
+
+    /// The next number of the same hash.
+    pub fn same(&self, number: usize) -> Option<usize>
+        requires { IsLinked self.now number }
+        ensures { result ≡ same_at self.now number }
+    {
+        self.orders.same(link(&self.orders, number))
+    }
+
+    /// Makes room for a number, and for its hash. Numbers of more than 32 bits are refused.
+    pub fn reserve(&mut self, number: usize) -> Result<(), AllocError>
+        ensures place { OnOk result (number < places_of self.new) }
+        ensures spare { OnOk result (0 < spare_of self.new) }
+        ensures admitted { admitted_of self.new ≡ admitted_of self.old }
+        ensures waiting { waiting_of self.new ≡ waiting_of self.old }
+        ensures kept { KeepsRoom self.old self.new }
+    {
+        self.orders.reserve(number)?;
+        self.firsts.reserve(1)
+    }
+
+    /// Puts a new number behind all that wait, and before all others of its hash. It takes no
+    /// memory.
+    pub fn add(&mut self, number: usize, hash: u64)
+        requires above { 2 ≤ number }
+        requires within { number < places_of self.old }
+        requires room { 0 < spare_of self.old }
+        requires absent { IsLinked self.old number → ⊥ }
+        ensures admitted { admitted_of self.new ≡ admitted_of self.old }
+        ensures waiting { waiting_of self.new ≡ waiting_of self.old ++ number ∷ [] }
+        ensures hashed { hash_at self.new number ≡ hash }
+        ensures others { (k : ℕ) → k ≢ number → hash_at self.new k ≡ hash_at self.old k }
+    {
+        let number = link(&self.orders, number);
+        let same = put_first(&mut self.firsts, hash, number);
+        self.orders.set_same(number, hash, same);
+        self.orders.wait(number);
+    }
+
+    /// Puts a number behind all that are admitted, wherever it stood.
+    pub fn admit(&mut self, number: usize)
+        requires { IsLinked self.old number }
+        ensures admitted { admitted_of self.new ≡ without number (admitted_of self.old) ++ number ∷ [] }
+        ensures waiting { waiting_of self.new ≡ without number (waiting_of self.old) }
+        ensures kept { KeepsRoom self.old self.new }
+    {
+        let used = link(&self.orders, number);
+        self.orders.leave(used);
+        self.orders.admit(used);
+    }
+
+    /// Takes a number out of its order and of the chain of its hash.
+    pub fn remove(&mut self, number: usize)
+        requires { IsLinked self.old number }
+        ensures admitted { admitted_of self.new ≡ without number (admitted_of self.old) }
+        ensures waiting { waiting_of self.new ≡ without number (waiting_of self.old) }
+        ensures kept { KeepsRoom self.old self.new }
+    {
+        let number = link(&self.orders, number);
+        unchain(&mut self.orders, &mut self.firsts, number);
+        self.orders.leave(number);
+    }
+}

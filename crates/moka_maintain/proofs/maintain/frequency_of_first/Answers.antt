@@ -1,0 +1,28 @@
+use Rattle.std.proofs.Common.{[], ◌∷◌, ◌++◌, ◌∙◌, arith}
+use Rattle.moka_maintain.proofs.Walks.{at-admitted, walks-stored}
+use Rattle.moka_maintain.proofs.Judging.{adds-on}
+use Rattle.moka_maintain.proofs.maintain.frequency_of_first.Goals as goal
+
+pub next-cursor-requires : goal.next-cursor-requires
+next-cursor-requires g c =
+    let on = rw c.in-Some.is at c.loop.invariant.adds in
+    walks-stored c.args.table.now.admitted c.in-Some.number on.0 on.1 on.2.walks [] c.args.table.now.waiting
+
+pub row-requires : goal.row-requires
+row-requires g c =
+    let on = rw c.in-Some.is at c.loop.invariant.adds in
+    walks-stored c.args.table.now.admitted c.in-Some.number on.0 on.1 on.2.walks [] c.args.table.now.waiting
+
+pub loop-preserved : goal.loop-preserved
+loop-preserved g c =
+    let on = rw c.in-Some.is at c.loop.invariant.adds in
+    let here = at-admitted c.args.table.now.admitted c.args.table.now.waiting c.in-Some.number on.0 on.1 c.row.result.now c.next-cursor.result c.next-cursor.ensures.apart c.row.ensures c.next-cursor.ensures.behind on.2.walks in
+    record {
+      within = omega (arith, c.loop-test.true);
+      adds = (
+        on.0 ++ (c.in-Some.number, c.row.result.now) ∷ [],
+        here.0,
+        adds-on (g.F.FrequencySource.count c.args.source.now) c.args.table.now.admitted c.loop.frequency c.loop.counter on.0 on.1 c.in-Some.number on.2 c.row.result.now c.next-cursor.result here.0 here.1
+            c.from-frequency.result (c.from-frequency.ensures ∙ c.estimate.ensures) (omega (arith, c.from-frequency.ensures)),
+      );
+    }

@@ -1,0 +1,13 @@
+use Rattle.std.proofs.Common.{◌≤◌, length}
+use Rattle.moka_policy.specs.Policy.{is_lru}
+use Rattle.moka_maintain.proofs.Verdicts.{JudgesAll}
+use Rattle.moka_maintain.proofs.maintain.judge_all.Given as goal
+
+abbrev pub invariant-loop-number : goal.invariant-loop-number
+invariant-loop-number g l = record {
+  room : l.fn.table.room ≤ l.table.room;
+  judges : JudgesAll (is_lru l.policy) (g.F.FrequencySource.count l.source) l.capacity l.fn.table l.table;
+}
+
+abbrev pub decreases-loop-number : goal.decreases-loop-number
+decreases-loop-number g l = length l.table.waiting

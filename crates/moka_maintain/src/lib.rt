@@ -1,0 +1,4 @@
+//! The maintenance of a cache: what it makes of the rows.
+#![tactic(auto)]
+
+pub mod maintain;

@@ -1,0 +1,13 @@
+pub mod Admission
+pub mod Calls
+pub mod Events
+pub mod Lives
+pub mod Maintenance
+pub mod MaintenanceLaws
+pub mod Numbers
+pub mod OrderLaws
+pub mod Orders
+pub mod Removals
+pub mod SizeLaws
+pub mod StandsFor
+pub mod Steps

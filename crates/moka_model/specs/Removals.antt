@@ -1,0 +1,51 @@
+-- What left, for which cause, and which of it was not given out yet.
+use Rattle.std.specs.Prelude.{ℕ, ◌+◌, min, Bool, if◌then◌else◌, Option, Some, None, List, [], ◌∷◌, ◌++◌, length, drop, map}
+use Rattle.moka_model.specs.declared.notification.RemovalCause.{RemovalCause}
+use Rattle.moka_model.specs.declared.notification.RemovalCause.TheVariants.{Expired, Explicit, Replaced, Size}
+use Rattle.moka_model.specs.Lives.{Settings, Write, is_expired}
+use Rattle.moka_model.specs.Events.{Event, Looked, TurnedDown, Written, Invalidated, Hidden, Maintained, Passed, Drawn, Taken, latest}
+use Rattle.moka_model.specs.Orders.{evicted_at, standing}
+
+pub record Removal (K V : Type 0) : Type 0 where  -- A value that left, under the key that it was stored under, with its cause.
+  pub key : K
+  pub value : V
+  pub cause : RemovalCause
+
+module _ {K V : Type 0} (settings : Settings K V) where
+  -- A hidden write was removed; another expired, where its deadline has come; and else the cause is the event's own.
+  abbrev pub cause_of : RemovalCause → Write K V → ℕ → RemovalCause
+  cause_of own w at = if w.is_hidden then Explicit else (if is_expired settings w at then Expired else own)
+
+  abbrev pub removal_of : RemovalCause → ℕ → Write K V → Removal K V  -- a write that leaves at a moment
+  removal_of own at w = record { key = w.key; value = w.value; cause = cause_of own w at }
+
+  abbrev pub removals_of : RemovalCause → ℕ → Option (Write K V) → List (Removal K V)  -- what leaves where a write stands, at a moment
+  removals_of own at None = []
+  removals_of own at (Some w) = removal_of own at w ∷ []
+
+module _ {K V : Type 0} (eq : K → K → Bool) (settings : Settings K V) where
+  -- What leaves at an event behind h: the write that stands for the key that it writes or removes, and what a maintenance evicts.
+  abbrev pub removals_at : Event K V → List (Event K V) → List (Removal K V)
+  removals_at (Looked k at) h = []
+  removals_at (TurnedDown k at) h = []
+  removals_at (Written k v at) h = removals_of settings Replaced (latest (Written k v at ∷ h)) (standing eq settings k h)
+  removals_at (Invalidated k at) h = removals_of settings Explicit (latest (Invalidated k at ∷ h)) (standing eq settings k h)
+  removals_at (Hidden test) h = []
+  removals_at (Maintained limit at) h =
+      map (removal_of settings Size (latest (Maintained limit at ∷ h))) (evicted_at eq settings limit at h)
+  removals_at (Passed at) h = []
+  removals_at Drawn h = []
+  removals_at Taken h = []
+
+  abbrev pub removals : List (Event K V) → List (Removal K V)  -- All that left, in the order of leaving.
+  removals [] = []
+  removals (e ∷ h) = removals h ++ removals_at e h
+
+  -- How many of them were given out: each notice that is taken, where one is left, is the first of those left.
+  abbrev pub taken : List (Event K V) → ℕ
+  taken [] = 0
+  taken (Taken ∷ h) = min (taken h + 1) (length (removals h))
+  taken (e ∷ h) = taken h
+
+  abbrev pub notices_left : List (Event K V) → List (Removal K V)  -- Those that were not given out yet, in order.
+  notices_left h = drop (taken h) (removals h)

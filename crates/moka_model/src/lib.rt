@@ -1,0 +1,5 @@
+//! What a cache means: the definitions over the list of its events that every contract cites, with
+//! what they need of code, and the lemmas that the crates above use (`proofs/Callers.antt`).
+#![tactic(auto)]
+
+pub mod notification;

@@ -1,0 +1,193 @@
+//! Two orders of numbers: those that wait, and those that are admitted.
+ghost use Rattle.std.specs.Prelude.{◌≡◌, ◌≢◌, ◌⊎◌, ℕ, ◌+◌, ◌<◌, ◌≤◌, ◌^◌, [], ◌∷◌, ◌++◌, true, false, length, OnOk, Some};
+ghost use Rattle.moka_orders.specs.Paths.{IsAmong, IsAbsent, IsChain, without, first_of, number_behind};
+ghost use Rattle.moka_orders.specs.Nodes.{hash_of, same_of, row_of};
+ghost use Rattle.moka_orders.specs.Rings.{order, IsRinged};
+
+use crate::nodes::{Node, first, grow, link_before, read, row, set_order, set_same, unlink};
+use std::alloc::{AllocError, Global};
+
+/// The number of the node that is the end of the admitted numbers.
+const ADMITTED: u32 = 0;
+
+/// The number of the node that is the end of those that wait.
+const WAITING: u32 = 1;
+
+/// Two orders of numbers, each a ring of nodes with an end of its own.
+#[derive(Drop)]
+pub struct Orders {
+    nodes: Vec<Node>,
+    admitted_len: usize,
+    waiting_len: usize,
+    ghost ringed: { IsRinged nodes.items (order nodes.items 0 admitted_len) (order nodes.items 1 waiting_len) },
+}
+
+impl Orders {
+    ghost use Rattle.moka_orders.specs.Orders.{chain_from, LeadsTo};
+    ghost use Rattle.moka_orders.specs.Orders.{admitted_in, waiting_in, places_in, Stands, KeepsHashes, KeepsOrders};
+
+    /// Orders of no numbers. They take no memory.
+    pub fn new(alloc: Global) -> Self
+        ensures admitted { admitted_in result ≡ [] }
+        ensures waiting { waiting_in result ≡ [] }
+    {
+        Orders {
+            nodes: Vec::new(alloc),
+            admitted_len: 0,
+            waiting_len: 0,
+        }
+    }
+
+    /// How many numbers are admitted, and how many wait.
+    pub fn lens(&self) -> (usize, usize)
+        ensures admitted { result.0 ≡ length (admitted_in self.now) }
+        ensures waiting { result.1 ≡ length (waiting_in self.now) }
+    {
+        (self.admitted_len, self.waiting_len)
+    }
+
+    /// The first admitted number.
+    pub fn first_admitted(&self) -> Option<usize>
+        ensures { result ≡ first_of (admitted_in self.now) }
+    {
+        first(&self.nodes, ADMITTED)
+    }
+
+    /// The first number that waits.
+    pub fn first_waiting(&self) -> Option<usize>
+        ensures { result ≡ first_of (waiting_in self.now) }
+    {
+        first(&self.nodes, WAITING)
+    }
+
+    /// The number behind one that stands.
+    pub fn next(&self, number: u32) -> Option<usize>
+        requires { Stands self.now number }
+        ensures admitted { IsAmong number (admitted_in self.now) → result ≡ number_behind number (admitted_in self.now) }
+        ensures waiting { IsAmong number (waiting_in self.now) → result ≡ number_behind number (waiting_in self.now) }
+    {
+        row(read(&self.nodes, number).next)
+    }
+
+    /// The hash of a number.
+    pub fn hash(&self, number: u32) -> u64
+        requires { number < places_in self.now }
+        ensures { result ≡ hash_of self.now.nodes.items number }
+    {
+        read(&self.nodes, number).hash
+    }
+
+    /// The next number of the same hash.
+    pub fn same(&self, number: u32) -> Option<usize>
+        requires { number < places_in self.now }
+        ensures { result ≡ same_of self.now.nodes.items number }
+    {
+        row(read(&self.nodes, number).same)
+    }
+
+    /// The link to the next number of the same hash, which is below 2 where there is none.
+    pub fn same_link(&self, number: u32) -> u32
+        requires { number < places_in self.now }
+        ensures { row_of result ≡ same_of self.now.nodes.items number }
+    {
+        let node = read(&self.nodes, number);
+        node.same
+    }
+
+    /// Makes room for the node of a number. Numbers have 32 bits.
+    pub fn reserve(&mut self, number: usize) -> Result<(), AllocError>
+        ensures place { OnOk result (number < places_in self.new) }
+        ensures admitted { admitted_in self.new ≡ admitted_in self.old }
+        ensures waiting { waiting_in self.new ≡ waiting_in self.old }
+        ensures same { (k : ℕ) → same_of self.new.nodes.items k ≡ same_of self.old.nodes.items k }
+        ensures hash { (k : ℕ) → hash_of self.new.nodes.items k ≡ hash_of self.old.nodes.items k }
+        ensures places { places_in self.old ≤ places_in self.new }
+    {
+        if number > u32::MAX as usize {
+            return Err(AllocError);
+        }
+        grow(&mut self.nodes, number)
+    }
+
+    /// Sets a number's hash, and which number of that hash comes behind it.
+    pub fn set_same(&mut self, number: u32, hash: u64, same: u32)
+        requires { number < places_in self.old }
+        ensures kept { KeepsOrders self.old self.new }
+        ensures changed { same_of self.new.nodes.items number ≡ row_of same }
+        ensures hashed { hash_of self.new.nodes.items number ≡ hash }
+        ensures others { (k : ℕ) → k ≢ number → same_of self.new.nodes.items k ≡ same_of self.old.nodes.items k }
+        ensures others_hashed { (k : ℕ) → k ≢ number → hash_of self.new.nodes.items k ≡ hash_of self.old.nodes.items k }
+    {
+        set_same(&mut self.nodes, number, hash, same);
+    }
+
+    /// Whether a number that stands is admitted.
+    pub fn is_admitted(&self, number: u32) -> bool
+        requires { Stands self.now number }
+        ensures admitted { IsAmong number (admitted_in self.now) → result ≡ true }
+        ensures waiting { IsAmong number (waiting_in self.now) → result ≡ false }
+    {
+        read(&self.nodes, number).is_admitted
+    }
+
+    /// The number that leads to this one in its chain, where this one is not the first.
+    pub fn before(&self, first: u32, number: u32) -> u32
+        requires linked { IsChain (same_of self.now.nodes.items) (Some first) (chain_from self.now (Some first)) }
+        requires places { (k : ℕ) → IsAmong k (chain_from self.now (Some first)) → k < places_in self.now }
+        requires within { IsAmong number (chain_from self.now (Some first)) }
+        requires later { first ≢ number }
+        ensures { LeadsTo (chain_from self.now (Some first)) result number }
+    {
+        let mut at = first;
+        let mut next = self.same_link(at);
+        while next != number {
+            at = next;
+            next = self.same_link(at);
+        }
+        at
+    }
+
+    /// Takes a number out of the order in which it stands.
+    pub fn leave(&mut self, number: u32)
+        requires { Stands self.old number }
+        ensures admitted { admitted_in self.new ≡ without number (admitted_in self.old) }
+        ensures waiting { waiting_in self.new ≡ without number (waiting_in self.old) }
+        ensures kept { KeepsHashes self.old self.new }
+    {
+        let is_admitted = self.is_admitted(number);
+        unlink(&mut self.nodes, number);
+        if is_admitted {
+            self.admitted_len -= 1;
+        } else {
+            self.waiting_len -= 1;
+        }
+    }
+
+    /// Puts a number that stands nowhere behind all that are admitted.
+    pub fn admit(&mut self, number: u32)
+        requires above { 2 ≤ number }
+        requires within { number < places_in self.old }
+        requires absent { IsAbsent number (admitted_in self.old) × IsAbsent number (waiting_in self.old) }
+        ensures admitted { admitted_in self.new ≡ admitted_in self.old ++ number ∷ [] }
+        ensures waiting { waiting_in self.new ≡ waiting_in self.old }
+        ensures kept { KeepsHashes self.old self.new }
+    {
+        set_order(&mut self.nodes, number, true);
+        link_before(&mut self.nodes, number, ADMITTED);
+        self.admitted_len += 1;
+    }
+
+    /// Puts a number that stands nowhere behind all that wait.
+    pub fn wait(&mut self, number: u32)
+        requires above { 2 ≤ number }
+        requires within { number < places_in self.old }
+        requires absent { IsAbsent number (admitted_in self.old) × IsAbsent number (waiting_in self.old) }
+        ensures admitted { admitted_in self.new ≡ admitted_in self.old }
+        ensures waiting { waiting_in self.new ≡ waiting_in self.old ++ number ∷ [] }
+        ensures kept { KeepsHashes self.old self.new }
+    {
+        set_order(&mut self.nodes, number, false);
+        link_before(&mut self.nodes, number, WAITING);
+        self.waiting_len += 1;
+    }
+}

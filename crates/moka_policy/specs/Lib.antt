@@ -1,0 +1,4 @@
+pub mod Frequency
+pub mod NumberHash
+pub mod Policy
+pub use Rattle.moka_model.specs.Lives

@@ -1,0 +1,50 @@
+-- What the types mean that a cache's user gives to it.
+use Rattle.std.specs.Prelude.{◌≡◌, ℕ, Bool, true, false, Option, option_map}
+use Rattle.std.specs.Duration.{as_nanos}
+use Rattle.std.specs.declared.time.Duration.{Duration}
+use Rattle.moka_policy.specs.declared.policy.EvictionPolicy.{EvictionPolicy}
+use Rattle.moka_policy.specs.declared.policy.Kind.{Kind}
+use Rattle.moka_policy.specs.declared.policy.Kind.TheVariants.{Lru, TinyLfu}
+
+-- of a kind of policy
+abbrev pub is_lru_kind : Kind → Bool
+is_lru_kind Lru = true
+is_lru_kind TinyLfu = false
+
+-- whether a policy is least recently used
+abbrev pub is_lru : EvictionPolicy → Bool
+is_lru policy = is_lru_kind policy.kind
+
+-- A closure answers a weight for each key and value: it can be called with references to them, and then answers it.
+abbrev pub IsWeighing : {K V KeyRef ValueRef : Type 0} → (KeyRef → K) → (ValueRef → V) → (KeyRef → ValueRef → Type 0) →
+    (KeyRef → ValueRef → ℕ → Type 0) → (K → V → ℕ) → Type 0
+IsWeighing {K} {V} {KeyRef} {ValueRef} key_of value_of can_call answers weight =
+    ((key : KeyRef) (value : ValueRef) → can_call key value)
+    × ((key : KeyRef) (value : ValueRef) (answer : ℕ) → answers key value answer → answer ≡ weight (key_of key) (value_of value))
+
+-- A closure answers the life of a value that is created, for each key, value and moment.
+abbrev pub IsCreating : {K V KeyRef ValueRef : Type 0} → (KeyRef → K) → (ValueRef → V) → (KeyRef → ValueRef → ℕ → Type 0) →
+    (KeyRef → ValueRef → ℕ → Option Duration → Type 0) → (K → V → ℕ → Option ℕ) → Type 0
+IsCreating {K} {V} {KeyRef} {ValueRef} key_of value_of can_call answers created =
+    ((key : KeyRef) (value : ValueRef) (at : ℕ) → can_call key value at)
+    × ((key : KeyRef) (value : ValueRef) (at : ℕ) (life : Option Duration) → answers key value at life →
+    option_map as_nanos life ≡ created (key_of key) (value_of value) at)
+
+-- A closure answers the life of a value that is read, for each key, value, moment, rest and moment of writing.
+abbrev pub IsReading : {K V KeyRef ValueRef : Type 0} → (KeyRef → K) → (ValueRef → V) →
+    (KeyRef → ValueRef → ℕ → Option Duration → ℕ → Type 0) → (KeyRef → ValueRef → ℕ → Option Duration → ℕ → Option Duration → Type 0) →
+    (K → V → ℕ → Option ℕ → ℕ → Option ℕ) → Type 0
+IsReading {K} {V} {KeyRef} {ValueRef} key_of value_of can_call answers read =
+    ((key : KeyRef) (value : ValueRef) (at : ℕ) (rest : Option Duration) (written : ℕ) → can_call key value at rest written)
+    × ((key : KeyRef) (value : ValueRef) (at : ℕ) (rest : Option Duration) (written : ℕ) (life : Option Duration) →
+    answers key value at rest written life →
+    option_map as_nanos life ≡ read (key_of key) (value_of value) at (option_map as_nanos rest) written)
+
+-- A closure answers the life of a value that is updated, for each key, value, moment and rest.
+abbrev pub IsUpdating : {K V KeyRef ValueRef : Type 0} → (KeyRef → K) → (ValueRef → V) →
+    (KeyRef → ValueRef → ℕ → Option Duration → Type 0) → (KeyRef → ValueRef → ℕ → Option Duration → Option Duration → Type 0) →
+    (K → V → ℕ → Option ℕ → Option ℕ) → Type 0
+IsUpdating {K} {V} {KeyRef} {ValueRef} key_of value_of can_call answers updated =
+    ((key : KeyRef) (value : ValueRef) (at : ℕ) (rest : Option Duration) → can_call key value at rest)
+    × ((key : KeyRef) (value : ValueRef) (at : ℕ) (rest : Option Duration) (life : Option Duration) → answers key value at rest life →
+    option_map as_nanos life ≡ updated (key_of key) (value_of value) at (option_map as_nanos rest))

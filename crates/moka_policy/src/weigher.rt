@@ -1,0 +1,49 @@
+//! How heavy stored values are.
+ghost use Rattle.std.specs.Prelude.{◌≡◌, ℕ};
+ghost use Rattle.moka_policy.specs.Policy.{IsWeighing};
+
+/// Weighs the values of a cache, under their keys.
+pub trait Weigher<K, V> {
+    /// What it is to answer a weight for each key and value.
+    ghost weighs: { Self → (K → V → ℕ) → Type 0 };
+
+    /// The weight of a value under a key. It is asked once for each write, and the answer is kept.
+    fn weigh(&self, key: &K, value: &V) -> u32
+        requires { (weight : K → V → ℕ) × weighs self.now weight }
+        ensures { (weight : K → V → ℕ) → weighs self.now weight → result ≡ weight key.now value.now };
+}
+
+/// Weighs by a closure.
+#[derive(Clone, Copy, Debug)]
+pub struct WeighBy<F> {
+    weigh: F,
+}
+
+impl<F> WeighBy<F> {
+    /// A weigher that asks this closure.
+    pub fn new(weigh: F) -> Self
+        ensures { result.weigh ≡ weigh }
+    {
+        WeighBy { weigh }
+    }
+}
+
+impl<K, V, F: Fn(&K, &V) -> u32> Weigher<K, V> for WeighBy<F> {
+    ghost weighs = { λ by weight. IsWeighing (λ key. key.now) (λ value. value.now) (F.pre by.weigh) (F.post by.weigh) weight };
+
+    fn weigh(&self, key: &K, value: &V) -> u32 {
+        (self.weigh)(key, value)
+    }
+}
+
+/// Weighs each value as one: the type of a cache's weigher where it is given none.
+#[derive(Clone, Copy, Debug, Default)]
+pub struct NoWeigher;
+
+impl<K, V> Weigher<K, V> for NoWeigher {
+    ghost weighs = { λ _ weight. weight ≡ (λ _ _. 1) };
+
+    fn weigh(&self, _key: &K, _value: &V) -> u32 {
+        1
+    }
+}

@@ -1,0 +1,5 @@
+pub mod Callers
+pub mod Cursors
+pub mod Elements
+pub mod NumberLemmas
+pub mod RowLemmas

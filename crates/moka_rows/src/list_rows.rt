@@ -1,0 +1,210 @@
+//! The plain row store: two lists, searched from the front.
+ghost use Rattle.std.specs.Prelude.{◌≡◌, ◌+◌, ◌-◌, ◌<◌, ◌≤◌, ◌^◌, [], ◌∷◌, ◌++◌, length, drop, IsSome, IfNone, OnSome, MatchOption, min, vec_len, vec_capacity};
+ghost use Rattle.std.below.core.specs.declared.int.usize.TheConstants.{MAX};
+ghost use Rattle.moka_rows.specs.Rows.{row_under, is_row_of, first_number};
+ghost use Rattle.moka_rows.specs.Numbers.{number_where, IsNumbered, IsPlaceOf, IsPlaceIn};
+
+use crate::rows::{EntryInfo, Row, RowStore};
+use crate::shelf::Shelved;
+use std::alloc::{AllocError, Global};
+
+/// Where a row stands: at a place among the admitted, or among those that wait.
+enum Place {
+    Admitted(usize),
+    Waiting(usize),
+}
+
+/// Rows in two lists, each in its order, with numbers that are given out in turn.
+///
+/// Each call on a row searches for it from the front, so it takes time linear in the number of rows. To add a row
+/// takes constant time. The admitted rows' list has places for all rows, so that a row that waits is admitted
+/// without memory.
+#[derive(Drop)]
+pub struct ListRows<K, V> {
+    waiting: Vec<(usize, Shelved<Row<K, V>>)>,
+    admitted: Vec<(usize, Shelved<Row<K, V>>)>,
+    next: usize,
+    ghost numbered: { IsNumbered next (admitted.items ++ waiting.items) },
+    ghost can_admit: { vec_len admitted + vec_len waiting ≤ vec_capacity admitted },
+}
+
+/// The number of the first of these rows that is the key's. Adds one to `reads` for each row that it reads.
+fn number_of<K: Eq, V>(
+    rows: &[(usize, Shelved<Row<K, V>>)],
+    key: &K,
+    hash: u64,
+    reads: &mut u64,
+) -> Option<usize>
+    requires { reads.old + length rows.now < 2 ^ 64 }
+    ensures number { result ≡ number_where (is_row_of K.eq key.now hash) rows.now }
+    ensures at_most { reads.new ≤ reads.old + length rows.now }
+    ensures at_least { OnSome result (reads.old < reads.new) }
+    ensures all { IfNone result (reads.new ≡ reads.old + length rows.now) }
+{
+    for (number, shelved) in rows {
+        let row = shelved.look(reads);
+        if row.hash == hash && *row.key == *key {
+            return Some(*number);
+        }
+    }
+    None
+}
+
+/// The place of the first row under a number.
+fn place_of<K, V>(rows: &[(usize, Shelved<Row<K, V>>)], number: usize) -> Option<usize>
+    ensures { MatchOption result (row_under number rows.now ≡ None) (λ place. IsPlaceOf number rows.now place) }
+{
+    for (place, entry) in rows.iter().enumerate() {
+        if entry.0 == number {
+            return Some(place);
+        }
+    }
+    None
+}
+
+/// The number of the row at a place, where the list goes that far.
+fn number_at<K, V>(rows: &[(usize, Shelved<Row<K, V>>)], place: usize) -> Option<usize>
+    ensures { result ≡ first_number (drop place rows.now) }
+{
+    let (number, _) = rows.get(place)?;
+    Some(*number)
+}
+
+#[tactic(auto, using(crate::proofs::RowLemmas::joins))]
+impl<K, V> ListRows<K, V> {
+    /// Where the row under a number stands.
+    fn place(&self, number: usize) -> Place
+        requires { IsSome (row_under number (self.now.admitted.items ++ self.now.waiting.items)) }
+        ensures { IsPlaceIn number self.now.admitted.items self.now.waiting.items result }
+    {
+        if let Some(place) = place_of(&self.admitted, number) {
+            return Place::Admitted(place);
+        }
+        match place_of(&self.waiting, number) {
+            Some(place) => Place::Waiting(place),
+            None => unreachable!(),
+        }
+    }
+}
+
+impl<K: Eq + Drop, V: Drop> RowStore<K, V> for ListRows<K, V> {
+    ghost waiting = { λ s. s.waiting.items };
+
+    ghost admitted = { λ s. s.admitted.items };
+
+    ghost room = { λ s. min (MAX - s.next) (min (vec_capacity s.waiting - vec_len s.waiting) (vec_capacity s.admitted - (vec_len s.admitted + vec_len s.waiting))) };
+
+    fn new(alloc: Global) -> Self {
+        ListRows {
+            waiting: Vec::new(alloc),
+            admitted: Vec::new(alloc),
+            next: 0,
+        }
+    }
+
+    fn len(&self) -> usize {
+        self.admitted.len() + self.waiting.len()
+    }
+
+    fn find(&self, key: &K, hash: u64, reads: &mut u64) -> Option<usize> {
+        if let Some(number) = number_of(&self.admitted, key, hash, reads) {
+            return Some(number);
+        }
+        number_of(&self.waiting, key, hash, reads)
+    }
+
+    fn row(&self, number: usize) -> &Row<K, V> {
+        match self.place(number) {
+            Place::Admitted(place) => self.admitted[place].1.row(),
+            Place::Waiting(place) => self.waiting[place].1.row(),
+        }
+    }
+
+    fn is_admitted(&self, number: usize) -> bool {
+        match self.place(number) {
+            Place::Admitted(_) => true,
+            Place::Waiting(_) => false,
+        }
+    }
+
+    /// The numbers that were given out are never given out again: once they are used up, which would take 2^64 rows,
+    /// this is refused.
+    fn reserve(&mut self) -> Result<(), AllocError> {
+        if self.next == usize::MAX {
+            return Err(AllocError);
+        }
+        self.admitted.reserve(self.waiting.len() + 1)?;
+        self.waiting.reserve(1)
+    }
+
+    fn add(&mut self, row: Row<K, V>) -> usize
+        requires { 0 < min (MAX - self.old.next) (min (vec_capacity self.old.waiting - vec_len self.old.waiting) (vec_capacity self.old.admitted - (vec_len self.old.admitted + vec_len self.old.waiting))) }
+        ensures fresh { row_under result (self.old.admitted.items ++ self.old.waiting.items) ≡ None }
+        ensures waiting { self.new.waiting.items ≡ self.old.waiting.items ++ (result, row) ∷ [] }
+        ensures admitted { self.new.admitted.items ≡ self.old.admitted.items }
+    {
+        let number = self.next;
+        self.waiting.push_reserved((number, Shelved::new(row)));
+        self.next += 1;
+        number
+    }
+
+    fn touch(&mut self, number: usize, info: EntryInfo) {
+        match self.place(number) {
+            Place::Admitted(place) => {
+                let (_, mut used) = self.admitted.remove(place);
+                used.touch(info);
+                self.admitted.push_reserved((number, used));
+            }
+            Place::Waiting(place) => self.waiting[place].1.touch(info),
+        }
+    }
+
+    fn overwrite(&mut self, number: usize, value: V, info: EntryInfo) -> V {
+        match self.place(number) {
+            Place::Admitted(place) => {
+                let (_, mut row) = self.admitted.remove(place);
+                let before = row.overwrite(value, info);
+                self.admitted.push_reserved((number, row));
+                before
+            }
+            Place::Waiting(place) => self.waiting[place].1.overwrite(value, info),
+        }
+    }
+
+    fn waiting_len(&self) -> usize {
+        self.waiting.len()
+    }
+
+    fn first_admitted(&self) -> Option<usize> {
+        number_at(&self.admitted, 0)
+    }
+
+    fn first_waiting(&self) -> Option<usize> {
+        number_at(&self.waiting, 0)
+    }
+
+    fn next(&self, number: usize) -> Option<usize> {
+        match self.place(number) {
+            Place::Admitted(place) => number_at(&self.admitted, place + 1),
+            Place::Waiting(place) => number_at(&self.waiting, place + 1),
+        }
+    }
+
+    fn admit(&mut self, number: usize) {
+        match place_of(&self.waiting, number) {
+            Some(place) => {
+                let (_, newest) = self.waiting.remove(place);
+                self.admitted.push_reserved((number, newest));
+            }
+            None => unreachable!(),
+        }
+    }
+
+    fn remove(&mut self, number: usize) -> Row<K, V> {
+        match self.place(number) {
+            Place::Admitted(place) => self.admitted.remove(place).1.into_row(),
+            Place::Waiting(place) => self.waiting.remove(place).1.into_row(),
+        }
+    }
+}

@@ -1,0 +1,226 @@
+//! The calls of a store of rows as data, and what they answer.
+ghost use Rattle.std.specs.Prelude.{◌≡◌, true, ◌++◌, IsSome, IfSome};
+ghost use Rattle.moka_rows.specs.Rows.{row_under};
+
+use moka_rows::rows::{EntryInfo, Row, RowStore};
+use std::alloc::{AllocError, Global};
+use std::sync::Arc;
+
+/// Which hash a key has.
+#[derive(Clone, Copy)]
+pub enum Hashes {
+    /// All keys have one.
+    One,
+    /// There are three.
+    Three,
+    /// Each key has its own.
+    Own,
+}
+
+/// A call of a store of rows; most are about the row of a key.
+#[derive(Clone, Copy)]
+pub enum Call {
+    Len,
+    WaitingLen,
+    FirstAdmitted,
+    FirstWaiting,
+    /// Admits the row that has waited longest.
+    AdmitFirst,
+    /// A row of this key and value, where there is none of the key.
+    Add(u64, u64),
+    Of(u64, Use),
+}
+
+/// What is done with a row.
+#[derive(Clone, Copy)]
+pub enum Use {
+    Find,
+    Read,
+    IsAdmitted,
+    Next,
+    /// Admits it, where it waits.
+    Admit,
+    /// A use at a moment.
+    Touch(u64),
+    /// Another value, at a moment.
+    Overwrite(u64, u64),
+    Remove,
+}
+
+/// What a call answers. Stores number their rows as they like, so a number is answered as its row's
+/// key.
+#[derive(Clone, Copy, Debug, PartialEq)]
+pub enum Answer {
+    Done,
+    Counted(usize),
+    Is(bool),
+    Key(u64),
+    /// A row's value, and when it was written and used.
+    Value(u64, u64, u64),
+    Before(u64),
+    Absent,
+}
+
+/// The moments of a write.
+pub fn written_at(moment: u64) -> EntryInfo {
+    EntryInfo {
+        last_modified: moment,
+        last_accessed: moment,
+        own_life: None,
+        policy_weight: 1,
+    }
+}
+
+/// The hash of a key.
+fn hash_of(hashes: Hashes, key: u64) -> u64 {
+    match hashes {
+        Hashes::One => 7,
+        Hashes::Three => key % 3,
+        Hashes::Own => key.wrapping_mul(0x9e37_79b9_7f4a_7c15),
+    }
+}
+
+/// The row of a number, by the numbers that were given out, the last one first, since numbers may
+/// come again.
+fn row_of(given: &[(usize, u64)], number: Option<usize>) -> Answer {
+    for (at, key) in given.iter().rev() {
+        if number == Some(*at) {
+            return Answer::Key(*key);
+        }
+    }
+    Answer::Absent
+}
+
+/// The number of a key, and how many rows were read for it.
+pub fn number_of<R: RowStore<u64, u64>>(rows: &R, hashes: Hashes, key: u64) -> (Option<usize>, u64)
+    ensures { IfSome result.0 (λ number. IsSome (row_under number (R.admitted rows.now ++ R.waiting rows.now))) }
+{
+    let mut reads = 0;
+    let number = rows.find(&key, hash_of(hashes, key), &mut reads);
+    (number, reads)
+}
+
+/// The number of the row that has waited longest.
+fn first_waiting<R: RowStore<u64, u64>>(rows: &R) -> Option<usize>
+    ensures { IfSome result (λ number. IsSome (row_under number (R.waiting rows.now))) }
+{
+    rows.first_waiting()
+}
+
+/// Whether a row waits.
+fn waits<R: RowStore<u64, u64>>(rows: &R, number: usize) -> bool
+    requires { IsSome (row_under number (R.admitted rows.now ++ R.waiting rows.now)) }
+    ensures { result ≡ true → IsSome (row_under number (R.waiting rows.now)) }
+{
+    !rows.is_admitted(number)
+}
+
+/// What a row holds.
+fn held(row: &Row<u64, u64>) -> Answer {
+    Answer::Value(row.value, row.info.last_modified, row.info.last_accessed)
+}
+
+/// Makes a use of the row under a number.
+fn used<R: RowStore<u64, u64>>(
+    rows: &mut R,
+    given: &[(usize, u64)],
+    number: usize,
+    what: Use,
+) -> Answer
+    requires { IsSome (row_under number (R.admitted rows.old ++ R.waiting rows.old)) }
+{
+    match what {
+        Use::Find => row_of(given, Some(number)),
+        Use::Read => held(rows.row(number)),
+        Use::IsAdmitted => Answer::Is(rows.is_admitted(number)),
+        Use::Next => row_of(given, rows.next(number)),
+        Use::Admit => {
+            let waits = waits(rows, number);
+            if waits {
+                rows.admit(number);
+            }
+            Answer::Is(waits)
+        }
+        Use::Touch(moment) => {
+            let info = EntryInfo {
+                last_accessed: moment,
+                ..rows.row(number).info
+            };
+            rows.touch(number, info);
+            Answer::Done
+        }
+        Use::Overwrite(value, moment) => {
+            Answer::Before(rows.overwrite(number, value, written_at(moment)))
+        }
+        Use::Remove => held(&rows.remove(number)),
+    }
+}
+
+/// Adds a row, and answers its number.
+pub fn add<R: RowStore<u64, u64>>(
+    alloc: Global,
+    rows: &mut R,
+    hashes: Hashes,
+    key: u64,
+    value: u64,
+) -> Result<usize, AllocError> {
+    let hash = hash_of(hashes, key);
+    let key = Arc::new(alloc, key)?;
+    rows.reserve()?;
+    Ok(rows.add(Row {
+        key,
+        hash,
+        value,
+        info: written_at(value),
+    }))
+}
+
+/// Makes a call.
+fn made<R: RowStore<u64, u64>>(
+    alloc: Global,
+    rows: &mut R,
+    hashes: Hashes,
+    given: &mut Vec<(usize, u64)>,
+    call: Call,
+) -> Result<Answer, AllocError> {
+    Ok(match call {
+        Call::Len => Answer::Counted(rows.len()),
+        Call::WaitingLen => Answer::Counted(rows.waiting_len()),
+        Call::FirstAdmitted => row_of(given.as_slice(), rows.first_admitted()),
+        Call::FirstWaiting => row_of(given.as_slice(), rows.first_waiting()),
+        Call::AdmitFirst => match first_waiting(rows) {
+            Some(number) => {
+                rows.admit(number);
+                Answer::Done
+            }
+            None => Answer::Absent,
+        },
+        Call::Add(key, value) => match number_of(rows, hashes, key).0 {
+            Some(_) => Answer::Absent,
+            None => {
+                let number = add(alloc, rows, hashes, key, value)?;
+                given.push((number, key))?;
+                Answer::Done
+            }
+        },
+        Call::Of(key, what) => match number_of(rows, hashes, key).0 {
+            Some(number) => used(rows, given.as_slice(), number, what),
+            None => Answer::Absent,
+        },
+    })
+}
+
+/// What a new store answers to some calls, in turn.
+pub fn answers<R: RowStore<u64, u64>>(
+    alloc: Global,
+    hashes: Hashes,
+    calls: &[Call],
+) -> Result<Vec<Answer>, AllocError> {
+    let mut rows: R = R::new(alloc);
+    let mut given = Vec::new(alloc);
+    let mut found = Vec::new(alloc);
+    for call in calls {
+        found.push(made(alloc, &mut rows, hashes, &mut given, *call)?)?;
+    }
+    Ok(found)
+}

@@ -1,0 +1,100 @@
+//! Long runs of calls, which both stores answer alike, and how many rows their look-ups read.
+use crate::calls::{Call, Hashes, Use, add, answers, number_of};
+use moka_rows::list_rows::ListRows;
+use moka_rows::rows::RowStore;
+use moka_slab::slab_rows::SlabRows;
+use std::alloc::{AllocError, Global};
+use std::test::Fail;
+
+/// How many keys there are in a run, and how many calls.
+const KEYS: u64 = 40;
+
+const TURNS: u64 = 3_000;
+
+/// The call that a number stands for, at a moment.
+fn call_of(number: u64, moment: u64) -> Call {
+    let key = number % KEYS;
+    match number / KEYS % 16 {
+        0 | 1 | 2 => Call::Add(key, moment),
+        3 => Call::Of(key, Use::Find),
+        4 => Call::Of(key, Use::Read),
+        5 => Call::Of(key, Use::IsAdmitted),
+        6 => Call::Of(key, Use::Next),
+        7 => Call::Of(key, Use::Admit),
+        8 => Call::Of(key, Use::Touch(moment)),
+        9 => Call::Of(key, Use::Overwrite(number, moment)),
+        10 | 11 => Call::Of(key, Use::Remove),
+        12 => Call::AdmitFirst,
+        13 => Call::FirstAdmitted,
+        14 => Call::FirstWaiting,
+        _ => if key % 2 == 0 {
+            Call::Len
+        } else {
+            Call::WaitingLen
+        },
+    }
+}
+
+/// Calls in no order that means anything.
+fn turns(alloc: Global) -> Result<Vec<Call>, AllocError> {
+    let mut calls = Vec::new(alloc);
+    let mut seed: u64 = 1;
+    for moment in 0..TURNS {
+        seed = seed
+            .wrapping_mul(6_364_136_223_846_793_005)
+            .wrapping_add(1_442_695_040_888_963_407);
+        calls.push(call_of(seed / 65_536, moment))?;
+    }
+    Ok(calls)
+}
+
+#[test]
+fn both_stores_answer_alike(rt: HostRuntime) -> Result<(), Fail> {
+    let calls = turns(rt.alloc())?;
+    for hashes in [Hashes::One, Hashes::Three, Hashes::Own] {
+        let lists = answers::<ListRows<u64, u64>>(rt.alloc(), hashes, calls.as_slice())?;
+        let slab = answers::<SlabRows<u64, u64>>(rt.alloc(), hashes, calls.as_slice())?;
+        for (turn, answer) in lists.iter().enumerate() {
+            assert_eq!(rt; slab.get(turn), Some(answer), "turn {turn}");
+        }
+    }
+    Ok(())
+}
+
+/// How many rows a look-up of each key reads, where the first ten are stored, and the next ten are
+/// not.
+fn most_reads<R: RowStore<u64, u64>>(
+    alloc: Global,
+    hashes: Hashes,
+) -> Result<(u64, u64), AllocError> {
+    let mut rows: R = R::new(alloc);
+    for key in 0..10 {
+        add(alloc, &mut rows, hashes, key, key)?;
+    }
+    let mut most = (0, 0);
+    for key in 0..20 {
+        let (number, reads) = number_of(&rows, hashes, key);
+        if number.is_some() {
+            most.0 = reads.max(most.0);
+        } else {
+            most.1 = reads.max(most.1);
+        }
+    }
+    Ok(most)
+}
+
+#[test]
+fn a_slab_reads_the_rows_of_one_hash(rt: HostRuntime) -> Result<(), Fail> {
+    for (hashes, most) in [
+        (Hashes::One, (10, 10)),
+        (Hashes::Three, (4, 4)),
+        (Hashes::Own, (1, 0)),
+    ] {
+        assert_eq!(rt; most_reads::<SlabRows<u64, u64>>(rt.alloc(), hashes)?, most);
+        assert_eq!(rt;
+            most_reads::<ListRows<u64, u64>>(rt.alloc(), hashes)?,
+            (10, 10)
+        );
+    }
+    Ok(())
+}

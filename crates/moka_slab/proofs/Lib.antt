@@ -1,0 +1,4 @@
+pub mod KeptLemmas
+pub mod TiedLemmas
+pub mod RoomLemmas
+pub mod FindLemmas

@@ -1,0 +1,32 @@
+use Rattle.std.proofs.Common.{◌+◌, Some, refl}
+use Rattle.moka_slab.proofs.TiedLemmas.{fresh-number, puts-update, added-tied, added-fresh, added-admitted, added-waiting}
+use Rattle.moka_slab.proofs.slab_rows.SlabRowsRowStore.add.Goals as goal
+
+pub add-requires-clause-absent : goal.add-requires-clause-absent
+add-requires-clause-absent g c = fresh-number c.args.self.now.rows c.args.self.now.links (c.insert_reserved-key.result + 2) c.insert_reserved-key.result c.args.self.now.tied refl c.insert_reserved-key.ensures.was_vacant
+
+pub invariant_of-self : goal.invariant_of-self
+invariant_of-self g c = record {
+  tied = added-tied c.args.self.now.rows c.insert_reserved-key.new.self c.args.self.now.links c.add.new.self c.args.self.now.tied (c.insert_reserved-key.result + 2) c.args.row
+      (puts-update c.args.self.now.rows c.insert_reserved-key.new.self (c.insert_reserved-key.result + 2) c.insert_reserved-key.result (Some c.args.row) refl (rw c.new.ensures at c.insert_reserved-key.ensures.updates))
+      (fresh-number c.args.self.now.rows c.args.self.now.links (c.insert_reserved-key.result + 2) c.insert_reserved-key.result c.args.self.now.tied refl c.insert_reserved-key.ensures.was_vacant) c.add.ensures.admitted c.add.ensures.waiting
+      c.add.ensures.hashed c.add.ensures.others;
+}
+
+pub returns-clause-fresh : goal.returns-clause-fresh
+returns-clause-fresh g c =
+    added-fresh c.args.self.now.rows c.insert_reserved-key.new.self c.args.self.now.links c.add.new.self c.args.self.now.tied (c.insert_reserved-key.result + 2) c.args.row
+    (puts-update c.args.self.now.rows c.insert_reserved-key.new.self (c.insert_reserved-key.result + 2) c.insert_reserved-key.result (Some c.args.row) refl (rw c.new.ensures at c.insert_reserved-key.ensures.updates))
+    (fresh-number c.args.self.now.rows c.args.self.now.links (c.insert_reserved-key.result + 2) c.insert_reserved-key.result c.args.self.now.tied refl c.insert_reserved-key.ensures.was_vacant) c.add.ensures.admitted c.add.ensures.waiting
+
+pub returns-clause-waiting : goal.returns-clause-waiting
+returns-clause-waiting g c =
+    added-waiting c.args.self.now.rows c.insert_reserved-key.new.self c.args.self.now.links c.add.new.self c.args.self.now.tied (c.insert_reserved-key.result + 2) c.args.row
+    (puts-update c.args.self.now.rows c.insert_reserved-key.new.self (c.insert_reserved-key.result + 2) c.insert_reserved-key.result (Some c.args.row) refl (rw c.new.ensures at c.insert_reserved-key.ensures.updates))
+    (fresh-number c.args.self.now.rows c.args.self.now.links (c.insert_reserved-key.result + 2) c.insert_reserved-key.result c.args.self.now.tied refl c.insert_reserved-key.ensures.was_vacant) c.add.ensures.admitted c.add.ensures.waiting
+
+pub returns-clause-admitted : goal.returns-clause-admitted
+returns-clause-admitted g c =
+    added-admitted c.args.self.now.rows c.insert_reserved-key.new.self c.args.self.now.links c.add.new.self c.args.self.now.tied (c.insert_reserved-key.result + 2) c.args.row
+    (puts-update c.args.self.now.rows c.insert_reserved-key.new.self (c.insert_reserved-key.result + 2) c.insert_reserved-key.result (Some c.args.row) refl (rw c.new.ensures at c.insert_reserved-key.ensures.updates))
+    (fresh-number c.args.self.now.rows c.args.self.now.links (c.insert_reserved-key.result + 2) c.insert_reserved-key.result c.args.self.now.tied refl c.insert_reserved-key.ensures.was_vacant) c.add.ensures.admitted c.add.ensures.waiting

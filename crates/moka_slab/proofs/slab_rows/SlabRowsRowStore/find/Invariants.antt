@@ -1,0 +1,10 @@
+use Rattle.std.proofs.Common.{◌-◌, length}
+use Rattle.moka_links.specs.Links.{chain_of}
+use Rattle.moka_slab.proofs.FindLemmas.{Sought}
+use Rattle.moka_slab.proofs.slab_rows.SlabRowsRowStore.find.Given as goal
+
+abbrev pub invariant-loop-at : goal.invariant-loop-at
+invariant-loop-at g l = Sought l.fn.self.rows l.fn.self.links l.fn.self.tied g.K.PartialEq.eq l.fn.key l.fn.hash l.at l.reads
+
+abbrev pub decreases-loop-at : goal.decreases-loop-at
+decreases-loop-at g l = length (chain_of l.fn.self.links l.fn.hash) - l.reads

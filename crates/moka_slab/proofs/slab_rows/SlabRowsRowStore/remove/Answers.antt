@@ -1,0 +1,39 @@
+use Rattle.std.proofs.Common.{◌≡◌, ℕ, ◌+◌, ◌-◌, ◌≤◌, None, arith}
+use Rattle.moka_links.proofs.Callers.{linked-above, linked-within}
+use Rattle.moka_slab.proofs.RoomLemmas.{room-left}
+use Rattle.moka_slab.proofs.TiedLemmas.{linked-found, puts-update, removed-tied, removed-rest, under-all}
+use Rattle.moka_slab.proofs.slab_rows.SlabRowsRowStore.remove.Goals as goal
+
+back : (n : ℕ) → 2 ≤ n → n ≡ (n - 2) + 2
+back n above = omega arith
+
+pub remove-requires : goal.remove-requires
+remove-requires g c = linked-found c.args.self.now.rows c.args.self.now.links c.args.number c.requires
+
+pub overflow_sub-number : goal.overflow_sub-number
+overflow_sub-number g c = linked-above c.args.self.now.links c.args.number (linked-found c.args.self.now.rows c.args.self.now.links c.args.number c.requires)
+
+pub remove-requires-2 : goal.remove-requires-2
+remove-requires-2 g c = c.args.self.now.tied.stored c.args.number (linked-found c.args.self.now.rows c.args.self.now.links c.args.number c.requires)
+
+pub invariant_of-self : goal.invariant_of-self
+invariant_of-self g c = record {
+  tied = removed-tied c.args.self.now.rows c.remove-2.new.self c.args.self.now.links c.remove.new.self c.args.self.now.tied c.args.number c.remove-2.result c.remove-2.ensures.value
+      (puts-update c.args.self.now.rows c.remove-2.new.self c.args.number (c.args.number - 2) None (back c.args.number (linked-above c.args.self.now.links c.args.number (linked-found c.args.self.now.rows c.args.self.now.links c.args.number c.requires))) c.remove-2.ensures.updates)
+      (linked-found c.args.self.now.rows c.args.self.now.links c.args.number c.requires) c.remove.ensures.admitted c.remove.ensures.waiting c.remove.ensures.kept.hash;
+}
+
+pub returns-clause-row : goal.returns-clause-row
+returns-clause-row g c = rw c.into_row.ensures (under-all c.args.self.now.rows c.args.self.now.links c.args.number c.remove-2.result (linked-found c.args.self.now.rows c.args.self.now.links c.args.number c.requires) c.remove-2.ensures.value)
+
+pub returns-clause-rest : goal.returns-clause-rest
+returns-clause-rest g c =
+    removed-rest c.args.self.now.rows c.remove-2.new.self c.args.self.now.links c.remove.new.self c.args.self.now.tied c.args.number c.remove-2.result c.remove-2.ensures.value
+    (puts-update c.args.self.now.rows c.remove-2.new.self c.args.number (c.args.number - 2) None (back c.args.number (linked-above c.args.self.now.links c.args.number (linked-found c.args.self.now.rows c.args.self.now.links c.args.number c.requires))) c.remove-2.ensures.updates)
+    (linked-found c.args.self.now.rows c.args.self.now.links c.args.number c.requires) c.remove.ensures.admitted c.remove.ensures.waiting
+
+pub returns-clause-room : goal.returns-clause-room
+returns-clause-room g c =
+    room-left c.args.self.now.rows c.remove-2.new.self c.args.self.now.links c.remove.new.self c.args.number
+    (linked-above c.args.self.now.links c.args.number (linked-found c.args.self.now.rows c.args.self.now.links c.args.number c.requires)) (linked-within c.args.self.now.links c.args.number (linked-found c.args.self.now.rows c.args.self.now.links c.args.number c.requires))
+    c.remove-2.ensures.key_is_next c.remove-2.ensures.capacity c.remove-2.ensures.len c.remove.ensures.kept.places c.remove.ensures.kept.spare

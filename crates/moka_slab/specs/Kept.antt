@@ -1,0 +1,14 @@
+-- Rows under numbers, in the order of the numbers.
+use Rattle.std.specs.Prelude.{ℕ, ◌-◌, Option, List, [], ◌∷◌}
+use Rattle.std.specs.Option.{option_map_or}
+use Rattle.slab.specs.Slab.{Slab, get}
+
+module _ {R : Type 0} where
+  -- the row under a number, where the rows' numbers begin at 2
+  abbrev pub row_at : Slab R → ℕ → Option R
+  row_at rows k = get rows (k - 2)
+
+  -- the rows under these numbers
+  abbrev pub numbered : (ℕ → Option R) → List ℕ → List (ℕ × R)
+  numbered at [] = []
+  numbered at (k ∷ ks) = option_map_or (λ row. (k, row) ∷ numbered at ks) (at k) (numbered at ks)

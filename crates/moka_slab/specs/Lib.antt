@@ -1,0 +1,4 @@
+pub use Rattle.moka_rows.specs.Rows
+pub use Rattle.moka_links.specs.Links
+pub mod Kept
+pub mod Tied

@@ -1,0 +1,31 @@
+-- Rows in a slab, and the links between their numbers.
+use Rattle.std.specs.Prelude.{◌≡◌, ℕ, ◌+◌, ◌-◌, if◌then◌else◌, nat_lt, Some, IsSome, List, ◌++◌, min}
+use Rattle.slab.specs.Slab.{Slab, slab_len}
+use Rattle.moka_rows.specs.declared.rows.Row.{Row}
+use Rattle.moka_links.specs.Links.{IsLinked, admitted_of, waiting_of, hash_at, places_of, spare_of}
+use Rattle.moka_links.specs.declared.links.Links.{Links}
+use Rattle.moka_slab.specs.Kept.{row_at, numbered}
+
+module _ {K V : Type 0} where
+  -- each number that is linked has a row, whose hash is that of the number
+  pub record IsTied (rows : Slab (Row K V)) (links : Links) : Type 0 where
+    pub stored : (k : ℕ) → IsLinked links k → IsSome (row_at rows k)
+    pub hashed : (k : ℕ) (row : Row K V) → IsLinked links k → row_at rows k ≡ Some row → row.hash ≡ hash_at links k
+
+  -- the admitted rows, each with its number, the least recently used first
+  abbrev pub admitted_rows : Slab (Row K V) → Links → List (ℕ × Row K V)
+  admitted_rows rows links = numbered (row_at rows) (admitted_of links)
+
+  -- the rows that wait, each with its number, the first to come first
+  abbrev pub waiting_rows : Slab (Row K V) → Links → List (ℕ × Row K V)
+  waiting_rows rows links = numbered (row_at rows) (waiting_of links)
+
+  -- all rows, the admitted ones first
+  abbrev pub all_rows : Slab (Row K V) → Links → List (ℕ × Row K V)
+  all_rows rows links = admitted_rows rows links ++ waiting_rows rows links
+
+  -- how many rows can be added for certain without memory: one, where the next number has a place, and the slab
+  -- and the index have room
+  abbrev pub room_in : Slab (Row K V) → Links → ℕ
+  room_in rows links =
+      if nat_lt (rows.vacant_key + 2) (places_of links) then min 1 (min (rows.capacity - slab_len rows) (spare_of links)) else 0

@@ -1,0 +1,160 @@
+//! The row store of the caches: rows in a slab, and links between their numbers.
+ghost use Rattle.std.specs.Prelude.{◌≡◌, ◌⊎◌, ℕ, ◌+◌, ◌-◌, ◌^◌, ◌<◌, ◌≤◌, ◌==◌, [], ◌∷◌, ◌++◌, length, filter};
+ghost use Rattle.std.specs.Prelude.{IsSome, IfSome, IfNone, OnSome, Some, None};
+ghost use Rattle.moka_rows.specs.Rows.{row_under, IsRowOf, NoneIsRowOf};
+ghost use Rattle.moka_links.specs.Links.{IsLinked};
+ghost use Rattle.moka_slab.specs.Kept.{row_at};
+ghost use Rattle.moka_slab.specs.Tied.{IsTied, admitted_rows, waiting_rows, all_rows, room_in};
+
+use moka_links::links::Links;
+use moka_rows::rows::{EntryInfo, Row, RowStore};
+use moka_rows::shelf::Shelved;
+use slab::Slab;
+use std::alloc::{AllocError, Global};
+
+/// The number of the row under the slab's first key.
+const FIRST: usize = 2;
+
+/// Rows in a slab, linked by their numbers in their two orders, and to the next row of the same
+/// hash.
+///
+/// Every call takes constant time, but `find`, which reads the rows of one hash, `remove`, which
+/// follows the links of the rows of one hash, and `reserve`, which may have to grow. Numbers of
+/// removed rows are given out again.
+#[derive(Drop)]
+pub struct SlabRows<K, V> {
+    rows: Slab<Shelved<Row<K, V>>>,
+    links: Links,
+    ghost tied: { IsTied rows links },
+}
+
+impl<K, V> SlabRows<K, V> {
+    /// The row under a number.
+    fn shelved(&self, number: usize) -> &Shelved<Row<K, V>>
+        requires { IsLinked self.now.links number }
+        ensures { row_at self.now.rows number ≡ Some result.now }
+    {
+        &self.rows[number - FIRST]
+    }
+
+    /// Reads the row under a number for a look-up.
+    fn look(&self, number: usize, reads: &mut u64) -> &Row<K, V>
+        requires linked { IsLinked self.now.links number }
+        requires fits { reads.old < 2 ^ 64 - 1 }
+        ensures row { row_at self.now.rows number ≡ Some result.now }
+        ensures counted { reads.new ≡ reads.old + 1 }
+    {
+        self.shelved(number).look(reads)
+    }
+}
+
+impl<K: Eq + Drop, V: Drop> RowStore<K, V> for SlabRows<K, V> {
+    ghost waiting = { λ s. waiting_rows s.rows s.links };
+
+    ghost admitted = { λ s. admitted_rows s.rows s.links };
+
+    ghost room = { λ s. room_in s.rows s.links };
+
+    fn new(alloc: Global) -> Self {
+        SlabRows {
+            rows: Slab::new(alloc),
+            links: Links::new(alloc),
+        }
+    }
+
+    fn len(&self) -> usize {
+        self.links.admitted_len() + self.links.waiting_len()
+    }
+
+    /// Reads no row of another hash.
+    fn find(&self, key: &K, hash: u64, reads: &mut u64) -> Option<usize>
+        requires { reads.old ≡ 0 }
+        ensures found { IfSome result
+            (λ number. IfSome (row_under number (all_rows self.now.rows self.now.links)) (IsRowOf K.eq key.now hash)) }
+        ensures stored { IfSome result (λ number. IsSome (row_under number (all_rows self.now.rows self.now.links))) }
+        ensures absent { IfNone result (NoneIsRowOf K.eq key.now hash (all_rows self.now.rows self.now.links)) }
+        ensures counted { reads.new ≤ length (all_rows self.now.rows self.now.links) }
+        ensures read { OnSome result (0 < reads.new) }
+        ensures few { reads.new ≤ length (filter (λ p. p.1.hash == hash) (all_rows self.now.rows self.now.links)) }
+    {
+        let mut at = self.links.first(hash);
+        while let Some(number) = at {
+            let row = self.look(number, reads);
+            if *row.key == *key {
+                return Some(number);
+            }
+            at = self.links.same(number);
+        }
+        None
+    }
+
+    fn row(&self, number: usize) -> &Row<K, V> {
+        self.shelved(number).row()
+    }
+
+    fn is_admitted(&self, number: usize) -> bool {
+        self.links.is_admitted(number)
+    }
+
+    /// A row whose number would have more than 32 bits is refused.
+    fn reserve(&mut self) -> Result<(), AllocError> {
+        self.rows.reserve(1)?;
+        match self.rows.vacant_key().checked_add(FIRST) {
+            Some(number) => self.links.reserve(number),
+            None => Err(AllocError),
+        }
+    }
+
+    fn add(&mut self, row: Row<K, V>) -> usize
+        requires { 0 < room_in self.old.rows self.old.links }
+        ensures fresh { row_under result (all_rows self.old.rows self.old.links) ≡ None }
+        ensures waiting { waiting_rows self.new.rows self.new.links ≡ waiting_rows self.old.rows self.old.links ++ (result, row) ∷ [] }
+        ensures admitted { admitted_rows self.new.rows self.new.links ≡ admitted_rows self.old.rows self.old.links }
+    {
+        let hash = row.hash;
+        let key = self.rows.insert_reserved(Shelved::new(row));
+        let number = key + FIRST;
+        self.links.add(number, hash);
+        number
+    }
+
+    fn touch(&mut self, number: usize, info: EntryInfo) {
+        self.rows[number - FIRST].touch(info);
+        if self.links.is_admitted(number) {
+            self.links.admit(number);
+        }
+    }
+
+    fn overwrite(&mut self, number: usize, value: V, info: EntryInfo) -> V {
+        let before = self.rows[number - FIRST].overwrite(value, info);
+        if self.links.is_admitted(number) {
+            self.links.admit(number);
+        }
+        before
+    }
+
+    fn waiting_len(&self) -> usize {
+        self.links.waiting_len()
+    }
+
+    fn first_admitted(&self) -> Option<usize> {
+        self.links.first_admitted()
+    }
+
+    fn first_waiting(&self) -> Option<usize> {
+        self.links.first_waiting()
+    }
+
+    fn next(&self, number: usize) -> Option<usize> {
+        self.links.next(number)
+    }
+
+    fn admit(&mut self, number: usize) {
+        self.links.admit(number);
+    }
+
+    fn remove(&mut self, number: usize) -> Row<K, V> {
+        self.links.remove(number);
+        self.rows.remove(number - FIRST).into_row()
+    }
+}

@@ -1,8 +1,0 @@
-use Rattle.std.proofs.Common.{ℕ, List}
-use Rattle.moka_state.specs.declared.rows.Row.{Row}
-use Rattle.moka_state.proofs.Judging.{Frees}
-use Rattle.moka_state.proofs.maintain.victims.Given as goal
-
--- So many victims are counted as were passed.
-abbrev pub invariant-loop-count : goal.invariant-loop-count
-invariant-loop-count g l = (passed : List (ℕ × Row _ _)) × (rest : List (ℕ × Row _ _)) × Frees l.capacity l.more l.table.admitted l.cursor l.weight l.count passed rest

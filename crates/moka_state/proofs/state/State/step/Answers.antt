@@ -1,0 +1,16 @@
+use Rattle.moka_state.proofs.state.State.step.Goals as goal
+
+pub returns-in-Ok-clause-stands : goal.returns-in-Ok-clause-stands
+returns-in-Ok-clause-stands g c given steps stands = rw c.in-Get.is (rw c.deref.ensures at (c.in-Ok.ensures.stands given steps stands))
+
+pub returns-in-Ok-write-clause-stands : goal.returns-in-Ok-write-clause-stands
+returns-in-Ok-write-clause-stands g c given steps stands = rw c.in-Insert.is (c.in-Ok-write.ensures.stands given steps stands)
+
+pub returns-in-Invalidate-clause-stands : goal.returns-in-Invalidate-clause-stands
+returns-in-Invalidate-clause-stands g c given steps stands = rw c.in-Invalidate.is (rw c.deref-in-Invalidate.ensures at (c.invalidate.ensures given steps stands))
+
+pub returns-in-RunPendingTasks-clause-stands : goal.returns-in-RunPendingTasks-clause-stands
+returns-in-RunPendingTasks-clause-stands g c given steps stands = rw c.in-RunPendingTasks.is (c.run_pending_tasks.ensures.stands given steps stands)
+
+pub returns-clause-stands : goal.returns-clause-stands
+returns-clause-stands g c given steps stands = rw c.in-TakeNotice.is (c.take_notice.ensures.stands given steps stands)

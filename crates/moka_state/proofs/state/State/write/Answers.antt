@@ -1,0 +1,28 @@
+use Rattle.std.proofs.Common.{◌≡◌, ℕ, ◌==◌, true, Option, Some, None, ◌∙◌, sym, refl}
+use Rattle.std.specs.Option.{option_eq}
+use Rattle.std.proofs.lemmas.Bool.{true≢false}
+use Rattle.moka_model.specs.Numbers.{stores_nothing}
+use Rattle.moka_state.proofs.Becoming.{becomes-passed}
+use Rattle.moka_state.proofs.Inserts.{stands-nothing}
+use Rattle.moka_state.proofs.state.State.write.Goals as goal
+
+-- a capacity of 0 is that at which nothing is stored
+nothing-at : (capacity : Option ℕ) → true ≡ option_eq (λ a b. a == b) capacity (Some 0) → stores_nothing capacity ≡ true
+nothing-at None e = cc
+nothing-at (Some capacity) e = sym e
+
+pub returns-then-eq : goal.returns-then-eq
+returns-then-eq g c =
+    let s = c.self.inside in
+    let nothing = nothing-at s.max_capacity c.if-eq.ensures in
+    rw (← c.self.view_is, c.max-self-inside.ensures) (record {
+      stands = λ given steps stands.
+          stands-nothing g.K.PartialEq.eq g.met.K.Eq.laws given _ _ steps stands (g.S.IntoShared.key_of c.args.key) c.args.value c.args.now nothing
+          (becomes-passed g.K.PartialEq.eq _ s.table _ s.latest s.next_number c.args.now);
+      refused = tt;
+      key_back = tt;
+      value_back = tt;
+      cause = tt;
+      numbers = (λ no. absurd no, λ out. absurd (true≢false (sym nothing ∙ out.0)));
+      nothing = λ _. refl;
+    })

@@ -1,4 +1,0 @@
-use Rattle.moka_state.proofs.table.Table.place.Goals as goal
-
-pub returns-in_ok-key-in-Some-clause-place : goal.returns-in_ok-key-in-Some-clause-place
-returns-in_ok-key-in-Some-clause-place g c = (c.row.result.now, c.row.ensures, rw c.row.ensures at c.in-Some.ensures.found, c.in_ok-key-in-Some.ensures.cases)

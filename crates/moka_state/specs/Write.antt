@@ -1,0 +1,20 @@
+-- How a write ends.
+use Rattle.std.specs.Prelude.{◌≡◌, ◌↔◌, ◌⊎◌, true, false, Result, IsOk, OnOk, OnErr, IfErr, IsErrAnd}
+use Rattle.moka_policy.specs.declared.policy.Refused.TheVariants.{OutOfMemory, NumbersUsedUp}
+use Rattle.moka_model.specs.Numbers.{greatest_number, stores_nothing}
+use Rattle.moka_ways.specs.StateData.{StateData}
+use Rattle.moka_state.specs.declared.state.InsertRefused.{InsertRefused}
+
+-- How a write of a value for a key ends that finds one state and leaves another. Where it is done, what follows holds. Where
+-- it is refused, whatever refuses it, nothing has changed, and what was given comes back. It is refused for want of numbers
+-- exactly where one is to be drawn and none is left, and else for want of memory; where nothing is stored it is done.
+pub record WriteEnds {K V H W X F Q T : Type 0} (follows : Type 0) (old new : StateData K V H W X F) (key : Q) (value : V)
+    (result : Result T (InsertRefused Q V)) : Type 0 where
+  pub stands : OnOk result follows
+  pub refused : OnErr result (new ≡ old)
+  pub key_back : IfErr result (λ refused. refused.key ≡ key)
+  pub value_back : IfErr result (λ refused. refused.value ≡ value)
+  pub cause : IfErr result (λ refused. (refused.cause ≡ OutOfMemory) ⊎ (refused.cause ≡ NumbersUsedUp))
+  pub numbers : IsErrAnd result (λ refused. refused.cause ≡ NumbersUsedUp)
+      ↔ ((stores_nothing old.settings.max_capacity ≡ false) × (old.books.next_number ≡ greatest_number))
+  pub nothing : stores_nothing old.settings.max_capacity ≡ true → IsOk result

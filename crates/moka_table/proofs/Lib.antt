@@ -1,0 +1,5 @@
+pub mod Callers
+pub mod Each
+pub mod Finds
+pub mod Lengths
+pub mod Weights

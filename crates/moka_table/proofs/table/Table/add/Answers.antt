@@ -1,0 +1,17 @@
+use Rattle.std.proofs.Common.{refl, ◌+◌, arith}
+use Rattle.moka_model.proofs.Callers.{total-append}
+use Rattle.moka_table.specs.Table.{weight_of}
+use Rattle.moka_table.proofs.Lengths.{length-added}
+use Rattle.moka_table.proofs.Weights.{total-light, kept-added}
+use Rattle.moka_table.proofs.table.Table.add.Goals as goal
+
+pub overflow_add-self : goal.overflow_add-self
+overflow_add-self g c = omega (arith, c.self.invariant, c.from.ensures, total-light _ c.self.invariant.light, total-append weight_of (g.R.RowStore.admitted c.self.inside.rows) (g.R.RowStore.waiting c.self.inside.rows))
+
+pub invariant_of-self : goal.invariant_of-self
+invariant_of-self g c =
+    let room = rw (← c.self.view_is) at c.requires in
+    let more = length-added c.add.result c.args.row _ _ _ _ c.add.ensures.admitted c.add.ensures.waiting in
+    kept-added (g.R.RowStore.admitted c.self.inside.rows) (g.R.RowStore.waiting c.self.inside.rows) c.self.inside.weights _ _ c.self.invariant
+    (g.R.RowStore.admitted c.add.new.self) (g.R.RowStore.waiting c.add.new.self) (record { admitted = c.self.inside.weights.admitted; waiting = c.self.inside.weights.waiting + c.from.result }) _ _ (omega (arith, room, more, c.self.invariant.few))
+    c.add.result c.args.row (omega arith) c.add.ensures.admitted c.add.ensures.waiting refl (omega (arith, c.from.ensures))

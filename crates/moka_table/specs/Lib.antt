@@ -1,0 +1,3 @@
+pub mod Lookup
+pub mod Target
+pub mod Table

@@ -1,0 +1,81 @@
+-- What a table holds: the rows in their two orders, the notices not taken, and for how many more rows it has room.
+use Rattle.std.specs.Prelude.{false, ◌≡◌, ℕ, ◌+◌, ◌<◌, ◌≤◌, ◌^◌, List, [], ◌∷◌, ◌++◌, length, map, IfSome, MatchOption}
+use Rattle.std.specs.Arc.{arc_value}
+use Rattle.std.specs.List.{AllByRecursion}
+use Rattle.moka_model.specs.declared.notification.Notice.{Notice}
+use Rattle.moka_model.specs.Lives.{Write}
+use Rattle.moka_model.specs.Removals.{Removal}
+use Rattle.moka_model.specs.Maintenance.{total}
+use Rattle.moka_rows.specs.declared.rows.Row.{Row}
+use Rattle.moka_table.specs.declared.table.Weights.{Weights}
+use Rattle.moka_ways.specs.Lives.{own_of}
+use Rattle.moka_rows.specs.Rows.{with_row, without_row, row_under}
+
+pub record Contents (K V : Type 0) : Type 0 where
+  pub admitted : List (ℕ × Row K V)
+  pub waiting : List (ℕ × Row K V)
+  pub notices : List (Notice K V)
+  pub room : ℕ
+
+module _ {K V : Type 0} where
+  -- all rows, with their numbers
+  abbrev pub entries : Contents K V → List (ℕ × Row K V)
+  entries c = c.admitted ++ c.waiting
+
+  -- the write that a row stores
+  abbrev pub stored_write : Row K V → Write K V
+  stored_write row =
+      record {
+        key = arc_value row.key;
+        hash = row.hash;
+        value = row.value;
+        policy_weight = row.info.policy_weight;
+        last_modified = row.info.last_modified;
+        last_accessed = row.info.last_accessed;
+        own_life = own_of row.info;
+        is_hidden = false;
+      }
+
+  -- how heavy a row is
+  abbrev pub weight_of : ℕ × Row K V → ℕ
+  weight_of p = p.1.info.policy_weight
+
+  -- the writes that rows store, in their order
+  abbrev pub stored_writes : List (ℕ × Row K V) → List (Write K V)
+  stored_writes ps = map (λ p. stored_write p.1) ps
+
+  -- what a notice says of a removal
+  abbrev pub removal_of : Notice K V → Removal K V
+  removal_of notice = record { key = arc_value notice.key; value = notice.value; cause = notice.cause }
+
+  -- nothing but the room changed
+  abbrev pub SameRows : Contents K V → Contents K V → Type 0
+  SameRows old new = (new.admitted ≡ old.admitted) × (new.waiting ≡ old.waiting) × (new.notices ≡ old.notices)
+
+  -- The row under a number was used, which changed it: a waiting row stays in its place, an admitted one goes to
+  -- the end.
+  abbrev pub UsesRow : ℕ → (Row K V → Row K V) → Contents K V → Contents K V → Type 0
+  UsesRow n change old new = MatchOption (row_under n old.admitted)
+      ((new.admitted ≡ old.admitted) × (new.waiting ≡ with_row n change old.waiting))
+      (λ row. (new.admitted ≡ without_row n old.admitted ++ (n, change row) ∷ []) × (new.waiting ≡ old.waiting))
+
+  -- the row under a number was taken out
+  abbrev pub TakesRow : ℕ → Contents K V → Contents K V → Type 0
+  TakesRow n old new = MatchOption (row_under n old.admitted)
+      ((new.admitted ≡ old.admitted) × (new.waiting ≡ without_row n old.waiting))
+      (λ _. (new.admitted ≡ without_row n old.admitted) × (new.waiting ≡ old.waiting))
+
+  -- The weights of both orders once the row under a number has another weight.
+  abbrev pub AreWeightsWith : ℕ → ℕ → List (ℕ × Row K V) → List (ℕ × Row K V) → Weights → Type 0
+  AreWeightsWith n weight admitted waiting weights = MatchOption (row_under n admitted)
+      ((weights.admitted ≡ total weight_of admitted)
+      × IfSome (row_under n waiting) (λ row. weights.waiting + row.info.policy_weight ≡ total weight_of waiting + weight))
+      (λ row. (weights.admitted + row.info.policy_weight ≡ total weight_of admitted + weight) × (weights.waiting ≡ total weight_of waiting))
+
+  -- What a table keeps to: it has a place for a notice of each row, each weight is one of 32 bits, and the weights of
+  -- both orders are those of their rows.
+  pub record IsKept (admitted waiting : List (ℕ × Row K V)) (weights : Weights) (notices places : ℕ) : Type 0 where
+    pub few : length (admitted ++ waiting) + notices ≤ places
+    pub light : AllByRecursion (λ p. weight_of p < 2 ^ 32) (admitted ++ waiting)
+    pub admitted_weight : weights.admitted ≡ total weight_of admitted
+    pub waiting_weight : weights.waiting ≡ total weight_of waiting

@@ -1,0 +1,6 @@
+//! The rows of a cache beside the notices of what left, and where the value of a write goes.
+#![tactic(auto)]
+
+pub mod shared_key;
+pub mod table;
+pub mod target;

@@ -1,0 +1,147 @@
+//! A weigher and an expiry that are made from data of the run.
+ghost use Rattle.std.specs.Prelude.{◌≡◌, ◌*◌, min, Some, refl};
+ghost use Rattle.std.proofs.Math.Path.{◌∙◌};
+
+use crate::keys::ByNumber;
+use moka::policy::{CacheTypes, CountTable, EvictionPolicy, Expiry, Refused, Weigher};
+use moka::state::{CacheState, Settings};
+use std::alloc::Global;
+use std::convert::Infallible;
+use std::sync::Arc;
+use std::test::Fail;
+use std::time::Duration;
+
+/// Weighs each number as that many times `scale`, or by the greatest weight where that is more.
+#[derive(Drop)]
+struct Scaled {
+    scale: u32,
+}
+
+impl Weigher<u64, u32> for Scaled {
+    ghost weighs = { λ scaled weight. weight ≡ (λ _ value. min (value * scaled.scale) 4_294_967_295) };
+
+    fn weigh(&self, _key: &u64, value: &u32) -> u32 {
+        value.saturating_mul(self.scale)
+    }
+}
+
+/// Lets each value live so many seconds after each write.
+#[derive(Drop)]
+struct Seconds {
+    seconds: u64,
+}
+
+impl Expiry<u64, u32> for Seconds {
+    ghost gives = { λ given lives. lives ≡ record {
+      created = λ _ _ _. Some (given.seconds * 1_000_000_000);
+      read = λ _ _ _ rest _. rest;
+      updated = λ _ _ _ _. Some (given.seconds * 1_000_000_000);
+    } };
+
+    fn expire_after_create(&self, _key: &u64, _value: &u32, _at: u64) -> Option<Duration> {
+        Some(Duration::from_secs(self.seconds))
+    }
+
+    fn expire_after_read(
+        &self,
+        _key: &u64,
+        _value: &u32,
+        _at: u64,
+        rest: Option<Duration>,
+        _written_at: u64,
+    ) -> Option<Duration> {
+        rest
+    }
+
+    fn expire_after_update(
+        &self,
+        _key: &u64,
+        _value: &u32,
+        _at: u64,
+        _rest: Option<Duration>,
+    ) -> Option<Duration> {
+        Some(Duration::from_secs(self.seconds))
+    }
+}
+
+/// The types of a cache of numbers, weighed by such a weigher and kept alive by such an expiry.
+struct ByData;
+
+impl CacheTypes<u64, u32> for ByData {
+    type Hasher = ByNumber;
+
+    type Weigher = Scaled;
+
+    type Expiry = Seconds;
+
+    type Frequency = CountTable<6>;
+
+    type Error = Infallible;
+
+    ghost weight = { λ scaled _ value. min (value * scaled.scale) 4_294_967_295 };
+
+    ghost equal_keys_weigh = { λ _ _ _ _ _. refl };
+
+    ghost lifetimes = { λ given. record {
+      created = λ _ _ _. Some (given.seconds * 1_000_000_000);
+      read = λ _ _ _ rest _. rest;
+      updated = λ _ _ _ _. Some (given.seconds * 1_000_000_000);
+    } };
+
+    ghost keeps = { λ _ _. Unit {0} };
+
+    ghost equal_keys_keep = { λ _ _ _ _ _. tt };
+
+    ghost copies_keep = { λ _ _ _ _ _. tt };
+
+    ghost copies_compose = { λ _ _ _ a b. b ∙ a };
+}
+
+fn cache(alloc: Global, scale: u32, seconds: u64) -> Result<CacheState<u64, u32, ByData>, Refused> {
+    let Ok(hasher) = Arc::new(alloc, ByNumber::default()) else {
+        return Err(Refused::OutOfMemory);
+    };
+    let Ok(weigher) = Arc::new(alloc, Scaled { scale }) else {
+        return Err(Refused::OutOfMemory);
+    };
+    let Ok(expiry) = Arc::new(alloc, Seconds { seconds }) else {
+        return Err(Refused::OutOfMemory);
+    };
+    CacheState::new(
+        alloc,
+        Settings {
+            time_to_live: None,
+            time_to_idle: None,
+            max_capacity: Some(20),
+            eviction_policy: EvictionPolicy::lru(),
+            weigher: Some(weigher),
+            expiry: Some(expiry),
+            first_number: 0,
+            hasher,
+        },
+    )
+}
+
+/// A scale and a life in seconds; the last moment of that life; and the weight of two values of 3 and 4, and of what a
+/// capacity of 20 leaves of them.
+const CACHES: [(u32, u64, u64, u64, u64); 4] = [
+    (1, 1, 999_999_999, 7, 7),
+    (2, 60, 59_999_999_999, 14, 14),
+    (4, 2, 1_999_999_999, 28, 16),
+    (9, 3, 2_999_999_999, 63, 0),
+];
+
+#[test]
+fn weighs_and_expires_by_data_of_the_run(rt: HostRuntime) -> Result<(), Fail> {
+    for (scale, seconds, last, written, kept) in CACHES {
+        let mut cache = cache(rt.alloc(), scale, seconds)?;
+        assert!(rt; cache.insert(1, 3, 0).is_ok());
+        assert!(rt; cache.insert(2, 4, 0).is_ok());
+        assert!(rt; cache.contains_key(&1, last));
+        assert!(rt; !cache.contains_key(&1, last.wrapping_add(1)));
+        assert_eq!(rt; cache.weighted_size(), written);
+        cache.run_pending_tasks(0);
+        assert_eq!(rt; cache.weighted_size(), kept);
+    }
+    Ok(())
+}

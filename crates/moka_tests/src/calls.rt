@@ -1,0 +1,287 @@
+//! Each call of a cache, by tables.
+use crate::keys::{ByNumber, Collides, LastDigit};
+use crate::subject::{Answer, Call, Row, Rules, UNLIMITED, answers, answers_by, answers_patiently};
+use moka::notification::RemovalCause;
+use moka::policy::Refused;
+use std::hash::BuildHasherDefault;
+use std::test::Fail;
+
+const ALL_CALLS: [Row; 19] = [
+    (Call::Get(1), 0, Answer::Absent),
+    (Call::ContainsKey(1), 0, Answer::Contains(false)),
+    (Call::TakeNotice, 0, Answer::NoNotice),
+    (Call::Insert(1, "one"), 0, Answer::Done),
+    (Call::Insert(2, "two"), 1, Answer::Done),
+    (Call::Get(1), 1, Answer::Found("one")),
+    (Call::ContainsKey(2), 1, Answer::Contains(true)),
+    (Call::ContainsKey(3), 1, Answer::Contains(false)),
+    (Call::NoticeCount, 1, Answer::Counted(0)),
+    (Call::Insert(1, "one again"), 2, Answer::Done),
+    (Call::Get(1), 2, Answer::Found("one again")),
+    (Call::Invalidate(2), 3, Answer::Done),
+    (Call::Invalidate(2), 3, Answer::Done),
+    (Call::Get(2), 3, Answer::Absent),
+    (Call::NoticeCount, 3, Answer::Counted(2)),
+    (
+        Call::TakeNotice,
+        3,
+        Answer::Noticed(1, "one", RemovalCause::Replaced),
+    ),
+    (
+        Call::TakeNotice,
+        3,
+        Answer::Noticed(2, "two", RemovalCause::Explicit),
+    ),
+    (Call::TakeNotice, 3, Answer::NoNotice),
+    (Call::NoticeCount, 3, Answer::Counted(0)),
+];
+
+#[test]
+fn answers_each_call(rt: HostRuntime) -> Result<(), Fail> {
+    answers(&rt, rt.alloc(), UNLIMITED, &ALL_CALLS)?;
+    answers_by::<u64, BuildHasherDefault<Collides>>(&rt, rt.alloc(), UNLIMITED, &ALL_CALLS)
+}
+
+const TO_LIVE: [Row; 12] = [
+    (Call::Insert(1, "one"), 0, Answer::Done),
+    (Call::Insert(2, "two"), 0, Answer::Done),
+    (Call::Get(1), 9_999_999_999, Answer::Found("one")),
+    (
+        Call::ContainsKey(1),
+        10_000_000_000,
+        Answer::Contains(false),
+    ),
+    (Call::Get(1), 10_000_000_000, Answer::Absent),
+    (Call::Get(1), 9_000_000_000, Answer::Absent),
+    (Call::NoticeCount, 0, Answer::Counted(0)),
+    (Call::Insert(1, "anew"), 9_000_000_000, Answer::Done),
+    (Call::Get(1), 19_999_999_999, Answer::Found("anew")),
+    (Call::Invalidate(2), 0, Answer::Done),
+    (
+        Call::TakeNotice,
+        0,
+        Answer::Noticed(1, "one", RemovalCause::Expired),
+    ),
+    (
+        Call::TakeNotice,
+        0,
+        Answer::Noticed(2, "two", RemovalCause::Expired),
+    ),
+];
+
+#[test]
+fn ends_the_time_to_live(rt: HostRuntime) -> Result<(), Fail> {
+    let rules = Rules {
+        time_to_live: Some(10),
+        ..UNLIMITED
+    };
+    answers(&rt, rt.alloc(), rules, &TO_LIVE)
+}
+
+const LOOKED: [Row; 3] = [
+    (Call::Insert(1, "one"), 0, Answer::Done),
+    (Call::ContainsKey(1), 4_000_000_000, Answer::Contains(true)),
+    (Call::Get(1), 5_000_000_000, Answer::Absent),
+];
+
+const USED: [Row; 4] = [
+    (Call::Insert(1, "one"), 0, Answer::Done),
+    (Call::Get(1), 4_000_000_000, Answer::Found("one")),
+    (Call::Get(1), 8_000_000_000, Answer::Found("one")),
+    (Call::Get(1), 13_000_000_000, Answer::Absent),
+];
+
+#[test]
+fn ends_the_time_to_idle(rt: HostRuntime) -> Result<(), Fail> {
+    let rules = Rules {
+        time_to_idle: Some(5),
+        ..UNLIMITED
+    };
+    answers(&rt, rt.alloc(), rules, &LOOKED)?;
+    answers(&rt, rt.alloc(), rules, &USED)
+}
+
+const AT_THE_LAST_NUMBER: [Row; 9] = [
+    (Call::Insert(1, "one"), 0, Answer::Done),
+    (
+        Call::Insert(2, "two"),
+        0,
+        Answer::Refused(Refused::NumbersUsedUp),
+    ),
+    (
+        Call::Insert(1, "again"),
+        0,
+        Answer::Refused(Refused::NumbersUsedUp),
+    ),
+    (Call::Get(2), 0, Answer::Absent),
+    (Call::Get(1), 0, Answer::Found("one")),
+    (Call::Invalidate(1), 0, Answer::Done),
+    (Call::ContainsKey(1), 0, Answer::Contains(false)),
+    (
+        Call::TakeNotice,
+        0,
+        Answer::Noticed(1, "one", RemovalCause::Explicit),
+    ),
+    (Call::TakeNotice, 0, Answer::NoNotice),
+];
+
+#[test]
+fn refuses_where_the_numbers_are_used_up(rt: HostRuntime) -> Result<(), Fail> {
+    let rules = Rules {
+        first_number: 18_446_744_073_709_551_614,
+        ..UNLIMITED
+    };
+    answers(&rt, rt.alloc(), rules, &AT_THE_LAST_NUMBER)
+}
+
+/// One of each, where one number is left.
+const ALL_STEPS: [Row; 11] = [
+    (Call::Get(1), 0, Answer::Absent),
+    (Call::Insert(1, "one"), 0, Answer::Done),
+    (
+        Call::Insert(2, "two"),
+        0,
+        Answer::Refused(Refused::NumbersUsedUp),
+    ),
+    (Call::Get(1), 0, Answer::Found("one")),
+    (Call::ContainsKey(1), 0, Answer::Contains(true)),
+    (Call::RunPendingTasks, 0, Answer::Done),
+    (Call::EntryCount, 0, Answer::Counted(1)),
+    (Call::WeightedSize, 0, Answer::Counted(1)),
+    (Call::Invalidate(1), 0, Answer::Done),
+    (
+        Call::TakeNotice,
+        0,
+        Answer::Noticed(1, "one", RemovalCause::Explicit),
+    ),
+    (Call::TakeNotice, 0, Answer::NoNotice),
+];
+
+/// It passes also where one request for memory is refused, whichever.
+#[test]
+fn answers_each_step(rt: HostRuntime) -> Result<(), Fail> {
+    let rules = Rules {
+        first_number: u64::MAX - 1,
+        ..UNLIMITED
+    };
+    answers_patiently(&rt, rt.alloc(), rules, &ALL_STEPS)
+}
+
+/// Those keys are equal where their last digits are.
+const EQUAL_KEYS: [Row; 7] = [
+    (Call::Insert(1, "one"), 0, Answer::Done),
+    (Call::Insert(11, "eleven"), 1, Answer::Done),
+    (Call::Get(31), 1, Answer::Found("eleven")),
+    (Call::Invalidate(21), 2, Answer::Done),
+    (
+        Call::TakeNotice,
+        2,
+        Answer::Noticed(1, "one", RemovalCause::Replaced),
+    ),
+    (
+        Call::TakeNotice,
+        2,
+        Answer::Noticed(1, "eleven", RemovalCause::Explicit),
+    ),
+    (Call::TakeNotice, 2, Answer::NoNotice),
+];
+
+#[test]
+fn keeps_the_key_of_the_first_write(rt: HostRuntime) -> Result<(), Fail> {
+    answers_by::<LastDigit, ByNumber>(&rt, rt.alloc(), UNLIMITED, &EQUAL_KEYS)
+}
+
+const STORED_NOWHERE: [Row; 7] = [
+    (Call::Insert(0, "x"), 0, Answer::Done),
+    (Call::ContainsKey(0), 0, Answer::Contains(false)),
+    (Call::Get(0), 0, Answer::Absent),
+    (Call::EntryCount, 0, Answer::Counted(0)),
+    (Call::RunPendingTasks, 0, Answer::Done),
+    (Call::EntryCount, 0, Answer::Counted(0)),
+    (Call::TakeNotice, 0, Answer::NoNotice),
+];
+
+#[test]
+fn stores_nothing_at_a_capacity_of_0(rt: HostRuntime) -> Result<(), Fail> {
+    let rules = Rules {
+        max_capacity: Some(0),
+        // It draws no number either.
+        first_number: u64::MAX,
+        ..UNLIMITED
+    };
+    answers(&rt, rt.alloc(), rules, &STORED_NOWHERE)
+}
+
+/// A look that was refused was no use of the value, and its moment was not recorded: 2 is written at 0.
+const WITHOUT_COPIES: [Row; 9] = [
+    (Call::Insert(1, "one"), 0, Answer::Done),
+    (Call::RefuseCopies(true), 0, Answer::Done),
+    (
+        Call::Get(1),
+        4_000_000_000,
+        Answer::Refused(Refused::OutOfMemory),
+    ),
+    (Call::Insert(2, "two"), 0, Answer::Done),
+    (Call::ContainsKey(1), 4_999_999_999, Answer::Contains(true)),
+    (Call::ContainsKey(1), 5_000_000_000, Answer::Contains(false)),
+    (Call::ContainsKey(2), 5_000_000_000, Answer::Contains(false)),
+    // A look that finds nothing needs no copy.
+    (Call::Get(1), 5_000_000_000, Answer::Absent),
+    (Call::Get(3), 5_000_000_000, Answer::Absent),
+];
+
+/// Nor did it move its key behind the other, and its hash was not noted: 1 leaves for 3, which was looked for once.
+const NOT_NOTED: [Row; 11] = [
+    (Call::Insert(1, "one"), 0, Answer::Done),
+    (Call::Insert(2, "two"), 0, Answer::Done),
+    (Call::RunPendingTasks, 0, Answer::Done),
+    (Call::RefuseCopies(true), 0, Answer::Done),
+    (Call::Get(1), 0, Answer::Refused(Refused::OutOfMemory)),
+    (Call::RefuseCopies(false), 0, Answer::Done),
+    (Call::Get(3), 0, Answer::Absent),
+    (Call::Insert(3, "three"), 0, Answer::Done),
+    (Call::RunPendingTasks, 0, Answer::Done),
+    (
+        Call::TakeNotice,
+        0,
+        Answer::Noticed(1, "one", RemovalCause::Size),
+    ),
+    (Call::TakeNotice, 0, Answer::NoNotice),
+];
+
+#[test]
+fn refuses_a_look_without_memory(rt: HostRuntime) -> Result<(), Fail> {
+    let rules = Rules {
+        time_to_idle: Some(5),
+        ..UNLIMITED
+    };
+    answers(&rt, rt.alloc(), rules, &WITHOUT_COPIES)?;
+    for is_tiny_lfu in [false, true] {
+        let rules = Rules {
+            max_capacity: Some(2),
+            is_tiny_lfu,
+            ..UNLIMITED
+        };
+        answers(&rt, rt.alloc(), rules, &NOT_NOTED)?;
+    }
+    Ok(())
+}
+
+const WRITTEN: [Row; 10] = [
+    (Call::Insert(1, "one"), 1, Answer::Done),
+    (Call::Insert(2, "two"), 1, Answer::Done),
+    (Call::Insert(1, "one again"), 1, Answer::Done),
+    (Call::Insert(3, "three"), 1, Answer::Done),
+    (Call::Get(1), 1, Answer::Found("one again")),
+    (Call::Get(2), 1, Answer::Found("two")),
+    (Call::Get(3), 1, Answer::Found("three")),
+    (Call::Get(4), 1, Answer::Absent),
+    (Call::NoticeCount, 1, Answer::Counted(1)),
+    (Call::EntryCount, 1, Answer::Counted(3)),
+];
+
+/// It passes also where one request for memory is refused, whichever.
+#[test]
+fn keeps_its_values_where_a_call_is_refused(rt: HostRuntime) -> Result<(), Fail> {
+    answers_patiently(&rt, rt.alloc(), UNLIMITED, &WRITTEN)
+}

@@ -1,0 +1,28 @@
+//! The tests of the cache, over the calls that its users make.
+//!
+//! Almost all are tables: how a cache is built, and then calls, each with its moment and its answer. `subject` says what
+//! is done with a table, and what else holds after each call.
+#![tactic(auto)]
+
+#[cfg(test)]
+mod by_data;
+#[cfg(test)]
+mod calls;
+#[cfg(test)]
+mod keys;
+#[cfg(test)]
+mod list_rows;
+#[cfg(test)]
+mod long_use;
+#[cfg(test)]
+mod maintenance;
+#[cfg(test)]
+mod memory;
+#[cfg(test)]
+mod pieces;
+#[cfg(test)]
+mod subject;
+#[cfg(test)]
+mod values;
+#[cfg(test)]
+mod ways;

@@ -1,0 +1,248 @@
+//! The plain row store through its bound, by tables.
+ghost use Rattle.std.specs.Prelude.{◌++◌, IsSome, IfSome};
+ghost use Rattle.moka.specs.Rows.{row_under};
+
+use crate::subject::room;
+use moka::state::{EntryInfo, ListRows, Row, RowStore};
+use std::alloc::{AllocError, Global};
+use std::process::Abort;
+use std::sync::Arc;
+use std::test::Fail;
+
+const FIRST: EntryInfo = EntryInfo {
+    last_modified: 5,
+    last_accessed: 5,
+    own_life: None,
+    policy_weight: 1,
+};
+
+const LATER: EntryInfo = EntryInfo {
+    last_modified: 8,
+    last_accessed: 8,
+    own_life: None,
+    policy_weight: 1,
+};
+
+/// A call of a store of rows; most are about the row of a key of a hash.
+#[derive(Clone, Copy)]
+enum Call {
+    Len,
+    WaitingLen,
+    FirstAdmitted,
+    FirstWaiting,
+    AdmitFirst,
+    /// A row whose moments are `FIRST`.
+    Add(u64, u64, &'static str),
+    Of(u64, u64, Use),
+}
+
+/// What is done with a row. A use of it is at `LATER`.
+#[derive(Clone, Copy)]
+enum Use {
+    Find,
+    Read,
+    IsAdmitted,
+    Next,
+    Touch,
+    Overwrite(&'static str),
+    Remove,
+}
+
+#[derive(Clone, Copy, Debug, PartialEq)]
+enum Answer {
+    Done,
+    Counted(usize),
+    Is(bool),
+    /// The row of this key, by its number.
+    Key(u64),
+    Value(&'static str, EntryInfo),
+    Before(&'static str),
+    Absent,
+}
+
+/// The number of a key of this hash.
+fn number_of<R: RowStore<u64, &'static str>>(rows: &R, key: u64, hash: u64) -> Option<usize>
+    ensures { IfSome result (λ number. IsSome (row_under number (R.admitted rows.now ++ R.waiting rows.now))) }
+{
+    let mut reads = 0;
+    rows.find(&key, hash, &mut reads)
+}
+
+/// The number of the row that has waited longest.
+fn first_waiting<R: RowStore<u64, &'static str>>(rows: &R) -> Option<usize>
+    ensures { IfSome result (λ number. IsSome (row_under number (R.waiting rows.now))) }
+{
+    rows.first_waiting()
+}
+
+/// The row of a number, by the keys of the numbers that were given out.
+fn row_of(keys: &[(usize, u64)], number: Option<usize>) -> Answer {
+    for (given, key) in keys {
+        if number == Some(*given) {
+            return Answer::Key(*key);
+        }
+    }
+    Answer::Absent
+}
+
+/// Makes a use of the row under a number.
+fn used<R: RowStore<u64, &'static str>>(
+    rows: &mut R,
+    keys: &[(usize, u64)],
+    number: usize,
+    what: Use,
+) -> Answer
+    requires { IsSome (row_under number (R.admitted rows.old ++ R.waiting rows.old)) }
+{
+    match what {
+        Use::Find => row_of(keys, Some(number)),
+        Use::Read => {
+            let row = rows.row(number);
+            Answer::Value(row.value, row.info)
+        }
+        Use::IsAdmitted => Answer::Is(rows.is_admitted(number)),
+        Use::Next => row_of(keys, rows.next(number)),
+        Use::Touch => {
+            rows.touch(number, LATER);
+            Answer::Done
+        }
+        Use::Overwrite(value) => Answer::Before(rows.overwrite(number, value, LATER)),
+        Use::Remove => {
+            let row = rows.remove(number);
+            Answer::Value(row.value, row.info)
+        }
+    }
+}
+
+/// Adds a row, and answers its number.
+fn add<R: RowStore<u64, &'static str>>(
+    alloc: Global,
+    rows: &mut R,
+    key: u64,
+    hash: u64,
+    value: &'static str,
+) -> Result<usize, AllocError> {
+    let key = Arc::new(alloc, key)?;
+    rows.reserve()?;
+    Ok(rows.add(Row {
+        key,
+        hash,
+        value,
+        info: FIRST,
+    }))
+}
+
+/// Makes a call.
+fn made<R: RowStore<u64, &'static str>>(
+    alloc: Global,
+    rows: &mut R,
+    keys: &mut Vec<(usize, u64)>,
+    call: Call,
+) -> Result<Answer, AllocError> {
+    Ok(match call {
+        Call::Len => Answer::Counted(rows.len()),
+        Call::WaitingLen => Answer::Counted(rows.waiting_len()),
+        Call::FirstAdmitted => row_of(keys.as_slice(), rows.first_admitted()),
+        Call::FirstWaiting => row_of(keys.as_slice(), rows.first_waiting()),
+        Call::AdmitFirst => match first_waiting(rows) {
+            Some(number) => {
+                rows.admit(number);
+                Answer::Done
+            }
+            None => Answer::Absent,
+        },
+        Call::Add(key, hash, value) => {
+            let number = add(alloc, rows, key, hash, value)?;
+            keys.push((number, key))?;
+            Answer::Done
+        }
+        Call::Of(key, hash, what) => match number_of(rows, key, hash) {
+            Some(number) => used(rows, keys.as_slice(), number, what),
+            None => Answer::Absent,
+        },
+    })
+}
+
+/// Each call answers what the table says.
+fn answers<R: RowStore<u64, &'static str>>(
+    rt: &impl Abort,
+    alloc: Global,
+    table: &[(Call, Answer)],
+) -> Result<(), Fail> {
+    let mut rows: R = R::new(alloc);
+    let mut keys = room(alloc, table.len())?;
+    for (place, (call, expected)) in table.iter().enumerate() {
+        let found = made(alloc, &mut rows, &mut keys, *call)?;
+        assert_eq!(rt; found, *expected, "row {place}");
+    }
+    Ok(())
+}
+
+const KEPT: [(Call, Answer); 21] = [
+    (Call::Add(1, 7, "one"), Answer::Done),
+    (Call::Add(2, 7, "two"), Answer::Done),
+    (Call::Add(3, 9, "three"), Answer::Done),
+    (Call::Len, Answer::Counted(3)),
+    (Call::Of(1, 7, Use::Find), Answer::Key(1)),
+    (Call::Of(2, 7, Use::Find), Answer::Key(2)),
+    (Call::Of(3, 9, Use::Find), Answer::Key(3)),
+    (Call::Of(4, 7, Use::Find), Answer::Absent),
+    (Call::Of(2, 7, Use::Read), Answer::Value("two", FIRST)),
+    (
+        Call::Of(2, 7, Use::Overwrite("two again")),
+        Answer::Before("two"),
+    ),
+    (Call::Of(2, 7, Use::Read), Answer::Value("two again", LATER)),
+    (Call::Of(1, 7, Use::Touch), Answer::Done),
+    (Call::Of(1, 7, Use::Read), Answer::Value("one", LATER)),
+    (
+        Call::Of(2, 7, Use::Remove),
+        Answer::Value("two again", LATER),
+    ),
+    (Call::Len, Answer::Counted(2)),
+    (Call::Of(2, 7, Use::Find), Answer::Absent),
+    (Call::Of(1, 7, Use::Read), Answer::Value("one", LATER)),
+    (Call::Of(3, 9, Use::Read), Answer::Value("three", FIRST)),
+    (Call::Of(1, 7, Use::Remove), Answer::Value("one", LATER)),
+    (Call::Of(3, 9, Use::Remove), Answer::Value("three", FIRST)),
+    (Call::Len, Answer::Counted(0)),
+];
+
+#[test]
+fn keeps_rows_in_lists(rt: HostRuntime) -> Result<(), Fail> {
+    answers::<ListRows<u64, &'static str>>(&rt, rt.alloc(), &KEPT)
+}
+
+const ADMITTED: [(Call, Answer); 22] = [
+    (Call::AdmitFirst, Answer::Absent),
+    (Call::FirstWaiting, Answer::Absent),
+    (Call::Add(1, 7, "one"), Answer::Done),
+    (Call::Add(2, 7, "two"), Answer::Done),
+    (Call::Add(3, 9, "three"), Answer::Done),
+    (Call::WaitingLen, Answer::Counted(3)),
+    (Call::FirstAdmitted, Answer::Absent),
+    (Call::Of(2, 7, Use::Next), Answer::Key(3)),
+    (Call::Of(2, 7, Use::IsAdmitted), Answer::Is(false)),
+    (Call::AdmitFirst, Answer::Done),
+    (Call::AdmitFirst, Answer::Done),
+    (Call::Len, Answer::Counted(3)),
+    (Call::WaitingLen, Answer::Counted(1)),
+    (Call::FirstAdmitted, Answer::Key(1)),
+    (Call::FirstWaiting, Answer::Key(3)),
+    (Call::Of(1, 7, Use::Next), Answer::Key(2)),
+    (Call::Of(2, 7, Use::Next), Answer::Absent),
+    (Call::Of(2, 7, Use::IsAdmitted), Answer::Is(true)),
+    // A use of an admitted row makes it the most recently used.
+    (Call::Of(1, 7, Use::Touch), Answer::Done),
+    (Call::FirstAdmitted, Answer::Key(2)),
+    (
+        Call::Of(2, 7, Use::Overwrite("again")),
+        Answer::Before("two"),
+    ),
+    (Call::FirstAdmitted, Answer::Key(1)),
+];
+
+#[test]
+fn admits_rows_in_lists(rt: HostRuntime) -> Result<(), Fail> {
+    answers::<ListRows<u64, &'static str>>(&rt, rt.alloc(), &ADMITTED)
+}

@@ -1,0 +1,188 @@
+//! Thousands of calls, none of which is refused, by tables that are made.
+use crate::keys::Collides;
+use crate::subject::{Answer, Call, Row, Rules, UNLIMITED, answers, answers_by, room};
+use crate::values::{Given, plain};
+use moka::notification::RemovalCause;
+use std::alloc::{AllocError, Global};
+use std::hash::BuildHasherDefault;
+use std::test::Fail;
+
+/// Numbers in no order that shows, the same in each run.
+#[derive(Drop)]
+struct Numbers {
+    last: u64,
+}
+
+impl Numbers {
+    /// One of so many numbers, from 0 on.
+    fn below(&mut self, bound: u64) -> u64 {
+        self.last = self
+            .last
+            .wrapping_mul(6_364_136_223_846_793_005)
+            .wrapping_add(1_442_695_040_888_963_407);
+        (self.last ^ (self.last >> 32))
+            .checked_rem(bound)
+            .unwrap_or(0)
+    }
+
+    /// A life of up to 20 seconds for half of all values.
+    fn life(&mut self) -> Option<u64> {
+        let seconds = self.below(40);
+        if seconds < 20 { Some(seconds) } else { None }
+    }
+
+    fn given(&mut self) -> Given {
+        Given {
+            weight: u32::try_from(self.below(5)).unwrap_or(0),
+            life: self.life(),
+            life_after_look: self.life(),
+            ..plain("any")
+        }
+    }
+
+    /// A call for one of so many keys.
+    fn call(&mut self, keys: u64) -> Call {
+        let key = self.below(keys);
+        match self.below(20) {
+            0 => Call::Invalidate(key),
+            1 => Call::TakeNotice,
+            2 => Call::EntryCount,
+            3 => Call::WeightedSize,
+            4 => Call::ContainsKey(key),
+            5..=10 => Call::Get(key),
+            11 => {
+                if self.below(20) == 0 {
+                    Call::RunPendingTasks
+                } else {
+                    Call::Get(key)
+                }
+            }
+            _ => Call::InsertGiven(key, self.given()),
+        }
+    }
+}
+
+/// So many calls for so many keys. Most moments are up to a second behind the one before, and a few go back.
+fn calls(alloc: Global, len: usize, keys: u64) -> Result<Vec<Row>, AllocError> {
+    let mut numbers = Numbers { last: keys };
+    let mut rows = room(alloc, len)?;
+    let mut now = 0_u64;
+    for _ in 0..len {
+        now = if numbers.below(50) == 0 {
+            numbers.below(2_000_000_000)
+        } else {
+            now.wrapping_add(numbers.below(1_000_000_000))
+        };
+        rows.push((numbers.call(keys), now, Answer::Accepted))?;
+    }
+    Ok(rows)
+}
+
+/// A capacity under either policy, with or without weights and with all kinds of lives, and none at all.
+const ALL_RULES: [Rules; 6] = [
+    UNLIMITED,
+    Rules {
+        time_to_idle: Some(60),
+        is_weighed: true,
+        may_expire: true,
+        ..UNLIMITED
+    },
+    Rules {
+        max_capacity: Some(100),
+        time_to_live: Some(100),
+        ..UNLIMITED
+    },
+    Rules {
+        max_capacity: Some(1),
+        is_tiny_lfu: true,
+        first_number: 18_446_744_073_709_540_000,
+        ..UNLIMITED
+    },
+    Rules {
+        max_capacity: Some(100),
+        is_tiny_lfu: true,
+        time_to_live: Some(100),
+        time_to_idle: Some(30),
+        may_expire: true,
+        first_number: 4_294_966_000,
+        ..UNLIMITED
+    },
+    Rules {
+        max_capacity: Some(300),
+        is_tiny_lfu: true,
+        time_to_live: Some(100),
+        is_weighed: true,
+        may_expire: true,
+        ..UNLIMITED
+    },
+];
+
+#[test]
+fn refuses_none_of_thousands_of_calls(rt: HostRuntime) -> Result<(), Fail> {
+    for (len, keys) in [(1000, 3), (3000, 80), (5000, 2000)] {
+        let rows = calls(rt.alloc(), len, keys)?;
+        for rules in ALL_RULES {
+            answers(&rt, rt.alloc(), rules, rows.as_slice())?;
+        }
+    }
+    let rows = calls(rt.alloc(), 1000, 200)?;
+    for rules in ALL_RULES {
+        answers_by::<u64, BuildHasherDefault<Collides>>(&rt, rt.alloc(), rules, rows.as_slice())?;
+    }
+    Ok(())
+}
+
+/// How many keys are written one after another.
+const MANY: u64 = 3000;
+
+/// Each number of stored keys up to that comes by, and each number of notices.
+#[test]
+fn refuses_no_write_at_any_length(rt: HostRuntime) -> Result<(), Fail> {
+    let mut rows = room(rt.alloc(), 15_010)?;
+    for key in 0..MANY {
+        rows.push((Call::Insert(key, "any"), key, Answer::Done))?;
+        rows.push((Call::Get(key), key, Answer::Found("any")))?;
+    }
+    rows.push((Call::EntryCount, MANY, Answer::Counted(MANY)))?;
+    for key in 0..MANY {
+        rows.push((Call::Invalidate(key), MANY, Answer::Done))?;
+        if key == 1000 {
+            rows.push((Call::RunPendingTasks, u64::MAX, Answer::Done))?;
+        }
+    }
+    rows.push((Call::EntryCount, 0, Answer::Counted(0)))?;
+    for key in 0..MANY {
+        let noticed = Answer::Noticed(key, "any", RemovalCause::Explicit);
+        rows.push((Call::TakeNotice, 0, noticed))?;
+    }
+    rows.push((Call::TakeNotice, 0, Answer::NoNotice))?;
+    answers(&rt, rt.alloc(), UNLIMITED, rows.as_slice())
+}
+
+const FEW_CALLS: [Row; 5] = [
+    (Call::Insert(1, "one"), 0, Answer::Done),
+    (Call::Insert(2, "two"), u64::MAX, Answer::Done),
+    (Call::Get(3), u64::MAX, Answer::Absent),
+    (Call::RunPendingTasks, u64::MAX, Answer::Done),
+    (Call::EntryCount, u64::MAX, Answer::Accepted),
+];
+
+#[test]
+fn opens_with_all_settings(rt: HostRuntime) -> Result<(), Fail> {
+    let mut numbers = Numbers { last: 0 };
+    for greatest in [3, 100, 5_000_000, u64::MAX] {
+        for _ in 0..50 {
+            let rules = Rules {
+                max_capacity: Some(numbers.below(greatest)),
+                is_tiny_lfu: numbers.below(2) == 0,
+                time_to_live: numbers.life(),
+                time_to_idle: Some(numbers.below(greatest)),
+                first_number: numbers.below(greatest),
+                is_weighed: numbers.below(2) == 0,
+                may_expire: numbers.below(2) == 0,
+            };
+            answers(&rt, rt.alloc(), rules, &FEW_CALLS)?;
+        }
+    }
+    Ok(())
+}

@@ -1,0 +1,183 @@
+//! What memory is taken and kept.
+//!
+//! That a call takes no memory is seen where requests are refused. In a run of the tests by
+//! `rt try --test --fail-alloc N` the Nth request of each test is refused, so each test here, which asks for memory just
+//! before and just behind the calls that take none, fails at some N for want of the first, and at N + 1 for want of the
+//! second.
+use crate::subject::{Answer, Call, Row, Rules, UNLIMITED, answers, answers_between_requests};
+use moka::notification::RemovalCause;
+use std::test::Fail;
+
+/// A value that leaves in each way, and whose notice is taken then. What is kept after each call is counted with each
+/// table; here it is nothing in the end.
+const ALL_LEAVE: [Row; 19] = [
+    (Call::Insert(1, "replaced"), 0, Answer::Done),
+    (Call::Insert(1, "removed"), 0, Answer::Done),
+    (Call::Get(1), 0, Answer::Found("removed")),
+    (Call::Invalidate(1), 0, Answer::Done),
+    (Call::Insert(2, "for size"), 0, Answer::Done),
+    (Call::RunPendingTasks, 0, Answer::Done),
+    (Call::Get(2), 0, Answer::Found("for size")),
+    (Call::Insert(3, "expired"), 0, Answer::Done),
+    (Call::RunPendingTasks, 0, Answer::Done),
+    (Call::Insert(4, "expired"), 0, Answer::Done),
+    (Call::RunPendingTasks, 10_000_000_000, Answer::Done),
+    (
+        Call::TakeNotice,
+        0,
+        Answer::Noticed(1, "replaced", RemovalCause::Replaced),
+    ),
+    (
+        Call::TakeNotice,
+        0,
+        Answer::Noticed(1, "removed", RemovalCause::Explicit),
+    ),
+    (
+        Call::TakeNotice,
+        0,
+        Answer::Noticed(2, "for size", RemovalCause::Size),
+    ),
+    (
+        Call::TakeNotice,
+        0,
+        Answer::Noticed(3, "expired", RemovalCause::Expired),
+    ),
+    (
+        Call::TakeNotice,
+        0,
+        Answer::Noticed(4, "expired", RemovalCause::Expired),
+    ),
+    (Call::TakeNotice, 0, Answer::NoNotice),
+    (Call::EntryCount, 0, Answer::Counted(0)),
+    (Call::NoticeCount, 0, Answer::Counted(0)),
+];
+
+#[test]
+fn keeps_nothing_that_left(rt: HostRuntime) -> Result<(), Fail> {
+    let rules = Rules {
+        max_capacity: Some(1),
+        time_to_live: Some(10),
+        ..UNLIMITED
+    };
+    answers(&rt, rt.alloc(), rules, &ALL_LEAVE)
+}
+
+const BEFORE: [Row; 6] = [
+    (Call::Insert(1, "one"), 0, Answer::Done),
+    (Call::Insert(2, "two"), 0, Answer::Done),
+    (Call::RunPendingTasks, 0, Answer::Done),
+    (Call::Insert(3, "three"), 5_000_000_000, Answer::Done),
+    (Call::Insert(4, "four"), 5_000_000_000, Answer::Done),
+    (Call::Insert(1, "again"), 5_000_000_000, Answer::Done),
+];
+
+/// Of the keys that are admitted 2 was used first, so it leaves for 3, and then 1 for 4.
+const WITHOUT_MEMORY: [Row; 24] = [
+    (Call::Get(3), 5_000_000_000, Answer::Found("three")),
+    (Call::Get(5), 5_000_000_000, Answer::Absent),
+    (Call::ContainsKey(1), 5_000_000_000, Answer::Contains(true)),
+    (Call::ContainsKey(5), 5_000_000_000, Answer::Contains(false)),
+    (Call::EntryCount, 0, Answer::Counted(4)),
+    (Call::WeightedSize, 0, Answer::Counted(4)),
+    (Call::NoticeCount, 0, Answer::Counted(1)),
+    (Call::Invalidate(5), 0, Answer::Done),
+    (Call::RunPendingTasks, 5_000_000_000, Answer::Done),
+    (Call::EntryCount, 0, Answer::Counted(2)),
+    (Call::WeightedSize, 0, Answer::Counted(2)),
+    (Call::NoticeCount, 0, Answer::Counted(3)),
+    (
+        Call::TakeNotice,
+        0,
+        Answer::Noticed(1, "one", RemovalCause::Replaced),
+    ),
+    (
+        Call::TakeNotice,
+        0,
+        Answer::Noticed(2, "two", RemovalCause::Size),
+    ),
+    (
+        Call::TakeNotice,
+        0,
+        Answer::Noticed(1, "again", RemovalCause::Size),
+    ),
+    (Call::TakeNotice, 0, Answer::NoNotice),
+    (Call::Invalidate(3), 0, Answer::Done),
+    (Call::RunPendingTasks, 15_000_000_000, Answer::Done),
+    (Call::EntryCount, 0, Answer::Counted(0)),
+    (Call::Get(1), 0, Answer::Absent),
+    (
+        Call::TakeNotice,
+        0,
+        Answer::Noticed(3, "three", RemovalCause::Explicit),
+    ),
+    (
+        Call::TakeNotice,
+        0,
+        Answer::Noticed(4, "four", RemovalCause::Expired),
+    ),
+    (Call::TakeNotice, 0, Answer::NoNotice),
+    (Call::NoticeCount, 0, Answer::Counted(0)),
+];
+
+#[test]
+fn takes_no_memory_but_for_writes(rt: HostRuntime) -> Result<(), Fail> {
+    let rules = Rules {
+        max_capacity: Some(2),
+        time_to_live: Some(10),
+        ..UNLIMITED
+    };
+    answers_between_requests(&rt, rt.alloc(), rules, &BEFORE, &WITHOUT_MEMORY)
+}
+
+/// 3 was looked for once, 4 not, and nor were those that are admitted.
+const BY_FREQUENCY: [Row; 7] = [
+    (Call::Get(3), 5_000_000_000, Answer::Found("three")),
+    (Call::RunPendingTasks, 5_000_000_000, Answer::Done),
+    (
+        Call::TakeNotice,
+        0,
+        Answer::Noticed(1, "one", RemovalCause::Replaced),
+    ),
+    (
+        Call::TakeNotice,
+        0,
+        Answer::Noticed(2, "two", RemovalCause::Size),
+    ),
+    (
+        Call::TakeNotice,
+        0,
+        Answer::Noticed(4, "four", RemovalCause::Size),
+    ),
+    (Call::TakeNotice, 0, Answer::NoNotice),
+    (Call::EntryCount, 0, Answer::Counted(2)),
+];
+
+#[test]
+fn takes_no_memory_to_judge_by_frequency(rt: HostRuntime) -> Result<(), Fail> {
+    let rules = Rules {
+        max_capacity: Some(2),
+        is_tiny_lfu: true,
+        ..UNLIMITED
+    };
+    answers_between_requests(&rt, rt.alloc(), rules, &BEFORE, &BY_FREQUENCY)
+}
+
+const AT_A_CAPACITY_OF_0: [Row; 8] = [
+    (Call::Insert(1, "one"), 0, Answer::Done),
+    (Call::Insert(2, "two"), 0, Answer::Done),
+    (Call::Get(1), 0, Answer::Absent),
+    (Call::ContainsKey(1), 0, Answer::Contains(false)),
+    (Call::Invalidate(1), 0, Answer::Done),
+    (Call::RunPendingTasks, 0, Answer::Done),
+    (Call::WeightedSize, 0, Answer::Counted(0)),
+    (Call::TakeNotice, 0, Answer::NoNotice),
+];
+
+#[test]
+fn takes_no_memory_to_write_at_a_capacity_of_0(rt: HostRuntime) -> Result<(), Fail> {
+    let rules = Rules {
+        max_capacity: Some(0),
+        ..UNLIMITED
+    };
+    answers_between_requests(&rt, rt.alloc(), rules, &[], &AT_A_CAPACITY_OF_0)
+}

@@ -1,0 +1,131 @@
+//! The pieces that a cache is made of, one by one.
+use crate::keys::ByNumber;
+use moka::notification::RemovalCause;
+use moka::policy::{
+    CountTable, EvictionPolicy, ExpireBy, Expiry, FrequencySource, NoExpiry, NoWeigher, NumberHash,
+    Refused, WeighBy, Weigher,
+};
+use std::alloc::Global;
+use std::hash::{BuildHasher, Hasher};
+use std::process::Abort;
+use std::test::Fail;
+use std::time::Duration;
+
+#[test]
+fn tiny_lfu_is_the_default_policy(rt: HostRuntime) -> Result<(), Fail> {
+    assert!(rt; EvictionPolicy::default().is_tiny_lfu());
+    assert!(rt; EvictionPolicy::tiny_lfu().is_tiny_lfu());
+    assert!(rt; !EvictionPolicy::lru().is_tiny_lfu());
+    Ok(())
+}
+
+#[test]
+fn hashes_a_number_to_itself(rt: HostRuntime) {
+    assert_eq!(rt; NumberHash::default().finish(), 0);
+    for number in [0, 1, 256, 2_305_843_009_213_693_952, u64::MAX] {
+        assert_eq!(rt; ByNumber::default().hash_one(number), number);
+        let mut hasher = NumberHash::default();
+        hasher.write(number.to_le_bytes().as_slice());
+        assert_eq!(rt; hasher.finish(), number);
+    }
+}
+
+#[test]
+fn says_what_was_lacking_and_why_a_value_left(rt: HostRuntime) -> Result<(), Fail> {
+    let refusals = format!(in rt.alloc(); "{} {}", Refused::OutOfMemory, Refused::NumbersUsedUp)?;
+    assert_eq!(rt; refusals.as_str(), "OutOfMemory NumbersUsedUp");
+    let causes = format!(in rt.alloc();
+        "{:?} {:?} {:?} {:?}",
+        RemovalCause::Expired,
+        RemovalCause::Explicit,
+        RemovalCause::Replaced,
+        RemovalCause::Size
+    )?;
+    assert_eq!(rt; causes.as_str(), "Expired Explicit Replaced Size");
+    Ok(())
+}
+
+/// Asserts the weight of a value under the key 3.
+fn weighed<W: Weigher<u64, u64>>(rt: &impl Abort, weigher: &W, expected: u32)
+    requires { (weight : _) × W.weighs weigher.now weight }
+{
+    assert_eq!(rt; weigher.weigh(&3, &10), expected);
+}
+
+#[test]
+fn a_closure_weighs(rt: HostRuntime) -> Result<(), Fail> {
+    let weigher = WeighBy::new(|key: &u64, _value: &u64| if *key == 3 { 2 } else { 1 });
+    weighed(&rt, &weigher, 2);
+    weighed(&rt, &NoWeigher, 1);
+    Ok(())
+}
+
+/// Asserts the lives that an expiry gives to a value after a creation, a look and an update, the last two with a rest.
+fn lived<E: Expiry<u64, u64>>(rt: &impl Abort, expiry: &E, expected: [Option<Duration>; 3])
+    requires { (lives : _) × E.gives expiry.now lives }
+{
+    let rest = Some(Duration::from_secs(3));
+    assert_eq!(rt; expiry.expire_after_create(&1, &2, 5), expected[0]);
+    assert_eq!(rt; expiry.expire_after_read(&1, &2, 6, rest, 5), expected[1]);
+    assert_eq!(rt; expiry.expire_after_update(&1, &2, 7, rest), expected[2]);
+}
+
+#[test]
+fn closures_give_lives(rt: HostRuntime) -> Result<(), Fail> {
+    let life = Duration::from_secs(9);
+    let expiry = ExpireBy::new(
+        move |_key: &u64, _value: &u64, _at: u64| Some(life),
+        |_key: &u64, _value: &u64, _at: u64, rest: Option<Duration>, _written_at: u64| rest,
+        |_key: &u64, _value: &u64, _at: u64, _rest: Option<Duration>| None,
+    );
+    lived(
+        &rt,
+        &expiry,
+        [Some(life), Some(Duration::from_secs(3)), None],
+    );
+    Ok(())
+}
+
+#[test]
+fn without_an_expiry_the_rest_stays(rt: HostRuntime) -> Result<(), Fail> {
+    let rest = Some(Duration::from_secs(3));
+    lived(&rt, &NoExpiry, [None, rest, rest]);
+    Ok(())
+}
+
+/// A source that has noted nothing. Where memory is refused, it asks once more.
+fn opened<F: FrequencySource>(rt: &impl Abort, alloc: Global) -> Result<F, Refused> {
+    match F::opening(alloc) {
+        Ok(source) => Ok(source),
+        Err(refused) => {
+            assert_eq!(rt; refused, Refused::OutOfMemory);
+            F::opening(alloc)
+        }
+    }
+}
+
+/// After so many notes of one hash its estimate is this.
+const ESTIMATES: [(u64, u8); 6] = [(9, 9), (10, 5), (19, 14), (20, 7), (29, 15), (30, 7)];
+
+#[test]
+fn estimates_notes(rt: HostRuntime) -> Result<(), Fail> {
+    for (notes, expected) in ESTIMATES {
+        let mut table: CountTable<0> = opened(&rt, rt.alloc())?;
+        for _ in 0..notes {
+            table.note(3);
+        }
+        assert_eq!(rt; table.estimate(5), expected, "after {notes} notes");
+    }
+    Ok(())
+}
+
+#[test]
+fn hashes_share_counters_by_their_lowest_bits(rt: HostRuntime) -> Result<(), Fail> {
+    let mut table: CountTable<6> = opened(&rt, rt.alloc())?;
+    for hash in [5, 69, 133] {
+        table.note(hash);
+    }
+    assert_eq!(rt; table.estimate(197), 3);
+    assert_eq!(rt; table.estimate(6), 0);
+    Ok(())
+}

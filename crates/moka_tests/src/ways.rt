@@ -1,0 +1,216 @@
+//! Caches whose values are weighed and have lives of their own, by tables.
+use crate::subject::{Answer, Call, Row, Rules, UNLIMITED, answers, room};
+use crate::values::Given;
+use moka::notification::RemovalCause;
+use moka::policy::Refused;
+use std::test::Fail;
+
+const WEIGHED: Rules = Rules {
+    is_weighed: true,
+    ..UNLIMITED
+};
+
+/// Writes, each with a maintenance behind it: the key, its weight, the keys and causes that then left, and the weight of
+/// all.
+const WEIGHTS: [(u64, u32, &[(u64, RemovalCause)], u64); 7] = [
+    (1, 4, &[], 4),
+    (2, 4, &[], 8),
+    // It has room beside neither of them.
+    (3, 7, &[(1, RemovalCause::Size), (2, RemovalCause::Size)], 7),
+    // It is heavier than the capacity.
+    (4, 11, &[(4, RemovalCause::Size)], 7),
+    // A lighter value for the same key leaves room for another.
+    (3, 2, &[(3, RemovalCause::Replaced)], 2),
+    (5, 8, &[], 10),
+    // A heavier one takes the room of the least recently used.
+    (
+        5,
+        9,
+        &[(5, RemovalCause::Replaced), (3, RemovalCause::Size)],
+        9,
+    ),
+];
+
+#[test]
+fn keeps_the_weight_within_the_capacity(rt: HostRuntime) -> Result<(), Fail> {
+    let mut rows = room(rt.alloc(), 64)?;
+    for (key, weight, left, total) in WEIGHTS {
+        rows.push((Call::InsertHeavy(key, weight), 0, Answer::Done))?;
+        rows.push((Call::RunPendingTasks, 0, Answer::Done))?;
+        for (key, cause) in left {
+            let noticed = Answer::Noticed(*key, "heavy", *cause);
+            rows.push((Call::TakeNotice, 0, noticed))?;
+        }
+        rows.push((Call::NoticeCount, 0, Answer::Counted(0)))?;
+        rows.push((Call::WeightedSize, 0, Answer::Counted(total)))?;
+    }
+    let rules = Rules {
+        max_capacity: Some(10),
+        ..WEIGHED
+    };
+    answers(&rt, rt.alloc(), rules, rows.as_slice())
+}
+
+const GREATEST_WEIGHTS: [Row; 6] = [
+    (Call::InsertHeavy(1, u32::MAX), 0, Answer::Done),
+    (Call::InsertHeavy(2, u32::MAX), 0, Answer::Done),
+    (Call::EntryCount, 0, Answer::Counted(2)),
+    (Call::WeightedSize, 0, Answer::Counted(8_589_934_590)),
+    (Call::RunPendingTasks, 0, Answer::Done),
+    (Call::NoticeCount, 0, Answer::Counted(0)),
+];
+
+#[test]
+fn adds_the_greatest_weights(rt: HostRuntime) -> Result<(), Fail> {
+    answers(&rt, rt.alloc(), WEIGHED, &GREATEST_WEIGHTS)
+}
+
+/// It lives 5 seconds, and after a look 3 more.
+const LOOKED_AT: Given = Given {
+    text: "looked at",
+    weight: 7,
+    life: Some(5),
+    life_after_look: Some(3),
+    doubles: false,
+};
+
+/// It lives 5 seconds, whether it is looked at or not.
+const LEFT_ALONE: Given = Given {
+    text: "left alone",
+    life_after_look: None,
+    ..LOOKED_AT
+};
+
+/// It lives 5 seconds, and a look at it after some while gives it the same while again.
+const DOUBLED: Given = Given {
+    text: "doubled",
+    life_after_look: None,
+    doubles: true,
+    ..LOOKED_AT
+};
+
+const OWN_LIVES: [Row; 12] = [
+    (Call::InsertGiven(1, LOOKED_AT), 0, Answer::Done),
+    (Call::InsertGiven(2, LEFT_ALONE), 0, Answer::Done),
+    (Call::Get(1), 4_000_000_000, Answer::Found("looked at")),
+    (Call::Get(2), 4_000_000_000, Answer::Found("left alone")),
+    (Call::Get(2), 5_000_000_000, Answer::Absent),
+    (Call::Get(1), 6_000_000_000, Answer::Found("looked at")),
+    (Call::Get(1), 9_000_000_000, Answer::Absent),
+    (Call::InsertGiven(3, DOUBLED), 11_000_000_000, Answer::Done),
+    (Call::Get(3), 13_000_000_000, Answer::Found("doubled")),
+    (Call::ContainsKey(3), 14_999_999_999, Answer::Contains(true)),
+    (
+        Call::ContainsKey(3),
+        15_000_000_000,
+        Answer::Contains(false),
+    ),
+    (Call::Get(3), 15_000_000_000, Answer::Absent),
+];
+
+#[test]
+fn gives_values_lives_of_their_own(rt: HostRuntime) -> Result<(), Fail> {
+    let rules = Rules {
+        is_weighed: true,
+        may_expire: true,
+        ..UNLIMITED
+    };
+    answers(&rt, rt.alloc(), rules, &OWN_LIVES)
+}
+
+/// How often were asked, in this order: the weigher; the expiry after a creation, a look, an update; values for copies.
+const QUESTIONS: [Row; 38] = [
+    (Call::Asked, 0, Answer::Asked([0, 0, 0, 0, 0])),
+    (Call::Insert(1, "one"), 0, Answer::Done),
+    (Call::Asked, 0, Answer::Asked([1, 1, 0, 0, 0])),
+    (Call::Get(1), 1, Answer::Found("one")),
+    (Call::Asked, 1, Answer::Asked([1, 1, 1, 0, 1])),
+    (Call::Insert(1, "again"), 2, Answer::Done),
+    (Call::Asked, 2, Answer::Asked([2, 1, 1, 1, 1])),
+    // Neither by a question, nor where there is no value.
+    (Call::ContainsKey(1), 3, Answer::Contains(true)),
+    (Call::ContainsKey(2), 3, Answer::Contains(false)),
+    (Call::Get(2), 3, Answer::Absent),
+    (Call::EntryCount, 3, Answer::Counted(1)),
+    (Call::WeightedSize, 3, Answer::Counted(1)),
+    (Call::NoticeCount, 3, Answer::Counted(1)),
+    (
+        Call::TakeNotice,
+        3,
+        Answer::Noticed(1, "one", RemovalCause::Replaced),
+    ),
+    (Call::Invalidate(2), 3, Answer::Done),
+    (Call::RunPendingTasks, 3, Answer::Done),
+    (Call::Asked, 3, Answer::Asked([2, 1, 1, 1, 1])),
+    // Nor of an expired value.
+    (
+        Call::ContainsKey(1),
+        10_000_000_002,
+        Answer::Contains(false),
+    ),
+    (Call::Get(1), 10_000_000_002, Answer::Absent),
+    (Call::Asked, 0, Answer::Asked([2, 1, 1, 1, 1])),
+    // A write over an expired value creates one.
+    (Call::Insert(1, "anew"), 0, Answer::Done),
+    (Call::Asked, 0, Answer::Asked([3, 2, 1, 1, 1])),
+    // A look whose copy is refused asks for that copy, and the expiry not.
+    (Call::RefuseCopies(true), 0, Answer::Done),
+    (Call::Get(1), 0, Answer::Refused(Refused::OutOfMemory)),
+    (Call::RefuseCopies(false), 0, Answer::Done),
+    (Call::Asked, 0, Answer::Asked([3, 2, 1, 1, 2])),
+    // What leaves is asked for nothing, nor what is admitted.
+    (Call::Invalidate(1), 0, Answer::Done),
+    (Call::Insert(2, "two"), 0, Answer::Done),
+    (Call::Insert(3, "three"), 0, Answer::Done),
+    (Call::RunPendingTasks, 0, Answer::Done),
+    (Call::NoticeCount, 0, Answer::Counted(3)),
+    (Call::Asked, 0, Answer::Asked([5, 4, 1, 1, 2])),
+    (Call::Get(3), 0, Answer::Found("three")),
+    (Call::Asked, 0, Answer::Asked([5, 4, 2, 1, 3])),
+    // No number is left: it is refused before anything is asked.
+    (
+        Call::Insert(4, "four"),
+        0,
+        Answer::Refused(Refused::NumbersUsedUp),
+    ),
+    (
+        Call::Insert(3, "again"),
+        0,
+        Answer::Refused(Refused::NumbersUsedUp),
+    ),
+    (Call::Asked, 0, Answer::Asked([5, 4, 2, 1, 3])),
+    (Call::EntryCount, 0, Answer::Counted(1)),
+];
+
+#[test]
+fn asks_no_more_than_it_says(rt: HostRuntime) -> Result<(), Fail> {
+    let rules = Rules {
+        max_capacity: Some(1),
+        time_to_live: Some(10),
+        first_number: u64::MAX - 5,
+        is_weighed: true,
+        may_expire: true,
+        ..UNLIMITED
+    };
+    answers(&rt, rt.alloc(), rules, &QUESTIONS)
+}
+
+const UNASKED: [Row; 6] = [
+    (Call::Insert(1, "one"), 0, Answer::Done),
+    (Call::InsertHeavy(1, 7), 0, Answer::Done),
+    (Call::Get(1), 0, Answer::Absent),
+    (Call::ContainsKey(1), 0, Answer::Contains(false)),
+    (Call::RunPendingTasks, 0, Answer::Done),
+    (Call::Asked, 0, Answer::Asked([0, 0, 0, 0, 0])),
+];
+
+#[test]
+fn asks_nothing_at_a_capacity_of_0(rt: HostRuntime) -> Result<(), Fail> {
+    let rules = Rules {
+        max_capacity: Some(0),
+        is_weighed: true,
+        may_expire: true,
+        ..UNLIMITED
+    };
+    answers(&rt, rt.alloc(), rules, &UNASKED)
+}

@@ -1,0 +1,61 @@
+-- What a state keeps, and what this means.
+use Rattle.std.specs.Prelude.{ℕ, Bool, List, Option}
+use Rattle.moka_policy.specs.Frequency.{after_notes}
+use Rattle.moka_model.specs.Lives.{Behaviour, Settings}
+use Rattle.moka_model.specs.Steps.{AcceptedStep}
+use Rattle.moka_model.specs.Calls.{Call, Answer}
+use Rattle.moka_model.specs.StandsFor.{Books, View, StandsFor, AtEachHistory, Follows, Answers}
+use Rattle.moka_ways.specs.Behaviour.{BehaviourData}
+
+-- what a source estimates of a hash, once it has noted these hashes more
+abbrev pub estimates : {F : Type 0} → (F → ℕ → F) → (F → ℕ → ℕ) → F → List ℕ → ℕ → ℕ
+estimates noted count source more hash = count (after_notes source noted more) hash
+
+-- What a state was built with, as data; it never changes.
+pub record SettingsData (H W X : Type 0) : Type 0 where
+  pub time_to_live : Option ℕ
+  pub time_to_idle : Option ℕ
+  pub max_capacity : Option ℕ
+  pub first_number : ℕ
+  pub behaviour : BehaviourData H W X
+
+-- What a state keeps, as data: its settings, its books, and its source of frequencies. What the types of the cache mean
+-- by it is its view.
+pub record StateData (K V H W X F : Type 0) : Type 0 where
+  pub settings : SettingsData H W X
+  pub books : Books K V
+  pub source : F
+
+module _ {K V H W X : Type 0} (behaviour_in : BehaviourData H W X → Behaviour K V) where
+  -- the settings that this means, by the behaviour that it means and by what a new source estimates
+  abbrev pub settings_by : (List ℕ → ℕ → ℕ) → SettingsData H W X → Settings K V
+  settings_by frequency kept = record {
+    time_to_live = kept.time_to_live;
+    time_to_idle = kept.time_to_idle;
+    max_capacity = kept.max_capacity;
+    first_number = kept.first_number;
+    behaviour = behaviour_in kept.behaviour;
+    frequency = frequency;
+  }
+
+  -- the view of a state, by what its data mean: its behaviour, what a source estimates, and a new source
+  abbrev pub view_by : {F : Type 0} → (F → List ℕ → ℕ → ℕ) → F → StateData K V H W X F → View K V
+  view_by frequency_in opened state = record {
+    settings = settings_by (frequency_in opened) state.settings;
+    books = state.books;
+    frequency = frequency_in state.source;
+  }
+
+-- The relations of states, by what the view of each is. The steps have errors of this type.
+module _ {K V : Type 0} (E : Type 0) (eq : K → K → Bool) where
+  abbrev pub StandsForBy : {S : Type 0} → (S → View K V) → Settings K V → S → List (AcceptedStep K V E) → Type 0
+  StandsForBy view settings state steps = StandsFor eq settings (view state) steps
+
+  abbrev pub AtEachHistoryBy : {S : Type 0} → (S → View K V) → S → (Settings K V → List (AcceptedStep K V E) → Type 0) → Type 0
+  AtEachHistoryBy view state P = AtEachHistory E eq (view state) P
+
+  abbrev pub FollowsBy : {S : Type 0} → (S → View K V) → S → Call K V → S → Type 0
+  FollowsBy view old call new = Follows E eq (view old) call (view new)
+
+  abbrev pub AnswersBy : {S : Type 0} → (V → V → Type 0) → (S → View K V) → S → Call K V → Answer K V E → Type 0
+  AnswersBy is_clone view state call answer = Answers E eq is_clone (view state) call answer

@@ -1,0 +1,155 @@
+//! The behaviour of a cache: its policy, how its keys are hashed, what its values weigh, and the
+//! lives of their own that they get.
+ghost use Rattle.std.specs.Prelude.{◌≡◌, true, not, if◌then◌else◌, option_map, IfSome};
+ghost use Rattle.std.specs.Arc.{arc_value};
+ghost use Rattle.moka_model.specs.Lives.{rest, given};
+ghost use Rattle.moka_policy.specs.Policy.{is_lru};
+ghost use Rattle.moka_ways.specs.Lives.{own_life, own_of};
+ghost use Rattle.moka_ways.specs.Behaviour.{BehaviourData};
+
+use crate::lives::{given, rest};
+use crate::view::BehaviourView;
+use moka_policy::policy::{CacheTypes, EvictionPolicy, Expiry, Weigher};
+use moka_rows::rows::{EntryInfo, OwnLife};
+use std::hash::{BuildHasher, Hash, Hasher};
+use std::marker::Model;
+use std::sync::Arc;
+
+/// What a cache asks of its keys and values. Without a weigher each value weighs 1, and without an
+/// expiry no value has a life of its own.
+#[derive(Drop)]
+pub struct Behaviour<K: Hash + Drop, V: Clone, C: CacheTypes<K, V>> {
+    policy: EvictionPolicy,
+    hasher: Arc<C::Hasher>,
+    weigher: Option<Arc<C::Weigher>>,
+    expiry: Option<Arc<C::Expiry>>,
+}
+
+impl<K: Hash + Drop, V: Clone, C: CacheTypes<K, V>> Model for Behaviour<K, V, C> {
+    ghost Value = { BehaviourData C.Hasher C.Weigher C.Expiry };
+
+    ghost view = { λ behaviour. record {
+      is_lru = is_lru behaviour.policy;
+      hasher = arc_value behaviour.hasher;
+      weigher = option_map arc_value behaviour.weigher;
+      expiry = option_map arc_value behaviour.expiry;
+    } };
+
+    ghost invariant = { λ behaviour.
+        IfSome behaviour.weigher (λ weigher.
+        C.Weigher.weighs (arc_value weigher) (C.weight (arc_value weigher)))
+        × IfSome behaviour.expiry (λ expiry.
+        C.Expiry.gives (arc_value expiry) (C.lifetimes (arc_value expiry))) };
+}
+
+impl<K: Hash + Drop, V: Clone, C: CacheTypes<K, V>> Behaviour<K, V, C> {
+    /// A behaviour by these. The weigher and the expiry, where they are given, do what the cache's
+    /// types say of them.
+    pub fn new(
+        policy: EvictionPolicy,
+        hasher: Arc<C::Hasher>,
+        weigher: Option<Arc<C::Weigher>>,
+        expiry: Option<Arc<C::Expiry>>,
+    ) -> Self
+        requires weighs { IfSome weigher (λ weigher.
+            C.Weigher.weighs (arc_value weigher) (C.weight (arc_value weigher))) }
+        requires gives { IfSome expiry (λ expiry.
+            C.Expiry.gives (arc_value expiry) (C.lifetimes (arc_value expiry))) }
+        ensures { result ≡ record {
+          is_lru = is_lru policy;
+          hasher = arc_value hasher;
+          weigher = option_map arc_value weigher;
+          expiry = option_map arc_value expiry;
+        } }
+    {
+        Behaviour {
+            policy,
+            hasher,
+            weigher,
+            expiry,
+        }
+    }
+
+    /// The policy.
+    pub fn policy(&self) -> EvictionPolicy
+        ensures { is_lru result ≡ self.now.is_lru }
+    {
+        self.policy
+    }
+
+    /// The hash of a key. Equal keys hash alike.
+    pub fn hash(&self, key: &K) -> u64
+        ensures hash { result ≡ (⟦<C as BehaviourView<K, V>>⟧.behaviour self.now).hash key.now }
+        ensures alike { (a b : K) → K.eq a b ≡ true →
+            (⟦<C as BehaviourView<K, V>>⟧.behaviour self.now).hash a
+            ≡ (⟦<C as BehaviourView<K, V>>⟧.behaviour self.now).hash b }
+    {
+        let mut state = self.hasher.build_hasher();
+        key.hash(&mut state);
+        state.finish()
+    }
+
+    /// The weight of a value under a key.
+    pub fn weight(&self, key: &K, value: &V) -> u32
+        ensures { result
+            ≡ (⟦<C as BehaviourView<K, V>>⟧.behaviour self.now).weight key.now value.now }
+    {
+        match &self.weigher {
+            Some(weigher) => weigher.weigh(key, value),
+            None => 1,
+        }
+    }
+
+    /// The life of its own of a value that is written at a moment where no live value stands.
+    pub fn life_of_new(&self, key: &K, value: &V, now: u64) -> Option<OwnLife>
+        ensures { option_map own_life result ≡ given
+            ((⟦<C as BehaviourView<K, V>>⟧.behaviour self.now).lifetimes.created key.now value.now now)
+            now }
+    {
+        match &self.expiry {
+            Some(expiry) => given(expiry.expire_after_create(key, value, now), now),
+            None => None,
+        }
+    }
+
+    /// The life of its own of a value that is written at a moment over another one, which is
+    /// expired or not.
+    pub fn life_over(
+        &self,
+        key: &K,
+        value: &V,
+        was: EntryInfo,
+        is_expired: bool,
+        now: u64,
+    ) -> Option<OwnLife>
+        ensures { let lives = (⟦<C as BehaviourView<K, V>>⟧.behaviour self.now).lifetimes in
+            option_map own_life result ≡ given
+            (if not is_expired then lives.updated key.now value.now now (rest (own_of was) now)
+            else lives.created key.now value.now now)
+            now }
+    {
+        if is_expired {
+            return self.life_of_new(key, value, now);
+        }
+        let left = rest(was.own_life, now);
+        match &self.expiry {
+            Some(expiry) => given(expiry.expire_after_update(key, value, now, left), now),
+            None => given(left, now),
+        }
+    }
+
+    /// The life of its own of a live value that a recorded look finds at a moment.
+    pub fn life_of_hit(&self, key: &K, value: &V, info: EntryInfo, now: u64) -> Option<OwnLife>
+        ensures { let lives = (⟦<C as BehaviourView<K, V>>⟧.behaviour self.now).lifetimes in
+            option_map own_life result ≡ given
+            (lives.read key.now value.now now (rest (own_of info) now) info.last_modified)
+            now }
+    {
+        let left = rest(info.own_life, now);
+        let life = match &self.expiry {
+            Some(expiry) => expiry.expire_after_read(key, value, now, left, info.last_modified),
+            None => left,
+        };
+        given(life, now)
+    }
+}

@@ -1,7 +1,0 @@
-use Rattle.std.specs.Prelude.{ℕ, List}
-use Rattle.mokabox.specs.Fields.{fields_in}
-use Rattle.mokabox.specs.declared.fields.Fields.{Fields}
-
--- the fields that are still to be read
-abbrev pub fields_left : Fields → List (List ℕ)
-fields_left fields = fields_in fields.rest

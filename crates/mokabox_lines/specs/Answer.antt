@@ -1,0 +1,46 @@
+use Rattle.std.specs.Prelude.{ℕ, true, false, List, [], ◌∷◌, ◌++◌, codes}
+use Rattle.std.specs.Fmt.{decimal}
+use Rattle.std.specs.String.{string_bytes}
+use Rattle.moka_model.specs.declared.notification.RemovalCause.{RemovalCause}
+use Rattle.moka_model.specs.declared.notification.RemovalCause.TheVariants as causes
+use Rattle.moka_policy.specs.declared.policy.Refused as moka_refused
+use Rattle.moka_policy.specs.declared.policy.Refused.TheVariants as refusals
+use Rattle.mokabox_lines.specs.declared.answer.Answer.{Answer}
+use Rattle.mokabox_lines.specs.declared.answer.Answer.TheVariants.{Done, Found, NotFound, Whether, Counted, Refused, NotBuilt, Left, End}
+use Rattle.mokabox_lines.specs.declared.answer.Answer.TheVariants.{BadLine}
+use Rattle.mokabox_lines.specs.declared.answer.BuildRefusal.{BuildRefusal}
+use Rattle.mokabox_lines.specs.declared.answer.BuildRefusal.TheVariants as builds
+
+-- the number by which a refusal is printed
+abbrev pub refusal_number : moka_refused.Refused → ℕ
+refusal_number refusals.OutOfMemory = 1
+refusal_number refusals.NumbersUsedUp = 2
+
+-- the number by which a refusal to build is printed
+abbrev pub build_refusal_number : BuildRefusal → ℕ
+build_refusal_number builds.OutOfMemory = 5
+
+-- the word by which a cause is printed
+abbrev pub cause_text : RemovalCause → List ℕ
+cause_text causes.Expired = codes "Expired"
+cause_text causes.Explicit = codes "Explicit"
+cause_text causes.Replaced = codes "Replaced"
+cause_text causes.Size = codes "Size"
+
+-- the line that an answer is printed as, without its end
+abbrev pub answer_text : Answer → List ℕ
+answer_text Done = codes "ok"
+answer_text (Found value) = codes "some " ++ string_bytes value
+answer_text NotFound = codes "none"
+answer_text (Whether true) = codes "true"
+answer_text (Whether false) = codes "false"
+answer_text (Counted count) = decimal count
+answer_text (Refused refused) = codes "refused " ++ decimal (refusal_number refused)
+answer_text (NotBuilt refusal) = codes "refused build " ++ decimal (build_refusal_number refusal)
+answer_text (Left key value cause) = codes "notice " ++ (decimal key ++ (32 ∷ (string_bytes value ++ (32 ∷ cause_text cause))))
+answer_text End = codes "end"
+answer_text BadLine = codes "bad line"
+
+-- the line with its end
+abbrev pub answer_line : Answer → List ℕ
+answer_line answer = answer_text answer ++ (10 ∷ [])

@@ -1,0 +1,58 @@
+use Rattle.std.specs.Prelude.{◌≡◌, ◌<◌, ◌⊎◌, length, slice_index, ℕ, ◌^◌, ◌==◌, nat_lt, Bool, ◌&&◌, List, [], ◌∷◌, Option, Some, None}
+use Rattle.std.specs.Prelude.{option_and_then, All, ◌≢◌, if◌then◌else◌}
+use Rattle.std.specs.Borrow.{Bor}
+use Rattle.std.specs.List.{slice_split}
+use Rattle.std.specs.Fmt.{decimal}
+use Rattle.std.specs.Str.{bytes_eq, is_utf8, IsUtf8}
+use Rattle.std.specs.Str.Parse.{digits_value}
+
+-- the space between two fields
+abbrev pub is_space : ℕ → Bool
+is_space byte = byte == 32
+
+-- the fields of a line, which are its parts between the spaces
+abbrev pub fields_of : List ℕ → List (List ℕ)
+fields_of line = slice_split is_space line
+
+-- the fields of what stands behind a space, where there is one
+abbrev pub fields_in : Option (Bor (List ℕ)) → List (List ℕ)
+fields_in None = []
+fields_in (Some line) = fields_of line.now
+
+-- the number whose decimal digits a field is, below 2 ^ 64
+unfoldable pub number_of : List ℕ → Option ℕ
+number_of field = let number = digits_value 10 field in
+    if nat_lt number (2 ^ 64) && bytes_eq field (decimal number) then Some number else None
+
+-- a plus sign, or a zero that more follows
+abbrev pub IsPadded : List ℕ → Type 0
+IsPadded field = ((0 < length field) × (slice_index field 0 ≡ 43)) ⊎ ((1 < length field) × (slice_index field 0 ≡ 48))
+
+-- the text that a field is, which isn't empty
+abbrev pub text_of : List ℕ → Option (List ℕ)
+text_of [] = None
+text_of (byte ∷ bytes) = Some (byte ∷ bytes)
+
+-- the one field, where there is just one
+abbrev pub sole_of : List (List ℕ) → Option (List ℕ)
+sole_of [] = None
+sole_of (field ∷ []) = Some field
+sole_of (field ∷ other ∷ more) = None
+
+-- the one field as a number
+abbrev pub sole_number_of : List (List ℕ) → Option ℕ
+sole_number_of fields = option_and_then number_of (sole_of fields)
+
+-- the one field as a text
+abbrev pub sole_text_of : List (List ℕ) → Option (List ℕ)
+sole_text_of fields = option_and_then text_of (sole_of fields)
+
+-- the bytes of a text: some, none of them a space, and UTF-8
+pub record IsText (bytes : List ℕ) : Type 0 where
+  pub some : 0 < length bytes
+  pub spaceless : All (λ byte. byte ≢ 32) bytes
+  pub utf8 : IsUtf8 bytes
+
+-- what the fields of a line say, if it is UTF-8
+abbrev pub line_reading : {A : Type 0} → (List (List ℕ) → Option A) → List ℕ → Option A
+line_reading read line = if is_utf8 line then read (fields_of line) else None

@@ -1,0 +1,5 @@
+pub mod Answer
+pub mod Command
+pub mod Fields
+pub mod FieldsLeft
+pub mod Settings

@@ -1,0 +1,4 @@
+pub mod FirstCache
+pub mod LineLaws
+pub mod RunLaws
+pub mod SessionLaws

@@ -1,0 +1,8 @@
+-- Definitions that those of this crate rest on, passed on to the crates above.
+pub use Rattle.mokabox_lines.specs.Answer
+pub use Rattle.mokabox_lines.specs.Command
+pub use Rattle.mokabox_lines.specs.Settings
+pub mod Program
+pub mod Script
+pub mod Session
+pub mod Status

@@ -1,0 +1,161 @@
+-- What a script prints, by the calls of its cache.
+use Rattle.std.specs.Prelude.{◌≡◌, ℕ, ◌+◌, ◌*◌, ◌%◌, ◌^◌, Bool, true, false, ◌||◌, List, [], ◌∷◌, ◌++◌, length, flat_map, replicate, Option}
+use Rattle.std.specs.Prelude.{Some, None, String, option_map, unwrap_or, nat_eq, codes, ◌⊎◌, if◌then◌else◌}
+use Rattle.std.specs.Arc.{arc_value}
+use Rattle.std.specs.List.{onto_first}
+use Rattle.std.specs.String.{string_bytes}
+use Rattle.std.specs.declared.alloc.Global.{Global}
+use Rattle.std.specs.declared.convert.Infallible.{Infallible}
+use Rattle.moka_model.specs.Lives as lives
+use Rattle.moka_model.specs.Lives.{no_lifetimes}
+use Rattle.moka_model.specs.Removals.{notices_left}
+use Rattle.moka_model.specs.Steps.{AcceptedStep, events_in}
+use Rattle.moka_model.specs.Calls as calls
+use Rattle.moka_model.specs.Calls.{Call}
+use Rattle.moka_policy.specs.Frequency.{estimate_after}
+use Rattle.moka_state.specs.Step.{IsReplyTo, after_reply}
+use Rattle.moka_state.specs.declared.step.Reply.{Reply}
+use Rattle.moka_state.specs.declared.step.Reply.TheVariants as replies
+use Rattle.mokabox_lines.specs.Answer.{answer_text}
+use Rattle.mokabox_lines.specs.declared.answer.Answer.{Answer}
+use Rattle.mokabox_lines.specs.declared.answer.Answer.TheVariants as answers
+use Rattle.mokabox_lines.specs.Command.{PlainCommand, command_by_line}
+use Rattle.mokabox_lines.specs.Settings.{settings_by, byte_weight}
+use Rattle.mokabox_lines.specs.declared.command.Command.TheVariants.{At, Insert, Get, Has, Invalidate, Tasks, Count, Weight, Notices}
+use Rattle.mokabox_lines.specs.declared.settings.Eviction.{Eviction}
+use Rattle.mokabox_lines.specs.declared.settings.Eviction.TheVariants.{Lru, TinyLfu}
+use Rattle.mokabox_lines.specs.declared.settings.Settings.{Settings}
+use Rattle.mokabox_lines.specs.declared.settings.Weighing.{Weighing}
+use Rattle.mokabox_lines.specs.declared.settings.Weighing.TheVariants.{Bytes}
+
+-- the values of the script's cache; its keys are numbers
+abbrev pub Text : Type 0
+Text = String Global
+
+-- a copy of a text has its bytes
+abbrev pub is_copy : Text → Text → Type 0
+is_copy text copy = string_bytes copy ≡ string_bytes text
+
+-- what the script's cache is built with
+abbrev pub CacheSettings : Type 0
+CacheSettings = lives.Settings ℕ Text
+
+-- an accepted step of the script's cache, which computes no value
+abbrev pub CacheStep : Type 0
+CacheStep = AcceptedStep ℕ Text Infallible
+
+-- how far a script has come: the accepted steps of its cache, the newest first, and the moment of its commands
+pub record Course : Type 0 where
+  pub steps : List CacheStep
+  pub moment : ℕ
+
+-- The calls that a command makes at a moment, when this many notices are left. A text that it hands in has the command's
+-- bytes. All notices are taken, and then once more, when there is none.
+abbrev pub Makes : ℕ → ℕ → PlainCommand → List (Call ℕ Text) → Type 0
+Makes notices moment (At later) made = made ≡ []
+Makes notices moment (Insert key value) made = (text : Text) × (string_bytes text ≡ value) × (made ≡ calls.Insert key text moment ∷ [])
+Makes notices moment (Get key) made = made ≡ calls.Get key moment ∷ []
+Makes notices moment (Has key) made = made ≡ calls.ContainsKey key moment ∷ []
+Makes notices moment (Invalidate key) made = made ≡ calls.Invalidate key moment ∷ []
+Makes notices moment Tasks made = made ≡ calls.RunPendingTasks moment ∷ []
+Makes notices moment Count made = made ≡ calls.EntryCount ∷ []
+Makes notices moment Weight made = made ≡ calls.WeightedSize ∷ []
+Makes notices moment Notices made = made ≡ replicate (notices + 1) calls.TakeNotice
+
+-- the moment of the commands after a command
+abbrev pub moment_after : PlainCommand → ℕ → ℕ
+moment_after (At later) moment = later
+moment_after command moment = moment
+
+-- what the reply to a call is printed as
+abbrev pub answer_of : Reply ℕ Text → Answer
+answer_of (replies.Found None) = answers.NotFound
+answer_of (replies.Found (Some text)) = answers.Found text
+answer_of (replies.Contains is_there) = answers.Whether is_there
+answer_of replies.Done = answers.Done
+answer_of (replies.Counted count) = answers.Counted count
+answer_of (replies.Noticed None) = answers.End
+answer_of (replies.Noticed (Some notice)) = answers.Left (arc_value notice.key) notice.value notice.cause
+answer_of (replies.Refused cause) = answers.Refused cause
+
+-- What calls print, a line for the reply to each, and the accepted steps after them: a refused call leaves them as they are.
+abbrev pub CallsPrint : CacheSettings → List CacheStep → List (Call ℕ Text) → List (List ℕ) → List CacheStep → Type 0
+CallsPrint settings steps [] printed after = (printed ≡ []) × (after ≡ steps)
+CallsPrint settings steps (call ∷ more) printed after =
+    (reply : Reply ℕ Text) × (rest : List (List ℕ)) × IsReplyTo nat_eq is_copy settings steps call reply
+    × (printed ≡ answer_text (answer_of reply) ∷ rest) × CallsPrint settings (after_reply nat_eq settings call reply steps) more rest after
+
+-- What a command prints, and how far the script has come then.
+abbrev pub CommandPrints : CacheSettings → Course → PlainCommand → List (List ℕ) → Course → Type 0
+CommandPrints settings before command printed after =
+    (made : List (Call ℕ Text)) × Makes (length (notices_left nat_eq settings (events_in before.steps))) before.moment command made
+    × CallsPrint settings before.steps made printed after.steps × (after.moment ≡ moment_after command before.moment)
+
+-- What a line prints, how far the script has come then, and whether the line is bad.
+abbrev pub LinePrints : CacheSettings → Course → Option PlainCommand → List (List ℕ) → Course → Bool → Type 0
+LinePrints settings before None printed after bad = (printed ≡ codes "bad line" ∷ []) × (after ≡ before) × (bad ≡ true)
+LinePrints settings before (Some command) printed after bad = CommandPrints settings before command printed after × (bad ≡ false)
+
+-- What the lines print, one after the other, and whether one of them is bad.
+abbrev pub LinesPrint : CacheSettings → Course → List (List ℕ) → List (List ℕ) → Bool → Type 0
+LinesPrint settings before [] printed bad = (printed ≡ []) × (bad ≡ false)
+LinesPrint settings before (line ∷ lines) printed bad =
+    (first : List (List ℕ)) × (after : Course) × (bad_first : Bool) × (rest : List (List ℕ)) × (bad_rest : Bool)
+    × LinePrints settings before (command_by_line line) first after bad_first × LinesPrint settings after lines rest bad_rest
+    × (printed ≡ first ++ rest) × (bad ≡ (bad_first || bad_rest))
+
+-- TinyLFU, where the settings don't say otherwise
+abbrev pub is_lru_by : Option Eviction → Bool
+is_lru_by None = false
+is_lru_by (Some Lru) = true
+is_lru_by (Some TinyLfu) = false
+
+-- the weight of a value by its bytes: 1, where the settings don't say otherwise
+abbrev pub weight_by : Option Weighing → List ℕ → ℕ
+weight_by None value = 1
+weight_by (Some Bytes) value = byte_weight value
+
+-- What these settings build a cache with, in nanoseconds. A key is its own hash, its keys being below 2 ^ 64.
+abbrev pub cache_settings : Settings → CacheSettings
+cache_settings settings = record {
+  time_to_live = option_map (λ seconds. seconds * 1_000_000_000) settings.time_to_live;
+  time_to_idle = option_map (λ seconds. seconds * 1_000_000_000) settings.time_to_idle;
+  max_capacity = settings.capacity;
+  first_number = unwrap_or settings.first_number 0;
+  behaviour = record {
+    is_lru = is_lru_by settings.policy;
+    hash = λ key. key % 2 ^ 64;
+    weight = λ key text. weight_by settings.weigher (string_bytes text);
+    lifetimes = no_lifetimes;
+  };
+  frequency = estimate_after 6;
+}
+
+-- where a script begins
+abbrev pub beginning : Course
+beginning = record { steps = []; moment = 0 }
+
+abbrev pub status_of : Bool → ℕ
+status_of bad = if bad then 2 else 0
+
+-- What the first line and those after it print, and the status at the end.
+abbrev pub FirstPrints : Option Settings → List (List ℕ) → List (List ℕ) → ℕ → Type 0
+FirstPrints None lines printed status = (printed ≡ codes "bad line" ∷ []) × (status ≡ 2)
+FirstPrints (Some settings) lines printed status =
+    ((rest : List (List ℕ)) × (bad : Bool) × (printed ≡ codes "ok" ∷ rest) × LinesPrint (cache_settings settings) beginning lines rest bad
+    × (status ≡ status_of bad))
+    ⊎ ((printed ≡ codes "refused build 5" ∷ []) × (status ≡ 2))
+
+-- The lines of an input: a line end ends a line, and what stands behind the last one is a line if it is anything.
+abbrev pub lines_of : List ℕ → List (List ℕ)
+lines_of [] = []
+lines_of (byte ∷ bytes) = if nat_eq byte 10 then [] ∷ lines_of bytes else onto_first byte (lines_of bytes)
+
+-- What a script prints, and the status at its end.
+abbrev pub ScriptPrints : List (List ℕ) → List (List ℕ) → ℕ → Type 0
+ScriptPrints [] printed status = (printed ≡ []) × (status ≡ 0)
+ScriptPrints (line ∷ lines) printed status = FirstPrints (settings_by line) lines printed status
+
+-- the bytes of printed lines
+abbrev pub lines_text : List (List ℕ) → List ℕ
+lines_text printed = flat_map (λ line. line ++ (10 ∷ [])) printed

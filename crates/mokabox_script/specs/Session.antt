@@ -1,0 +1,57 @@
+-- How far a script has come where its session is, and what the session prints.
+use Rattle.std.specs.Prelude.{◌≡◌, ℕ, Bool, List, Option, nat_eq}
+use Rattle.std.specs.Hash.{u64 as number_writes}
+use Rattle.std.specs.Hash.BuildHasherDefault.{initial_hasher}
+use Rattle.std.specs.Io.KnownBytes.{Appends}
+use Rattle.std.specs.String.{string_bytes}
+use Rattle.std.specs.declared.hash.BuildHasherDefault.{BuildHasherDefault}
+use Rattle.moka_policy.specs.declared.expiry.NoExpiry.{NoExpiry}
+use Rattle.moka_policy.specs.declared.policy.NumberHash.{NumberHash}
+use Rattle.moka_policy.specs.Frequency.{Counts, none_noted, noted, estimated}
+use Rattle.moka_policy.specs.NumberHash.{number_hash}
+use Rattle.moka_model.specs.Lives.{Behaviour, no_lifetimes}
+use Rattle.moka_model.specs.StandsFor.{View, StandsFor}
+use Rattle.moka_state.specs.Behaviour.{BehaviourData, hash_by, behaviour_by}
+use Rattle.moka_state.specs.StateData.{StateData, estimates, view_by}
+use Rattle.mokabox_lines.specs.Command.{PlainCommand, command_by_line}
+use Rattle.mokabox_lines.specs.Settings.{byte_weight}
+use Rattle.mokabox_script.specs.Script.{Text, CacheSettings, Course, CommandPrints, LinePrints, lines_text}
+use Rattle.mokabox_script.specs.declared.session.Bytes.{Bytes}
+
+-- what makes the hashers of a script's cache
+abbrev pub CacheHasher : Type 0
+CacheHasher = BuildHasherDefault NumberHash
+
+-- what a script's cache keeps
+abbrev pub CacheData : Type 0
+CacheData = StateData ℕ Text CacheHasher Bytes NoExpiry Counts
+
+-- the hash of a key
+abbrev pub cache_hash : CacheHasher → ℕ → ℕ
+cache_hash = hash_by initial_hasher (λ hasher bytes. record { hash = number_hash hasher.hash bytes }) (λ hasher. hasher.hash) number_writes
+
+-- how a script's cache behaves, by what it keeps for that
+abbrev pub cache_behaviour : BehaviourData CacheHasher Bytes NoExpiry → Behaviour ℕ Text
+cache_behaviour = behaviour_by cache_hash (λ weigher key text. byte_weight (string_bytes text)) (λ expiry. no_lifetimes)
+
+-- what a script's cache is, by what it keeps
+abbrev pub view : CacheData → View ℕ Text
+view = view_by cache_behaviour (estimates (noted 6) (estimated 6)) (none_noted 6)
+
+-- A session is where the script has come: its cache stands for the accepted steps, and its moment is the script's.
+pub record IsAt (cache : CacheData) (moment : ℕ) (settings : CacheSettings) (course : Course) : Type 0 where
+  pub stands : StandsFor nat_eq settings (view cache) course.steps
+  pub now : moment ≡ course.moment
+
+-- Wherever the script has come, the command prints these lines, and the session is where it comes.
+abbrev pub Prints : CacheData → ℕ → PlainCommand → List (List ℕ) → CacheData → ℕ → Type 0
+Prints cache moment command printed cache_after moment_after =
+    (settings : CacheSettings) (before : Course) → IsAt cache moment settings before →
+    (after : Course) × CommandPrints settings before command printed after × IsAt cache_after moment_after settings after
+
+-- Wherever the script has come, the line prints what is written, and the session is where it comes.
+abbrev pub DoesLine : CacheData → ℕ → List ℕ → Bool → CacheData → ℕ → Option (List ℕ) → Option (List ℕ) → Type 0
+DoesLine cache moment line bad cache_after moment_after held held_after =
+    (settings : CacheSettings) (before : Course) → IsAt cache moment settings before →
+    (printed : List (List ℕ)) × (after : Course) × LinePrints settings before (command_by_line line) printed after bad
+    × IsAt cache_after moment_after settings after × Appends held held_after (lines_text printed)

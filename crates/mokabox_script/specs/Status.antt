@@ -1,0 +1,9 @@
+use Rattle.std.specs.Prelude.{ℕ}
+use Rattle.mokabox_script.specs.declared.script.Status.{Status}
+use Rattle.mokabox_script.specs.declared.script.Status.TheVariants.{Done, Bad, Failed}
+
+-- the program's exit status
+abbrev pub code_of : Status → ℕ
+code_of Done = 0
+code_of Failed = 1
+code_of Bad = 2

@@ -1,0 +1,202 @@
+//! The cache that a script drives.
+ghost use Rattle.std.specs.Prelude.{◌≡◌, refl, map, is_some, IfOk};
+ghost use Rattle.std.specs.Arc.{arc_value};
+ghost use Rattle.std.specs.String.{string_bytes};
+ghost use Rattle.std.proofs.Math.Path.{◌∙◌};
+ghost use Rattle.moka_model.specs.Lives.{no_lifetimes};
+ghost use Rattle.moka_policy.specs.Policy.{is_lru};
+ghost use Rattle.mokabox_lines.specs.Answer.{answer_text};
+ghost use Rattle.mokabox_lines.specs.Command.{plain_command};
+ghost use Rattle.mokabox_script.specs.Script.{beginning, is_lru_by, cache_settings, answer_of};
+ghost use Rattle.mokabox_script.specs.Session.{IsAt, Prints};
+ghost use Rattle.mokabox_lines.specs.Settings.{byte_weight};
+ghost use Rattle.mokabox_lines.specs.declared.command.Command.TheVariants as commands;
+
+use moka::policy::{CacheTypes, CountTable, EvictionPolicy, NoExpiry, NumberHash, Weigher};
+use moka::state::{CacheState, Reply, Settings, Step};
+use mokabox_lines::answer::{Answer, BuildRefusal};
+use mokabox_lines::command::Command;
+use mokabox_lines::settings;
+use mokabox_lines::settings::{Eviction, Weighing};
+use std::alloc::{AllocError, Global};
+use std::convert::Infallible;
+use std::hash::BuildHasherDefault;
+use std::sync::Arc;
+use std::time::Duration;
+
+/// The types of a script's cache: its keys are numbers, which are their own hashes, and its values are texts.
+pub struct ScriptTypes;
+
+impl CacheTypes<u64, String> for ScriptTypes {
+    type Hasher = BuildHasherDefault<NumberHash>;
+
+    type Weigher = Bytes;
+
+    type Expiry = NoExpiry;
+
+    type Frequency = CountTable<6>;
+
+    type Error = Infallible;
+
+    ghost weight = { λ _ _ text. byte_weight (string_bytes text) };
+
+    ghost equal_keys_weigh = { λ _ _ _ _ _. refl };
+
+    ghost lifetimes = { λ _. no_lifetimes };
+
+    ghost keeps = { λ _ _. Unit {0} };
+
+    ghost equal_keys_keep = { λ _ _ _ _ _. tt };
+
+    ghost copies_keep = { λ _ _ _ _ _. tt };
+
+    ghost copies_compose = { λ _ _ _ a b. b ∙ a };
+}
+
+/// Weighs each text by its length in bytes, or by the greatest weight where it is longer than that.
+#[derive(Clone, Copy, Debug)]
+pub struct Bytes;
+
+impl Weigher<u64, String> for Bytes {
+    ghost weighs = { λ _ weight. weight ≡ (λ _ text. byte_weight (string_bytes text)) };
+
+    fn weigh(&self, _key: &u64, text: &String) -> u32 {
+        u32::try_from(text.len()).unwrap_or(u32::MAX)
+    }
+}
+
+/// A cache and the moment of the commands.
+#[derive(Drop)]
+pub struct Session {
+    alloc: Global,
+    cache: CacheState<u64, String, ScriptTypes>,
+    moment: u64,
+}
+
+impl Session {
+    /// A cache with these settings, at moment 0.
+    pub fn new(alloc: Global, settings: settings::Settings) -> Result<Self, BuildRefusal>
+        ensures { IfOk result (λ session. IsAt session.cache session.moment (cache_settings settings) beginning) }
+    {
+        let Ok(hasher) = Arc::new(alloc, BuildHasherDefault::default()) else {
+            return Err(BuildRefusal::OutOfMemory);
+        };
+        let Ok(weigher) = weigher_of(alloc, settings.weigher) else {
+            return Err(BuildRefusal::OutOfMemory);
+        };
+        let settings = Settings {
+            time_to_live: settings.time_to_live.map(Duration::from_secs),
+            time_to_idle: settings.time_to_idle.map(Duration::from_secs),
+            max_capacity: settings.capacity,
+            eviction_policy: policy_of(settings.policy),
+            weigher,
+            expiry: None,
+            first_number: settings.first_number.unwrap_or(0),
+            hasher,
+        };
+        match CacheState::new(alloc, settings) {
+            Ok(cache) => Ok(Session {
+                alloc,
+                cache,
+                moment: 0,
+            }),
+            Err(_) => Err(BuildRefusal::OutOfMemory),
+        }
+    }
+
+    /// Does a command, and answers it. An `Err` is want of memory for the answers or for what is handed in: the command
+    /// may then be done.
+    pub fn execute(&mut self, command: Command<&str>) -> Result<Vec<Answer>, AllocError>
+        ensures { IfOk result (λ answers. Prints self.old.cache self.old.moment (plain_command command.entry)
+            (map answer_text answers.items) self.new.cache self.new.moment) }
+    {
+        let now = self.moment;
+        let step = match command {
+            Command::At(moment) => {
+                self.moment = moment;
+                return Ok(Vec::new(self.alloc));
+            }
+            Command::Notices => return self.notices(),
+            Command::Insert(key, value) => Step::Insert {
+                key: self.shared(key)?,
+                value: String::from_str(self.alloc, value)?,
+                now,
+            },
+            Command::Get(key) => Step::Get {
+                key: self.shared(key)?,
+                now,
+            },
+            Command::Has(key) => Step::ContainsKey {
+                key: self.shared(key)?,
+                now,
+            },
+            Command::Invalidate(key) => Step::Invalidate {
+                key: self.shared(key)?,
+                now,
+            },
+            Command::Tasks => Step::RunPendingTasks { now },
+            Command::Count => Step::EntryCount,
+            Command::Weight => Step::WeightedSize,
+        };
+        let answer = answer_of(self.cache.step(step));
+        Ok(vec![in self.alloc; answer]?)
+    }
+
+    // A key as a step takes it.
+    fn shared(&self, key: u64) -> Result<Arc<u64>, AllocError>
+        ensures { IfOk result (λ shared. arc_value shared ≡ key) }
+    {
+        Ok(Arc::new(self.alloc, key)?)
+    }
+
+    // Takes the notices, and then once more, when there is none.
+    fn notices(&mut self) -> Result<Vec<Answer>, AllocError>
+        ensures { IfOk result (λ answers. Prints self.old.cache self.old.moment commands.Notices
+            (map answer_text answers.items) self.new.cache self.new.moment) }
+    {
+        let mut answers = Vec::new(self.alloc);
+        for _ in 0..self.cache.notice_count() {
+            let answer = answer_of(self.cache.step(Step::TakeNotice));
+            answers.push(answer)?;
+        }
+        let last = answer_of(self.cache.step(Step::TakeNotice));
+        answers.push(last)?;
+        Ok(answers)
+    }
+}
+
+// What a reply of the cache is printed as.
+fn answer_of(reply: Reply<u64, String>) -> Answer
+    ensures { result ≡ answer_of reply }
+{
+    match reply {
+        Reply::Found(Some(value)) => Answer::Found(value),
+        Reply::Found(None) => Answer::NotFound,
+        Reply::Contains(is_there) => Answer::Whether(is_there),
+        Reply::Done => Answer::Done,
+        Reply::Counted(count) => Answer::Counted(count),
+        Reply::Noticed(Some(notice)) => Answer::Left(*notice.key, notice.value, notice.cause),
+        Reply::Noticed(None) => Answer::End,
+        Reply::Refused(refused) => Answer::Refused(refused),
+    }
+}
+
+// What weighs the values of a cache, where its settings say how.
+fn weigher_of(alloc: Global, weighing: Option<Weighing>) -> Result<Option<Arc<Bytes>>, AllocError>
+    ensures { IfOk result (λ weigher. is_some weigher ≡ is_some weighing) }
+{
+    match weighing {
+        Some(Weighing::Bytes) => Ok(Some(Arc::new(alloc, Bytes)?)),
+        None => Ok(None),
+    }
+}
+
+// The policy of a cache: TinyLFU, where its settings don't say otherwise.
+fn policy_of(eviction: Option<Eviction>) -> EvictionPolicy
+    ensures { is_lru result ≡ is_lru_by eviction }
+{
+    match eviction {
+        Some(Eviction::Lru) => EvictionPolicy::lru(),
+        Some(Eviction::TinyLfu) | None => EvictionPolicy::tiny_lfu(),
+    }
+}

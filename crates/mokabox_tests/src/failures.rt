@@ -1,0 +1,143 @@
+//! Arguments, and readers and writers that fail.
+use crate::runs::{Row, SOUND, Way, goes};
+use mokabox_script::script::Status;
+use std::test::Fail;
+
+const USAGE: &str = "usage: mokabox [threads N]\n";
+
+const SCRIPT: &str = "new\ninsert 1 a\nget 1\nhas 2\n";
+
+const PRINTED: &str = "ok\nok\nsome a\nfalse\n";
+
+#[test]
+fn any_argument_is_answered_with_the_usage(rt: HostRuntime) -> Result<(), Fail> {
+    // The reader is broken, so that a run which reads would fail.
+    let way = Way {
+        breaks: true,
+        ..SOUND
+    };
+    for arguments in [
+        ["threads"].as_slice(),
+        &["threads", "2"],
+        &["--help"],
+        &[""],
+        &["new", "", "new"],
+    ] {
+        goes(
+            &rt,
+            rt.alloc(),
+            way,
+            arguments,
+            b"",
+            USAGE.as_bytes(),
+            Status::Bad,
+        )?;
+    }
+    Ok(())
+}
+
+#[test]
+fn a_writer_that_is_full_fails_the_run(rt: HostRuntime) -> Result<(), Fail> {
+    let usage = ["threads", "2"];
+    for (arguments, wanted) in [([].as_slice(), PRINTED), (&usage, USAGE)] {
+        for room in 0..wanted.len() {
+            let way = Way { room, ..SOUND };
+            let taken = &wanted.as_bytes()[..room];
+            goes(
+                &rt,
+                rt.alloc(),
+                way,
+                arguments,
+                SCRIPT.as_bytes(),
+                taken,
+                Status::Failed,
+            )?;
+        }
+    }
+    let way = Way {
+        room: PRINTED.len(),
+        ..SOUND
+    };
+    goes(
+        &rt,
+        rt.alloc(),
+        way,
+        &[],
+        SCRIPT.as_bytes(),
+        PRINTED.as_bytes(),
+        Status::Done,
+    )
+}
+
+#[test]
+fn a_flush_that_fails_fails_the_run(rt: HostRuntime) -> Result<(), Fail> {
+    let way = Way {
+        flush_fails: true,
+        ..SOUND
+    };
+    for (script, wanted) in [
+        ("", ""),
+        ("new", "ok\n"),
+        (SCRIPT, PRINTED),
+        ("new\nnew\n", "ok\nbad line\n"),
+        ("\n", "bad line\n"),
+    ] {
+        goes(
+            &rt,
+            rt.alloc(),
+            way,
+            &[],
+            script.as_bytes(),
+            wanted.as_bytes(),
+            Status::Failed,
+        )?;
+    }
+    goes(
+        &rt,
+        rt.alloc(),
+        way,
+        &["threads"],
+        b"",
+        USAGE.as_bytes(),
+        Status::Failed,
+    )
+}
+
+const BROKEN: [Row; 8] = [
+    ("", "", Status::Failed),
+    ("ne", "", Status::Failed),
+    ("new\n", "ok\n", Status::Failed),
+    ("new\ninsert 1 a\nget 1", "ok\nok\n", Status::Failed),
+    (
+        "new\ninsert 1 a\nget 1\n",
+        "ok\nok\nsome a\n",
+        Status::Failed,
+    ),
+    ("new\n\n", "ok\nbad line\n", Status::Failed),
+    // A bad first line ends the run at once.
+    ("\n", "bad line\n", Status::Bad),
+    ("new new\n", "bad line\n", Status::Bad),
+];
+
+#[test]
+fn a_broken_reader_fails_the_run(rt: HostRuntime) -> Result<(), Fail> {
+    for (script, wanted, status) in BROKEN {
+        for piece in [1, 7, 4096] {
+            let way = Way {
+                piece,
+                breaks: true,
+                ..SOUND
+            };
+            goes(
+                &rt,
+                rt.alloc(),
+                way,
+                &[],
+                script.as_bytes(),
+                wanted.as_bytes(),
+                status,
+            )?;
+        }
+    }
+    Ok(())
+}

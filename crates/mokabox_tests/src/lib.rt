@@ -1,0 +1,15 @@
+//! The tests of the program, over whole runs.
+//!
+//! Almost all are tables: a script, what it prints, and how it ends. `runs` says how a row is run.
+#![tactic(auto)]
+
+#[cfg(test)]
+mod answers;
+#[cfg(test)]
+mod failures;
+#[cfg(test)]
+mod lines;
+#[cfg(test)]
+mod runs;
+#[cfg(test)]
+mod scripts;

@@ -1,0 +1,142 @@
+//! One run of the program, over a reader and a writer that are told how to go and where to fail.
+use mokabox_script::program::run_program;
+use mokabox_script::script::Status;
+use std::alloc::Global;
+use std::io;
+use std::io::{BufReader, Error, ErrorKind, Read, Write};
+use std::process::Abort;
+use std::test::Fail;
+
+/// A script, what it prints, and how it ends.
+pub type Row = (&'static str, &'static str, Status);
+
+/// How the reader and the writer of a run go.
+#[derive(Clone, Copy)]
+pub struct Way {
+    /// How many bytes a read gives at most.
+    pub piece: usize,
+    /// Whether a read fails once all bytes are given, in place of the end of the input.
+    pub breaks: bool,
+    /// How many bytes the writer takes before a write fails.
+    pub room: usize,
+    /// Whether a flush fails.
+    pub flush_fails: bool,
+}
+
+/// Large pieces, and no failure.
+pub const SOUND: Way = Way {
+    piece: 4096,
+    breaks: false,
+    room: usize::MAX,
+    flush_fails: false,
+};
+
+/// Asserts what each script prints, and how it ends.
+pub fn prints(rt: &impl Abort, alloc: Global, table: &[Row]) -> Result<(), Fail> {
+    for (script, wanted, status) in table {
+        prints_bytes(rt, alloc, script.as_bytes(), wanted.as_bytes(), *status)?;
+    }
+    Ok(())
+}
+
+/// Asserts what a script prints, and how it ends, however small the pieces are in which it is read.
+pub fn prints_bytes(
+    rt: &impl Abort,
+    alloc: Global,
+    script: &[u8],
+    wanted: &[u8],
+    status: Status,
+) -> Result<(), Fail> {
+    for piece in [1, 7, 4096] {
+        goes(
+            rt,
+            alloc,
+            Way { piece, ..SOUND },
+            &[],
+            script,
+            wanted,
+            status,
+        )?;
+    }
+    Ok(())
+}
+
+/// Asserts what a run writes, and how it ends.
+pub fn goes(
+    rt: &impl Abort,
+    alloc: Global,
+    way: Way,
+    arguments: &[&str],
+    script: &[u8],
+    wanted: &[u8],
+    status: Status,
+) -> Result<(), Fail> {
+    let mut words = Vec::new(alloc);
+    for argument in arguments {
+        words.push(String::from_str(alloc, argument)?)?;
+    }
+    let source = Source {
+        rest: script,
+        piece: way.piece,
+        breaks: way.breaks,
+    };
+    let mut sink = Sink {
+        taken: Vec::new(alloc),
+        room: way.room,
+        flush_fails: way.flush_fails,
+    };
+    let ended = run_program(alloc, &words, BufReader::new(alloc, source)?, &mut sink);
+    assert_eq!(rt;
+        sink.taken.as_slice(),
+        wanted,
+        "of {script:?} in pieces of {}",
+        way.piece
+    );
+    assert_eq!(rt; ended, status, "of {script:?} in pieces of {}", way.piece);
+    Ok(())
+}
+
+/// A reader that gives its bytes in pieces.
+#[derive(Drop)]
+struct Source<'a> {
+    rest: &'a [u8],
+    piece: usize,
+    breaks: bool,
+}
+
+impl Read for Source<'_> {
+    fn read(&mut self, buf: &mut [u8]) -> io::Result<usize> {
+        if self.breaks && self.rest.is_empty() {
+            return Err(Error::from(ErrorKind::Other));
+        }
+        let length = self.piece.min(buf.len());
+        self.rest.read(&mut buf[..length])
+    }
+}
+
+/// A writer that takes so many bytes and then fails.
+#[derive(Drop)]
+struct Sink {
+    taken: Vec<u8>,
+    room: usize,
+    flush_fails: bool,
+}
+
+impl Write for Sink {
+    fn write(&mut self, buf: &[u8]) -> io::Result<usize> {
+        let length = self.room.min(buf.len());
+        if length < buf.len() && length == 0 {
+            return Err(Error::from(ErrorKind::Other));
+        }
+        self.taken.extend_from_slice(&buf[..length])?;
+        self.room -= length;
+        Ok(length)
+    }
+
+    fn flush(&mut self) -> io::Result<()> {
+        if self.flush_fails {
+            return Err(Error::from(ErrorKind::Other));
+        }
+        Ok(())
+    }
+}

@@ -1,0 +1,222 @@
+//! Scripts whose values live, leave and are admitted.
+use crate::runs::{Row, prints};
+use mokabox_script::script::Status;
+use std::test::Fail;
+
+const LIVES: [Row; 8] = [
+    (
+        "new ttl=10\ninsert 1 one\nget 1\nat 10000000000\nget 1\n",
+        "ok\nok\nsome one\nnone\n",
+        Status::Done,
+    ),
+    (
+        "new ttl=10\ninsert 1 a\nat 10000000000\ninsert 1 b\nnotices\n",
+        "ok\nok\nok\nnotice 1 a Expired\nend\n",
+        Status::Done,
+    ),
+    (
+        "new tti=5 ttl=7\ninsert 1 a\ninsert 1 b\nhas 1\nat 5000000000\nhas 1\nnotices",
+        "ok\nok\nok\ntrue\nfalse\nnotice 1 a Replaced\nend\n",
+        Status::Done,
+    ),
+    (
+        "new capacity=10 policy=lru ttl=10\ninsert 1 one\nat 9999999999\nget 1\n\
+         at 10000000000\nget 1\nat 9000000000\nget 1\ncount\ntasks\ncount\nnotices\n",
+        "ok\nok\nsome one\nnone\nnone\n1\nok\n0\nnotice 1 one Expired\nend\n",
+        Status::Done,
+    ),
+    // The moment goes back: `has` has not recorded the one before, and `get` has.
+    (
+        "new ttl=10\ninsert 1 a\nat 10000000000\nhas 1\nat 9999999999\nhas 1\nget 1\n",
+        "ok\nok\nfalse\ntrue\nsome a\n",
+        Status::Done,
+    ),
+    (
+        "new ttl=10\ninsert 1 a\nat 10000000000\nget 1\nat 9999999999\nhas 1\nget 1\n",
+        "ok\nok\nnone\nfalse\nnone\n",
+        Status::Done,
+    ),
+    (
+        "new tti=5\nat 4000000000\ninsert 1 a\nat 0\nget 1\nat 8999999999\nhas 1\n\
+         at 9000000000\nhas 1\n",
+        "ok\nok\nsome a\ntrue\nfalse\n",
+        Status::Done,
+    ),
+    (
+        "new ttl=31536000000\nat 18446744073709551615\ninsert 1 a\nat 0\nget 1\n",
+        "ok\nok\nsome a\n",
+        Status::Done,
+    ),
+];
+
+#[test]
+fn values_live_as_long_as_they_may(rt: HostRuntime) -> Result<(), Fail> {
+    prints(&rt, rt.alloc(), &LIVES)
+}
+
+const NUMBERS: [Row; 2] = [
+    (
+        "new first=18446744073709551614\ninsert 1 a\ninsert 2 b\nget 1\ninvalidate 1\nnotices\n",
+        "ok\nok\nrefused 2\nsome a\nok\nnotice 1 a Explicit\nend\n",
+        Status::Done,
+    ),
+    (
+        "new first=18446744073709551615\ninsert 1 a\nget 1\ninvalidate 1\ncount\n",
+        "ok\nrefused 2\nnone\nok\n0\n",
+        Status::Done,
+    ),
+];
+
+#[test]
+fn a_write_is_refused_where_the_numbers_are_used_up(rt: HostRuntime) -> Result<(), Fail> {
+    prints(&rt, rt.alloc(), &NUMBERS)
+}
+
+const CAPACITIES: [Row; 3] = [
+    (
+        "new capacity=2 policy=lru\ninsert 1 a\ninsert 2 b\ntasks\nget 1\ninsert 3 c\ntasks\n\
+         notices\n",
+        "ok\nok\nok\nok\nsome a\nok\nok\nnotice 2 b Size\nend\n",
+        Status::Done,
+    ),
+    (
+        "new policy=lru capacity=0\ninsert 0 x\nhas 0\nget 0\ncount\ntasks\ncount\nnotices\n",
+        "ok\nok\nfalse\nnone\n0\nok\n0\nend\n",
+        Status::Done,
+    ),
+    (
+        "new capacity=1 policy=lru\ninsert 1 a\ntasks\nget 1\ncount\n",
+        "ok\nok\nok\nsome a\n1\n",
+        Status::Done,
+    ),
+];
+
+#[test]
+fn a_capacity_is_kept(rt: HostRuntime) -> Result<(), Fail> {
+    prints(&rt, rt.alloc(), &CAPACITIES)
+}
+
+const FIRST_LINES: [Row; 17] = [
+    ("new policy=lru\ncount\n", "ok\n0\n", Status::Done),
+    ("new capacity=10\ncount\n", "ok\n0\n", Status::Done),
+    ("new policy=tinylfu\nweight\n", "ok\n0\n", Status::Done),
+    ("new policy=lru policy=lru\n", "bad line\n", Status::Bad),
+    ("new policy=lru policy=tinylfu\n", "bad line\n", Status::Bad),
+    ("new policy=TinyLfu\n", "bad line\n", Status::Bad),
+    ("new weigher=entries\n", "bad line\n", Status::Bad),
+    (
+        "new weigher=bytes weigher=bytes\n",
+        "bad line\n",
+        Status::Bad,
+    ),
+    ("", "", Status::Done),
+    ("\n", "bad line\n", Status::Bad),
+    ("insert 1 a\nnew\n", "bad line\n", Status::Bad),
+    ("new ttl=1 ttl=2\nhas 1\n", "bad line\n", Status::Bad),
+    ("new ttl=01\n", "bad line\n", Status::Bad),
+    ("new\nhas 1", "ok\nfalse\n", Status::Done),
+    ("new ", "bad line\n", Status::Bad),
+    ("new capacity=\n", "bad line\n", Status::Bad),
+    ("new\nnew\nhas 1\n", "ok\nbad line\nfalse\n", Status::Bad),
+];
+
+#[test]
+fn the_first_line_says_how_the_cache_is_built(rt: HostRuntime) -> Result<(), Fail> {
+    prints(&rt, rt.alloc(), &FIRST_LINES)
+}
+
+const WEIGHED: [Row; 2] = [
+    (
+        "new capacity=5 weigher=bytes\ninsert 1 abc\ninsert 2 de\nget 1\nget 2\ntasks\n\
+         insert 3 fghi\nget 3\nget 3\ntasks\nnotices\nweight\n",
+        "ok\nok\nok\nsome abc\nsome de\nok\n\
+         ok\nsome fghi\nsome fghi\nok\nnotice 3 fghi Size\nend\n5\n",
+        Status::Done,
+    ),
+    (
+        "new capacity=5 weigher=bytes\ninsert 1 abc\ninsert 2 de\nget 1\nget 2\ntasks\n\
+         insert 3 fghi\nget 3\nget 3\nget 3\ntasks\nnotices\nweight\n",
+        "ok\nok\nok\nsome abc\nsome de\nok\n\
+         ok\nsome fghi\nsome fghi\nsome fghi\nok\nnotice 1 abc Size\nnotice 2 de Size\nend\n4\n",
+        Status::Done,
+    ),
+];
+
+#[test]
+fn values_are_weighed_by_their_bytes(rt: HostRuntime) -> Result<(), Fail> {
+    prints(&rt, rt.alloc(), &WEIGHED)
+}
+
+const ADMITTED: [Row; 1] = [(
+    "new capacity=3\ninsert 1 alice\ninsert 2 bob\nget 1\nget 2\ntasks\n\
+     insert 3 cindy\nget 3\ntasks\nget 1\nget 2\ntasks\n\
+     insert 4 david\ntasks\nnotices\nget 4\ninsert 4 david\ntasks\nnotices\nget 4\n\
+     insert 4 dennis\ntasks\nnotices\nget 4\ninvalidate 2\nnotices\n",
+    "ok\nok\nok\nsome alice\nsome bob\nok\n\
+     ok\nsome cindy\nok\nsome alice\nsome bob\nok\n\
+     ok\nok\nnotice 4 david Size\nend\nnone\nok\nok\nnotice 4 david Size\nend\nnone\n\
+     ok\nok\nnotice 3 cindy Size\nend\nsome dennis\nok\nnotice 2 bob Explicit\nend\n",
+    Status::Done,
+)];
+
+#[test]
+fn a_value_is_admitted_once_it_was_looked_for_more(rt: HostRuntime) -> Result<(), Fail> {
+    prints(&rt, rt.alloc(), &ADMITTED)
+}
+
+const HEAVY: [Row; 1] = [(
+    "new capacity=31 weigher=bytes\ninsert 1 alicealice\ninsert 2 bobbobbobbobbob\nget 1\nget 2\n\
+     tasks\ninsert 3 cindy\nget 3\ntasks\nget 1\nget 2\ntasks\n\
+     insert 4 daviddaviddavid\ntasks\nget 4\ninsert 4 daviddaviddavid\ntasks\nget 4\n\
+     insert 4 daviddaviddavid\ntasks\nget 4\ninsert 4 daviddaviddavid\ntasks\nget 4\nnotices\n\
+     insert 4 dennis-dennis-d\ntasks\nnotices\nget 1\nget 2\nget 3\nget 4\n\
+     insert 2 billbillbillbillbill\ntasks\nnotices\n\
+     insert 1 alicealice\ninsert 2 bobbobbobbobbob\ntasks\nnotices\ncount\nweight\n",
+    "ok\nok\nok\nsome alicealice\nsome bobbobbobbobbob\n\
+     ok\nok\nsome cindy\nok\nsome alicealice\nsome bobbobbobbobbob\nok\n\
+     ok\nok\nnone\nok\nok\nnone\n\
+     ok\nok\nnone\nok\nok\nnone\n\
+     notice 4 daviddaviddavid Size\nnotice 4 daviddaviddavid Size\n\
+     notice 4 daviddaviddavid Size\nnotice 4 daviddaviddavid Size\nend\n\
+     ok\nok\nnotice 3 cindy Size\nnotice 1 alicealice Size\nend\n\
+     none\nsome bobbobbobbobbob\nnone\nsome dennis-dennis-d\n\
+     ok\nok\nnotice 2 bobbobbobbobbob Replaced\nnotice 4 dennis-dennis-d Size\nend\n\
+     ok\nok\nok\nnotice 2 billbillbillbillbill Replaced\nend\n2\n25\n",
+    Status::Done,
+)];
+
+#[test]
+fn a_heavy_value_needs_more_looks_than_its_victims(rt: HostRuntime) -> Result<(), Fail> {
+    prints(&rt, rt.alloc(), &HEAVY)
+}
+
+// A key is looked for twice, and then another is written where one that was looked for once is
+// stored: the write's key is admitted exactly where the two share a counter.
+const SHARED: [Row; 4] = [
+    (
+        "new capacity=1\ninsert 2 a\nget 2\ntasks\nget 65\nget 65\ninsert 1 b\ntasks\nnotices\n",
+        "ok\nok\nsome a\nok\nnone\nnone\nok\nok\nnotice 2 a Size\nend\n",
+        Status::Done,
+    ),
+    (
+        "new capacity=1\ninsert 2 a\nget 2\ntasks\nget 33\nget 33\ninsert 1 b\ntasks\nnotices\n",
+        "ok\nok\nsome a\nok\nnone\nnone\nok\nok\nnotice 1 b Size\nend\n",
+        Status::Done,
+    ),
+    (
+        "new capacity=1\ninsert 2 a\nget 2\ntasks\nget 18446744073709551553\n\
+         get 18446744073709551553\ninsert 1 b\ntasks\nnotices\n",
+        "ok\nok\nsome a\nok\nnone\nnone\nok\nok\nnotice 2 a Size\nend\n",
+        Status::Done,
+    ),
+    (
+        "new capacity=1\ninsert 2 a\nget 2\ntasks\nget 3\nget 3\ninsert 1 b\ntasks\nnotices\n",
+        "ok\nok\nsome a\nok\nnone\nnone\nok\nok\nnotice 1 b Size\nend\n",
+        Status::Done,
+    ),
+];
+
+#[test]
+fn keys_share_a_counter_by_their_lowest_six_bits(rt: HostRuntime) -> Result<(), Fail> {
+    prints(&rt, rt.alloc(), &SHARED)
+}
