@@ -337,8 +337,10 @@ impl<K: Hash + Drop, V: Clone, C: CacheTypes<K, V>, R: RowStore<K, V>> State<K, 
 
     /// Whether a key has a live value at a moment. It is no use of the value, and records nothing.
     pub fn contains_key(&self, key: &K, now: u64) -> bool
-        ensures reply { ⟦<C as StateView<K, V>>⟧.answers self.now (ContainsKey key.now now) (Contains result) }
-        ensures stands { ⟦<C as StateView<K, V>>⟧.follows self.now (ContainsKey key.now now) self.now }
+        ensures reply { ⟦<C as StateView<K, V>>⟧.answers self.now
+            (ContainsKey key.now now) (Contains result) }
+        ensures stands { ⟦<C as StateView<K, V>>⟧.follows self.now
+            (ContainsKey key.now now) self.now }
     {
         let now = self.latest.max(now);
         let hash = self.behaviour.hash(key);
