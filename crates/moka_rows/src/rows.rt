@@ -102,6 +102,7 @@ pub trait RowStore<K: Eq, V>: Drop {
     /// Makes room for one more row. Where memory is refused, every row stays as it was.
     fn reserve(&mut self) -> Result<(), AllocError>
         ensures room { OnOk result (0 < room self.new) }
+        ensures more { room self.old ≤ room self.new }
         ensures waiting { waiting self.new ≡ waiting self.old }
         ensures admitted { admitted self.new ≡ admitted self.old };
 

@@ -10,7 +10,8 @@ ghost use Rattle.moka_model.specs.Steps.{events_in};
 ghost use Rattle.moka_model.specs.Calls.{Get, ContainsKey, Insert, Invalidate, RunPendingTasks, EntryCount, WeightedSize, TakeNotice, Found, Contains, Counted, Noticed, live_at};
 ghost use Rattle.moka_model.specs.SizeLaws.{WeighsOnes};
 ghost use Rattle.moka_policy.specs.Policy.{is_lru};
-ghost use Rattle.moka_table.specs.Table.{removal_of};
+ghost use Rattle.moka_table.specs.Table.{entries, removal_of};
+ghost use Rattle.moka_maintain.specs.Maintain.{IsDueFrom, IsMaintained};
 ghost use Rattle.moka_ways.specs.Behaviour.{hash_by};
 ghost use Rattle.moka_state.specs.State.{StateData, settings_of, books_by, all_writes, IsSound};
 ghost use Rattle.moka_state.specs.Write.{WriteEnds};
@@ -73,17 +74,53 @@ const FLUSH_POINT: usize = 64;
 #[derive(Drop)]
 pub struct State<K: Hash + Drop, V: Clone, C: CacheTypes<K, V>, R: RowStore<K, V>> {
     table: Table<K, V, R>,
-    lives: Lives,
-    max_capacity: Option<u64>,
-    // No admitted value's deadline comes before it; without it none comes.
-    earliest: Option<u128>,
+    upkeep: Upkeep<C::Frequency>,
     latest: u64,
     first_number: u64,
     next_number: u64,
     behaviour: Behaviour<K, V, C>,
-    // It has noted the hash of each key that `get` looked for.
-    source: C::Frequency,
     alloc: Global,
+}
+
+/// What a maintenance goes by, beside the rows and the policy.
+#[derive(Drop)]
+struct Upkeep<F: FrequencySource> {
+    lives: Lives,
+    max_capacity: Option<u64>,
+    // No admitted value's deadline comes before it; without it none comes.
+    earliest: Option<u128>,
+    // It has noted the hash of each key that `get` looked for.
+    source: F,
+}
+
+impl<F: FrequencySource> Upkeep<F> {
+    /// Runs a maintenance of a table, and notes the earliest deadline of what stays, or an earlier
+    /// moment.
+    fn maintain<K: Eq + Drop, V: Drop, R: RowStore<K, V>>(
+        &mut self,
+        table: &mut Table<K, V, R>,
+        policy: EvictionPolicy,
+        now: u64,
+    )
+        requires { IsDueFrom self.old.earliest self.old.lives table.old.admitted }
+        ensures maintained { IsMaintained self.old.lives (is_lru policy) (F.count self.old.source)
+            self.old.max_capacity now table.old table.new }
+        ensures due { IsDueFrom self.new.earliest self.old.lives (entries table.new) }
+        ensures room { table.old.room ≤ table.new.room }
+        ensures lives { self.new.lives ≡ self.old.lives }
+        ensures max_capacity { self.new.max_capacity ≡ self.old.max_capacity }
+        ensures source { self.new.source ≡ self.old.source }
+    {
+        self.earliest = maintain(
+            table,
+            &self.lives,
+            self.max_capacity,
+            policy,
+            &self.source,
+            self.earliest,
+            now,
+        );
+    }
 }
 
 /// A cache over rows in a slab.
@@ -93,16 +130,16 @@ impl<K: Hash + Drop, V: Clone, C: CacheTypes<K, V>, R: RowStore<K, V>> Model for
     ghost Value = { StateData K V C.Hasher C.Weigher C.Expiry C.Frequency };
 
     ghost view = { λ state. record {
-      settings = settings_of state.lives.time_to_live state.lives.time_to_idle state.max_capacity
-          state.first_number state.behaviour;
+      settings = settings_of state.upkeep.lives.time_to_live state.upkeep.lives.time_to_idle
+          state.upkeep.max_capacity state.first_number state.behaviour;
       books = books_by state.table state.latest state.next_number;
-      source = state.source;
+      source = state.upkeep.source;
     } };
 
     ghost invariant = { λ state. IsSound C.keeps
         (hash_by C.Hasher.build_hasher C.Hasher.Hasher.write C.Hasher.Hasher.finish K.hash_input
         state.behaviour.hasher)
-        state.lives state.earliest state.table };
+        state.upkeep.lives state.upkeep.earliest state.table };
 }
 
 impl<K: Hash + Drop, V: Clone, C: CacheTypes<K, V>, R: RowStore<K, V>> State<K, V, C, R> {
@@ -128,12 +165,15 @@ impl<K: Hash + Drop, V: Clone, C: CacheTypes<K, V>, R: RowStore<K, V>> State<K, 
         let source = C::Frequency::opening(alloc)?;
         Ok(State {
             table: Table::new(alloc),
-            lives: Lives {
-                time_to_live: settings.time_to_live,
-                time_to_idle: settings.time_to_idle,
+            upkeep: Upkeep {
+                lives: Lives {
+                    time_to_live: settings.time_to_live,
+                    time_to_idle: settings.time_to_idle,
+                },
+                max_capacity: settings.max_capacity,
+                earliest: None,
+                source,
             },
-            max_capacity: settings.max_capacity,
-            earliest: None,
             latest: 0,
             first_number: settings.first_number,
             next_number: settings.first_number,
@@ -143,7 +183,6 @@ impl<K: Hash + Drop, V: Clone, C: CacheTypes<K, V>, R: RowStore<K, V>> State<K, 
                 settings.weigher,
                 settings.expiry,
             ),
-            source,
             alloc,
         })
     }
@@ -175,14 +214,14 @@ impl<K: Hash + Drop, V: Clone, C: CacheTypes<K, V>, R: RowStore<K, V>> State<K, 
         let now = self.latest.max(now);
         let hash = self.behaviour.hash(key);
         let Some(number) = self.table.find(key, hash) else {
-            self.source.note(hash);
+            self.upkeep.source.note(hash);
             self.latest = now;
             return Ok(None);
         };
         let row = self.table.row(number);
         let info = row.info;
-        if self.lives.is_expired(info, now) {
-            self.source.note(hash);
+        if self.upkeep.lives.is_expired(info, now) {
+            self.upkeep.source.note(hash);
             self.latest = now;
             return Ok(None);
         }
@@ -196,8 +235,8 @@ impl<K: Hash + Drop, V: Clone, C: CacheTypes<K, V>, R: RowStore<K, V>> State<K, 
         };
         self.table.touch(number, info);
         // The life of its own may end earlier than before.
-        self.earliest = earlier(self.earliest, self.lives.deadline(info));
-        self.source.note(hash);
+        self.upkeep.earliest = earlier(self.upkeep.earliest, self.upkeep.lives.deadline(info));
+        self.upkeep.source.note(hash);
         self.latest = now;
         Ok(Some(value))
     }
@@ -238,7 +277,7 @@ impl<K: Hash + Drop, V: Clone, C: CacheTypes<K, V>, R: RowStore<K, V>> State<K, 
             (⟦<C as StateView<K, V>>⟧.follows self.old (Insert (S.key_of key) value now) self.new)
             self.old self.new key value result }
     {
-        if self.max_capacity == Some(0) {
+        if self.upkeep.max_capacity == Some(0) {
             self.latest = self.latest.max(now);
             return Ok(());
         }
@@ -278,25 +317,19 @@ impl<K: Hash + Drop, V: Clone, C: CacheTypes<K, V>, R: RowStore<K, V>> State<K, 
         } else {
             match key.into_shared(self.alloc) {
                 Ok(key) => {
-                    self.earliest = maintain(
-                        &mut self.table,
-                        &self.lives,
-                        self.max_capacity,
-                        self.behaviour.policy(),
-                        &self.source,
-                        self.earliest,
-                        now,
-                    );
+                    self.upkeep
+                        .maintain(&mut self.table, self.behaviour.policy(), now);
                     self.table.target_now(lookup, key, hash)
                 }
                 Err(key) => return Err(InsertRefused { key, value, cause }),
             }
         };
+        let lives = &self.upkeep.lives;
         let info = self
             .table
-            .info_of(&target, &value, weight, now, &self.behaviour, &self.lives);
-        self.table.put(target, hash, value, info, &self.lives);
-        self.earliest = earlier(self.earliest, self.lives.deadline(info));
+            .info_of(&target, &value, weight, now, &self.behaviour, lives);
+        self.table.put(target, hash, value, info, lives);
+        self.upkeep.earliest = earlier(self.upkeep.earliest, lives.deadline(info));
         self.latest = now;
         self.next_number += 1;
         Ok(())
@@ -304,14 +337,19 @@ impl<K: Hash + Drop, V: Clone, C: CacheTypes<K, V>, R: RowStore<K, V>> State<K, 
 
     /// Whether a key has a live value at a moment. It is no use of the value, and records nothing.
     pub fn contains_key(&self, key: &K, now: u64) -> bool
-        ensures reply { ⟦<C as StateView<K, V>>⟧.answers self.now (ContainsKey key.now now) (Contains result) }
-        ensures stands { ⟦<C as StateView<K, V>>⟧.follows self.now (ContainsKey key.now now) self.now }
+        ensures reply { ⟦<C as StateView<K, V>>⟧.answers self.now
+            (ContainsKey key.now now) (Contains result) }
+        ensures stands { ⟦<C as StateView<K, V>>⟧.follows self.now
+            (ContainsKey key.now now) self.now }
     {
         let now = self.latest.max(now);
         let hash = self.behaviour.hash(key);
         match self.table.find(key, hash) {
             None => false,
-            Some(number) => !self.lives.is_expired(self.table.row(number).info, now),
+            Some(number) => !self
+                .upkeep
+                .lives
+                .is_expired(self.table.row(number).info, now),
         }
     }
 
@@ -324,7 +362,7 @@ impl<K: Hash + Drop, V: Clone, C: CacheTypes<K, V>, R: RowStore<K, V>> State<K, 
         let hash = self.behaviour.hash(key);
         if let Some(number) = self.table.find(key, hash) {
             let info = self.table.row(number).info;
-            let cause = self.lives.cause(info, now, RemovalCause::Explicit);
+            let cause = self.upkeep.lives.cause(info, now, RemovalCause::Explicit);
             self.table.evict(number, cause);
         }
     }
@@ -363,15 +401,8 @@ impl<K: Hash + Drop, V: Clone, C: CacheTypes<K, V>, R: RowStore<K, V>> State<K, 
             length (all_writes self.new) ≤ capacity)) }
     {
         let now = self.latest.max(now);
-        self.earliest = maintain(
-            &mut self.table,
-            &self.lives,
-            self.max_capacity,
-            self.behaviour.policy(),
-            &self.source,
-            self.earliest,
-            now,
-        );
+        self.upkeep
+            .maintain(&mut self.table, self.behaviour.policy(), now);
         self.latest = now;
     }
 

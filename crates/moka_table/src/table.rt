@@ -182,6 +182,7 @@ impl<K: Eq + Drop, V: Drop, R: RowStore<K, V>> Table<K, V, R> {
     /// changed.
     pub fn reserve(&mut self) -> Result<(), AllocError>
         ensures room { OnOk result (0 < self.new.room) }
+        ensures more { self.old.room ≤ self.new.room }
         ensures same { SameRows self.old self.new }
     {
         let rows = self.rows.len().checked_add(1).ok_or(AllocError)?;
@@ -194,6 +195,7 @@ impl<K: Eq + Drop, V: Drop, R: RowStore<K, V>> Table<K, V, R> {
     pub fn lookup(&mut self, key: &K, hash: u64) -> Result<Lookup<K>, AllocError>
         ensures lookup { IfOk result (IsLookupOf K.eq key.now hash (entries self.new)) }
         ensures room { OnOk result (0 < self.new.room) }
+        ensures more { self.old.room ≤ self.new.room }
         ensures same { SameRows self.old self.new }
     {
         self.reserve()?;

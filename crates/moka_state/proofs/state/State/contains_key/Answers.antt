@@ -26,10 +26,10 @@ returns-in-Some-clause-reply g c given steps stands =
     let s = c.self.inside in
     let row = c.row.result.now in
     let key = same-key g.K.PartialEq.eq c.args.key.now c.hash-hash.result row (rw c.row.ensures at c.in-Some.ensures.found) in
-    let it = live-row g.K.PartialEq.eq g.met.K.Eq.laws _ s.table _ s.latest s.next_number given steps (rw (← c.self.view_is) at stands) s.lives refl c.args.key.now c.args.now c.in-Some.number row c.row.ensures key in
+    let it = live-row g.K.PartialEq.eq g.met.K.Eq.laws _ s.table _ s.latest s.next_number given steps (rw (← c.self.view_is) at stands) s.upkeep.lives refl c.args.key.now c.args.now c.in-Some.number row c.row.ensures key in
     sym (ap (λ o. Contains (is_some o)) it
-    ∙ ap Contains (is_some-cond (has_come (deadline_of s.lives row.info) (max s.latest c.args.now)) _)
-    ∙ ap (λ t. Contains (not t)) (sym (c.is_expired.ensures ∙ ap (has_come (deadline_of s.lives row.info)) c.max-now.ensures)))
+    ∙ ap Contains (is_some-cond (has_come (deadline_of s.upkeep.lives row.info) (max s.latest c.args.now)) _)
+    ∙ ap (λ t. Contains (not t)) (sym (c.is_expired.ensures ∙ ap (has_come (deadline_of s.upkeep.lives row.info)) c.max-now.ensures)))
 
 pub returns-in-Some-clause-stands : goal.returns-in-Some-clause-stands
 returns-in-Some-clause-stands g c = follows-question g.K.PartialEq.eq _ (ContainsKey c.args.key.now c.args.now) (λ _ _. refl)

@@ -24,15 +24,15 @@ returns-in_default-clause-stands g c =
     let s = c.self.inside in
     let none = held-absent g.K.PartialEq.eq s.table _ c.hash-hash.ensures.alike c.self.invariant.hashed c.args.key.now c.hash-hash.result c.hash-hash.ensures.hash c.in_default.ensures.absent in
     rw (← c.self.view_is, c.max-now.ensures) (follows-event g.K.PartialEq.eq g.met.K.Eq.laws _ _ (Get c.args.key.now c.args.now) (Looked c.args.key.now c.args.now) (λ _ _. refl)
-    (λ _. becomes-absent g.K.PartialEq.eq _ s.table _ s.latest s.next_number _ c.args.key.now c.args.now (estimates-noted g.C.Frequency.FrequencySource.noted g.C.Frequency.FrequencySource.count s.source c.note.new.self c.hash-hash.result _ c.note.ensures c.hash-hash.ensures.hash) none))
+    (λ _. becomes-absent g.K.PartialEq.eq _ s.table _ s.latest s.next_number _ c.args.key.now c.args.now (estimates-noted g.C.Frequency.FrequencySource.noted g.C.Frequency.FrequencySource.count s.upkeep.source c.note.new.self c.hash-hash.result _ c.note.ensures c.hash-hash.ensures.hash) none))
 
 pub returns-then-is_expired-clause-reply : goal.returns-then-is_expired-clause-reply
 returns-then-is_expired-clause-reply g c given steps stands =
     let s = c.self.inside in
     let row = c.row-row.result.now in
     let key = same-key g.K.PartialEq.eq c.args.key.now c.hash-hash.result row (rw c.row-row.ensures at c.in-Some.ensures.found) in
-    let it = live-row g.K.PartialEq.eq g.met.K.Eq.laws _ s.table _ s.latest s.next_number given steps (rw (← c.self.view_is) at stands) s.lives refl c.args.key.now c.args.now c.in-Some.number row c.row-row.ensures key in
-    let late = sym (ap (has_come (deadline_of s.lives row.info)) c.max-now.ensures) ∙ sym c.is_expired.ensures ∙ c.if-is_expired.true in
+    let it = live-row g.K.PartialEq.eq g.met.K.Eq.laws _ s.table _ s.latest s.next_number given steps (rw (← c.self.view_is) at stands) s.upkeep.lives refl c.args.key.now c.args.now c.in-Some.number row c.row-row.ensures key in
+    let late = sym (ap (has_come (deadline_of s.upkeep.lives row.info)) c.max-now.ensures) ∙ sym c.is_expired.ensures ∙ c.if-is_expired.true in
     rw (it, late) tt
 
 pub returns-then-is_expired-clause-stands : goal.returns-then-is_expired-clause-stands
@@ -40,17 +40,17 @@ returns-then-is_expired-clause-stands g c =
     let s = c.self.inside in
     let row = c.row-row.result.now in
     let key = same-key g.K.PartialEq.eq c.args.key.now c.hash-hash.result row (rw c.row-row.ensures at c.in-Some.ensures.found) in
-    let late = sym (ap (has_come (deadline_of s.lives row.info)) c.max-now.ensures) ∙ sym c.is_expired.ensures ∙ c.if-is_expired.true in
+    let late = sym (ap (has_come (deadline_of s.upkeep.lives row.info)) c.max-now.ensures) ∙ sym c.is_expired.ensures ∙ c.if-is_expired.true in
     rw (← c.self.view_is, c.max-now.ensures) (follows-event g.K.PartialEq.eq g.met.K.Eq.laws _ _ (Get c.args.key.now c.args.now) (Looked c.args.key.now c.args.now) (λ _ _. refl)
-    (λ one. becomes-expired g.K.PartialEq.eq _ s.table _ s.latest s.next_number one s.table c.args.key.now c.args.now c.in-Some.number row c.row-row.ensures key _ (estimates-noted g.C.Frequency.FrequencySource.noted g.C.Frequency.FrequencySource.count s.source c.note-then-is_expired.new.self c.hash-hash.result _ c.note-then-is_expired.ensures c.hash-hash.ensures.hash) late))
+    (λ one. becomes-expired g.K.PartialEq.eq _ s.table _ s.latest s.next_number one s.table c.args.key.now c.args.now c.in-Some.number row c.row-row.ensures key _ (estimates-noted g.C.Frequency.FrequencySource.noted g.C.Frequency.FrequencySource.count s.upkeep.source c.note-then-is_expired.new.self c.hash-hash.result _ c.note-then-is_expired.ensures c.hash-hash.ensures.hash) late))
 
 pub returns-in_default-clone-clause-miss : goal.returns-in_default-clone-clause-miss
 returns-in_default-clone-clause-miss g c given steps stands nothing =
     let s = c.self.inside in
     let row = c.row-row.result.now in
     let key = same-key g.K.PartialEq.eq c.args.key.now c.hash-hash.result row (rw c.row-row.ensures at c.in-Some.ensures.found) in
-    let it = live-row g.K.PartialEq.eq g.met.K.Eq.laws _ s.table _ s.latest s.next_number given steps (rw (← c.self.view_is) at stands) s.lives refl c.args.key.now c.args.now c.in-Some.number row c.row-row.ensures key in
-    let late = sym (ap (has_come (deadline_of s.lives row.info)) c.max-now.ensures) ∙ sym c.is_expired.ensures ∙ c.if-is_expired.false in
+    let it = live-row g.K.PartialEq.eq g.met.K.Eq.laws _ s.table _ s.latest s.next_number given steps (rw (← c.self.view_is) at stands) s.upkeep.lives refl c.args.key.now c.args.now c.in-Some.number row c.row-row.ensures key in
+    let late = sym (ap (has_come (deadline_of s.upkeep.lives row.info)) c.max-now.ensures) ∙ sym c.is_expired.ensures ∙ c.if-is_expired.false in
     let found = rw (it, late) at nothing in
     cc
 
@@ -59,23 +59,23 @@ returns-in_default-clone-clause-copied g c given steps stands =
     let s = c.self.inside in
     let row = c.row-row.result.now in
     let key = same-key g.K.PartialEq.eq c.args.key.now c.hash-hash.result row (rw c.row-row.ensures at c.in-Some.ensures.found) in
-    let it = live-row g.K.PartialEq.eq g.met.K.Eq.laws _ s.table _ s.latest s.next_number given steps (rw (← c.self.view_is) at stands) s.lives refl c.args.key.now c.args.now c.in-Some.number row c.row-row.ensures key in
-    let late = sym (ap (has_come (deadline_of s.lives row.info)) c.max-now.ensures) ∙ sym c.is_expired.ensures ∙ c.if-is_expired.false in
+    let it = live-row g.K.PartialEq.eq g.met.K.Eq.laws _ s.table _ s.latest s.next_number given steps (rw (← c.self.view_is) at stands) s.upkeep.lives refl c.args.key.now c.args.now c.in-Some.number row c.row-row.ensures key in
+    let late = sym (ap (has_come (deadline_of s.upkeep.lives row.info)) c.max-now.ensures) ∙ sym c.is_expired.ensures ∙ c.if-is_expired.false in
     rw (it, late) (λ fine. absurd (c.in_default-clone.ensures.cases fine))
 
 pub invariant_of-self-2 : goal.invariant_of-self-2
 invariant_of-self-2 g c =
     let s = c.self.inside in
     rw (c.earlier-self-inside.ensures, c.deadline.ensures)
-    (IsSound-touched _ _ s.lives s.earliest s.table c.touch.new.self c.self.invariant c.in-Some.number c.row-row.result.now _ c.row-row.ensures c.touch.ensures.rows c.touch.ensures.notices)
+    (IsSound-touched _ _ s.upkeep.lives s.upkeep.earliest s.table c.touch.new.self c.self.invariant c.in-Some.number c.row-row.result.now _ c.row-row.ensures c.touch.ensures.rows c.touch.ensures.notices)
 
 pub returns-clause-reply : goal.returns-clause-reply
 returns-clause-reply g c given steps stands =
     let s = c.self.inside in
     let row = c.row-row.result.now in
     let key = same-key g.K.PartialEq.eq c.args.key.now c.hash-hash.result row (rw c.row-row.ensures at c.in-Some.ensures.found) in
-    let it = live-row g.K.PartialEq.eq g.met.K.Eq.laws _ s.table _ s.latest s.next_number given steps (rw (← c.self.view_is) at stands) s.lives refl c.args.key.now c.args.now c.in-Some.number row c.row-row.ensures key in
-    let late = sym (ap (has_come (deadline_of s.lives row.info)) c.max-now.ensures) ∙ sym c.is_expired.ensures ∙ c.if-is_expired.false in
+    let it = live-row g.K.PartialEq.eq g.met.K.Eq.laws _ s.table _ s.latest s.next_number given steps (rw (← c.self.view_is) at stands) s.upkeep.lives refl c.args.key.now c.args.now c.in-Some.number row c.row-row.ensures key in
+    let late = sym (ap (has_come (deadline_of s.upkeep.lives row.info)) c.max-now.ensures) ∙ sym c.is_expired.ensures ∙ c.if-is_expired.false in
     rw (it, late) c.in-Ok.ensures.cases
 
 pub returns-clause-stands : goal.returns-clause-stands
@@ -83,10 +83,10 @@ returns-clause-stands g c =
     let s = c.self.inside in
     let row = c.row-row.result.now in
     let key = same-key g.K.PartialEq.eq c.args.key.now c.hash-hash.result row (rw c.row-row.ensures at c.in-Some.ensures.found) in
-    let late = sym (ap (has_come (deadline_of s.lives row.info)) c.max-now.ensures) ∙ sym c.is_expired.ensures ∙ c.if-is_expired.false in
+    let late = sym (ap (has_come (deadline_of s.upkeep.lives row.info)) c.max-now.ensures) ∙ sym c.is_expired.ensures ∙ c.if-is_expired.false in
     let life = rw (c.deref.ensures, c.max-now.ensures) at c.life_of_hit.ensures in
     rw (← c.self.view_is, c.max-now.ensures) (follows-event g.K.PartialEq.eq g.met.K.Eq.laws _ _ (Get c.args.key.now c.args.now) (Looked c.args.key.now c.args.now) (λ _ _. refl)
-    (λ one. becomes-hit g.K.PartialEq.eq _ s.table _ s.latest s.next_number one c.touch.new.self c.args.key.now c.args.now c.in-Some.number row c.row-row.ensures key _ _ (estimates-noted g.C.Frequency.FrequencySource.noted g.C.Frequency.FrequencySource.count s.source c.note-2.new.self c.hash-hash.result _ c.note-2.ensures c.hash-hash.ensures.hash)
+    (λ one. becomes-hit g.K.PartialEq.eq _ s.table _ s.latest s.next_number one c.touch.new.self c.args.key.now c.args.now c.in-Some.number row c.row-row.ensures key _ _ (estimates-noted g.C.Frequency.FrequencySource.noted g.C.Frequency.FrequencySource.count s.upkeep.source c.note-2.new.self c.hash-hash.result _ c.note-2.ensures c.hash-hash.ensures.hash)
     (ap not late) (stored-same _ (touched _ row) refl refl refl refl refl (sym (c.max.ensures ∙ ap (max row.info.last_accessed) c.max-now.ensures)) (sym life) refl) c.touch.ensures.rows c.touch.ensures.notices))
 
 pub returns-clause-kept : goal.returns-clause-kept

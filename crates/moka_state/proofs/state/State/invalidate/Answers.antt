@@ -14,14 +14,14 @@ pub invariant_of-self : goal.invariant_of-self
 invariant_of-self g c =
     let s = c.self.inside in
     let row = c.row.result.now in
-    IsSound-taken _ _ s.lives s.earliest s.table c.evict.new.self c.self.invariant c.in-Some.number row _ c.row.ensures c.evict.ensures.rows (rw c.row.ensures at c.evict.ensures.notices)
+    IsSound-taken _ _ s.upkeep.lives s.upkeep.earliest s.table c.evict.new.self c.self.invariant c.in-Some.number row _ c.row.ensures c.evict.ensures.rows (rw c.row.ensures at c.evict.ensures.notices)
 
 pub returns-in-Some : goal.returns-in-Some
 returns-in-Some g c =
     let s = c.self.inside in
     let row = c.row.result.now in
     let key = same-key g.K.PartialEq.eq c.args.key.now c.hash-hash.result row (rw c.row.ensures at c.in-Some.ensures.found) in
-    let why = c.cause-cause.ensures ∙ ap (λ m. cond (has_come (deadline_of s.lives row.info) m) Expired Explicit) c.max-now.ensures in
+    let why = c.cause-cause.ensures ∙ ap (λ m. cond (has_come (deadline_of s.upkeep.lives row.info) m) Expired Explicit) c.max-now.ensures in
     rw (← c.self.view_is, c.max-now.ensures) (follows-event g.K.PartialEq.eq g.met.K.Eq.laws _ _ (Invalidate c.args.key.now c.args.now) (Invalidated c.args.key.now c.args.now) (λ _ _. refl)
     (λ one. becomes-removed g.K.PartialEq.eq _ s.table _ s.latest s.next_number one c.evict.new.self c.args.key.now c.args.now c.in-Some.number row c.row.ensures key _ refl refl why c.evict.ensures.rows (rw c.row.ensures at c.evict.ensures.notices)))
 

@@ -14,7 +14,7 @@ nothing-at (Some capacity) e = sym e
 pub returns-then-eq : goal.returns-then-eq
 returns-then-eq g c =
     let s = c.self.inside in
-    let nothing = nothing-at s.max_capacity c.if-eq.ensures in
+    let nothing = nothing-at s.upkeep.max_capacity c.if-eq.ensures in
     rw (← c.self.view_is, c.max-self-inside.ensures) (record {
       stands = λ given steps stands.
           stands-nothing g.K.PartialEq.eq g.met.K.Eq.laws given _ _ steps stands (g.S.IntoShared.key_of c.args.key) c.args.value c.args.now nothing
