@@ -1,5 +1,6 @@
 -- The definitions that a caller's clauses need, passed on to the crates above.
 pub use Rattle.moka_base.specs.Admission
+pub use Rattle.moka_base.specs.Building
 pub use Rattle.moka_base.specs.Calls
 pub use Rattle.moka_base.specs.Events
 pub use Rattle.moka_base.specs.Frequency
@@ -11,6 +12,7 @@ pub use Rattle.moka_base.specs.Orders
 pub use Rattle.moka_base.specs.Policy
 pub use Rattle.moka_base.specs.Removals
 pub use Rattle.moka_base.specs.SizeLaws
+pub use Rattle.moka_base.specs.Sketch
 pub use Rattle.moka_base.specs.StandsFor
 pub use Rattle.moka_base.specs.Steps
 pub use Rattle.moka_state.specs.Behaviour
@@ -20,3 +22,5 @@ pub use Rattle.moka_state.specs.StateData
 pub use Rattle.moka_state.specs.Step
 pub use Rattle.moka_state.specs.Table
 pub use Rattle.moka_state.specs.Write
+pub use Rattle.moka_sync.specs.Builder
+pub use Rattle.moka_sync.specs.Cache

@@ -3,13 +3,28 @@
 //! Every public name stands here under the module path that moka gives it.
 #![tactic(auto)]
 
-pub use moka_base::policy::Expiry;
-pub use moka_base::{notification, policy};
+pub use moka_base::policy::{Expiry, Policy};
+pub use moka_base::{common, notification, policy};
+
+/// Ready-made types of caches.
+pub use moka_ready::{copies, ready};
+
+/// Caches that threads share, and what builds caches.
+pub mod sync {
+    pub use moka_sync::builder;
+    pub use moka_sync::builder::CacheBuilder;
+    pub use moka_sync::cache::Cache;
+}
+
+/// Calls and their answers as data.
+pub use moka_state::step;
 
 /// The cache as a plain value.
 pub mod state {
+    pub use moka_state::due_rows::DueRows;
     pub use moka_state::list_rows::ListRows;
-    pub use moka_state::rows::{EntryInfo, OwnLife, Row, RowStore};
+    pub use moka_state::packed::PackedInfo;
+    pub use moka_state::rows::{Before, EntryInfo, Order, OwnLife, Row, RowStore, Touch};
     pub use moka_state::slab_rows::SlabRows;
     pub use moka_state::state::{CacheState, InsertRefused, Settings, State};
     pub use moka_state::step::{Reply, Step};

@@ -11,10 +11,13 @@ pub use Rattle.moka_model.specs.Removals
 pub use Rattle.moka_model.specs.SizeLaws
 pub use Rattle.moka_model.specs.StandsFor
 pub use Rattle.moka_model.specs.Steps
+pub use Rattle.moka_policy.specs.Building
 pub use Rattle.moka_policy.specs.Frequency
 pub use Rattle.moka_policy.specs.NumberHash
 pub use Rattle.moka_policy.specs.Policy
+pub use Rattle.moka_sketch.specs.Sketch
 pub use Rattle.moka_laws.specs.AdmissionLaws
+pub use Rattle.moka_laws.specs.HidingLaws
 pub use Rattle.moka_laws.specs.Laws
 pub use Rattle.moka_laws.specs.OwnLifeLaws
 pub use Rattle.moka_laws.specs.Worked

@@ -3,9 +3,25 @@
 #![tactic(auto)]
 
 pub use moka_laws::{
-    admission_laws, call_laws, frequency_laws, laws, maintenance_laws, order_laws, own_life_laws,
-    size_laws, worked, worked_admission, worked_calls, worked_expiry, worked_frequency,
-    worked_maintenance, worked_size,
+    admission_laws, call_laws, frequency_laws, hiding_laws, laws, maintenance_laws, order_laws,
+    own_life_laws, size_laws, sketch_laws, worked, worked_admission, worked_calls, worked_expiry,
+    worked_frequency, worked_maintenance, worked_size, worked_sketch,
 };
 pub use moka_model::notification;
-pub use moka_policy::{expiry, frequency, policy, weigher};
+pub use moka_policy::{clock, expiry, frequency, listener, predicate, weigher};
+pub use moka_sketch::frequency_sketch;
+
+/// The types that a cache is made of, the hasher of number keys, and the refusals.
+pub mod policy {
+    pub use moka_policy::policy::{
+        CacheTypes, Clock, CountTable, EvictionPolicy, ExpireBy, Expiry, FrequencySource, HoldsIf,
+        ListenBy, Listener, ManualClock, NoExpiry, NoListener, NoPredicate, NoWeigher, NumberHash,
+        Policy, Predicate, Refused, WeighBy, Weigher,
+    };
+    pub use moka_sketch::frequency_sketch::FrequencySketch;
+}
+
+/// What the modules have in common.
+pub mod common {
+    pub use moka_policy::builder_utils;
+}

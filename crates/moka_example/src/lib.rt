@@ -1,15 +1,15 @@
 //! The example of the README, whole, by a user of `moka` alone: the gate proves it and runs it.
 #![tactic(auto)]
 
-ghost use Rattle.std.specs.Prelude.{◌≡◌, refl};
+ghost use Rattle.std.specs.Prelude.{◌≡◌, false, refl};
 ghost use Rattle.std.proofs.Math.Path.{◌∙◌};
 ghost use Rattle.moka_example.specs.Example.{length_of, a_minute};
 ghost use Rattle.moka.specs.Lives.{no_lifetimes};
 
 use moka::notification::RemovalCause;
 use moka::policy::{
-    CacheTypes, CountTable, EvictionPolicy, ExpireBy, Expiry, NoExpiry, NoWeigher, NumberHash,
-    Refused, WeighBy, Weigher,
+    CacheTypes, CountTable, EvictionPolicy, ExpireBy, Expiry, ManualClock, NoExpiry, NoListener,
+    NoPredicate, NoWeigher, NumberHash, Refused, WeighBy, Weigher,
 };
 use moka::state::{CacheState, InsertRefused, Reply, Settings, Step};
 use std::alloc::{AllocError, Global};
@@ -29,7 +29,13 @@ impl CacheTypes<u64, String> for Names {
 
     type Expiry = NoExpiry;
 
+    type Predicate = NoPredicate;
+
     type Frequency = CountTable<10>;
+
+    type Listener = NoListener;
+
+    type Clock = ManualClock;
 
     type Error = Infallible;
 
@@ -38,6 +44,8 @@ impl CacheTypes<u64, String> for Names {
     ghost equal_keys_weigh = { λ _ _ _ _ _. refl };
 
     ghost lifetimes = { λ _. no_lifetimes };
+
+    ghost test = { λ _ _ _. false };
 
     ghost keeps = { λ _ _. Unit {0} };
 
@@ -55,6 +63,8 @@ fn ten_seconds(alloc: Global) -> Result<CacheState<u64, String, Names>, Refused>
     CacheState::new(
         alloc,
         Settings {
+            name: None,
+            initial_capacity: 0,
             time_to_live: Some(Duration::from_secs(10)),
             time_to_idle: None,
             max_capacity: Some(100),
@@ -172,7 +182,13 @@ where
 
     type Expiry = E;
 
+    type Predicate = NoPredicate;
+
     type Frequency = CountTable<10>;
+
+    type Listener = NoListener;
+
+    type Clock = ManualClock;
 
     type Error = Infallible;
 
@@ -181,6 +197,8 @@ where
     ghost equal_keys_weigh = { λ _ _ _ _ _. refl };
 
     ghost lifetimes = { λ _. a_minute };
+
+    ghost test = { λ _ _ _. false };
 
     ghost keeps = { λ _ _. Unit {0} };
 
@@ -214,6 +232,8 @@ where
     CacheState::new(
         alloc,
         Settings {
+            name: None,
+            initial_capacity: 0,
             time_to_live: None,
             time_to_idle: None,
             max_capacity: Some(8),

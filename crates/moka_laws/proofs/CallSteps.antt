@@ -1,12 +1,12 @@
 -- The events of the step that a call is.
-use Rattle.std.proofs.Common.{◌≡◌, ◌⊎◌, inl, inr, ℕ, max, Bool, Option, Some, None, List, [], ◌∷◌, ◌++◌, refl, subst, arith}
+use Rattle.std.proofs.Common.{◌≡◌, ◌⊎◌, inl, inr, ℕ, ◌<◌, max, Bool, Option, Some, None, List, [], ◌∷◌, ◌++◌, refl, subst, arith}
 use Rattle.std.specs.List.{AllByRecursion}
 use Rattle.std.proofs.lemmas.Bool.{cond_both}
 use Rattle.moka_model.specs.Lives.{Settings}
-use Rattle.moka_model.specs.Events.{Event, Written, Maintained, Passed, recorded, latest}
+use Rattle.moka_model.specs.Events.{Event, Written, Hidden, Maintained, Passed, recorded, latest}
 use Rattle.moka_model.specs.Numbers.{stores_nothing, is_flush_due}
 use Rattle.moka_model.specs.Steps.{AcceptedStep, events_in}
-use Rattle.moka_model.specs.Calls.{Call, Get, ContainsKey, Insert, Invalidate, RunPendingTasks, EntryCount, WeightedSize, TakeNotice, Accepted, accepted, flush, write_events, after, IsOutOfNumbers}
+use Rattle.moka_model.specs.Calls.{Call, Get, ContainsKey, Insert, Invalidate, Remove, InvalidateAll, InvalidateIf, RunPendingTasks, EntryCount, WeightedSize, TakeNotice, Done, Accepted, without_move, drawn_by, with_step, accepted, flush, write_events, after, IsOutOfNumbers}
 use Rattle.moka_laws.specs.Laws.{moment_of, IsWrite}
 
 max-zero : (n : ℕ) → n ≡ max n 0
@@ -23,11 +23,18 @@ module _ {K V E : Type 0} (eq : K → K → Bool) (settings : Settings K V) (ste
       (λ _. passed)
       (λ _. cond_both (is_flush_due eq settings (events_in steps)) (Maintained None at ∷ []) [] (λ events. P (Written k v at ∷ events)) (λ _. flushed) (λ _. written))
 
+  -- what an accepted call is, where one hides by a test, and where that is refused by its name
+  by_test : (P : Option (Accepted K V E) → Type 0) (test : K → V → Bool) → P (Some (without_move Done (Hidden test ∷ []))) → P None → P (accepted eq settings steps (InvalidateIf test))
+  by_test P test hides refused = cond_both settings.supports_closures (Some (without_move Done (Hidden test ∷ []))) None P (λ _. hides) (λ _. refused)
+
   pub latest-after : (call : Call K V) → latest (events_in (after eq settings call steps)) ≡ max (latest (events_in steps)) (moment_of call)
   latest-after (Get k at) = refl
   latest-after (ContainsKey k at) = max-zero (latest (events_in steps))
   latest-after (Insert k v at) = by_write (λ events. latest (events ++ events_in steps) ≡ max (latest (events_in steps)) at) k v at refl refl (max-twice (latest (events_in steps)) at)
   latest-after (Invalidate k at) = refl
+  latest-after (Remove k at) = refl
+  latest-after InvalidateAll = refl
+  latest-after (InvalidateIf test) = by_test (λ it. latest (events_in (with_step it steps)) ≡ max (latest (events_in steps)) 0) test refl (max-zero (latest (events_in steps)))
   latest-after (RunPendingTasks at) = refl
   latest-after EntryCount = max-zero (latest (events_in steps))
   latest-after WeightedSize = max-zero (latest (events_in steps))
@@ -46,6 +53,9 @@ module _ {K V E : Type 0} (eq : K → K → Bool) (settings : Settings K V) (ste
   accepted-at (ContainsKey k at) = tt
   accepted-at (Insert k v at) = by_write (AreAt (Insert k v at)) k v at (inl refl, tt) (inl refl, tt) (inl refl, (inl refl, tt))
   accepted-at (Invalidate k at) = (inl refl, tt)
+  accepted-at (Remove k at) = (inl refl, tt)
+  accepted-at InvalidateAll = (inr refl, tt)
+  accepted-at (InvalidateIf test) = by_test (IsAt (InvalidateIf test)) test (inr refl, tt) tt
   accepted-at (RunPendingTasks at) = (inl refl, tt)
   accepted-at EntryCount = tt
   accepted-at WeightedSize = tt
@@ -59,6 +69,9 @@ module _ {K V E : Type 0} (eq : K → K → Bool) (settings : Settings K V) (ste
   none_drawn (ContainsKey k at) out = let some = out.0 in absurd (omega arith)
   none_drawn (Insert k v at) out = tt
   none_drawn (Invalidate k at) out = let some = out.0 in absurd (omega arith)
+  none_drawn (Remove k at) out = let some = out.0 in absurd (omega arith)
+  none_drawn InvalidateAll out = let some = out.0 in absurd (omega arith)
+  none_drawn (InvalidateIf test) out = absurd (by_test (λ it. ¬ (0 < drawn_by it)) test (λ some. omega arith) (λ some. omega arith) out.0)
   none_drawn (RunPendingTasks at) out = let some = out.0 in absurd (omega arith)
   none_drawn EntryCount out = let some = out.0 in absurd (omega arith)
   none_drawn WeightedSize out = let some = out.0 in absurd (omega arith)

@@ -8,19 +8,19 @@ use Rattle.std.proofs.lemmas.Nat.{pow_pos}
 use Rattle.moka_policy.specs.Frequency.{Counts, counter_count, counter_of, counted, halved, noted, none_noted, estimated, estimate_after, count_with, kept}
 
 -- there is a counter
-counter_count_pos : (bits : ℕ) → 0 < counter_count bits
+pub counter_count_pos : (bits : ℕ) → 0 < counter_count bits
 counter_count_pos bits = pow_pos (min bits 20)
 
 -- a number of notes since that is short of m grows by one with the next note
-next_remainder : (n m since : ℕ) → since ≡ n % m → since + 1 < m → suc n % m ≡ since + 1
+pub next_remainder : (n m since : ℕ) → since ≡ n % m → since + 1 < m → suc n % m ≡ since + 1
 next_remainder n m since is below = suc-mod n m ∙ ap (λ k. suc k % m) (sym is) ∙ ap (λ k. k % m) (sym (add-one since)) ∙ mod-eq_of_lt below
 
 -- and one that is full begins anew
-full_remainder : (n m since : ℕ) → since ≡ n % m → since + 1 ≡ m → suc n % m ≡ 0
+pub full_remainder : (n m since : ℕ) → since ≡ n % m → since + 1 ≡ m → suc n % m ≡ 0
 full_remainder n m since is full = suc-mod n m ∙ ap (λ k. suc k % m) (sym is) ∙ ap (λ k. k % m) (sym (add-one since) ∙ full) ∙ mod_self m
 
 -- the number of the notes is a multiple just where the notes since are full
-due_together : (n m since : ℕ) → 0 < m → since ≡ n % m → nat_eq (suc n % m) 0 ≡ nat_eq (since + 1) m
+pub due_together : (n m since : ℕ) → 0 < m → since ≡ n % m → nat_eq (suc n % m) 0 ≡ nat_eq (since + 1) m
 due_together n m since positive is = elim (cases_eq (since + 1) m) [
   | inl full ↦ eq-eqb (suc n % m) 0 (full_remainder n m since is full) ∙ sym (eq-eqb (since + 1) m full)
   | inr short ↦
@@ -48,7 +48,7 @@ keeps_none bits = record {
 }
 
 -- a place that is counted up, and the others as they were
-counted_up : (counters : List ℕ) (i j : ℕ) → i < length counters
+pub counted_up : (counters : List ℕ) (i j : ℕ) → i < length counters
     → get_or (set counters i (min (get_or counters i 0 + 1) 15)) j 0 ≡ cond (nat_eq i j) (min (get_or counters j 0 + 1) 15) (get_or counters j 0)
 counted_up counters i j within =
     let more = min (get_or counters i 0 + 1) 15 in
@@ -127,7 +127,7 @@ estimate_after-le bits hash notes =
 
 -- one note more or the same, up to 15
 module _ (bits hash note : ℕ) (notes : List ℕ) where
-  one_more : (uses : Bool) (count : ℕ) → count ≡ min (length notes) 15 → cond uses (min (count + 1) 15) count ≡ min (length (cond uses (note ∷ notes) notes)) 15
+  pub one_more : (uses : Bool) (count : ℕ) → count ≡ min (length notes) 15 → cond uses (min (count + 1) 15) count ≡ min (length (cond uses (note ∷ notes) notes)) 15
   one_more true count is = omega arith
   one_more false count is = is
 

@@ -172,12 +172,12 @@ module _ {K V : Type 0} (eq : K → K → Bool) (settings : Settings K V) (k : K
   dead_stays (Taken ∷ later) h w stands gone u = dead_stays later h w stands gone u.1
 
   -- no live write stands at a moment
-  abbrev IsUnseen : Option (Write K V) → ℕ → Type 0
+  abbrev pub IsUnseen : Option (Write K V) → ℕ → Type 0
   IsUnseen None at = Unit {0}
   IsUnseen (Some w) at = is_live settings w at ≡ false
 
   -- nor at a later one
-  IsUnseen-later : (o : Option (Write K V)) (at later : ℕ) → at ≤ later → IsUnseen o at → IsUnseen o later
+  pub IsUnseen-later : (o : Option (Write K V)) (at later : ℕ) → at ≤ later → IsUnseen o at → IsUnseen o later
   IsUnseen-later None at later le unseen = tt
   IsUnseen-later (Some w) at later le unseen = dead-later settings w at later le unseen
 
@@ -200,7 +200,7 @@ module _ {K V : Type 0} (eq : K → K → Bool) (settings : Settings K V) (k : K
   IsUnseen-hidden test (Some w) at unseen = dead-hidden settings test w at unseen
 
   -- where no live write stands, none does until the key is written
-  unseen_from : (later h : List (Event K V)) → IsUnwritten eq k later → IsUnseen (standing eq settings k h) (latest h) → IsUnseen (standing eq settings k (later ++ h)) (latest (later ++ h))
+  pub unseen_from : (later h : List (Event K V)) → IsUnwritten eq k later → IsUnseen (standing eq settings k h) (latest h) → IsUnseen (standing eq settings k (later ++ h)) (latest (later ++ h))
   unseen_from [] h u unseen = unseen
   unseen_from (e ∷ later) h u unseen = next e u.0 (IsUnseen-later (standing eq settings k (later ++ h)) (latest (later ++ h)) (latest (e ∷ later ++ h)) (omega arith) (unseen_from later h u.1 unseen))
     where
@@ -225,7 +225,7 @@ module _ {K V : Type 0} (eq : K → K → Bool) (settings : Settings K V) (k : K
       go true found = absurd (cc)
 
   -- and what is not seen no look finds
-  live-unseen : (o : Option (Write K V)) (at : ℕ) → IsUnseen o at → live_one settings at o ≡ None
+  pub live-unseen : (o : Option (Write K V)) (at : ℕ) → IsUnseen o at → live_one settings at o ≡ None
   live-unseen None at unseen = refl
   live-unseen (Some w) at unseen = cond-false (is_live settings w at) (Some w) None unseen
 

@@ -1,12 +1,16 @@
 pub mod Admissions
 pub mod Arrivals
+pub mod Callers
 pub mod CallSteps
 pub mod Conserved
+pub mod ConservedPairs
 pub mod Counters
 pub mod Deadlines
 pub mod Departures
 pub mod Flushes
+pub mod FoundAgain
 pub mod HeldOnes
+pub mod Hiding
 pub mod InOrder
 pub mod MaintenanceFirst
 pub mod MaintenanceFronts
@@ -24,6 +28,7 @@ pub mod Questions
 pub mod Removals
 pub mod RestOnes
 pub mod Rests
+pub mod Sketches
 pub mod Undrawn
 pub mod Uses
 pub mod Written

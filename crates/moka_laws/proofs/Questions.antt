@@ -4,7 +4,7 @@ use Rattle.moka_model.specs.Lives.{Settings, Write}
 use Rattle.moka_model.specs.Removals.{notices_left}
 use Rattle.moka_model.specs.Numbers.{entry_count, weighted_size, greatest_number}
 use Rattle.moka_model.specs.Steps.{AcceptedStep, events_in}
-use Rattle.moka_model.specs.Calls.{Call, Get, ContainsKey, Insert, Invalidate, RunPendingTasks, EntryCount, WeightedSize, TakeNotice, Found, Contains, Counted, Noticed, live_at, after}
+use Rattle.moka_model.specs.Calls.{Call, Get, ContainsKey, Insert, Invalidate, Remove, InvalidateAll, InvalidateIf, RunPendingTasks, EntryCount, WeightedSize, TakeNotice, Found, Contains, Counted, Noticed, live_at, after}
 use Rattle.moka_model.proofs.Callers.{events_in-append}
 use Rattle.moka_laws.specs.Laws.{answer, and_then, IsQuestion}
 
@@ -19,6 +19,9 @@ module _ {K V E : Type 0} (eq : K → K → Bool) (settings : Settings K V) wher
   question-step steps (ContainsKey k at) asks = refl
   question-step steps (Insert k v at) asks = absurd asks
   question-step steps (Invalidate k at) asks = absurd asks
+  question-step steps (Remove k at) asks = absurd asks
+  question-step steps InvalidateAll asks = absurd asks
+  question-step steps (InvalidateIf test) asks = absurd asks
   question-step steps (RunPendingTasks at) asks = absurd asks
   question-step steps EntryCount asks = refl
   question-step steps WeightedSize asks = refl
@@ -30,6 +33,9 @@ module _ {K V E : Type 0} (eq : K → K → Bool) (settings : Settings K V) wher
   answer-events a b same (ContainsKey k at) = ap (λ h. Some (Contains (is_some (live_at eq settings k at h)))) same
   answer-events a b same (Insert k v at) = refl
   answer-events a b same (Invalidate k at) = refl
+  answer-events a b same (Remove k at) = ap (λ h. Some (Found (option_map (λ (w : Write K V). w.value) (live_at eq settings k at h)))) same
+  answer-events a b same InvalidateAll = refl
+  answer-events a b same (InvalidateIf test) = refl
   answer-events a b same (RunPendingTasks at) = refl
   answer-events a b same EntryCount = ap (λ h. Some (Counted (min (entry_count eq settings h) greatest_number))) same
   answer-events a b same WeightedSize = ap (λ h. Some (Counted (min (weighted_size eq settings h) greatest_number))) same

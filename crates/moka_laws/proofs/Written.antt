@@ -38,15 +38,15 @@ own_end-given (Some n) at = refl
 
 module _ {K V : Type 0} (settings : Settings K V) (k : K) (v : V) (at : ℕ) where
   -- the three deadlines of a write
-  is_expired-after_write : (o : Option (Write K V)) (now : ℕ) → is_expired settings (after_write settings k v at o) now ≡ has_come (earlier (earlier (ends_at settings.time_to_live at) (ends_at settings.time_to_idle at)) (ends_at (life_given settings k v at o) at)) now
+  pub is_expired-after_write : (o : Option (Write K V)) (now : ℕ) → is_expired settings (after_write settings k v at o) now ≡ has_come (earlier (earlier (ends_at settings.time_to_live at) (ends_at settings.time_to_idle at)) (ends_at (life_given settings k v at o) at)) now
   is_expired-after_write None now = ap (λ d. has_come (earlier (earlier (ends_at settings.time_to_live at) (ends_at settings.time_to_idle at)) d) now) (own_end-given (life_given settings k v at None) at)
   is_expired-after_write (Some w) now = ap (λ d. has_come (earlier (earlier (ends_at settings.time_to_live at) (ends_at settings.time_to_idle at)) d) now) (own_end-given (life_given settings k v at (Some w)) at)
 
-  after_write-shown : (o : Option (Write K V)) → (after_write settings k v at o).is_hidden ≡ false
+  pub after_write-shown : (o : Option (Write K V)) → (after_write settings k v at o).is_hidden ≡ false
   after_write-shown None = refl
   after_write-shown (Some w) = refl
 
-  after_write-value : (o : Option (Write K V)) → (after_write settings k v at o).value ≡ v
+  pub after_write-value : (o : Option (Write K V)) → (after_write settings k v at o).value ≡ v
   after_write-value None = refl
   after_write-value (Some w) = refl
 

@@ -8,7 +8,7 @@ use Rattle.moka_model.specs.Events.{Event, Looked, Written, Invalidated, Hidden,
 use Rattle.moka_model.specs.Orders.{is_evicted, standing, live}
 use Rattle.moka_model.specs.Removals.{Removal, notices_left}
 use Rattle.moka_model.specs.Steps.{AcceptedStep}
-use Rattle.moka_model.specs.Calls.{Call, Get, ContainsKey, Insert, Invalidate, RunPendingTasks, EntryCount, WeightedSize}
+use Rattle.moka_model.specs.Calls.{Call, Get, ContainsKey, Insert, Invalidate, Remove, RunPendingTasks, EntryCount, WeightedSize}
 use Rattle.moka_model.specs.Calls.{Answer, accepted, answer_of}
 
 -- what a call is answered after some accepted steps
@@ -24,6 +24,7 @@ abbrev pub moment_of : {K V : Type 0} → Call K V → ℕ
 moment_of (Get k at) = at
 moment_of (Insert k v at) = at
 moment_of (Invalidate k at) = at
+moment_of (Remove k at) = at
 moment_of (RunPendingTasks at) = at
 moment_of call = 0
 

@@ -1,4 +1,5 @@
 pub mod AdmissionLaws
+pub mod HidingLaws
 pub mod Laws
 pub mod OwnLifeLaws
 pub mod Worked
@@ -24,3 +25,4 @@ pub use Rattle.moka_model.specs.Steps
 pub use Rattle.moka_policy.specs.Frequency
 pub use Rattle.moka_policy.specs.NumberHash
 pub use Rattle.moka_policy.specs.Policy
+pub use Rattle.moka_sketch.specs.Sketch

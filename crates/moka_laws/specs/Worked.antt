@@ -25,6 +25,7 @@ without_lives =
       time_to_idle = None;
       max_capacity = None;
       first_number = 0;
+      supports_closures = true;
       behaviour = plain_behaviour;
       frequency = estimate_after 6;
     }

@@ -1,8 +1,9 @@
 -- The calls and the events of the worked cases of calls in order, and of hiding, limits and looks that are turned down.
-use Rattle.std.specs.Prelude.{ℕ, ◌==◌, zero, suc, Bool, Some, None, List, [], ◌∷◌}
+use Rattle.std.specs.Prelude.{ℕ, ◌==◌, ◌||◌, zero, suc, Bool, Some, None, List, [], ◌∷◌}
 use Rattle.moka_model.specs.Events.{Event, TurnedDown, Written, Hidden, Maintained}
 use Rattle.moka_model.specs.Steps.{AcceptedStep}
-use Rattle.moka_model.specs.Calls.{Call, Get, ContainsKey, Insert, Invalidate, RunPendingTasks, EntryCount, WeightedSize, TakeNotice}
+use Rattle.moka_model.specs.Calls.{Call, Get, ContainsKey, Insert, Invalidate, Remove, InvalidateAll, InvalidateIf, RunPendingTasks}
+use Rattle.moka_model.specs.Calls.{EntryCount, WeightedSize, TakeNotice}
 use Rattle.moka_laws.specs.Laws.{and_then}
 use Rattle.moka_laws.specs.Worked.{seconds}
 
@@ -39,6 +40,28 @@ has_value value k v = v == value
 -- three keys come, and the values 20 and 30 are hidden
 abbrev pub two_hidden : List (Event ℕ ℕ)
 two_hidden = Hidden (has_value 30) ∷ Hidden (has_value 20) ∷ Written 3 30 2 ∷ Written 2 20 1 ∷ Written 1 10 0 ∷ []
+
+-- a key comes, all is hidden, and another comes
+abbrev pub all_hidden : List (Call ℕ ℕ)
+all_hidden =
+    Insert 1 10 0 ∷ InvalidateAll ∷ Insert 2 20 0 ∷ Get 1 0 ∷ Get 2 0 ∷ EntryCount ∷ RunPendingTasks 0 ∷ TakeNotice ∷ TakeNotice
+    ∷ EntryCount ∷ []
+
+-- the value is 7 or 9
+abbrev pub is_7_or_9 : ℕ → ℕ → Bool
+is_7_or_9 k v = v == 7 || v == 9
+
+-- three keys are admitted, two values are hidden, one of these comes again under another key, and a maintenance follows
+abbrev pub some_hidden : List (Call ℕ ℕ)
+some_hidden =
+    Insert 0 7 0 ∷ Insert 1 8 0 ∷ Insert 2 9 0 ∷ RunPendingTasks 0 ∷ InvalidateIf is_7_or_9 ∷ Insert 3 7 10 ∷ RunPendingTasks 10
+    ∷ TakeNotice ∷ TakeNotice ∷ TakeNotice ∷ Get 0 10 ∷ Get 1 10 ∷ Get 2 10 ∷ Get 3 10 ∷ EntryCount ∷ []
+
+-- a value is removed when its ten seconds have passed, and another before that
+abbrev pub removals_of_both : List (Call ℕ ℕ)
+removals_of_both =
+    Insert 1 10 0 ∷ Insert 2 20 1 ∷ Remove 1 (seconds 10) ∷ TakeNotice ∷ Remove 2 (seconds 10) ∷ TakeNotice
+    ∷ Remove 2 (seconds 10) ∷ EntryCount ∷ []
 
 -- a value is looked at after four seconds, and is turned down
 abbrev pub turned_down : List (Event ℕ ℕ)

@@ -5,11 +5,13 @@
 pub mod admission_laws;
 pub mod call_laws;
 pub mod frequency_laws;
+pub mod hiding_laws;
 pub mod laws;
 pub mod maintenance_laws;
 pub mod order_laws;
 pub mod own_life_laws;
 pub mod size_laws;
+pub mod sketch_laws;
 pub mod worked;
 pub mod worked_admission;
 pub mod worked_calls;
@@ -17,3 +19,4 @@ pub mod worked_expiry;
 pub mod worked_frequency;
 pub mod worked_maintenance;
 pub mod worked_size;
+pub mod worked_sketch;

@@ -14,6 +14,7 @@ ghost use Rattle.moka_laws.specs.Worked.{seconds, without_lives, ten_to_live, fi
 ghost use Rattle.moka_laws.specs.WorkedSize.{at_capacity};
 ghost use Rattle.moka_laws.specs.WorkedAdmission.{by_frequency};
 ghost use Rattle.moka_laws.specs.WorkedCalls.{session, behind_64, steps_come, two_and_two, one_leaves, another_leaves, two_hidden, turned_down};
+ghost use Rattle.moka_laws.specs.WorkedCalls.{all_hidden, some_hidden, removals_of_both};
 
 /// A session at a capacity of two. The first of two keys is hit, so a third takes the place of the
 /// second.
@@ -55,6 +56,26 @@ pub fn what_is_hidden()
     ensures expired_too { removals_at nat_eq ten_to_live (Invalidated 2 (seconds 20)) two_hidden ≡ left_as 2 20 Explicit ∷ [] }
     ensures expired { removals_at nat_eq ten_to_live (Invalidated 1 (seconds 20)) two_hidden ≡ left_as 1 10 Expired ∷ [] }
     ensures anew { answer_after nat_eq without_lives (Get 2 4) (Written 2 20 3 ∷ two_hidden) ≡ found (Some 20) }
+{}
+
+/// All that stood is hidden at once, and leaves as removed; what comes later is not.
+pub fn a_session_that_hides_all()
+    ensures { answers nat_eq without_lives all_hidden [] ≡ is_done ∷ is_done ∷ is_done ∷ found None ∷ found (Some 20) ∷ counted 2
+        ∷ is_done ∷ noticed (Some (left_as 1 10 Explicit)) ∷ noticed None ∷ counted 1 ∷ [] }
+{}
+
+/// What passes a test is hidden, and leaves in the order of use; what comes later is not, though it
+/// passes the test.
+pub fn a_session_that_hides_by_a_test()
+    ensures { answers nat_eq without_lives some_hidden [] ≡ is_done ∷ is_done ∷ is_done ∷ is_done ∷ is_done ∷ is_done ∷ is_done
+        ∷ noticed (Some (left_as 0 7 Explicit)) ∷ noticed (Some (left_as 2 9 Explicit)) ∷ noticed None
+        ∷ found None ∷ found (Some 8) ∷ found None ∷ found (Some 7) ∷ counted 2 ∷ [] }
+{}
+
+/// A removal answers a live value alone; a dead one leaves all the same, as expired.
+pub fn a_session_that_removes()
+    ensures { answers nat_eq ten_to_live removals_of_both [] ≡ is_done ∷ is_done ∷ found None ∷ noticed (Some (left_as 1 10 Expired))
+        ∷ found (Some 20) ∷ noticed (Some (left_as 2 20 Explicit)) ∷ found None ∷ counted 0 ∷ [] }
 {}
 
 /// A look that is turned down is noted and records its moment, but it is no use of the value.

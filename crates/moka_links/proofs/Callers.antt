@@ -1,6 +1,6 @@
 -- What the crates above may use of the proofs here: numbers in lists, links one by one, and what holds of all that stand.
 pub use Rattle.moka_orders.proofs.Callers.{IsApart, apart-counted, absent-without, among-push, among-without, among-others}
-pub use Rattle.moka_orders.proofs.Callers.{without-here, without-there, without-absent, among-front, among-back, among-parts, no-more}
+pub use Rattle.moka_orders.proofs.Callers.{without-here, without-there, without-absent, among-front, among-back, among-parts, last-stays, no-more}
 pub use Rattle.moka_orders.proofs.Callers.{IsLine}
 use Rattle.std.proofs.Common.{◌≡◌, ℕ, ◌<◌, ◌≤◌, ◌^◌, Bool, true, false, length, arith}
 use Rattle.moka_orders.specs.Paths.{IsAmong, IsAbsent}

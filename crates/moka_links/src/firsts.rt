@@ -37,6 +37,7 @@ pub fn put_first(firsts: &mut Firsts, hash: u64, number: u32) -> u32
     ensures before { MatchOption (first_in firsts.old hash) (result ≡ 0) (λ first. result ≡ first) }
     ensures changed { first_in firsts.new hash ≡ Some number }
     ensures others { (other : ℕ) → other ≢ hash → first_in firsts.new other ≡ first_in firsts.old other }
+    ensures room { spare firsts.old ≤ spare firsts.new + 1 }
 {
     match firsts.insert(hash, number) {
         Ok(Some(before)) => before,

@@ -119,6 +119,14 @@ impl Links {
         self.orders.is_admitted(link(&self.orders, number))
     }
 
+    /// The hash of a number.
+    pub fn hash(&self, number: usize) -> u64
+        requires { IsLinked self.now number }
+        ensures { result ≡ hash_at self.now number }
+    {
+        self.orders.hash(link(&self.orders, number))
+    }
+
     /// The first number of a hash.
     pub fn first(&self, hash: u64) -> Option<usize>
         ensures { result ≡ first_at self.now hash }
@@ -134,20 +142,21 @@ impl Links {
         self.orders.same(link(&self.orders, number))
     }
 
-    /// Makes room for a number, and for its hash. Numbers of more than 32 bits are refused.
-    pub fn reserve(&mut self, number: usize) -> Result<(), AllocError>
-        ensures place { OnOk result (number < places_of self.new) }
-        ensures spare { OnOk result (0 < spare_of self.new) }
+    /// Makes places for all numbers below this many, and room for the hashes of this many more
+    /// numbers. Numbers of more than 32 bits are refused.
+    pub fn reserve(&mut self, places: usize, more: usize) -> Result<(), AllocError>
+        ensures made { OnOk result (places ≤ places_of self.new) }
+        ensures spare { OnOk result (more ≤ spare_of self.new) }
         ensures admitted { admitted_of self.new ≡ admitted_of self.old }
         ensures waiting { waiting_of self.new ≡ waiting_of self.old }
         ensures kept { KeepsRoom self.old self.new }
     {
-        self.orders.reserve(number)?;
-        self.firsts.reserve(1)
+        self.orders.reserve(places)?;
+        self.firsts.reserve(more)
     }
 
     /// Puts a new number behind all that wait, and before all others of its hash. It takes no
-    /// memory.
+    /// memory, and the room of one hash at most.
     pub fn add(&mut self, number: usize, hash: u64)
         requires above { 2 ≤ number }
         requires within { number < places_of self.old }
@@ -157,6 +166,8 @@ impl Links {
         ensures waiting { waiting_of self.new ≡ waiting_of self.old ++ number ∷ [] }
         ensures hashed { hash_at self.new number ≡ hash }
         ensures others { (k : ℕ) → k ≢ number → hash_at self.new k ≡ hash_at self.old k }
+        ensures places { places_of self.new ≡ places_of self.old }
+        ensures spare { spare_of self.old ≤ spare_of self.new + 1 }
     {
         let number = link(&self.orders, number);
         let same = put_first(&mut self.firsts, hash, number);
@@ -176,15 +187,36 @@ impl Links {
         self.orders.admit(used);
     }
 
-    /// Takes a number out of its order and of the chain of its hash.
-    pub fn remove(&mut self, number: usize)
+    /// Puts an admitted number behind all others that are admitted, leaves one that waits where it
+    /// stands, and answers whether it is admitted. No link changes where it is the last already.
+    pub fn touch(&mut self, number: usize) -> bool
         requires { IsLinked self.old number }
+        ensures admitted { IsAmong number (admitted_of self.old) → (result ≡ true)
+            × (admitted_of self.new ≡ without number (admitted_of self.old) ++ number ∷ []) }
+        ensures waits { IsAmong number (waiting_of self.old) → (result ≡ false)
+            × (admitted_of self.new ≡ admitted_of self.old) }
+        ensures waiting { waiting_of self.new ≡ waiting_of self.old }
+        ensures kept { KeepsRoom self.old self.new }
+    {
+        let is_admitted = self.is_admitted(number);
+        if is_admitted && self.next(number).is_some() {
+            self.admit(number);
+        }
+        is_admitted
+    }
+
+    /// Takes a number out of its order and of the chain of its hash, and answers whether it was
+    /// admitted.
+    pub fn remove(&mut self, number: usize) -> bool
+        requires { IsLinked self.old number }
+        ensures was_admitted { IsAmong number (admitted_of self.old) → result ≡ true }
+        ensures was_waiting { IsAmong number (waiting_of self.old) → result ≡ false }
         ensures admitted { admitted_of self.new ≡ without number (admitted_of self.old) }
         ensures waiting { waiting_of self.new ≡ without number (waiting_of self.old) }
         ensures kept { KeepsRoom self.old self.new }
     {
         let number = link(&self.orders, number);
         unchain(&mut self.orders, &mut self.firsts, number);
-        self.orders.leave(number);
+        self.orders.leave(number)
     }
 }

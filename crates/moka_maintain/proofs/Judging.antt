@@ -7,7 +7,7 @@ use Rattle.moka_rows.specs.declared.rows.Row.{Row}
 use Rattle.moka_rows.specs.Rows.{first_number}
 use Rattle.moka_table.specs.Table.{weight_of}
 use Rattle.moka_maintain.specs.Maintain.{is_within, frequencies}
-use Rattle.moka_maintain.proofs.Walks.{Walks, AtCursor, walks-first, walks-on}
+use Rattle.moka_table.proofs.Callers.{Walks, AtCursor, walks-first, walks-on}
 
 module _ {K V : Type 0} where
   -- more fits beside some rows where their weight and it are within the capacity

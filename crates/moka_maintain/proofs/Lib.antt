@@ -1,8 +1,9 @@
-pub mod Callers
-pub mod Deadlines
+pub mod FirstDead
 pub mod Judging
 pub mod Maintaining
 pub mod Phases
 pub mod Sweeping
 pub mod Verdicts
-pub mod Walks
+pub mod VisitLaws
+pub mod Visits
+pub mod Shown

@@ -1,13 +1,13 @@
 -- What a row's leaving does to a table, and what the leaving of the least recently used rows does.
-use Rattle.std.proofs.Common.{◌≡◌, ℕ, suc, ◌≤◌, Some, None, [], ◌∷◌, ◌++◌, length, take, drop, refl, sym, ap, ◌∙◌, arith, append_assoc}
+use Rattle.std.proofs.Common.{◌≡◌, ℕ, suc, ◌≤◌, Some, None, [], ◌∷◌, ◌++◌, length, take, drop, sym, ap, ◌∙◌, arith, append_assoc}
 use Rattle.std.specs.Option.{IfSome}
 use Rattle.moka_model.specs.declared.notification.RemovalCause.{RemovalCause}
 use Rattle.moka_model.specs.declared.notification.RemovalCause.TheVariants.{Size}
 use Rattle.moka_rows.specs.declared.rows.Row.{Row}
-use Rattle.moka_rows.specs.Rows.{row_under, without_row, first_number}
-use Rattle.moka_table.specs.Table.{Contents, entries, TakesRow}
+use Rattle.moka_rows.specs.Rows.{row_under, without_row}
+use Rattle.moka_table.specs.Table.{Contents, entries, TakesRow, EvictsOne}
 use Rattle.moka_maintain.specs.Maintain.{notice_for, notices_for}
-use Rattle.moka_rows.proofs.Callers.{row_under-append_left, row_under-append_right, begins-with, row_under-at, without_row-at}
+use Rattle.moka_rows.proofs.Callers.{row_under-append_left, row_under-append_right}
 
 module _ {K V : Type 0} (n : ℕ) (row : Row K V) (cause : RemovalCause) (old new : Contents K V) (takes : TakesRow n old new)
     (noticed : IfSome (row_under n (entries old)) (λ r. new.notices ≡ old.notices ++ notice_for cause (n, r) ∷ [])) where
@@ -33,21 +33,15 @@ module _ {K V : Type 0} where
     pub notices : table.notices ++ notices_for Size (take left table.admitted) ≡ first.notices ++ notices_for Size (take count first.admitted)
 
   -- it goes on where the first row leaves
-  pub evicts-on : (count : ℕ) (first table : Contents K V) (left : ℕ) → EvictsFirst count first table (suc left) → (n : ℕ) (new : Contents K V) → Some n ≡ first_number table.admitted → TakesRow n table new
-      → IfSome (row_under n (entries table)) (λ r. new.notices ≡ table.notices ++ notice_for Size (n, r) ∷ []) → EvictsFirst count first new left
-  evicts-on count first table left on n new first_is takes noticed =
-      let begins = begins-with table.admitted n first_is in
-      let there : row_under n table.admitted ≡ Some begins.0 = ap (row_under n) begins.2 ∙ row_under-at n begins.0 [] begins.1 refl in
-      let gone = left-admitted n begins.0 Size table new takes noticed there in
-      let rest : new.admitted ≡ begins.1 = gone.0 ∙ ap (without_row n) begins.2 ∙ without_row-at n begins.0 [] begins.1 refl in
-      let enough : suc left ≤ suc (length begins.1) = rw begins.2 at on.enough in
+  pub evicts-on : (count : ℕ) (first table : Contents K V) (left : ℕ) → EvictsFirst count first table (suc left) → (p : ℕ × Row K V) (new : Contents K V) → EvictsOne Size p table new → EvictsFirst count first new left
+  evicts-on count first table left on p new gone =
+      let enough : suc left ≤ suc (length new.admitted) = rw gone.admitted at on.enough in
       record {
-        enough = rw rest (omega arith);
-        admitted = ap (drop left) rest ∙ ap (drop (suc left)) (sym begins.2) ∙ on.admitted;
-        waiting = gone.1 ∙ on.waiting;
-        notices = ap (λ l. l ++ notices_for Size (take left new.admitted)) gone.2
-            ∙ append_assoc table.notices (notice_for Size (n, begins.0) ∷ []) (notices_for Size (take left new.admitted))
-            ∙ ap (λ l. table.notices ++ (notice_for Size (n, begins.0) ∷ notices_for Size (take left l))) rest
-            ∙ ap (λ l. table.notices ++ notices_for Size (take (suc left) l)) (sym begins.2)
+        enough = omega arith;
+        admitted = ap (drop (suc left)) (sym gone.admitted) ∙ on.admitted;
+        waiting = gone.waiting ∙ on.waiting;
+        notices = ap (λ l. l ++ notices_for Size (take left new.admitted)) gone.notices
+            ∙ append_assoc table.notices (notice_for Size p ∷ []) (notices_for Size (take left new.admitted))
+            ∙ ap (λ l. table.notices ++ notices_for Size (take (suc left) l)) (sym gone.admitted)
             ∙ on.notices;
       }

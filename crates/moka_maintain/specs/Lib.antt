@@ -1,1 +1,2 @@
 pub mod Maintain
+pub mod Visits

@@ -1,33 +1,26 @@
 -- What a maintenance does with the rows.
-use Rattle.std.specs.Prelude.{◌≡◌, ℕ, ◌+◌, Bool, true, not, ◌||◌, if◌then◌else◌, nat_le, Option, List, [], ◌∷◌, ◌++◌, filter, map, None}
+use Rattle.std.specs.Prelude.{◌≡◌, ℕ, ◌+◌, Bool, true, not, ◌&&◌, ◌||◌, if◌then◌else◌, nat_le, Option, List, [], ◌∷◌, ◌++◌}
+use Rattle.std.specs.Prelude.{filter, map, None}
 use Rattle.std.specs.Prelude.{Some}
-use Rattle.std.specs.List.{AllByRecursion}
 use Rattle.moka_model.specs.declared.notification.Notice.{Notice}
 use Rattle.moka_model.specs.declared.notification.RemovalCause.{RemovalCause}
-use Rattle.moka_model.specs.declared.notification.RemovalCause.TheVariants.{Expired, Size}
+use Rattle.moka_model.specs.declared.notification.RemovalCause.TheVariants.{Expired, Explicit, Size}
 use Rattle.moka_model.specs.Lives.{has_come}
 use Rattle.moka_model.specs.Maintenance.{Queues, Part, total, judge, judged, parts, evicted_in, after_parts}
 use Rattle.moka_ways.specs.declared.lives.Lives.{Lives}
 use Rattle.moka_rows.specs.declared.rows.Row.{Row}
 use Rattle.moka_ways.specs.Lives.{deadline_of}
 use Rattle.moka_table.specs.Table.{Contents, weight_of}
-use Rattle.moka_maintain.specs.declared.maintain.Order.{Order}
-use Rattle.moka_maintain.specs.declared.maintain.Order.TheVariants.{Admitted, Waiting}
 
 -- a weight is within the capacity, if there is one
 abbrev pub is_within : Option ℕ → ℕ → Bool
 is_within None weight = true
 is_within (Some capacity) weight = nat_le weight capacity
 
--- the order that an order is not
-abbrev pub other : Order → Order
-other Admitted = Waiting
-other Waiting = Admitted
-
 module _ {K V : Type 0} where
-  -- the row's value is not expired at a moment
+  -- the row's value is neither hidden nor expired at a moment
   abbrev pub is_alive : Lives → ℕ → ℕ × Row K V → Bool
-  is_alive lives at p = not (has_come (deadline_of lives p.1.info) at)
+  is_alive lives at p = not p.1.info.is_hidden && not (has_come (deadline_of lives p.1.info) at)
 
   -- the rows that are alive at a moment, in their order
   abbrev pub living : Lives → ℕ → List (ℕ × Row K V) → List (ℕ × Row K V)
@@ -45,19 +38,18 @@ module _ {K V : Type 0} where
   abbrev pub notices_for : RemovalCause → List (ℕ × Row K V) → List (Notice K V)
   notices_for cause rows = map (notice_for cause) rows
 
-  -- the notice of a row that leaves in a maintenance: as expired where its deadline has come, and else for size
+  -- those of dead rows: each was removed where it is hidden, and else it expired
+  abbrev pub notice_dead : ℕ × Row K V → Notice K V
+  notice_dead p = notice_for (if p.1.info.is_hidden then Explicit else Expired) p
+
+  abbrev pub notices_dead : List (ℕ × Row K V) → List (Notice K V)
+  notices_dead rows = map notice_dead rows
+
+  -- The notice of a row that leaves in a maintenance: it was removed where it is hidden, it expired where its deadline
+  -- has come, and else it leaves for size.
   abbrev pub notice_at : Lives → ℕ → ℕ × Row K V → Notice K V
-  notice_at lives at p = notice_for (if has_come (deadline_of lives p.1.info) at then Expired else Size) p
-
-  -- no deadline of these rows comes before the earliest, and where there is no earliest none comes at all
-  abbrev pub IsDueFrom : Option ℕ → Lives → List (ℕ × Row K V) → Type 0
-  IsDueFrom earliest lives rows =
-      AllByRecursion (λ p. (at : ℕ) → has_come (deadline_of lives p.1.info) at ≡ true → has_come earliest at ≡ true) rows
-
-  -- the rows of one order
-  abbrev pub rows_in : Order → Contents K V → List (ℕ × Row K V)
-  rows_in Admitted c = c.admitted
-  rows_in Waiting c = c.waiting
+  notice_at lives at p =
+      notice_for (if p.1.info.is_hidden then Explicit else (if has_come (deadline_of lives p.1.info) at then Expired else Size)) p
 
   -- the rows in their two orders
   abbrev pub rows_of : Contents K V → Queues (ℕ × Row K V)

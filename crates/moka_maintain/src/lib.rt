@@ -2,3 +2,4 @@
 #![tactic(auto)]
 
 pub mod maintain;
+pub mod visit_laws;

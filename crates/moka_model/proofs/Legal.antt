@@ -1,11 +1,11 @@
 -- Legal lists of accepted steps: each is made by calls, and a call keeps a list legal.
-use Rattle.std.proofs.Common.{◌≡◌, ℕ, Bool, false, Option, Some, None, List, [], ◌∷◌, ◌++◌, refl, sym, ap, ◌∙◌, subst, append_assoc}
+use Rattle.std.proofs.Common.{◌≡◌, ℕ, Bool, true, false, Option, Some, None, List, [], ◌∷◌, ◌++◌, refl, sym, ap, ◌∙◌, subst, append_assoc}
 use Rattle.std.proofs.lemmas.Bool.{cond_both}
 use Rattle.moka_model.specs.Lives.{Settings}
-use Rattle.moka_model.specs.Events.{Event, Looked, Written, Invalidated, Maintained, Passed, Taken}
+use Rattle.moka_model.specs.Events.{Event, Looked, Written, Invalidated, Hidden, Maintained, Passed, Taken}
 use Rattle.moka_model.specs.Numbers.{stores_nothing}
 use Rattle.moka_model.specs.Steps.{AcceptedStep, events_in}
-use Rattle.moka_model.specs.Calls.{Call, Get, ContainsKey, Insert, Invalidate, RunPendingTasks, EntryCount, WeightedSize, TakeNotice, Accepted, accepted, with_step, after, flush, IsLegal}
+use Rattle.moka_model.specs.Calls.{Call, Get, ContainsKey, Insert, Invalidate, Remove, InvalidateAll, InvalidateIf, RunPendingTasks, EntryCount, WeightedSize, TakeNotice, Done, Accepted, without_move, accepted, with_step, after, flush, IsLegal}
 
 -- an event that is no write
 abbrev pub IsNoWrite : {K V : Type 0} → Event K V → Type 0
@@ -50,6 +50,12 @@ module _ {K V E : Type 0} (eq : K → K → Bool) (settings : Settings K V) wher
           (λ _. others (Passed at) tt (events_in steps) p)
           (λ stores. written k v at (events_in steps) stores p)
       more (Invalidate k at) steps legal p = others (Invalidated k at) tt (events_in steps) p
+      more (Remove k at) steps legal p = others (Invalidated k at) tt (events_in steps) p
+      more InvalidateAll steps legal p = others (Hidden (λ _ _. true)) tt (events_in steps) p
+      more (InvalidateIf test) steps legal p =
+          cond_both settings.supports_closures (Some (without_move Done (Hidden test ∷ []))) None (λ it. P (events_in (with_step it steps)))
+          (λ _. others (Hidden test) tt (events_in steps) p)
+          (λ _. p)
       more (RunPendingTasks at) steps legal p = others (Maintained None at) tt (events_in steps) p
       more EntryCount steps legal p = p
       more WeightedSize steps legal p = p

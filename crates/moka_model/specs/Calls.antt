@@ -1,8 +1,9 @@
 -- Calls: what each answers after a list of accepted steps, which accepted step it is, and when it may be refused.
-use Rattle.std.specs.Prelude.{⊤, ◌≡◌, ◌<◌, ℕ, max, min, Bool, false, if◌then◌else◌, Option, Some, None, IsSome, List, [], ◌∷◌, option_map}
+use Rattle.std.specs.Prelude.{⊤, ◌≡◌, ◌<◌, ℕ, max, min, Bool, true, false, if◌then◌else◌, Option, Some, None, IsSome, List, [], ◌∷◌}
+use Rattle.std.specs.Prelude.{option_map}
 use Rattle.std.specs.Prelude.{is_some, slice_get}
 use Rattle.moka_model.specs.Lives.{Settings, Write}
-use Rattle.moka_model.specs.Events.{Event, Looked, Written, Invalidated, Maintained, Passed, Taken, latest}
+use Rattle.moka_model.specs.Events.{Event, Looked, Written, Invalidated, Hidden, Maintained, Passed, Taken, latest}
 use Rattle.moka_model.specs.Orders.{live}
 use Rattle.moka_model.specs.Removals.{Removal, notices_left}
 use Rattle.moka_model.specs.Numbers.{drawn_in, next_number, greatest_number, entry_count, weighted_size, stores_nothing, is_flush_due}
@@ -13,6 +14,9 @@ pub data Call (K V : Type 0) : Type 0 where  -- A call, with what it hands in; t
   ContainsKey : K → ℕ → Call K V
   Insert : K → V → ℕ → Call K V
   Invalidate : K → ℕ → Call K V
+  Remove : K → ℕ → Call K V
+  InvalidateAll : Call K V
+  InvalidateIf : (K → V → Bool) → Call K V
   RunPendingTasks : ℕ → Call K V
   EntryCount : Call K V
   WeightedSize : Call K V
@@ -45,13 +49,17 @@ module _ {K V : Type 0} (eq : K → K → Bool) (settings : Settings K V) where
   write_events k v at h = if stores_nothing settings.max_capacity then Passed at ∷ [] else Written k v at ∷ flush at h
 
 module _ {K V E : Type 0} (eq : K → K → Bool) (settings : Settings K V) (steps : List (AcceptedStep K V E)) where
-  -- What a call answers and which step it is, after these; none where it is refused by its name, as none is yet.
+  -- What a call answers and which step it is, after these; none where it is refused by its name.
   abbrev pub accepted : Call K V → Option (Accepted K V E)
   accepted (Get k at) =
       Some (without_move (Found (option_map (λ w. w.value) (live_at eq settings k at (events_in steps)))) (Looked k at ∷ []))
   accepted (ContainsKey k at) = Some (without_move (Contains (is_some (live_at eq settings k at (events_in steps)))) [])
   accepted (Insert k v at) = Some (without_move Done (write_events eq settings k v at (events_in steps)))
   accepted (Invalidate k at) = Some (without_move Done (Invalidated k at ∷ []))
+  accepted (Remove k at) =
+      Some (without_move (Found (option_map (λ w. w.value) (live_at eq settings k at (events_in steps)))) (Invalidated k at ∷ []))
+  accepted InvalidateAll = Some (without_move Done (Hidden (λ k v. true) ∷ []))
+  accepted (InvalidateIf test) = if settings.supports_closures then Some (without_move Done (Hidden test ∷ [])) else None
   accepted (RunPendingTasks at) = Some (without_move Done (Maintained None at ∷ []))
   accepted EntryCount = Some (without_move (Counted (min (entry_count eq settings (events_in steps)) greatest_number)) [])
   accepted WeightedSize = Some (without_move (Counted (min (weighted_size eq settings (events_in steps)) greatest_number)) [])
@@ -84,6 +92,8 @@ module _ {K V E : Type 0} (eq : K → K → Bool) (settings : Settings K V) wher
   abbrev pub MayTakeMemory : List (AcceptedStep K V E) → Call K V → Type 0  -- It copies a value or grows: no other call is refused memory.
   MayTakeMemory steps (Get k at) = IsSome (live_at eq settings k at (events_in steps))
   MayTakeMemory steps (Insert k v at) = stores_nothing settings.max_capacity ≡ false
+  MayTakeMemory steps (Remove k at) = IsSome (live_at eq settings k at (events_in steps))
+  MayTakeMemory steps (InvalidateIf test) = settings.supports_closures ≡ true
   MayTakeMemory steps call = ⊥
 
   -- A call is refused for want of numbers exactly where it would draw one and none is left.

@@ -25,6 +25,7 @@ pub record Settings (K V : Type 0) : Type 0 where
   pub time_to_idle : Option ℕ
   pub max_capacity : Option ℕ
   pub first_number : ℕ
+  pub supports_closures : Bool  -- whether it hides by tests
   pub behaviour : Behaviour K V
   pub frequency : List ℕ → ℕ → ℕ
 

@@ -1,10 +1,16 @@
 -- What left, for which cause, and which of it was not given out yet.
-use Rattle.std.specs.Prelude.{ℕ, ◌+◌, min, Bool, if◌then◌else◌, Option, Some, None, List, [], ◌∷◌, ◌++◌, length, drop, map}
+use Rattle.std.specs.Prelude.{ℕ, ◌+◌, min, Bool, true, false, if◌then◌else◌, Option, Some, None, List, [], ◌∷◌, ◌++◌, length, drop, map}
 use Rattle.moka_model.specs.declared.notification.RemovalCause.{RemovalCause}
 use Rattle.moka_model.specs.declared.notification.RemovalCause.TheVariants.{Expired, Explicit, Replaced, Size}
 use Rattle.moka_model.specs.Lives.{Settings, Write, is_expired}
 use Rattle.moka_model.specs.Events.{Event, Looked, TurnedDown, Written, Invalidated, Hidden, Maintained, Passed, Drawn, Taken, latest}
 use Rattle.moka_model.specs.Orders.{evicted_at, standing}
+
+abbrev pub is_evicting : RemovalCause → Bool  -- by these causes a cache lets a value go by itself, and by the others a caller did
+is_evicting Expired = true
+is_evicting Size = true
+is_evicting Explicit = false
+is_evicting Replaced = false
 
 pub record Removal (K V : Type 0) : Type 0 where  -- A value that left, under the key that it was stored under, with its cause.
   pub key : K

@@ -1,4 +1,7 @@
 //! What is said of a value that has left the cache.
+ghost use Rattle.std.specs.Prelude.{◌≡◌};
+ghost use Rattle.moka_model.specs.Removals.{is_evicting};
+
 use std::sync::Arc;
 
 /// Why a value left the cache.
@@ -12,6 +15,18 @@ pub enum RemovalCause {
     Replaced,
     /// It left to keep the cache within its capacity.
     Size,
+}
+
+impl RemovalCause {
+    /// Whether the cache let the value go by itself: it had expired, or it left for the capacity.
+    pub fn was_evicted(&self) -> bool
+        ensures { result ≡ is_evicting self.now }
+    {
+        match self {
+            RemovalCause::Expired | RemovalCause::Size => true,
+            RemovalCause::Explicit | RemovalCause::Replaced => false,
+        }
+    }
 }
 
 /// One value that has left the cache, with the key that it was stored under and the cause.

@@ -1,7 +1,7 @@
 -- Numbers in a list, and paths through them.
-use Rattle.std.proofs.Common.{◌≡◌, ◌≢◌, ℕ, zero, suc, ◌+◌, ◌<◌, ◌≤◌, List, [], ◌∷◌, ◌++◌, length, Some, None, refl, sym, ap, subst, ◌∙◌, arith, rules, inl, inr, ⊎_elim}
+use Rattle.std.proofs.Common.{◌≡◌, ◌≢◌, ℕ, zero, suc, ◌+◌, ◌<◌, ◌≤◌, ◌==◌, true, false, List, [], ◌∷◌, ◌++◌, length, Some, None, refl, sym, ap, subst, ◌∙◌, arith, rules, inl, inr, ⊎_elim}
 use Rattle.std.specs.Prelude.{◌⊎◌, ⊤}
-use Rattle.std.proofs.lemmas.Bool.{cases_eq, ne_eqb}
+use Rattle.std.proofs.lemmas.Bool.{cases_eq, eq-eqb, ne_eqb}
 use Rattle.moka_orders.specs.Paths.{IsAmong, IsAbsent, count_of, without, steps, first_of, number_behind}
 use Rattle.moka_orders.specs.Nodes.{row_of}
 
@@ -101,6 +101,27 @@ length-without x (z ∷ zs) h =
 pub without-absent : (x : ℕ) (zs : List ℕ) → IsAbsent x zs → without x zs ≡ zs
 without-absent x [] h = refl
 without-absent x (z ∷ zs) h = without-there x z zs (λ e. h (inl e)) ∙ ap (λ t. z ∷ t) (without-absent x zs (λ q. h (inr q)))
+
+-- a number with none behind it is the last: put behind all others it stands where it stood
+first_of-none : (xs : List ℕ) → first_of xs ≡ None → xs ≡ []
+first_of-none [] none = refl
+first_of-none (x ∷ xs) none = absurd cc
+
+pub last-stays : (k : ℕ) (xs : List ℕ) → IsAmong k xs → number_behind k xs ≡ None → xs ≡ without k xs ++ k ∷ []
+last-stays k [] h none = absurd h
+last-stays k (x ∷ xs) h none = ⊎_elim here (λ ne. there ne (λ later last. last-stays k xs later last)) (cases_eq x k)
+  where
+    here : x ≡ k → x ∷ xs ≡ without k (x ∷ xs) ++ k ∷ []
+    here e =
+        let is : (x == k) ≡ true = eq-eqb x k e in
+        let last : xs ≡ [] = first_of-none xs (rw is at none) in
+        ap (λ t. t ∷ xs) e ∙ ap (λ t. k ∷ t) last ∙ ap (λ t. t ++ k ∷ []) (sym (without-here k x xs e ∙ last))
+
+    there : x ≢ k → (IsAmong k xs → number_behind k xs ≡ None → xs ≡ without k xs ++ k ∷ []) → x ∷ xs ≡ without k (x ∷ xs) ++ k ∷ []
+    there ne rest =
+        let is : (x == k) ≡ false = ne_eqb x k ne in
+        let later : IsAmong k xs = ⊎_elim (λ e. absurd (ne e)) (λ q. q) h in
+        ap (λ t. x ∷ t) (rest later (rw is at none)) ∙ ap (λ t. t ++ k ∷ []) (sym (without-there k x xs ne))
 
 -- one more at the end
 pub among-front : (k : ℕ) (xs ys : List ℕ) → IsAmong k xs → IsAmong k (xs ++ ys)

@@ -12,10 +12,15 @@ use std::alloc::AllocError;
 /// to itself.
 #[derive(Clone, Copy)]
 pub struct Node {
+    /// The hash of the number's row.
     pub hash: u64,
+    /// The number before it in its order, or the order's end.
     pub prev: u32,
+    /// The number behind it in its order, or the order's end.
     pub next: u32,
+    /// The next number of the same hash, or an end where there is none.
     pub same: u32,
+    /// Whether it stands among the admitted.
     pub is_admitted: bool,
 }
 
@@ -46,14 +51,15 @@ pub fn first(nodes: &[Node], end: u32) -> Option<usize>
     }
 }
 
-/// Makes the node of a number, and those of all before it. Each new node is alone.
-pub fn grow(nodes: &mut Vec<Node>, number: usize) -> Result<(), AllocError>
-    requires fits { number < 2 ^ 32 }
+/// Makes the nodes of all numbers below this many. Each new node is alone.
+pub fn grow(nodes: &mut Vec<Node>, places: usize) -> Result<(), AllocError>
+    requires fits { places ≤ 2 ^ 32 }
     requires few { length nodes.old.items ≤ 2 ^ 32 }
-    ensures place { OnOk result (number < length nodes.new.items) }
+    ensures places { OnOk result (places ≤ length nodes.new.items) }
     ensures grown { Grows nodes.old.items nodes.new.items }
 {
-    for place in nodes.len()..number + 1 {
+    nodes.reserve_exact(places.saturating_sub(nodes.len()))?;
+    for place in nodes.len()..places {
         let link = place as u32;
         nodes.push(Node {
             hash: 0,

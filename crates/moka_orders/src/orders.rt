@@ -94,19 +94,19 @@ impl Orders {
         node.same
     }
 
-    /// Makes room for the node of a number. Numbers have 32 bits.
-    pub fn reserve(&mut self, number: usize) -> Result<(), AllocError>
-        ensures place { OnOk result (number < places_in self.new) }
+    /// Makes the nodes of all numbers below this many. Numbers have 32 bits.
+    pub fn reserve(&mut self, places: usize) -> Result<(), AllocError>
+        ensures made { OnOk result (places ≤ places_in self.new) }
         ensures admitted { admitted_in self.new ≡ admitted_in self.old }
         ensures waiting { waiting_in self.new ≡ waiting_in self.old }
         ensures same { (k : ℕ) → same_of self.new.nodes.items k ≡ same_of self.old.nodes.items k }
         ensures hash { (k : ℕ) → hash_of self.new.nodes.items k ≡ hash_of self.old.nodes.items k }
         ensures places { places_in self.old ≤ places_in self.new }
     {
-        if number > u32::MAX as usize {
+        if places > u32::MAX as usize {
             return Err(AllocError);
         }
-        grow(&mut self.nodes, number)
+        grow(&mut self.nodes, places)
     }
 
     /// Sets a number's hash, and which number of that hash comes behind it.
@@ -147,9 +147,11 @@ impl Orders {
         at
     }
 
-    /// Takes a number out of the order in which it stands.
-    pub fn leave(&mut self, number: u32)
+    /// Takes a number out of the order in which it stands, and answers whether it was admitted.
+    pub fn leave(&mut self, number: u32) -> bool
         requires { Stands self.old number }
+        ensures was_admitted { IsAmong number (admitted_in self.old) → result ≡ true }
+        ensures was_waiting { IsAmong number (waiting_in self.old) → result ≡ false }
         ensures admitted { admitted_in self.new ≡ without number (admitted_in self.old) }
         ensures waiting { waiting_in self.new ≡ without number (waiting_in self.old) }
         ensures kept { KeepsHashes self.old self.new }
@@ -161,6 +163,7 @@ impl Orders {
         } else {
             self.waiting_len -= 1;
         }
+        is_admitted
     }
 
     /// Puts a number that stands nowhere behind all that are admitted.

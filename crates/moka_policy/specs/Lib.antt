@@ -1,3 +1,4 @@
+pub mod Building
 pub mod Frequency
 pub mod NumberHash
 pub mod Policy

@@ -22,6 +22,13 @@ IsWeighing {K} {V} {KeyRef} {ValueRef} key_of value_of can_call answers weight =
     ((key : KeyRef) (value : ValueRef) → can_call key value)
     × ((key : KeyRef) (value : ValueRef) (answer : ℕ) → answers key value answer → answer ≡ weight (key_of key) (value_of value))
 
+-- A closure answers a test of each key and value: it can be called with references to them, and then answers it.
+abbrev pub IsTesting : {K V KeyRef ValueRef : Type 0} → (KeyRef → K) → (ValueRef → V) → (KeyRef → ValueRef → Type 0) →
+    (KeyRef → ValueRef → Bool → Type 0) → (K → V → Bool) → Type 0
+IsTesting {K} {V} {KeyRef} {ValueRef} key_of value_of can_call answers test =
+    ((key : KeyRef) (value : ValueRef) → can_call key value)
+    × ((key : KeyRef) (value : ValueRef) (answer : Bool) → answers key value answer → answer ≡ test (key_of key) (value_of value))
+
 -- A closure answers the life of a value that is created, for each key, value and moment.
 abbrev pub IsCreating : {K V KeyRef ValueRef : Type 0} → (KeyRef → K) → (ValueRef → V) → (KeyRef → ValueRef → ℕ → Type 0) →
     (KeyRef → ValueRef → ℕ → Option Duration → Type 0) → (K → V → ℕ → Option ℕ) → Type 0

@@ -1,5 +1,5 @@
 //! How often hashes were noted, and a table of counters that estimates it.
-ghost use Rattle.std.specs.Prelude.{◌≡◌, ℕ, ◌/◌, ◌%◌, ◌<◌, map, IfOk, IfErr};
+ghost use Rattle.std.specs.Prelude.{◌≡◌, ℕ, ◌/◌, ◌%◌, ◌^◌, ◌<◌, map, IfOk, IfErr};
 ghost use Rattle.moka_policy.specs.declared.policy.Refused.{Refused};
 ghost use Rattle.moka_policy.specs.Frequency.{Counts, IsTable, counter_of, none_noted, noted, estimated};
 
@@ -92,11 +92,11 @@ impl<const BITS: u32> FrequencySource for CountTable<BITS> {
 
 /// The place of a hash among so many counters, a power of two: its lowest bits.
 fn place_of(hash: u64, counters: usize) -> usize
-    requires { 0 < counters }
+    requires { (bits : ℕ) × (counters ≡ 2 ^ bits) }
     ensures place { result ≡ hash % counters }
     ensures within { result < counters }
 {
-    (hash % counters as u64) as usize
+    (hash & (counters as u64 - 1)) as usize
 }
 
 /// Halves each counter, rounded down.

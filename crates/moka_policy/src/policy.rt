@@ -1,13 +1,17 @@
 //! The types that a cache is made of, the hasher of number keys, and the refusals.
-ghost use Rattle.std.specs.Prelude.{◌≡◌, ℕ, true, false, not};
+ghost use Rattle.std.specs.Prelude.{◌≡◌, ℕ, Bool, true, false, not};
 ghost use Rattle.moka_model.specs.Lives.{Lifetimes};
 ghost use Rattle.moka_policy.specs.NumberHash.{number_hash};
 ghost use Rattle.moka_policy.specs.Policy.{is_lru};
 
+pub use crate::clock::{Clock, ManualClock};
 pub use crate::expiry::{ExpireBy, Expiry, NoExpiry};
 pub use crate::frequency::{CountTable, FrequencySource};
+pub use crate::listener::{ListenBy, Listener, NoListener};
+pub use crate::predicate::{HoldsIf, NoPredicate, Predicate};
 pub use crate::weigher::{NoWeigher, WeighBy, Weigher};
 use std::hash::{BuildHasher, Hasher};
+use std::time::Duration;
 use thiserror::Error;
 
 /// The types of one kind of cache, and the relation in which it keeps its keys and values.
@@ -21,8 +25,17 @@ pub trait CacheTypes<K: Eq, V: Clone> {
     /// Gives values lives of their own, where the cache is given an expiry.
     type Expiry: Expiry<K, V> + Drop;
 
+    /// Says which of the stored values a mass invalidation hides.
+    type Predicate: Predicate<K, V> + Drop;
+
     /// Estimates how often each key was looked for.
     type Frequency: FrequencySource;
+
+    /// Is told of what leaves a shared cache, where it is given a listener.
+    type Listener: Listener<K, V> + Drop;
+
+    /// Tells a shared cache the moments of its calls.
+    type Clock: Clock + Drop;
 
     /// What a computation of a value may fail with.
     type Error: Drop;
@@ -35,6 +48,9 @@ pub trait CacheTypes<K: Eq, V: Clone> {
 
     /// The lives that values have of their own, by the expiry that the cache is given, which answers them.
     ghost lifetimes: { Self.Expiry → Lifetimes K V };
+
+    /// The test of each key and value that a predicate answers.
+    ghost test: { Self.Predicate → K → V → Bool };
 
     /// Holds of each key and value that the cache stores. Every writer owes it.
     ghost keeps: { K → V → Type 0 };
@@ -107,6 +123,67 @@ impl Default for EvictionPolicy {
         ensures { is_lru result ≡ false }
     {
         EvictionPolicy::tiny_lfu()
+    }
+}
+
+/// How much a cache may store and how long its values live, as it was built.
+#[derive(Clone, Copy, Debug, PartialEq, Eq)]
+pub struct Policy {
+    max_capacity: Option<u64>,
+    num_segments: usize,
+    time_to_live: Option<Duration>,
+    time_to_idle: Option<Duration>,
+}
+
+impl Policy {
+    /// A policy of these four.
+    pub fn new(
+        max_capacity: Option<u64>,
+        num_segments: usize,
+        time_to_live: Option<Duration>,
+        time_to_idle: Option<Duration>,
+    ) -> Self
+        ensures { result ≡ record {
+          max_capacity = max_capacity;
+          num_segments = num_segments;
+          time_to_live = time_to_live;
+          time_to_idle = time_to_idle;
+        } }
+    {
+        Policy {
+            max_capacity,
+            num_segments,
+            time_to_live,
+            time_to_idle,
+        }
+    }
+
+    /// How much may stay stored, by the weights of the values; none is no bound.
+    pub fn max_capacity(&self) -> Option<u64>
+        ensures { result ≡ self.now.max_capacity }
+    {
+        self.max_capacity
+    }
+
+    /// How many segments the cache has.
+    pub fn num_segments(&self) -> usize
+        ensures { result ≡ self.now.num_segments }
+    {
+        self.num_segments
+    }
+
+    /// How long a value lives after its write.
+    pub fn time_to_live(&self) -> Option<Duration>
+        ensures { result ≡ self.now.time_to_live }
+    {
+        self.time_to_live
+    }
+
+    /// How long a value lives after its last use.
+    pub fn time_to_idle(&self) -> Option<Duration>
+        ensures { result ≡ self.now.time_to_idle }
+    {
+        self.time_to_idle
     }
 }
 

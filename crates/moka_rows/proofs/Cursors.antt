@@ -1,8 +1,8 @@
 -- A cursor over rows whose numbers differ: what is read at it, and what is before and behind it.
-use Rattle.std.proofs.Common.{◌≡◌, ℕ, ◌+◌, ◌≤◌, ◌==◌, true, false, Option, Some, None, List, [], ◌∷◌, ◌++◌, if◌then◌else◌, refl, ap, ◌∙◌, arith}
+use Rattle.std.proofs.Common.{◌≡◌, ℕ, ◌+◌, ◌≤◌, ◌==◌, true, false, Option, Some, None, MatchOption, List, [], ◌∷◌, ◌++◌, if◌then◌else◌, refl, sym, ap, ◌∙◌, arith}
 use Rattle.std.specs.Option.{IsSome}
 use Rattle.std.proofs.lemmas.Bool.{eq-eqb}
-use Rattle.moka_rows.specs.Rows.{row_under, without_row, first_number, number_after, count_under, NumbersDiffer}
+use Rattle.moka_rows.specs.Rows.{row_under, without_row, first_number, number_after, count_under, TakesFirst, NumbersDiffer}
 use Rattle.moka_rows.proofs.NumberLemmas.{count_under-append, row_under-none}
 use Rattle.moka_rows.proofs.RowLemmas.{row_under-append_left, row_under-append_right, row_under-here, without_row-here, without_row-append_right}
 
@@ -98,3 +98,31 @@ module _ {R : Type 0} where
   -- and in the second
   pub differ-back : (front back : List (ℕ × R)) → NumbersDiffer (front ++ back) → NumbersDiffer back
   differ-back front back apart m = let once = apart m in let parts = count_under-append m front back in omega (arith, once, parts)
+
+  -- an order that has no first number has no rows
+  pub none-first : (rows : List (ℕ × R)) → None ≡ first_number rows → rows ≡ []
+  none-first [] none = refl
+  none-first (p ∷ ps) none = cc
+
+  -- the first row of an order
+  module _ (n : ℕ) (front back : List (ℕ × R)) (first : Some n ≡ first_number front) where
+    under-first : (r : R) × (rest : List (ℕ × R)) × (front ≡ (n, r) ∷ rest) × (row_under n front ≡ Some r)
+    under-first =
+        let begins = begins-with front n first in
+        (begins.0, begins.1, begins.2, ap (row_under n) begins.2 ∙ row_under-at n begins.0 [] begins.1 refl)
+
+    -- is stored,
+    pub first-stored : IsSome (row_under n (front ++ back))
+    first-stored = let it = under-first in rw (row_under-append_left n front back it.0 it.3) refl
+
+    -- and its removal takes it from the front
+    pub takes-first : (row : R) (front' back' : List (ℕ × R)) → row_under n (front ++ back) ≡ Some row
+        → MatchOption (row_under n front) ((front' ≡ front) × (back' ≡ without_row n back)) (λ _. (front' ≡ without_row n front) × (back' ≡ back))
+        → TakesFirst (Some row) front front' × (back' ≡ back)
+    takes-first row front' back' there taken =
+        let it = under-first in
+        let left = rw it.3 at taken in
+        let both : Some it.0 ≡ Some row = sym (row_under-append_left n front back it.0 it.3) ∙ there in
+        let same : it.0 ≡ row = cc in
+        let rest : front' ≡ it.1 = left.0 ∙ ap (without_row n) it.2 ∙ without_row-at n it.0 [] it.1 refl in
+        ((n, it.2 ∙ ap (λ (r : R). (n, r) ∷ it.1) same ∙ ap (λ l. (n, row) ∷ l) (sym rest)), left.1)

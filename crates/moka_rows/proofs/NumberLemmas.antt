@@ -4,7 +4,7 @@ use Rattle.std.specs.List.{find, filter, remove}
 use Rattle.std.specs.Option.{option_map, option_or, IfSome, IfNone, IsSome}
 use Rattle.std.proofs.lemmas.List.{take_more, length-append, get_or_default}
 use Rattle.std.proofs.lemmas.Bool.{eq-eqb, ne_eqb, eqb-true}
-use Rattle.moka_rows.specs.Rows.{count_under, row_under, with_row, without_row, number_after}
+use Rattle.moka_rows.specs.Rows.{count_under, row_under, with_row, without_row, number_after, NumbersDiffer}
 use Rattle.moka_rows.specs.Numbers.{number_where, IsNumbered, IsPlaceOf}
 use Rattle.moka_rows.proofs.RowLemmas.{row_under-append_right, row_under-here, row_under-there, with_row-here, with_row-there, without_row-here, without_row-there, length-with_row, length-without_row}
 
@@ -96,6 +96,11 @@ module _ {R : Type 0} where
         | false ↦ λ later. let rest = count_under-some n ps r later in omega arith
       ] found
 
+  -- where the numbers differ, the number of a row in front is that of none behind
+  pub absent-behind : (n : ℕ) (front back : List (ℕ × R)) (r : R) → NumbersDiffer (front ++ back) → row_under n front ≡ Some r → row_under n back ≡ None
+  absent-behind n front back r apart found =
+      row_under-none n back (let once = apart n in let here = count_under-some n front r found in let parts = count_under-append n front back in omega (arith, once, here, parts))
+
   -- no row stands under the next number
   pub row_under-next : (next : ℕ) (rows : List (ℕ × R)) → IsNumbered next rows → row_under next rows ≡ None
   row_under-next next rows numbered = row_under-none next rows (numbered.below next (omega arith))
@@ -129,6 +134,14 @@ module _ {R : Type 0} where
       (IsNumbered-same next (front ++ back) (front ++ with_row n change back)
       (λ m. omega (arith, count_under-append m front back, count_under-append m front (with_row n change back), count_under-with_row m n change back))
       (omega (arith, length-append front back, length-append front (with_row n change back), length-with_row n change back)) numbered)
+
+  -- or a row in front,
+  pub IsNumbered-changed_front : (next n place : ℕ) (front back : List (ℕ × R)) (p : ℕ × R) (change : R → R) → IsPlaceOf n front place → p ≡ get_or front place p → IsNumbered next (front ++ back) → IsNumbered next (set front place (p.0, change p.1) ++ back)
+  IsNumbered-changed_front next n place front back p change at read numbered =
+      rw (at.changed p change read)
+      (IsNumbered-same next (front ++ back) (with_row n change front ++ back)
+      (λ m. omega (arith, count_under-append m front back, count_under-append m (with_row n change front) back, count_under-with_row m n change front))
+      (omega (arith, length-append front back, length-append (with_row n change front) back, length-with_row n change front)) numbered)
 
   -- when a row in front becomes the last there,
   pub IsNumbered-moved : (next n place : ℕ) (front back : List (ℕ × R)) (p : ℕ × R) (s : R) → IsPlaceOf n front place → p ≡ get_or front place p → IsNumbered next (front ++ back) → IsNumbered next ((remove front place ++ (n, s) ∷ []) ++ back)

@@ -1,8 +1,15 @@
 -- Rows by their numbers, in an order.
-use Rattle.std.specs.Prelude.{◌≡◌, ℕ, ◌+◌, ◌≤◌, ◌==◌, Bool, true, ◌&&◌, if◌then◌else◌, Option, Some, None, List, [], ◌∷◌, filter}
+use Rattle.std.specs.Prelude.{◌≡◌, ℕ, ◌+◌, ◌≤◌, ◌==◌, Bool, true, ◌&&◌, ◌||◌, if◌then◌else◌, List, [], ◌∷◌, filter, not}
+use Rattle.std.specs.Prelude.{Option, Some, None, MatchOption}
 use Rattle.std.specs.Arc.{arc_value}
+use Rattle.moka_model.specs.declared.notification.RemovalCause.{RemovalCause}
+use Rattle.moka_model.specs.declared.notification.RemovalCause.TheVariants.{Expired, Explicit}
+use Rattle.moka_model.specs.Lives.{has_come}
 use Rattle.moka_rows.specs.declared.rows.Row.{Row}
 use Rattle.moka_rows.specs.declared.rows.EntryInfo.{EntryInfo}
+use Rattle.moka_rows.specs.declared.rows.Touch.{Touch}
+use Rattle.moka_rows.specs.declared.rows.Order.{Order}
+use Rattle.moka_rows.specs.declared.rows.Order.TheVariants.{Admitted, Waiting}
 
 -- the first row under a number
 abbrev pub row_under : {R : Type 0} → ℕ → List (ℕ × R) → Option R
@@ -19,14 +26,55 @@ abbrev pub without_row : {R : Type 0} → ℕ → List (ℕ × R) → List (ℕ 
 without_row n [] = []
 without_row n (p ∷ ps) = if p.0 == n then ps else p ∷ without_row n ps
 
+-- the order that an order is not
+abbrev pub other : Order → Order
+other Admitted = Waiting
+other Waiting = Admitted
+
+-- a stored row stands in this order, by the admitted rows
+abbrev pub IsOrderOf : {R : Type 0} → ℕ → List (ℕ × R) → Order → Type 0
+IsOrderOf n admitted order = MatchOption (row_under n admitted) (order ≡ Waiting) (λ _. order ≡ Admitted)
+
+-- what is kept of a value after a use
+abbrev pub used_at : Touch → EntryInfo → EntryInfo
+used_at touch info = record info { last_accessed = touch.last_accessed; own_life = touch.own_life; deadline = touch.deadline }
+
+-- The cause under which a value leaves at a moment: it was removed where it is hidden, it expired where its deadline has
+-- come, and else the cause is the call's own.
+abbrev pub cause_at : RemovalCause → EntryInfo → ℕ → RemovalCause
+cause_at own info at = if info.is_hidden then Explicit else (if has_come info.deadline at then Expired else own)
+
 module _ {K V : Type 0} where
-  -- the row after a use at these moments
-  abbrev pub touched : EntryInfo → Row K V → Row K V
-  touched info row = record row { info = info }
+  -- the row after a use
+  abbrev pub touched : Touch → Row K V → Row K V
+  touched touch row = record row { info = used_at touch row.info }
 
   -- the row after another value was written for its key
   abbrev pub overwritten : V → EntryInfo → Row K V → Row K V
   overwritten value info row = record row { value = value; info = info }
+
+  -- the row once it is hidden
+  abbrev pub hidden : Row K V → Row K V
+  hidden row = record row { info = record row.info { is_hidden = true } }
+
+  -- a row is expired at a moment where its deadline has come
+  abbrev pub is_expired : ℕ → ℕ × Row K V → Bool
+  is_expired at p = has_come p.1.info.deadline at
+
+  -- the rows that are expired at a moment, in their order
+  abbrev pub expired_at : ℕ → List (ℕ × Row K V) → List (ℕ × Row K V)
+  expired_at at rows = filter (is_expired at) rows
+
+  -- a row is dead at a moment where it is hidden or expired
+  abbrev pub is_dead : ℕ → ℕ × Row K V → Bool
+  is_dead at p = p.1.info.is_hidden || has_come p.1.info.deadline at
+
+  -- the rows that are dead at a moment, and those that live, in their order
+  abbrev pub dead_at : ℕ → List (ℕ × Row K V) → List (ℕ × Row K V)
+  dead_at at rows = filter (is_dead at) rows
+
+  abbrev pub living_at : ℕ → List (ℕ × Row K V) → List (ℕ × Row K V)
+  living_at at rows = filter (λ p. not (is_dead at p)) rows
 
   -- the row has this hash, and a key equal to this one
   abbrev pub is_row_of : (K → K → Bool) → K → ℕ → Row K V → Bool
@@ -49,6 +97,11 @@ first_number (p ∷ ps) = Some p.0
 abbrev pub number_after : {R : Type 0} → ℕ → List (ℕ × R) → Option ℕ
 number_after n [] = None
 number_after n (p ∷ ps) = if p.0 == n then first_number ps else number_after n ps
+
+-- the first row was taken out, where there is one
+abbrev pub TakesFirst : {R : Type 0} → Option R → List (ℕ × R) → List (ℕ × R) → Type 0
+TakesFirst None old new = (old ≡ []) × (new ≡ [])
+TakesFirst (Some row) old new = (number : ℕ) × (old ≡ (number, row) ∷ new)
 
 -- how many rows stand under a number
 abbrev pub count_under : {R : Type 0} → ℕ → List (ℕ × R) → ℕ

@@ -2,5 +2,7 @@
 #![tactic(auto)]
 
 pub mod list_rows;
+pub mod packed;
 pub mod rows;
 pub mod shelf;
+pub mod visits;

@@ -1,11 +1,12 @@
 //! The plain row store: two lists, searched from the front.
 ghost use Rattle.std.specs.Prelude.{◌≡◌, ◌+◌, ◌-◌, ◌<◌, ◌≤◌, ◌^◌, [], ◌∷◌, ◌++◌, length, drop, IsSome, IfNone, OnSome, MatchOption, min, vec_len, vec_capacity};
 ghost use Rattle.std.below.core.specs.declared.int.usize.TheConstants.{MAX};
-ghost use Rattle.moka_rows.specs.Rows.{row_under, is_row_of, first_number};
+ghost use Rattle.moka_rows.specs.Rows.{row_under, is_row_of, first_number, expired_at};
 ghost use Rattle.moka_rows.specs.Numbers.{number_where, IsNumbered, IsPlaceOf, IsPlaceIn};
 
-use crate::rows::{EntryInfo, Row, RowStore};
+use crate::rows::{Before, EntryInfo, Order, Row, RowStore, Touch};
 use crate::shelf::Shelved;
+use crate::visits::step;
 use std::alloc::{AllocError, Global};
 
 /// Where a row stands: at a place among the admitted, or among those that wait.
@@ -57,6 +58,18 @@ fn place_of<K, V>(rows: &[(usize, Shelved<Row<K, V>>)], number: usize) -> Option
     for (place, entry) in rows.iter().enumerate() {
         if entry.0 == number {
             return Some(place);
+        }
+    }
+    None
+}
+
+/// The number of the first of these rows whose deadline has come at a moment.
+fn expired_in<K, V>(rows: &[(usize, Shelved<Row<K, V>>)], now: u64) -> Option<usize>
+    ensures { result ≡ first_number (expired_at now rows.now) }
+{
+    for (number, shelved) in rows {
+        if shelved.row().info().is_expired(now) {
+            return Some(*number);
         }
     }
     None
@@ -120,6 +133,12 @@ impl<K: Eq + Drop, V: Drop> RowStore<K, V> for ListRows<K, V> {
         }
     }
 
+    fn hash(&self, number: usize) -> u64 {
+        self.row(number).hash
+    }
+
+    fn numbers_differ(&self) {}
+
     fn is_admitted(&self, number: usize) -> bool {
         match self.place(number) {
             Place::Admitted(_) => true,
@@ -129,12 +148,13 @@ impl<K: Eq + Drop, V: Drop> RowStore<K, V> for ListRows<K, V> {
 
     /// The numbers that were given out are never given out again: once they are used up, which would take 2^64 rows,
     /// this is refused.
-    fn reserve(&mut self) -> Result<(), AllocError> {
-        if self.next == usize::MAX {
+    fn reserve(&mut self, more: usize) -> Result<(), AllocError> {
+        if usize::MAX - self.next < more {
             return Err(AllocError);
         }
-        self.admitted.reserve(self.waiting.len() + 1)?;
-        self.waiting.reserve(1)
+        let waiting = self.waiting.len().checked_add(more).ok_or(AllocError)?;
+        self.admitted.reserve(waiting)?;
+        self.waiting.reserve(more)
     }
 
     fn add(&mut self, row: Row<K, V>) -> usize
@@ -142,6 +162,8 @@ impl<K: Eq + Drop, V: Drop> RowStore<K, V> for ListRows<K, V> {
         ensures fresh { row_under result (self.old.admitted.items ++ self.old.waiting.items) ≡ None }
         ensures waiting { self.new.waiting.items ≡ self.old.waiting.items ++ (result, row) ∷ [] }
         ensures admitted { self.new.admitted.items ≡ self.old.admitted.items }
+        ensures room { min (MAX - self.old.next) (min (vec_capacity self.old.waiting - vec_len self.old.waiting) (vec_capacity self.old.admitted - (vec_len self.old.admitted + vec_len self.old.waiting)))
+            ≤ min (MAX - self.new.next) (min (vec_capacity self.new.waiting - vec_len self.new.waiting) (vec_capacity self.new.admitted - (vec_len self.new.admitted + vec_len self.new.waiting))) + 1 }
     {
         let number = self.next;
         self.waiting.push_reserved((number, Shelved::new(row)));
@@ -149,26 +171,38 @@ impl<K: Eq + Drop, V: Drop> RowStore<K, V> for ListRows<K, V> {
         number
     }
 
-    fn touch(&mut self, number: usize, info: EntryInfo) {
+    fn touch(&mut self, number: usize, touch: Touch) {
         match self.place(number) {
             Place::Admitted(place) => {
                 let (_, mut used) = self.admitted.remove(place);
-                used.touch(info);
+                used.touch(touch);
                 self.admitted.push_reserved((number, used));
             }
-            Place::Waiting(place) => self.waiting[place].1.touch(info),
+            Place::Waiting(place) => self.waiting[place].1.touch(touch),
         }
     }
 
-    fn overwrite(&mut self, number: usize, value: V, info: EntryInfo) -> V {
+    fn overwrite(&mut self, number: usize, value: V, info: EntryInfo) -> Before<V> {
         match self.place(number) {
             Place::Admitted(place) => {
                 let (_, mut row) = self.admitted.remove(place);
-                let before = row.overwrite(value, info);
+                let (value, info) = row.overwrite(value, info);
                 self.admitted.push_reserved((number, row));
-                before
+                let order = Order::Admitted;
+                Before { value, info, order }
             }
-            Place::Waiting(place) => self.waiting[place].1.overwrite(value, info),
+            Place::Waiting(place) => {
+                let (value, info) = self.waiting[place].1.overwrite(value, info);
+                let order = Order::Waiting;
+                Before { value, info, order }
+            }
+        }
+    }
+
+    fn hide(&mut self, number: usize) {
+        match self.place(number) {
+            Place::Admitted(place) => self.admitted[place].1.hide(),
+            Place::Waiting(place) => self.waiting[place].1.hide(),
         }
     }
 
@@ -180,11 +214,16 @@ impl<K: Eq + Drop, V: Drop> RowStore<K, V> for ListRows<K, V> {
         number_at(&self.admitted, 0)
     }
 
+    fn first_expired(&self, now: u64) -> Option<usize> {
+        expired_in(&self.admitted, now)
+    }
+
     fn first_waiting(&self) -> Option<usize> {
         number_at(&self.waiting, 0)
     }
 
-    fn next(&self, number: usize) -> Option<usize> {
+    fn next(&self, number: usize, visits: &mut u128) -> Option<usize> {
+        step(visits);
         match self.place(number) {
             Place::Admitted(place) => number_at(&self.admitted, place + 1),
             Place::Waiting(place) => number_at(&self.waiting, place + 1),
@@ -201,10 +240,22 @@ impl<K: Eq + Drop, V: Drop> RowStore<K, V> for ListRows<K, V> {
         }
     }
 
-    fn remove(&mut self, number: usize) -> Row<K, V> {
+    fn remove(&mut self, number: usize) -> (Row<K, V>, Order) {
         match self.place(number) {
-            Place::Admitted(place) => self.admitted.remove(place).1.into_row(),
-            Place::Waiting(place) => self.waiting.remove(place).1.into_row(),
+            Place::Admitted(place) => {
+                let (_, row) = self.admitted.remove(place);
+                (row.into_row(), Order::Admitted)
+            }
+            Place::Waiting(place) => {
+                let (_, row) = self.waiting.remove(place);
+                (row.into_row(), Order::Waiting)
+            }
         }
+    }
+
+    fn take_first_admitted(&mut self) -> Option<Row<K, V>> {
+        let number = self.first_admitted()?;
+        let (row, _) = self.remove(number);
+        Some(row)
     }
 }

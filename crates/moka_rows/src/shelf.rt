@@ -1,8 +1,8 @@
 //! Rows as a store keeps them. A look-up comes to a row only by a call that counts it.
 ghost use Rattle.std.specs.Prelude.{◌≡◌, ◌+◌, ◌-◌, ◌<◌, ◌^◌};
-ghost use Rattle.moka_rows.specs.Rows.{touched, overwritten};
+ghost use Rattle.moka_rows.specs.Rows.{touched, overwritten, hidden};
 
-use crate::rows::{EntryInfo, Row};
+use crate::rows::{EntryInfo, Row, Touch};
 use std::marker::Model;
 
 /// A row as it stands in a store.
@@ -54,18 +54,27 @@ impl<R> Shelved<R> {
 }
 
 impl<K, V> Shelved<Row<K, V>> {
-    /// Gives the row the moments of a use.
-    pub fn touch(&mut self, info: EntryInfo)
-        ensures { self.new ≡ touched info self.old }
+    /// Makes a use of the row.
+    pub fn touch(&mut self, touch: Touch)
+        ensures { self.new ≡ touched touch self.old }
     {
-        self.row.info = info;
+        self.row.touch(touch);
     }
 
-    /// Gives the row another value and its moments, and answers the value before.
-    pub fn overwrite(&mut self, value: V, info: EntryInfo) -> V
-        ensures before { result ≡ self.old.value }
+    /// Gives the row another value with its moments, its life and its weight, and answers what was
+    /// there.
+    pub fn overwrite(&mut self, value: V, info: EntryInfo) -> (V, EntryInfo)
+        ensures value { result.0 ≡ self.old.value }
+        ensures info { result.1 ≡ self.old.info }
         ensures after { self.new ≡ overwritten value info self.old }
     {
         self.row.overwrite(value, info)
+    }
+
+    /// Hides the row.
+    pub fn hide(&mut self)
+        ensures { self.new ≡ hidden self.old }
+    {
+        self.row.hide();
     }
 }

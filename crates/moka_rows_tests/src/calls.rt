@@ -2,9 +2,15 @@
 ghost use Rattle.std.specs.Prelude.{◌≡◌, true, ◌++◌, IsSome, IfSome};
 ghost use Rattle.moka_rows.specs.Rows.{row_under};
 
-use moka_rows::rows::{EntryInfo, Row, RowStore};
+use moka_due::due_rows::DueRows;
+use moka_rows::packed::PackedInfo;
+use moka_rows::rows::{Before, EntryInfo, Order, Row, RowStore, Touch};
+use moka_slab::slab_rows::SlabRows;
 use std::alloc::{AllocError, Global};
 use std::sync::Arc;
+
+/// The store of the caches: rows in a slab, and the deadlines of the admitted ones.
+pub type DueSlab = DueRows<u64, u64>;
 
 /// Which hash a key has.
 #[derive(Clone, Copy)]
@@ -24,8 +30,14 @@ pub enum Call {
     WaitingLen,
     FirstAdmitted,
     FirstWaiting,
+    /// The first admitted row whose deadline has come at a moment.
+    FirstExpired(u64),
     /// Admits the row that has waited longest.
     AdmitFirst,
+    /// Takes the least recently used admitted row out.
+    TakeFirst,
+    /// Makes room for so many more rows.
+    Reserve(usize),
     /// A row of this key and value, where there is none of the key.
     Add(u64, u64),
     Of(u64, Use),
@@ -36,7 +48,12 @@ pub enum Call {
 pub enum Use {
     Find,
     Read,
+    /// Whether its hash is the one that the row has.
+    Hash,
     IsAdmitted,
+    IsHidden,
+    /// Whether it is dead at a moment.
+    IsDead(u64),
     Next,
     /// Admits it, where it waits.
     Admit,
@@ -44,6 +61,7 @@ pub enum Use {
     Touch(u64),
     /// Another value, at a moment.
     Overwrite(u64, u64),
+    Hide,
     Remove,
 }
 
@@ -57,8 +75,20 @@ pub enum Answer {
     Key(u64),
     /// A row's value, and when it was written and used.
     Value(u64, u64, u64),
-    Before(u64),
+    /// What a row held before: its value, when that was written, and the row's order.
+    Before(u64, u64, Order),
+    /// A row that left, and the order in which it stood.
+    Left(u64, u64, u64, Order),
     Absent,
+}
+
+/// The deadline of a value that was used at a moment: fifty later, but none for each third moment.
+fn due_at(moment: u64) -> Option<u64> {
+    if moment % 3 == 0 {
+        None
+    } else {
+        moment.checked_add(50)
+    }
 }
 
 /// The moments of a write.
@@ -67,7 +97,9 @@ pub fn written_at(moment: u64) -> EntryInfo {
         last_modified: moment,
         last_accessed: moment,
         own_life: None,
+        deadline: due_at(moment),
         policy_weight: 1,
+        is_hidden: false,
     }
 }
 
@@ -117,7 +149,8 @@ fn waits<R: RowStore<u64, u64>>(rows: &R, number: usize) -> bool
 
 /// What a row holds.
 fn held(row: &Row<u64, u64>) -> Answer {
-    Answer::Value(row.value, row.info.last_modified, row.info.last_accessed)
+    let info = row.info();
+    Answer::Value(row.value, info.last_modified, info.last_accessed)
 }
 
 /// Makes a use of the row under a number.
@@ -132,8 +165,11 @@ fn used<R: RowStore<u64, u64>>(
     match what {
         Use::Find => row_of(given, Some(number)),
         Use::Read => held(rows.row(number)),
+        Use::Hash => Answer::Is(rows.hash(number) == rows.row(number).hash),
         Use::IsAdmitted => Answer::Is(rows.is_admitted(number)),
-        Use::Next => row_of(given, rows.next(number)),
+        Use::IsHidden => Answer::Is(rows.row(number).info().is_hidden),
+        Use::IsDead(moment) => Answer::Is(rows.row(number).info().is_dead(moment)),
+        Use::Next => row_of(given, rows.next(number, &mut 0)),
         Use::Admit => {
             let waits = waits(rows, number);
             if waits {
@@ -142,17 +178,27 @@ fn used<R: RowStore<u64, u64>>(
             Answer::Is(waits)
         }
         Use::Touch(moment) => {
-            let info = EntryInfo {
+            let touch = Touch {
                 last_accessed: moment,
-                ..rows.row(number).info
+                own_life: None,
+                deadline: due_at(moment),
             };
-            rows.touch(number, info);
+            rows.touch(number, touch);
             Answer::Done
         }
         Use::Overwrite(value, moment) => {
-            Answer::Before(rows.overwrite(number, value, written_at(moment)))
+            let Before { value, info, order } = rows.overwrite(number, value, written_at(moment));
+            Answer::Before(value, info.last_modified, order)
         }
-        Use::Remove => held(&rows.remove(number)),
+        Use::Hide => {
+            rows.hide(number);
+            Answer::Done
+        }
+        Use::Remove => {
+            let (row, order) = rows.remove(number);
+            let info = row.info();
+            Answer::Left(row.value, info.last_modified, info.last_accessed, order)
+        }
     }
 }
 
@@ -166,12 +212,12 @@ pub fn add<R: RowStore<u64, u64>>(
 ) -> Result<usize, AllocError> {
     let hash = hash_of(hashes, key);
     let key = Arc::new(alloc, key)?;
-    rows.reserve()?;
+    rows.reserve(1)?;
     Ok(rows.add(Row {
         key,
         hash,
         value,
-        info: written_at(value),
+        info: PackedInfo::new(written_at(value)),
     }))
 }
 
@@ -188,6 +234,7 @@ fn made<R: RowStore<u64, u64>>(
         Call::WaitingLen => Answer::Counted(rows.waiting_len()),
         Call::FirstAdmitted => row_of(given.as_slice(), rows.first_admitted()),
         Call::FirstWaiting => row_of(given.as_slice(), rows.first_waiting()),
+        Call::FirstExpired(moment) => row_of(given.as_slice(), rows.first_expired(moment)),
         Call::AdmitFirst => match first_waiting(rows) {
             Some(number) => {
                 rows.admit(number);
@@ -195,6 +242,14 @@ fn made<R: RowStore<u64, u64>>(
             }
             None => Answer::Absent,
         },
+        Call::TakeFirst => match rows.take_first_admitted() {
+            Some(row) => held(&row),
+            None => Answer::Absent,
+        },
+        Call::Reserve(more) => {
+            rows.reserve(more)?;
+            Answer::Done
+        }
         Call::Add(key, value) => match number_of(rows, hashes, key).0 {
             Some(_) => Answer::Absent,
             None => {

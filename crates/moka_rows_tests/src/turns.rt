@@ -1,5 +1,5 @@
-//! Long runs of calls, which both stores answer alike, and how many rows their look-ups read.
-use crate::calls::{Call, Hashes, Use, add, answers, number_of};
+//! Long runs of calls, which all stores answer alike, and how many rows their look-ups read.
+use crate::calls::{Call, DueSlab, Hashes, Use, add, answers, number_of};
 use moka_rows::list_rows::ListRows;
 use moka_rows::rows::RowStore;
 use moka_slab::slab_rows::SlabRows;
@@ -16,17 +16,37 @@ fn call_of(number: u64, moment: u64) -> Call {
     let key = number % KEYS;
     match number / KEYS % 16 {
         0 | 1 | 2 => Call::Add(key, moment),
-        3 => Call::Of(key, Use::Find),
-        4 => Call::Of(key, Use::Read),
-        5 => Call::Of(key, Use::IsAdmitted),
+        3 => if key % 2 == 0 {
+            Call::Of(key, Use::Find)
+        } else {
+            Call::Of(key, Use::Hash)
+        },
+        4 => if key % 4 < 2 {
+            Call::Of(key, Use::Read)
+        } else {
+            Call::Of(key, Use::IsHidden)
+        },
+        5 => if key % 2 == 0 {
+            Call::Of(key, Use::IsAdmitted)
+        } else {
+            Call::Of(key, Use::Hide)
+        },
         6 => Call::Of(key, Use::Next),
         7 => Call::Of(key, Use::Admit),
         8 => Call::Of(key, Use::Touch(moment)),
         9 => Call::Of(key, Use::Overwrite(number, moment)),
         10 | 11 => Call::Of(key, Use::Remove),
         12 => Call::AdmitFirst,
-        13 => Call::FirstAdmitted,
-        14 => Call::FirstWaiting,
+        13 => if key % 8 == 0 {
+            Call::TakeFirst
+        } else {
+            Call::FirstAdmitted
+        },
+        14 => if key % 2 == 0 {
+            Call::FirstWaiting
+        } else {
+            Call::FirstExpired(moment)
+        },
         _ => if key % 2 == 0 {
             Call::Len
         } else {
@@ -49,13 +69,15 @@ fn turns(alloc: Global) -> Result<Vec<Call>, AllocError> {
 }
 
 #[test]
-fn both_stores_answer_alike(rt: HostRuntime) -> Result<(), Fail> {
+fn all_stores_answer_alike(rt: HostRuntime) -> Result<(), Fail> {
     let calls = turns(rt.alloc())?;
     for hashes in [Hashes::One, Hashes::Three, Hashes::Own] {
         let lists = answers::<ListRows<u64, u64>>(rt.alloc(), hashes, calls.as_slice())?;
         let slab = answers::<SlabRows<u64, u64>>(rt.alloc(), hashes, calls.as_slice())?;
+        let due = answers::<DueSlab>(rt.alloc(), hashes, calls.as_slice())?;
         for (turn, answer) in lists.iter().enumerate() {
             assert_eq!(rt; slab.get(turn), Some(answer), "turn {turn}");
+            assert_eq!(rt; due.get(turn), Some(answer), "turn {turn}");
         }
     }
     Ok(())

@@ -2,3 +2,4 @@ pub mod KeptLemmas
 pub mod TiedLemmas
 pub mod RoomLemmas
 pub mod FindLemmas
+pub mod Walks

@@ -1,6 +1,7 @@
 -- The room for one more row.
-use Rattle.std.proofs.Common.{◌≡◌, ℕ, zero, suc, ◌+◌, ◌-◌, ◌<◌, ◌≤◌, if◌then◌else◌, List, [], ◌∷◌, length, Option, Some, None, slice_index_or, slice_set, refl, sym, ap, ◌∙◌, arith}
+use Rattle.std.proofs.Common.{◌≡◌, ℕ, zero, suc, Bool, true, false, ◌+◌, ◌-◌, ◌<◌, ◌≤◌, if◌then◌else◌, List, [], ◌∷◌, length, Option, Some, None, slice_index_or, slice_set, refl, sym, ap, ◌∙◌, arith}
 use Rattle.std.specs.Prelude.{nat_lt, min}
+use Rattle.std.proofs.lemmas.Bool.{ltb-true, ltb-false}
 use Rattle.slab.specs.Slab.{Slab, get, slab_len, with_value, entries_from}
 use Rattle.slab.proofs.SlabLemmas.{length-entries_from}
 use Rattle.moka_rows.specs.declared.rows.Row.{Row}
@@ -22,23 +23,43 @@ module _ {R : Type 0} where
   len-write rows key was r is =
       sym (length-entries_from 0 (slice_set rows.slots key (Some r))) ∙ entries-write 0 rows.slots key was r is ∙ length-entries_from 0 rows.slots
 
-below : (v p q a b : ℕ) → p ≤ q → a ≤ b → (if nat_lt v p then min 1 a else 0) ≤ (if nat_lt v q then min 1 b else 0)
+below : (v p q a b : ℕ) → p ≤ q → a ≤ b → (if nat_lt p v then 0 else a) ≤ (if nat_lt q v then 0 else b)
 below v p q a b more up = grind (arith)
-
-reached : (v w p q a b : ℕ) → w < q → a ≤ b → (if nat_lt v p then min 1 a else 0) ≤ (if nat_lt w q then min 1 b else 0)
-reached v w p q a b within up = grind (arith)
 
 module _ {K V : Type 0} where
   -- the room stays where no row comes
-  pub room-kept : (old new : Slab (Row K V)) (l m : Links) → new.vacant_key ≡ old.vacant_key → new.capacity ≡ old.capacity → slab_len new ≡ slab_len old
+  pub room-kept : (old new : Slab (Row K V)) (l m : Links) → new.capacity ≡ old.capacity → slab_len new ≤ slab_len old
       → places_of l ≤ places_of m → spare_of l ≤ spare_of m → room_in old l ≤ room_in new m
-  room-kept old new l m key capacity len places spare =
-      rw (key, capacity, len)
-      (below (old.vacant_key + 2) (places_of l) (places_of m) (min (old.capacity - slab_len old) (spare_of l)) (min (old.capacity - slab_len old) (spare_of m)) places (omega arith))
+  room-kept old new l m capacity len places spare =
+      rw capacity
+      (below (old.capacity + 2) (places_of l) (places_of m) (min (old.capacity - slab_len old) (spare_of l)) (min (old.capacity - slab_len new) (spare_of m)) places (omega arith))
 
-  -- a row that leaves gives its number back, which has a place
-  pub room-left : (old new : Slab (Row K V)) (l m : Links) (n : ℕ) → 2 ≤ n → n < places_of l → new.vacant_key ≡ n - 2 → new.capacity ≡ old.capacity → slab_len new + 1 ≡ slab_len old
-      → places_of l ≤ places_of m → spare_of l ≤ spare_of m → room_in old l ≤ room_in new m
-  room-left old new l m n above within key capacity len places spare =
-      reached (old.vacant_key + 2) (new.vacant_key + 2) (places_of l) (places_of m) (min (old.capacity - slab_len old) (spare_of l)) (min (new.capacity - slab_len new) (spare_of m))
-      (omega (arith, key, above, within, places)) (omega (arith, capacity, len, spare))
+  -- where there is room, the slab and the index have it, and each number that the slab gives has a place
+  pub record HasRoom (rows : Slab (Row K V)) (l : Links) : Type 0 where
+    pub row : slab_len rows + 1 ≤ rows.capacity
+    pub hash : 0 < spare_of l
+    pub place : (key : ℕ) → key < rows.capacity → key + 2 < places_of l
+
+  pub has-room : (rows : Slab (Row K V)) (l : Links) → 0 < room_in rows l → HasRoom rows l
+  has-room rows l some = go (nat_lt (places_of l) (rows.capacity + 2)) refl some
+    where
+      go : (b : Bool) → nat_lt (places_of l) (rows.capacity + 2) ≡ b → 0 < (if b then 0 else min (rows.capacity - slab_len rows) (spare_of l)) → HasRoom rows l
+      go true few none = absurd (omega arith)
+      go false placed some = record { row = omega arith; hash = omega arith; place = λ key within. let made = ltb-false (places_of l) (rows.capacity + 2) placed in omega (arith, made, within) }
+
+  -- a row that comes takes the room of one
+  pub room-taken : (old new : Slab (Row K V)) (l m : Links) → new.capacity ≡ old.capacity → slab_len new ≡ slab_len old + 1
+      → places_of m ≡ places_of l → spare_of l ≤ spare_of m + 1 → room_in old l ≤ room_in new m + 1
+  room-taken old new l m capacity len places spare = rw (capacity, places) (go (nat_lt (places_of l) (old.capacity + 2)))
+    where
+      go : (b : Bool) → (if b then 0 else min (old.capacity - slab_len old) (spare_of l)) ≤ (if b then 0 else min (old.capacity - slab_len new) (spare_of m)) + 1
+      go true = omega arith
+      go false = omega (arith, len, spare)
+
+  -- room that was made
+  pub room-made : (rows : Slab (Row K V)) (l : Links) (more : ℕ) → slab_len rows + more ≤ rows.capacity → rows.capacity + 2 ≤ places_of l → more ≤ spare_of l → more ≤ room_in rows l
+  room-made rows l more row place hash = go (nat_lt (places_of l) (rows.capacity + 2)) refl
+    where
+      go : (b : Bool) → nat_lt (places_of l) (rows.capacity + 2) ≡ b → more ≤ (if b then 0 else min (rows.capacity - slab_len rows) (spare_of l))
+      go true few = let none = ltb-true (places_of l) (rows.capacity + 2) few in absurd (omega (arith, none, place))
+      go false placed = omega arith

@@ -1,16 +1,17 @@
 -- Rows in a slab and the links between their numbers, before and after each call.
-use Rattle.std.proofs.Common.{◌≡◌, ◌≢◌, ℕ, ◌+◌, ◌-◌, ◌<◌, ◌≤◌, List, [], ◌∷◌, ◌++◌, length, Option, Some, None, IsSome, IfSome, MatchOption, refl, sym, ap, subst, ◌∙◌, arith, inl, inr, ⊎_elim}
+use Rattle.std.proofs.Common.{◌≡◌, ◌≢◌, ℕ, ◌+◌, ◌-◌, ◌<◌, ◌≤◌, Bool, true, false, List, [], ◌∷◌, ◌++◌, length, Option, Some, None, IsSome, IfSome, MatchOption, refl, sym, ap, subst, ◌∙◌, arith, inl, inr, ⊎_elim}
 use Rattle.std.specs.Prelude.{◌⊎◌}
 use Rattle.std.proofs.lemmas.Bool.{cases_eq, cases_lt}
 use Rattle.std.proofs.lemmas.List.{get_or-set_same, get_or-set_other, get_or_past}
 use Rattle.slab.specs.Slab.{Slab, get, Updates, with_value}
-use Rattle.moka_rows.specs.Rows.{row_under, with_row, without_row, NumbersDiffer, count_under}
+use Rattle.moka_rows.specs.Rows.{row_under, with_row, without_row, NumbersDiffer, count_under, IsOrderOf}
+use Rattle.moka_rows.specs.declared.rows.Order.TheVariants.{Admitted}
 use Rattle.moka_rows.specs.declared.rows.Row.{Row}
 use Rattle.moka_orders.specs.Paths.{IsAmong, IsAbsent, without}
 use Rattle.moka_links.specs.Links.{IsLinked, admitted_of, waiting_of, numbers_of, hash_at}
 use Rattle.moka_links.specs.declared.links.Links.{Links}
 use Rattle.moka_links.proofs.Callers.{IsApart, absent-without, among-without, among-push, without-absent, among-parts, linked-above, linked-among, among-linked, linked-once, admitted-apart, waiting-apart}
-use Rattle.moka_slab.specs.Kept.{row_at, numbered}
+use Rattle.moka_slab.specs.Kept.{row_at, numbered, order_of}
 use Rattle.moka_slab.specs.Tied.{IsTied, admitted_rows, waiting_rows, all_rows}
 use Rattle.moka_slab.proofs.KeptLemmas.{some-of, numbered-append, under-among, under-absent, under-some, numbered-without, numbered-same, numbered-changed, count-numbered}
 
@@ -71,6 +72,10 @@ module _ {K V : Type 0} where
       ⊎_elim (λ t. subst (λ o. MatchOption o P Q) (sym (under-admitted rows l n r t is)) (admits t))
       (λ t. subst (λ o. MatchOption o P Q) (sym (waits-absent rows l n t)) (waits t)) q
 
+  pub order-said : (rows : Slab (Row K V)) (l : Links) (n : ℕ) (r : Row K V) (said : Bool) → IsLinked l n → row_at rows n ≡ Some r
+      → (IsAmong n (admitted_of l) → said ≡ true) → (IsAmong n (waiting_of l) → said ≡ false) → IsOrderOf n (admitted_rows rows l) (order_of said)
+  order-said rows l n r said q is admits waits = by-order rows l n r _ (λ _. order_of said ≡ Admitted) q is (λ w. ap order_of (waits w)) (λ a. ap order_of (admits a))
+
   -- one row changed, came or left
   pub record Puts (old new : Slab (Row K V)) (n : ℕ) (row : Option (Row K V)) : Type 0 where
     pub at : row_at new n ≡ row
@@ -124,38 +129,59 @@ module _ {K V : Type 0} where
         (λ e. let both : Some x ≡ Some r = sym at ∙ ap (row_at old) e ∙ is in let f : x ≡ r = cc in (change r, ap (row_at new) e ∙ p.at, hash ∙ ap (λ z. z.hash) (sym f)))
         (λ ne. (x, p.others k (linked-above l k q) ne ∙ at, refl)) (cases_eq k n)
 
-    pub used-tied : ((k : ℕ) → IsLinked m k → IsLinked l k) → ((k : ℕ) → hash_at m k ≡ hash_at l k) → IsTied new m
-    used-tied linked hashes = tied-kept old new l m t linked hashes (λ k x q at. same-hash k x (linked k q) at)
+    -- where the links say which order it stands in
+    module _ (there : IsLinked l n) (said : Bool)
+        (admits : IsAmong n (admitted_of l) → (said ≡ true) × (admitted_of m ≡ without n (admitted_of l) ++ n ∷ []))
+        (waits : IsAmong n (waiting_of l) → (said ≡ false) × (admitted_of m ≡ admitted_of l))
+        (waiting : waiting_of m ≡ waiting_of l) where
+      used-linked : (k : ℕ) → IsLinked m k → IsLinked l k
+      used-linked k q = ⊎_elim (λ s. ⊎_elim (λ a. from_admitted (subst (IsAmong k) (admits a).1 s)) (λ w. inl (subst (IsAmong k) (waits w).1 s)) there) (λ s. inr (subst (IsAmong k) waiting s)) q
+        where
+          from_admitted : IsAmong k (without n (admitted_of l) ++ n ∷ []) → IsLinked l k
+          from_admitted s = ⊎_elim (λ u. inl (among-without n k (admitted_of l) u)) (λ e. subst (IsLinked l) e there) (among-push k n (without n (admitted_of l)) s)
 
-    pub used-admitted : admitted_of m ≡ without n (admitted_of l) ++ n ∷ [] → admitted_rows new m ≡ without_row n (admitted_rows old l) ++ (n, change r) ∷ []
-    used-admitted admitted =
-        ap (numbered (row_at new)) admitted ∙ numbered-append (row_at new) (without n (admitted_of l)) (n ∷ [])
-        ∙ ap (λ z. z ++ numbered (row_at new) (n ∷ []))
-        (kept-without old new l n (Some (change r)) (without n (admitted_of l)) p (absent-without n (admitted_of l) (admitted-apart l))
-        (λ k q. linked-above l k (inl (among-without n k (admitted_of l) q)))
-        ∙ sym (numbered-without (row_at old) n (admitted_of l) r is))
-        ∙ ap (λ z. without_row n (admitted_rows old l) ++ z) (rw p.at refl)
+      pub used-tied : ((k : ℕ) → hash_at m k ≡ hash_at l k) → IsTied new m
+      used-tied hashes = tied-kept old new l m t used-linked hashes (λ k x q at. same-hash k x (used-linked k q) at)
 
-    pub used-others : (ks : List ℕ) → ((k : ℕ) → IsAmong k ks → IsLinked l k) → IsAbsent n ks → numbered (row_at new) (without n ks) ≡ numbered (row_at old) ks
-    used-others ks linked absent =
-        ap (numbered (row_at new)) (without-absent n ks absent) ∙ kept-without old new l n (Some (change r)) ks p absent (λ k q. linked-above l k (linked k q))
+      used-last : admitted_of m ≡ without n (admitted_of l) ++ n ∷ [] → admitted_rows new m ≡ without_row n (admitted_rows old l) ++ (n, change r) ∷ []
+      used-last admitted =
+          ap (numbered (row_at new)) admitted ∙ numbered-append (row_at new) (without n (admitted_of l)) (n ∷ [])
+          ∙ ap (λ z. z ++ numbered (row_at new) (n ∷ []))
+          (kept-without old new l n (Some (change r)) (without n (admitted_of l)) p (absent-without n (admitted_of l) (admitted-apart l))
+          (λ k q. linked-above l k (inl (among-without n k (admitted_of l) q)))
+          ∙ sym (numbered-without (row_at old) n (admitted_of l) r is))
+          ∙ ap (λ z. without_row n (admitted_rows old l) ++ z) (rw p.at refl)
 
-    pub used-in-admitted : IsAmong n (admitted_of l) → admitted_of m ≡ without n (admitted_of l) ++ n ∷ [] → waiting_of m ≡ without n (waiting_of l)
-        → MatchOption (row_under n (admitted_rows old l)) ((admitted_rows new m ≡ admitted_rows old l) × (waiting_rows new m ≡ with_row n change (waiting_rows old l)))
-        (λ row. (admitted_rows new m ≡ without_row n (admitted_rows old l) ++ (n, change row) ∷ []) × (waiting_rows new m ≡ waiting_rows old l))
-    used-in-admitted q admitted waiting =
-        rw (under-admitted old l n r q is)
-        (used-admitted admitted, ap (numbered (row_at new)) waiting ∙ used-others (waiting_of l) (λ k s. inr s) (linked-once l n q))
+      pub used-orders : MatchOption (row_under n (admitted_rows old l)) ((admitted_rows new m ≡ admitted_rows old l) × (waiting_rows new m ≡ with_row n change (waiting_rows old l)))
+          (λ row. (admitted_rows new m ≡ without_row n (admitted_rows old l) ++ (n, change row) ∷ []) × (waiting_rows new m ≡ waiting_rows old l))
+      used-orders =
+          by-order old l n r _ (λ row. (admitted_rows new m ≡ without_row n (admitted_rows old l) ++ (n, change row) ∷ []) × (waiting_rows new m ≡ waiting_rows old l)) there is
+          (λ w. (
+            ap (numbered (row_at new)) (waits w).1 ∙ kept-without old new l n (Some (change r)) (admitted_of l) p (λ s. linked-once l n s w) (λ k s. linked-above l k (inl s)),
+            ap (numbered (row_at new)) waiting ∙ numbered-changed (row_at old) (row_at new) n change r (waiting_of l) (waiting-apart l) is p.at (λ k s. p.others k (linked-above l k (inr s))),
+          ))
+          (λ a. (
+            used-last (admits a).1,
+            ap (numbered (row_at new)) waiting ∙ kept-without old new l n (Some (change r)) (waiting_of l) p (linked-once l n a) (λ k s. linked-above l k (inr s)),
+          ))
 
-    pub used-in-waiting : IsAmong n (waiting_of l) → admitted_of m ≡ admitted_of l → waiting_of m ≡ waiting_of l
-        → MatchOption (row_under n (admitted_rows old l)) ((admitted_rows new m ≡ admitted_rows old l) × (waiting_rows new m ≡ with_row n change (waiting_rows old l)))
-        (λ row. (admitted_rows new m ≡ without_row n (admitted_rows old l) ++ (n, change row) ∷ []) × (waiting_rows new m ≡ waiting_rows old l))
-    used-in-waiting q admitted waiting =
-        rw (waits-absent old l n q) (
-          ap (numbered (row_at new)) admitted ∙ kept-without old new l n (Some (change r)) (admitted_of l) p (λ s. linked-once l n s q) (λ k s. linked-above l k (inl s)),
-          ap (numbered (row_at new)) waiting
-              ∙ numbered-changed (row_at old) (row_at new) n change r (waiting_of l) (waiting-apart l) is p.at (λ k s. p.others k (linked-above l k (inr s))),
-        )
+  -- a row gets another content in its place
+  module _ (old : Slab (Row K V)) (l : Links) (t : IsTied old l) (n : ℕ) (was row : Row K V) (change : Row K V → Row K V) (there : IsLinked l n) (is : row_at old n ≡ Some was)
+      (made : row ≡ change was) (hash : (change was).hash ≡ was.hash) where
+    put : Puts old (with_value old (n - 2) row) n (Some (change was))
+    put = subst (λ x. Puts old (with_value old (n - 2) row) n (Some x)) made (puts-write old n was row (linked-above l n there) is)
+
+    pub changed-tied : IsTied (with_value old (n - 2) row) l
+    changed-tied = tied-kept old (with_value old (n - 2) row) l l t (λ k q. q) (λ k. refl) (λ k x q at. same-hash old (with_value old (n - 2) row) l l t n was change is put hash k x q at)
+
+    changed : (ks : List ℕ) → IsApart ks → ((k : ℕ) → IsAmong k ks → IsLinked l k) → numbered (row_at (with_value old (n - 2) row)) ks ≡ with_row n change (numbered (row_at old) ks)
+    changed ks apart linked = numbered-changed (row_at old) (row_at (with_value old (n - 2) row)) n change was ks apart is put.at (λ k q. put.others k (linked-above l k (linked k q)))
+
+    pub changed-admitted : admitted_rows (with_value old (n - 2) row) l ≡ with_row n change (admitted_rows old l)
+    changed-admitted = changed (admitted_of l) (admitted-apart l) (λ k q. inl q)
+
+    pub changed-waiting : waiting_rows (with_value old (n - 2) row) l ≡ with_row n change (waiting_rows old l)
+    changed-waiting = changed (waiting_of l) (waiting-apart l) (λ k q. inr q)
 
   -- a row that comes
   module _ (old new : Slab (Row K V)) (l m : Links) (t : IsTied old l) (n : ℕ) (row : Row K V) (p : Puts old new n (Some row)) (fresh : IsLinked l n → ⊥)

@@ -1,7 +1,13 @@
 -- Rows under numbers, in the order of the numbers.
-use Rattle.std.specs.Prelude.{ℕ, ◌-◌, Option, List, [], ◌∷◌}
+use Rattle.std.specs.Prelude.{ℕ, ◌-◌, Bool, if◌then◌else◌, Option, List, [], ◌∷◌}
 use Rattle.std.specs.Option.{option_map_or}
 use Rattle.slab.specs.Slab.{Slab, get}
+use Rattle.moka_rows.specs.declared.rows.Order.{Order}
+use Rattle.moka_rows.specs.declared.rows.Order.TheVariants.{Admitted, Waiting}
+
+-- the order of a row, by whether it is admitted
+abbrev pub order_of : Bool → Order
+order_of is_admitted = if is_admitted then Admitted else Waiting
 
 module _ {R : Type 0} where
   -- the row under a number, where the rows' numbers begin at 2

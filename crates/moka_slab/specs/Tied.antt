@@ -24,8 +24,8 @@ module _ {K V : Type 0} where
   abbrev pub all_rows : Slab (Row K V) → Links → List (ℕ × Row K V)
   all_rows rows links = admitted_rows rows links ++ waiting_rows rows links
 
-  -- how many rows can be added for certain without memory: one, where the next number has a place, and the slab
-  -- and the index have room
+  -- how many rows can be added without memory: as many as the slab and the index have room for, where each number that
+  -- the slab may give has a place
   abbrev pub room_in : Slab (Row K V) → Links → ℕ
   room_in rows links =
-      if nat_lt (rows.vacant_key + 2) (places_of links) then min 1 (min (rows.capacity - slab_len rows) (spare_of links)) else 0
+      if nat_lt (places_of links) (rows.capacity + 2) then 0 else min (rows.capacity - slab_len rows) (spare_of links)

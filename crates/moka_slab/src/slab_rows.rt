@@ -1,14 +1,15 @@
 //! The row store of the caches: rows in a slab, and links between their numbers.
 ghost use Rattle.std.specs.Prelude.{◌≡◌, ◌⊎◌, ℕ, ◌+◌, ◌-◌, ◌^◌, ◌<◌, ◌≤◌, ◌==◌, [], ◌∷◌, ◌++◌, length, filter};
 ghost use Rattle.std.specs.Prelude.{IsSome, IfSome, IfNone, OnSome, Some, None};
-ghost use Rattle.moka_rows.specs.Rows.{row_under, IsRowOf, NoneIsRowOf};
+ghost use Rattle.moka_rows.specs.Rows.{row_under, first_number, expired_at, IsRowOf, NoneIsRowOf};
+ghost use Rattle.moka_slab.specs.Kept.{row_at, order_of};
 ghost use Rattle.moka_links.specs.Links.{IsLinked};
-ghost use Rattle.moka_slab.specs.Kept.{row_at};
 ghost use Rattle.moka_slab.specs.Tied.{IsTied, admitted_rows, waiting_rows, all_rows, room_in};
 
 use moka_links::links::Links;
-use moka_rows::rows::{EntryInfo, Row, RowStore};
+use moka_rows::rows::{Before, EntryInfo, Order, Row, RowStore, Touch};
 use moka_rows::shelf::Shelved;
+use moka_rows::visits::step;
 use slab::Slab;
 use std::alloc::{AllocError, Global};
 
@@ -28,6 +29,17 @@ pub struct SlabRows<K, V> {
     ghost tied: { IsTied rows links },
 }
 
+/// The order of a row, by whether it is admitted.
+fn order(is_admitted: bool) -> Order
+    ensures { result ≡ order_of is_admitted }
+{
+    if is_admitted {
+        Order::Admitted
+    } else {
+        Order::Waiting
+    }
+}
+
 impl<K, V> SlabRows<K, V> {
     /// The row under a number.
     fn shelved(&self, number: usize) -> &Shelved<Row<K, V>>
@@ -45,6 +57,26 @@ impl<K, V> SlabRows<K, V> {
         ensures counted { reads.new ≡ reads.old + 1 }
     {
         self.shelved(number).look(reads)
+    }
+
+    /// The first admitted row whose deadline has come at a moment, found by a walk over them.
+    fn walk_to_expired(&self, now: u64) -> Option<usize>
+        ensures { result ≡ first_number (expired_at now (admitted_rows self.now.rows self.now.links)) }
+    {
+        let links = &self.links;
+        let mut cursor = links.first_admitted();
+        for _ in 0..links.admitted_len() {
+            match cursor {
+                Some(at) => {
+                    if self.shelved(at).row().info().is_expired(now) {
+                        return cursor;
+                    }
+                    cursor = links.next(at);
+                }
+                None => unreachable!(),
+            }
+        }
+        None
     }
 }
 
@@ -92,15 +124,21 @@ impl<K: Eq + Drop, V: Drop> RowStore<K, V> for SlabRows<K, V> {
         self.shelved(number).row()
     }
 
+    fn hash(&self, number: usize) -> u64 {
+        self.links.hash(number)
+    }
+
+    fn numbers_differ(&self) {}
+
     fn is_admitted(&self, number: usize) -> bool {
         self.links.is_admitted(number)
     }
 
-    /// A row whose number would have more than 32 bits is refused.
-    fn reserve(&mut self) -> Result<(), AllocError> {
-        self.rows.reserve(1)?;
-        match self.rows.vacant_key().checked_add(FIRST) {
-            Some(number) => self.links.reserve(number),
+    /// A slab whose rows could get numbers of more than 32 bits is refused.
+    fn reserve(&mut self, more: usize) -> Result<(), AllocError> {
+        self.rows.reserve(more)?;
+        match self.rows.capacity().checked_add(FIRST) {
+            Some(places) => self.links.reserve(places, more),
             None => Err(AllocError),
         }
     }
@@ -110,6 +148,7 @@ impl<K: Eq + Drop, V: Drop> RowStore<K, V> for SlabRows<K, V> {
         ensures fresh { row_under result (all_rows self.old.rows self.old.links) ≡ None }
         ensures waiting { waiting_rows self.new.rows self.new.links ≡ waiting_rows self.old.rows self.old.links ++ (result, row) ∷ [] }
         ensures admitted { admitted_rows self.new.rows self.new.links ≡ admitted_rows self.old.rows self.old.links }
+        ensures room { room_in self.old.rows self.old.links ≤ room_in self.new.rows self.new.links + 1 }
     {
         let hash = row.hash;
         let key = self.rows.insert_reserved(Shelved::new(row));
@@ -118,19 +157,19 @@ impl<K: Eq + Drop, V: Drop> RowStore<K, V> for SlabRows<K, V> {
         number
     }
 
-    fn touch(&mut self, number: usize, info: EntryInfo) {
-        self.rows[number - FIRST].touch(info);
-        if self.links.is_admitted(number) {
-            self.links.admit(number);
-        }
+    fn touch(&mut self, number: usize, touch: Touch) {
+        self.rows[number - FIRST].touch(touch);
+        self.links.touch(number);
     }
 
-    fn overwrite(&mut self, number: usize, value: V, info: EntryInfo) -> V {
-        let before = self.rows[number - FIRST].overwrite(value, info);
-        if self.links.is_admitted(number) {
-            self.links.admit(number);
-        }
-        before
+    fn overwrite(&mut self, number: usize, value: V, info: EntryInfo) -> Before<V> {
+        let (value, info) = self.rows[number - FIRST].overwrite(value, info);
+        let order = order(self.links.touch(number));
+        Before { value, info, order }
+    }
+
+    fn hide(&mut self, number: usize) {
+        self.rows[number - FIRST].hide();
     }
 
     fn waiting_len(&self) -> usize {
@@ -141,11 +180,16 @@ impl<K: Eq + Drop, V: Drop> RowStore<K, V> for SlabRows<K, V> {
         self.links.first_admitted()
     }
 
+    fn first_expired(&self, now: u64) -> Option<usize> {
+        self.walk_to_expired(now)
+    }
+
     fn first_waiting(&self) -> Option<usize> {
         self.links.first_waiting()
     }
 
-    fn next(&self, number: usize) -> Option<usize> {
+    fn next(&self, number: usize, visits: &mut u128) -> Option<usize> {
+        step(visits);
         self.links.next(number)
     }
 
@@ -153,8 +197,14 @@ impl<K: Eq + Drop, V: Drop> RowStore<K, V> for SlabRows<K, V> {
         self.links.admit(number);
     }
 
-    fn remove(&mut self, number: usize) -> Row<K, V> {
-        self.links.remove(number);
-        self.rows.remove(number - FIRST).into_row()
+    fn remove(&mut self, number: usize) -> (Row<K, V>, Order) {
+        let order = order(self.links.remove(number));
+        (self.rows.remove(number - FIRST).into_row(), order)
+    }
+
+    fn take_first_admitted(&mut self) -> Option<Row<K, V>> {
+        let number = self.first_admitted()?;
+        let (row, _) = self.remove(number);
+        Some(row)
     }
 }

@@ -1,20 +1,21 @@
 -- What each event makes of the view of a state, by what became of its table.
-use Rattle.std.proofs.Common.{◌≡◌, ℕ, ◌+◌, max, Bool, true, false, not, cond, ◌&&◌, List, [], ◌∷◌, ◌++◌, map, drop, Some, None, refl, sym, ap, ◌∙◌}
+use Rattle.std.proofs.Common.{◌≡◌, ℕ, ◌+◌, max, Bool, true, false, cond, ◌&&◌, List, [], ◌∷◌, ◌++◌, map, drop, Some, None, refl, sym, ap, ◌∙◌}
 use Rattle.std.specs.Arc.{arc_value}
 use Rattle.std.specs.List.{filter}
 use Rattle.std.proofs.lemmas.List.{map-append, append-nil}
 use Rattle.moka_model.specs.declared.notification.Notice.{Notice}
 use Rattle.moka_model.specs.declared.notification.RemovalCause.{RemovalCause}
-use Rattle.moka_model.specs.declared.notification.RemovalCause.TheVariants.{Expired, Explicit, Replaced}
-use Rattle.moka_model.specs.Lives.{Settings, Write, is_expired, is_live, hit, after_look, after_write}
+use Rattle.moka_model.specs.declared.notification.RemovalCause.TheVariants.{Explicit, Replaced}
+use Rattle.moka_model.specs.Lives.{Settings, Write, is_live, hit, after_look, after_write}
 use Rattle.moka_model.specs.Events.{Looked, Written, Invalidated, Passed, Taken}
 use Rattle.moka_model.specs.Orders.{is_of, is_hit}
 use Rattle.moka_model.specs.OrderLaws.{held, HasOneEach}
-use Rattle.moka_model.specs.Removals.{Removal, removal_of as write_removal}
+use Rattle.moka_model.specs.Removals.{Removal, cause_of, removal_of as write_removal}
 use Rattle.moka_model.proofs.Callers.{filter-both}
 use Rattle.moka_ways.specs.StateData.{estimates}
 use Rattle.moka_rows.specs.declared.rows.Row.{Row}
 use Rattle.moka_rows.specs.declared.rows.EntryInfo.{EntryInfo}
+use Rattle.moka_rows.specs.declared.rows.Touch.{Touch}
 use Rattle.moka_rows.specs.Rows.{row_under, touched, overwritten}
 use Rattle.moka_ways.specs.Lives.{own_of}
 use Rattle.moka_table.specs.Table.{Contents, entries, stored_write, stored_writes, removal_of, UsesRow, TakesRow}
@@ -34,7 +35,7 @@ estimates-noted noted count old new asked hash is same more of = ap (λ source. 
 
 -- a row stores this write, where its parts are those of the write
 pub stored-same : {K V : Type 0} (a : Write K V) (row : Row K V) → a.key ≡ arc_value row.key → a.hash ≡ row.hash → a.value ≡ row.value → a.policy_weight ≡ row.info.policy_weight
-    → a.last_modified ≡ row.info.last_modified → a.last_accessed ≡ row.info.last_accessed → a.own_life ≡ own_of row.info → a.is_hidden ≡ false → a ≡ stored_write row
+    → a.last_modified ≡ row.info.last_modified → a.last_accessed ≡ row.info.last_accessed → a.own_life ≡ own_of row.info → a.is_hidden ≡ row.info.is_hidden → a ≡ stored_write row
 stored-same {K} {V} a row key hash value weight modified accessed own hidden =
     let b : Write K V = stored_write row in
     ap (λ x. let w : Write K V = record a { key = x } in w) key
@@ -118,7 +119,7 @@ module _ {K V : Type 0} (eq : K → K → Bool) (settings : Settings K V) (conte
     is_held = held-row eq contents one k n row there same
 
     -- what is noticed of it is what leaves
-    noticed-row : (own : RemovalCause) (notice : Notice K V) → arc_value notice.key ≡ arc_value row.key → notice.value ≡ row.value → notice.cause ≡ cond (is_expired settings (stored_write row) (max latest at)) Expired own
+    noticed-row : (own : RemovalCause) (notice : Notice K V) → arc_value notice.key ≡ arc_value row.key → notice.value ≡ row.value → notice.cause ≡ cause_of settings own (stored_write row) (max latest at)
         → new.notices ≡ contents.notices ++ notice ∷ [] → map removal_of new.notices ≡ map removal_of contents.notices ++ map (write_removal settings own (max latest at)) (held eq k (stored_orders contents))
     noticed-row own notice key value cause notices =
         noticed-one contents.notices new.notices notice notices
@@ -128,22 +129,22 @@ module _ {K V : Type 0} (eq : K → K → Bool) (settings : Settings K V) (conte
         ∙ ap (λ (c : RemovalCause). let l : Removal K V = record { key = arc_value row.key; value = row.value; cause = c } in l ∷ []) cause
         ∙ sym (ap (map (write_removal settings own (max latest at))) is_held))
 
-    -- a look that finds it expired
-    pub becomes-expired : (noted : List ℕ → ℕ → ℕ) → HasNoted k noted → is_expired settings (stored_write row) (max latest at) ≡ true
+    -- a look that finds it dead
+    pub becomes-dead : (noted : List ℕ → ℕ → ℕ) → HasNoted k noted → is_live settings (stored_write row) (max latest at) ≡ false
         → Becomes eq (view_with settings contents frequency latest number) (Looked k at) (view_with settings contents noted (max latest at) number)
-    becomes-expired noted notes late =
-        becomes-missed noted k at notes (ap (filter (λ w. is_live settings w (max latest at))) is_held ∙ ap (λ t. cond (not t) (stored_write row ∷ []) []) late)
+    becomes-dead noted notes dead =
+        becomes-missed noted k at notes (ap (filter (λ w. is_live settings w (max latest at))) is_held ∙ ap (λ t. cond t (stored_write row ∷ []) []) dead)
 
     -- a look that hits it
-    pub becomes-hit : (noted : List ℕ → ℕ → ℕ) (info : EntryInfo) → HasNoted k noted → is_live settings (stored_write row) (max latest at) ≡ true → hit settings (max latest at) (stored_write row) ≡ stored_write (touched info row)
-        → UsesRow n (touched info) contents new → new.notices ≡ contents.notices
+    pub becomes-hit : (noted : List ℕ → ℕ → ℕ) (touch : Touch) → HasNoted k noted → is_live settings (stored_write row) (max latest at) ≡ true → hit settings (max latest at) (stored_write row) ≡ stored_write (touched touch row)
+        → UsesRow n (touched touch) contents new → new.notices ≡ contents.notices
         → Becomes eq (view_with settings contents frequency latest number) (Looked k at) (view_with settings new noted (max latest at) number)
-    becomes-hit noted info notes live hits used notices =
+    becomes-hit noted touch notes live hits used notices =
         let looked = ap (λ t. cond t (hit settings (max latest at) (stored_write row)) (stored_write row)) live ∙ hits in
         let passes : is_hit eq settings k (max latest at) (stored_write row) ≡ true = ap (λ t. t && is_live settings (stored_write row) (max latest at)) same ∙ live in
         record {
           settings = refl;
-          orders = orders-used eq k n row contents new one there same settings (is_hit eq settings k (max latest at)) (touched info) (after_look settings (max latest at)) (λ w p. and-first (eq w.key k) (is_live settings w (max latest at)) p) passes looked used;
+          orders = orders-used eq k n row contents new one there same settings (is_hit eq settings k (max latest at)) (touched touch) (after_look settings (max latest at)) (λ w p. and-first (eq w.key k) (is_live settings w (max latest at)) p) passes looked used;
           notices = ap (map removal_of) notices;
           latest = refl;
           next_number = refl;
@@ -152,7 +153,7 @@ module _ {K V : Type 0} (eq : K → K → Bool) (settings : Settings K V) (conte
 
     -- a write over its value
     pub becomes-overwritten : (v : V) (info : EntryInfo) (notice : Notice K V) → after_write settings k v (max latest at) (Some (stored_write row)) ≡ stored_write (overwritten v info row)
-        → arc_value notice.key ≡ arc_value row.key → notice.value ≡ row.value → notice.cause ≡ cond (is_expired settings (stored_write row) (max latest at)) Expired Replaced
+        → arc_value notice.key ≡ arc_value row.key → notice.value ≡ row.value → notice.cause ≡ cause_of settings Replaced (stored_write row) (max latest at)
         → UsesRow n (overwritten v info) contents new → new.notices ≡ contents.notices ++ notice ∷ []
         → Becomes eq (view_with settings contents frequency latest number) (Written k v at) (view_with settings new frequency (max latest at) (number + 1))
     becomes-overwritten v info notice write key value cause used notices = record {
@@ -166,7 +167,7 @@ module _ {K V : Type 0} (eq : K → K → Bool) (settings : Settings K V) (conte
     }
 
     -- its removal
-    pub becomes-removed : (notice : Notice K V) → arc_value notice.key ≡ arc_value row.key → notice.value ≡ row.value → notice.cause ≡ cond (is_expired settings (stored_write row) (max latest at)) Expired Explicit
+    pub becomes-removed : (notice : Notice K V) → arc_value notice.key ≡ arc_value row.key → notice.value ≡ row.value → notice.cause ≡ cause_of settings Explicit (stored_write row) (max latest at)
         → TakesRow n contents new → new.notices ≡ contents.notices ++ notice ∷ []
         → Becomes eq (view_with settings contents frequency latest number) (Invalidated k at) (view_with settings new frequency (max latest at) number)
     becomes-removed notice key value cause taken notices = record {

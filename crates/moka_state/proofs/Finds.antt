@@ -1,5 +1,5 @@
 -- The live write of a key, by the row that is found for the key.
-use Rattle.std.proofs.Common.{◌≡◌, ℕ, max, Bool, true, not, cond, List, Some, None, ap, ◌∙◌}
+use Rattle.std.proofs.Common.{◌≡◌, ℕ, max, Bool, true, not, ◌&&◌, cond, List, Some, None, ap, ◌∙◌}
 use Rattle.std.specs.Arc.{arc_value}
 use Rattle.std.specs.Cmp.{IsEquivalence}
 use Rattle.std.specs.List.{AllByRecursion}
@@ -18,13 +18,15 @@ use Rattle.moka_state.proofs.Views.{view_with, one-each, live-held}
 
 module _ {K V E : Type 0} (eq : K → K → Bool) (laws : IsEquivalence eq) (settings : Settings K V) (contents : Contents K V) (frequency : List ℕ → ℕ → ℕ) (latest number : ℕ)
     (given : Settings K V) (steps : List (AcceptedStep K V E)) (stands : StandsFor eq given (view_with settings contents frequency latest number) steps) where
-  -- the row stores the live value of its key, unless it is expired
+  -- the row stores the live value of its key, unless it is hidden or expired
   pub live-row : (lives : Lives) → HasLives settings lives → (k : K) (at n : ℕ) (row : Row K V) → row_under n (entries contents) ≡ Some row → eq (arc_value row.key) k ≡ true
-      → live_at eq given k at (events_in steps) ≡ cond (not (has_come (deadline_of lives row.info) (max latest at))) (Some (stored_write row)) None
-  live-row lives expired_alike k at n row there same =
+      → (alive : Bool) → (not row.info.is_hidden && not (has_come (deadline_of lives row.info) (max latest at))) ≡ alive
+      → live_at eq given k at (events_in steps) ≡ cond alive (Some (stored_write row)) None
+  live-row lives expired_alike k at n row there same alive is =
       live-held eq laws given (view_with settings contents frequency latest number) steps stands k at (Some (stored_write row))
       (held-row eq contents (one-each eq laws given (view_with settings contents frequency latest number) steps stands) k n row there same)
-      ∙ ap (λ (expired : Row K V → ℕ → Bool). cond (not (expired row (max latest at))) (Some (stored_write row)) None) expired_alike
+      ∙ ap (λ (expired : Row K V → ℕ → Bool). cond (not row.info.is_hidden && not (expired row (max latest at))) (Some (stored_write row)) None) expired_alike
+      ∙ ap (λ t. cond t (Some (stored_write row)) None) is
 
   -- where no row is found, nothing is live
   pub live-absent : (hash_of : K → ℕ) → ((a b : K) → eq a b ≡ true → hash_of a ≡ hash_of b) → AllByRecursion (λ p. p.1.hash ≡ hash_of (arc_value p.1.key)) (entries contents)

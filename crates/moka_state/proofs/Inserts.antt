@@ -1,5 +1,5 @@
 -- What a state stands for after a write: a write alone, one behind its flush, or a moment that passes.
-use Rattle.std.proofs.Common.{◌≡◌, ℕ, ◌+◌, ◌<◌, ◌≤◌, max, nat_le, Bool, true, false, Option, None, List, [], ◌∷◌, ◌++◌, length, sym, ap, ◌∙◌, subst, arith}
+use Rattle.std.proofs.Common.{◌≡◌, ℕ, ◌+◌, ◌<◌, ◌≤◌, ◌^◌, max, nat_le, Bool, true, false, None, List, [], ◌∷◌, ◌++◌, length, sym, ap, ◌∙◌, subst, arith}
 use Rattle.std.specs.Arc.{arc_value}
 use Rattle.std.specs.declared.sync.Arc.{Arc}
 use Rattle.std.specs.declared.alloc.Global.{Global}
@@ -30,9 +30,9 @@ use Rattle.moka_state.proofs.Views.{view_with, Becomes, view-becomes, one-each, 
 -- the same rows are the same view
 pub same-view : {K V : Type 0} (settings : Settings K V) (frequency : List ℕ → ℕ → ℕ) (latest number : ℕ) (old new : Contents K V) → SameRows old new → view_with settings old frequency latest number ≡ view_with settings new frequency latest number
 same-view {K} {V} settings frequency latest number old new same =
-    ap (λ a. let c : Contents K V = record { admitted = a; waiting = old.waiting; notices = old.notices; room = old.room } in view_with settings c frequency latest number) (sym same.0)
-    ∙ ap (λ w. let c : Contents K V = record { admitted = new.admitted; waiting = w; notices = old.notices; room = old.room } in view_with settings c frequency latest number) (sym same.1)
-    ∙ ap (λ n. let c : Contents K V = record { admitted = new.admitted; waiting = new.waiting; notices = n; room = old.room } in view_with settings c frequency latest number) (sym same.2)
+    ap (λ a. let c : Contents K V = record { admitted = a; waiting = old.waiting; notices = old.notices; may_hide = old.may_hide; room = old.room } in view_with settings c frequency latest number) (sym same.0)
+    ∙ ap (λ w. let c : Contents K V = record { admitted = new.admitted; waiting = w; notices = old.notices; may_hide = old.may_hide; room = old.room } in view_with settings c frequency latest number) (sym same.1)
+    ∙ ap (λ n. let c : Contents K V = record { admitted = new.admitted; waiting = new.waiting; notices = n; may_hide = old.may_hide; room = old.room } in view_with settings c frequency latest number) (sym same.2)
 
 -- fewer than 64 rows wait, or no fewer
 pub few-wait : {K V : Type 0} (contents : Contents K V) → length contents.waiting < 64 → nat_le 64 (length (stored_writes contents.waiting)) ≡ false
@@ -70,16 +70,16 @@ module _ {K V E : Type 0} (eq : K → K → Bool) (laws : IsEquivalence eq) (set
 module _ {K V E : Type 0} (eq : K → K → Bool) (laws : IsEquivalence eq) (settings : Settings K V) (lives : Lives) (expired_alike : HasLives settings lives) (contents kept new : Contents K V) (frequency : List ℕ → ℕ → ℕ) (moment number : ℕ)
     (given : Settings K V) (steps : List (AcceptedStep K V E)) (stands : StandsFor eq given (view_with settings contents frequency moment number) steps) (key : K) (v : V) (at : ℕ)
     (is : IsMaintained lives settings.behaviour.is_lru (frequency []) settings.max_capacity (max moment at) contents kept) where
-  pub stands-put-flushed : {keeps : K → V → Type 0} {hash_of : K → ℕ} {earliest due : Option ℕ} → IsSound keeps hash_of lives earliest contents → IsSound keeps hash_of lives due kept → ((a b : K) → eq a b ≡ true → hash_of a ≡ hash_of b)
-      → (hash weight : ℕ) (info : EntryInfo) (lookup : Lookup K) (own : Arc K Global) (target : Target K) → hash ≡ hash_of key → arc_value own ≡ key → IsLookupOf eq key hash (entries contents) lookup → IsTargetNow eq hash lookup own (entries kept) target
-      → hash ≡ settings.behaviour.hash key → weight ≡ settings.behaviour.weight key v → IsInfoOf settings.behaviour lives target v weight (max moment at) kept info → Puts lives target hash v info kept new
+  pub stands-put-flushed : {keeps : K → V → Type 0} {hash_of : K → ℕ} → IsSound keeps hash_of lives contents → IsSound keeps hash_of lives kept → ((a b : K) → eq a b ≡ true → hash_of a ≡ hash_of b)
+      → (hash weight : ℕ) (info : EntryInfo) (lookup : Lookup K) (own : Arc K Global) (target : Target K) → max moment at < 2 ^ 64 → hash ≡ hash_of key → arc_value own ≡ key → IsLookupOf eq key hash (entries contents) lookup → IsTargetNow eq hash lookup own (entries kept) target
+      → hash ≡ settings.behaviour.hash key → weight ≡ settings.behaviour.weight key v → IsInfoOf settings.behaviour target v weight (max moment at) kept info → Puts target hash v info kept new
       → stores_nothing settings.max_capacity ≡ false → nat_le 64 (length (stored_writes contents.waiting)) ≡ true
       → StandsFor eq given (view_with settings new frequency (max moment at) (number + 1)) (after eq given (Insert key v at) steps)
-  stands-put-flushed sound sound_then respects hash weight info lookup own target hashed owned found still hashes weighs info_is put stores many =
+  stands-put-flushed sound sound_then respects hash weight info lookup own target is_moment hashed owned found still hashes weighs info_is put stores many =
       let one = one-each eq laws given (view_with settings contents frequency moment number) steps stands in
       let flushed = becomes-maintained eq settings lives expired_alike contents frequency moment number at kept is in
       let ones = one-kept eq laws settings (frequency []) (max moment at) contents kept one flushed.orders in
       let there = where-now eq laws settings (frequency []) (max moment at) contents kept one flushed.orders key sound sound_then respects hash lookup own target hashed owned found still in
       stands-flushed eq laws given (view_with settings contents frequency moment number) (view_with settings new frequency (max moment at) (number + 1)) steps stands key v at stores many
       (view_with settings kept frequency (max moment at) number) flushed
-      (becomes-put-now eq laws key kept settings lives expired_alike frequency moment number ones new v at hash weight info target there hashes weighs info_is put)
+      (becomes-put-now eq laws key kept settings lives expired_alike frequency moment number ones sound_then.dated new v at hash weight info target is_moment there hashes weighs info_is put)

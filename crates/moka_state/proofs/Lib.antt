@@ -10,3 +10,4 @@ pub mod Runs
 pub mod Sound
 pub mod Targets
 pub mod Views
+pub mod Removing

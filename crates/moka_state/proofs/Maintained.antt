@@ -1,10 +1,10 @@
 -- What a maintenance of the rows makes of the view of a state.
-use Rattle.std.proofs.Common.{◌≡◌, ℕ, ◌+◌, ◌≤◌, ◌||◌, max, nat_le, Bool, true, not, cond, List, [], ◌∷◌, ◌++◌, map, Option, Some, None, refl, sym, ap, ◌∙◌, subst}
+use Rattle.std.proofs.Common.{◌≡◌, ℕ, ◌+◌, ◌≤◌, ◌&&◌, ◌||◌, max, nat_le, Bool, true, not, cond, List, [], ◌∷◌, ◌++◌, map, Option, Some, None, refl, sym, ap, ◌∙◌, subst}
 use Rattle.std.specs.List.{All, AllByRecursion}
 use Rattle.std.specs.Option.{IfSome}
 use Rattle.std.proofs.lemmas.List.{append-nil, map-append}
 use Rattle.std.proofs.lemmas.List.Elements.{All-same, recursion_from_All}
-use Rattle.moka_model.specs.declared.notification.RemovalCause.TheVariants.{Expired, Size}
+use Rattle.moka_model.specs.declared.notification.RemovalCause.TheVariants.{Expired, Explicit, Size}
 use Rattle.moka_model.specs.Lives.{Settings, Write, is_expired, is_live}
 use Rattle.moka_model.specs.Events.{Maintained, latest}
 use Rattle.moka_model.specs.Steps.{AcceptedStep, events_in}
@@ -51,7 +51,7 @@ module _ {K V : Type 0} (eq : K → K → Bool) (settings : Settings K V) (lives
 
   -- the rows are alive whose writes are live
   alive-same : (λ (p : ℕ × Row K V). lives_now (write-of p)) ≡ is_alive lives now
-  alive-same = ap (λ (expired : Row K V → ℕ → Bool). λ (p : ℕ × Row K V). not (expired p.1 now)) expired_alike
+  alive-same = ap (λ (expired : Row K V → ℕ → Bool). λ (p : ℕ × Row K V). not p.1.info.is_hidden && not (expired p.1 now)) expired_alike
 
   -- the rows win whose writes do
   wins-same : (p : ℕ × Row K V) (victims : List (ℕ × Row K V)) → wins settings (frequency []) (write-of p) (map write-of victims) ≡ row_wins settings.behaviour.is_lru (frequency []) p victims
@@ -81,7 +81,7 @@ module _ {K V : Type 0} (eq : K → K → Bool) (settings : Settings K V) (lives
 
   -- the notice of a row is that of its write's leaving
   notice-same : (p : ℕ × Row K V) → removal_of (notice_at lives now p) ≡ write_removal settings Size now (write-of p)
-  notice-same p = ap (λ (expired : Row K V → ℕ → Bool). let r : Removal K V = record { key = (write-of p).key; value = p.1.value; cause = cond (expired p.1 now) Expired Size } in r) (sym expired_alike)
+  notice-same p = ap (λ (expired : Row K V → ℕ → Bool). let r : Removal K V = record { key = (write-of p).key; value = p.1.value; cause = cond p.1.info.is_hidden Explicit (cond (expired p.1 now) Expired Size) } in r) (sym expired_alike)
 
   notices-same : (ps : List (ℕ × Row K V)) → map removal_of (map (notice_at lives now) ps) ≡ map (write_removal settings Size now) (stored_writes ps)
   notices-same [] = refl

@@ -1,44 +1,40 @@
 -- What a state keeps to stays so: after a change of one row, and after a maintenance.
-use Rattle.std.proofs.Common.{◌≡◌, ℕ, Bool, true, List, [], ◌∷◌, ◌++◌, map, Option, Some, sym, ap, ◌∙◌, append_assoc}
+use Rattle.std.proofs.Common.{◌≡◌, ℕ, Bool, List, [], ◌∷◌, ◌++◌, map, Option, Some, sym, ap, ◌∙◌, append_assoc}
 use Rattle.std.specs.Arc.{arc_value}
 use Rattle.moka_model.specs.declared.notification.Notice.{Notice}
 use Rattle.moka_rows.specs.declared.rows.EntryInfo.{EntryInfo}
+use Rattle.moka_rows.specs.declared.rows.Touch.{Touch}
 use Rattle.moka_state.specs.State.{IsSound}
 use Rattle.std.specs.List.{AllByRecursion}
 use Rattle.moka_rows.specs.declared.rows.Row.{Row}
 use Rattle.moka_model.specs.declared.notification.RemovalCause.{RemovalCause}
-use Rattle.moka_model.specs.Lives.{earlier, has_come}
 use Rattle.moka_model.specs.Maintenance.{evicted_in, after_parts}
 use Rattle.moka_ways.specs.declared.lives.Lives.{Lives}
-use Rattle.moka_ways.specs.Lives.{deadline_of}
-use Rattle.moka_maintain.specs.Maintain.{is_alive, notice_at, rows_of, row_wins, row_parts, IsDueFrom, IsMaintained}
-use Rattle.moka_rows.specs.Rows.{row_under, touched, overwritten}
+use Rattle.moka_ways.specs.Lives.{IsDated}
+use Rattle.moka_maintain.specs.Maintain.{is_alive, notice_at, rows_of, row_wins, row_parts, IsMaintained}
+use Rattle.moka_rows.specs.Rows.{row_under, used_at, touched, overwritten}
 use Rattle.moka_table.specs.Table.{Contents, weight_of, entries, SameRows, UsesRow, TakesRow}
-use Rattle.moka_ways.proofs.Callers.{has_come-earlier_right}
-use Rattle.moka_rows.proofs.Callers.{all-append, all-front}
-use Rattle.moka_table.proofs.Callers.{of-row, of-used, of-taken, of-used-admitted, of-taken-admitted}
-use Rattle.moka_maintain.proofs.Callers.{due-left}
+use Rattle.moka_rows.proofs.Callers.{all-append}
+use Rattle.moka_table.proofs.Callers.{of-row, of-used, of-taken}
 use Rattle.moka_state.proofs.Elements.{all-kept, all-evicted}
 
 -- the same rows keep all
-pub IsSound-same : {K V : Type 0} (keeps : K → V → Type 0) (hash_of : K → ℕ) (lives : Lives) (earliest : Option ℕ) (old new : Contents K V) → SameRows old new → IsSound keeps hash_of lives earliest old → IsSound keeps hash_of lives earliest new
-IsSound-same keeps hash_of lives earliest old new same sound = record {
-  due = rw same.0 sound.due;
+pub IsSound-same : {K V : Type 0} (keeps : K → V → Type 0) (hash_of : K → ℕ) (lives : Lives) (old new : Contents K V) → SameRows old new → IsSound keeps hash_of lives old → IsSound keeps hash_of lives new
+IsSound-same keeps hash_of lives old new same sound = record {
+  dated = rw (same.0, same.1) sound.dated;
   hashed = rw (same.0, same.1) sound.hashed;
   kept = rw (same.0, same.1) sound.kept;
   notices_kept = rw same.2 sound.notices_kept;
 }
 
-module _ {K V : Type 0} (keeps : K → V → Type 0) (hash_of : K → ℕ) (lives : Lives) (earliest : Option ℕ) (old new : Contents K V) (sound : IsSound keeps hash_of lives earliest old) where
-  -- A value that is kept for a row's key takes the lookup of the one before, which is noticed under an equal key. The
-  -- deadline of the new one counts too.
+module _ {K V : Type 0} (keeps : K → V → Type 0) (hash_of : K → ℕ) (lives : Lives) (old new : Contents K V) (sound : IsSound keeps hash_of lives old) where
+  -- A value that is kept for a row's key takes the lookup of the one before, which is noticed under an equal key.
   pub IsSound-overwritten : (n : ℕ) (row : Row K V) (v : V) (info : EntryInfo) (notice : Notice K V) → row_under n (entries old) ≡ Some row → keeps (arc_value row.key) v
       → (keeps (arc_value row.key) row.value → keeps (arc_value notice.key) notice.value) → UsesRow n (overwritten v info) old new → new.notices ≡ old.notices ++ notice ∷ []
-      → IsSound keeps hash_of lives (earlier earliest (deadline_of lives info)) new
-  IsSound-overwritten n row v info notice there kept left used notices =
-      let Due : Row K V → Type 0 = λ r. (at : ℕ) → has_come (deadline_of lives r.info) at ≡ true → has_come (earlier earliest (deadline_of lives info)) at ≡ true in
+      → IsDated lives info → IsSound keeps hash_of lives new
+  IsSound-overwritten n row v info notice there kept left used notices dated =
       record {
-        due = of-used-admitted Due n (overwritten v info) row old new (due-left lives earliest (deadline_of lives info) old.admitted sound.due) there (λ _ at c. has_come-earlier_right earliest (deadline_of lives info) at c) used;
+        dated = of-used (λ (r : Row K V). IsDated lives r.info) n (overwritten v info) row old new sound.dated there dated used;
         hashed = of-used (λ (r : Row K V). r.hash ≡ hash_of (arc_value r.key)) n (overwritten v info) row old new sound.hashed there (of-row (λ (r : Row K V). r.hash ≡ hash_of (arc_value r.key)) n (entries old) row sound.hashed there) used;
         kept = of-used (λ (r : Row K V). keeps (arc_value r.key) r.value) n (overwritten v info) row old new sound.kept there kept used;
         notices_kept = rw notices (all-append (λ (m : Notice K V). keeps (arc_value m.key) m.value) old.notices (notice ∷ []) sound.notices_kept (left (of-row (λ (r : Row K V). keeps (arc_value r.key) r.value) n (entries old) row sound.kept there), tt));
@@ -46,9 +42,9 @@ module _ {K V : Type 0} (keeps : K → V → Type 0) (hash_of : K → ℕ) (live
 
   -- a row with its hash and with a value that is kept for its key is added to those that wait
   pub IsSound-added : (n : ℕ) (row : Row K V) → row.hash ≡ hash_of (arc_value row.key) → keeps (arc_value row.key) row.value
-      → new.admitted ≡ old.admitted → new.waiting ≡ old.waiting ++ (n, row) ∷ [] → new.notices ≡ old.notices → IsSound keeps hash_of lives (earlier earliest (deadline_of lives row.info)) new
-  IsSound-added n row hash kept admitted waiting notices = record {
-    due = rw admitted (due-left lives earliest (deadline_of lives row.info) old.admitted sound.due);
+      → new.admitted ≡ old.admitted → new.waiting ≡ old.waiting ++ (n, row) ∷ [] → new.notices ≡ old.notices → IsDated lives row.info → IsSound keeps hash_of lives new
+  IsSound-added n row hash kept admitted waiting notices dated = record {
+    dated = rw grown (all-append (λ (p : ℕ × Row K V). IsDated lives p.1.info) (entries old) ((n, row) ∷ []) sound.dated (dated, tt));
     hashed = rw grown (all-append (λ (p : ℕ × Row K V). p.1.hash ≡ hash_of (arc_value p.1.key)) (entries old) ((n, row) ∷ []) sound.hashed (hash, tt));
     kept = rw grown (all-append (λ (p : ℕ × Row K V). keeps (arc_value p.1.key) p.1.value) (entries old) ((n, row) ∷ []) sound.kept (kept, tt));
     notices_kept = rw notices sound.notices_kept;
@@ -57,31 +53,31 @@ module _ {K V : Type 0} (keeps : K → V → Type 0) (hash_of : K → ℕ) (live
       grown : entries new ≡ entries old ++ (n, row) ∷ []
       grown = ap (λ a. a ++ new.waiting) admitted ∙ ap (λ w. old.admitted ++ w) waiting ∙ sym (append_assoc old.admitted old.waiting ((n, row) ∷ []))
 
-  -- a use of a row, whose new deadline counts too
-  pub IsSound-touched : (n : ℕ) (row : Row K V) (info : EntryInfo) → row_under n (entries old) ≡ Some row
-      → UsesRow n (touched info) old new → new.notices ≡ old.notices → IsSound keeps hash_of lives (earlier earliest (deadline_of lives info)) new
-  IsSound-touched n row info there used notices =
-      let Due : Row K V → Type 0 = λ r. (at : ℕ) → has_come (deadline_of lives r.info) at ≡ true → has_come (earlier earliest (deadline_of lives info)) at ≡ true in
+  -- a use of a row, which gives it its deadline
+  pub IsSound-touched : (n : ℕ) (row : Row K V) (touch : Touch) → row_under n (entries old) ≡ Some row
+      → UsesRow n (touched touch) old new → new.notices ≡ old.notices → IsDated lives (used_at touch row.info) → IsSound keeps hash_of lives new
+  IsSound-touched n row touch there used notices dated =
       record {
-        due = of-used-admitted Due n (touched info) row old new (due-left lives earliest (deadline_of lives info) old.admitted sound.due) there (λ _ at c. has_come-earlier_right earliest (deadline_of lives info) at c) used;
-        hashed = of-used (λ (r : Row K V). r.hash ≡ hash_of (arc_value r.key)) n (touched info) row old new sound.hashed there (of-row (λ (r : Row K V). r.hash ≡ hash_of (arc_value r.key)) n (entries old) row sound.hashed there) used;
-        kept = of-used (λ (r : Row K V). keeps (arc_value r.key) r.value) n (touched info) row old new sound.kept there (of-row (λ (r : Row K V). keeps (arc_value r.key) r.value) n (entries old) row sound.kept there) used;
+        dated = of-used (λ (r : Row K V). IsDated lives r.info) n (touched touch) row old new sound.dated there dated used;
+        hashed = of-used (λ (r : Row K V). r.hash ≡ hash_of (arc_value r.key)) n (touched touch) row old new sound.hashed there (of-row (λ (r : Row K V). r.hash ≡ hash_of (arc_value r.key)) n (entries old) row sound.hashed there) used;
+        kept = of-used (λ (r : Row K V). keeps (arc_value r.key) r.value) n (touched touch) row old new sound.kept there (of-row (λ (r : Row K V). keeps (arc_value r.key) r.value) n (entries old) row sound.kept there) used;
         notices_kept = rw notices sound.notices_kept;
       }
 
   -- a row leaves, and is noticed
   pub IsSound-taken : (n : ℕ) (row : Row K V) (cause : RemovalCause) → row_under n (entries old) ≡ Some row → TakesRow n old new
-      → new.notices ≡ old.notices ++ record { key = row.key; value = row.value; cause = cause } ∷ [] → IsSound keeps hash_of lives earliest new
+      → new.notices ≡ old.notices ++ record { key = row.key; value = row.value; cause = cause } ∷ [] → IsSound keeps hash_of lives new
   IsSound-taken n row cause there taken notices = record {
-    due = of-taken-admitted (λ (r : Row K V). (at : ℕ) → has_come (deadline_of lives r.info) at ≡ true → has_come earliest at ≡ true) n row old new sound.due there taken;
+    dated = of-taken (λ (r : Row K V). IsDated lives r.info) n row old new sound.dated there taken;
     hashed = of-taken (λ (r : Row K V). r.hash ≡ hash_of (arc_value r.key)) n row old new sound.hashed there taken;
     kept = of-taken (λ (r : Row K V). keeps (arc_value r.key) r.value) n row old new sound.kept there taken;
     notices_kept = rw notices (all-append (λ (m : Notice K V). keeps (arc_value m.key) m.value) old.notices _ sound.notices_kept (of-row (λ (r : Row K V). keeps (arc_value r.key) r.value) n (entries old) row sound.kept there, tt));
   }
 
   -- after a maintenance
-  pub IsSound-maintained : (is_lru : Bool) (frequency_of : ℕ → ℕ) (capacity due : Option ℕ) (at : ℕ) → IsMaintained lives is_lru frequency_of capacity at old new → IsDueFrom due lives (entries new) → IsSound keeps hash_of lives due new
-  IsSound-maintained is_lru frequency_of capacity due at is bound =
+  pub IsSound-maintained : (is_lru : Bool) (frequency_of : ℕ → ℕ) (capacity : Option ℕ) (at : ℕ) → IsMaintained lives is_lru frequency_of capacity at old new → IsSound keeps hash_of lives new
+  IsSound-maintained is_lru frequency_of capacity at is =
+      let Dated : ℕ × Row K V → Type 0 = λ p. IsDated lives p.1.info in
       let Hashed : ℕ × Row K V → Type 0 = λ p. p.1.hash ≡ hash_of (arc_value p.1.key) in
       let Keeps : ℕ × Row K V → Type 0 = λ p. keeps (arc_value p.1.key) p.1.value in
       let Noticed : Notice K V → Type 0 = λ m. keeps (arc_value m.key) m.value in
@@ -89,7 +85,7 @@ module _ {K V : Type 0} (keeps : K → V → Type 0) (hash_of : K → ℕ) (live
       let left : List (ℕ × Row K V) = (after_parts (rows_of old) (row_parts lives is_lru frequency_of capacity at old)).admitted in
       let gone : List (ℕ × Row K V) = evicted_in (row_parts lives is_lru frequency_of capacity at old) in
       record {
-        due = all-front (λ (p : ℕ × Row K V). (t : ℕ) → has_come (deadline_of lives p.1.info) t ≡ true → has_come due t ≡ true) new.admitted new.waiting bound;
+        dated = rw (is.waiting, is.admitted) (all-append Dated left [] (all-kept Dated weight_of capacity wins (is_alive lives at) (rows_of old) sound.dated) tt);
         hashed = rw (is.waiting, is.admitted) (all-append Hashed left [] (all-kept Hashed weight_of capacity wins (is_alive lives at) (rows_of old) sound.hashed) tt);
         kept = rw (is.waiting, is.admitted) (all-append Keeps left [] (all-kept Keeps weight_of capacity wins (is_alive lives at) (rows_of old) sound.kept) tt);
         notices_kept = rw is.notices (all-append Noticed old.notices _ sound.notices_kept (kept-noticed gone (all-evicted Keeps weight_of capacity wins (is_alive lives at) (rows_of old) sound.kept)));

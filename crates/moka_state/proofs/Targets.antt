@@ -1,22 +1,23 @@
 -- Where a write goes, and what putting its value there makes of the view of a state.
-use Rattle.std.proofs.Common.{◌≡◌, ℕ, ◌+◌, max, Bool, true, false, not, cond, List, [], ◌∷◌, Option, Some, None, refl, sym, ap, ◌∙◌, subst, arith}
+use Rattle.std.proofs.Common.{◌≡◌, ℕ, ◌+◌, ◌<◌, ◌^◌, max, Bool, true, false, not, ◌&&◌, ◌||◌, cond, List, [], ◌∷◌, Option, Some, None, refl, sym, ap, ◌∙◌, subst, arith}
 use Rattle.std.specs.Arc.{arc_value}
 use Rattle.std.specs.declared.sync.Arc.{Arc}
 use Rattle.std.specs.declared.alloc.Global.{Global}
 use Rattle.std.specs.Cmp.{IsEquivalence}
 use Rattle.std.specs.Option.{option_to_list}
 use Rattle.std.specs.List.{list_any}
-use Rattle.moka_model.specs.declared.notification.RemovalCause.TheVariants.{Expired, Replaced}
-use Rattle.moka_model.specs.Lives.{Settings, Write, is_expired, has_come, rest, given, earlier, after_write}
+use Rattle.moka_model.specs.declared.notification.RemovalCause.TheVariants.{Expired, Explicit, Replaced}
+use Rattle.moka_model.specs.Lives.{Settings, Write, is_live, has_come, rest, given, after_write}
 use Rattle.moka_model.specs.Events.{Written}
 use Rattle.moka_model.specs.Orders.{evicted, maintained}
 use Rattle.moka_model.specs.OrderLaws.{held, HasOneEach}
 use Rattle.moka_model.proofs.Callers.{held-maintained}
 use Rattle.moka_ways.specs.declared.lives.Lives.{Lives}
-use Rattle.moka_ways.specs.Lives.{deadline_of, own_of}
+use Rattle.moka_ways.specs.Lives.{own_of, IsDated, AreDated}
 use Rattle.moka_rows.specs.declared.rows.Row.{Row}
 use Rattle.moka_rows.specs.declared.rows.EntryInfo.{EntryInfo}
-use Rattle.moka_rows.specs.Rows.{row_under, overwritten}
+use Rattle.moka_model.specs.Removals.{cause_of}
+use Rattle.moka_rows.specs.Rows.{row_under, overwritten, cause_at}
 use Rattle.moka_table.specs.declared.table.Lookup.{Lookup}
 use Rattle.moka_table.specs.declared.table.Lookup.TheVariants.{Stored, Absent}
 use Rattle.moka_table.specs.declared.target.Target.{Target}
@@ -24,8 +25,10 @@ use Rattle.moka_table.specs.declared.target.Target.TheVariants.{Over, New}
 use Rattle.moka_table.specs.Lookup.{IsLookupOf}
 use Rattle.moka_table.specs.Target.{IsTargetFor, IsTargetNow, IsInfoOf, Puts}
 use Rattle.moka_table.specs.Table.{Contents, entries, stored_write}
+use Rattle.moka_table.proofs.Callers.{of-row}
 use Rattle.moka_state.specs.State.{stored_orders, IsSound}
 use Rattle.moka_state.proofs.Becoming.{stored-same, becomes-opened, becomes-overwritten}
+use Rattle.moka_ways.proofs.Callers.{alive-kept, cause-kept}
 use Rattle.moka_state.proofs.Held.{same-key, held-row, held-absent}
 use Rattle.moka_state.proofs.Maintained.{HasLives}
 use Rattle.moka_state.proofs.Sound.{IsSound-overwritten, IsSound-added}
@@ -55,16 +58,16 @@ module _ {K V : Type 0} (eq : K → K → Bool) (laws : IsEquivalence eq) (key :
   goes_with-now before hash Absent own (New shared) owned is now = ap arc_value now ∙ owned
 
   -- what is put to it for its key keeps the state sound
-  pub IsSound-put : (keeps : K → V → Type 0) (hash_of : K → ℕ) (lives : Lives) (earliest : Option ℕ) (new : Contents K V) (hash : ℕ) (v : V) (info : EntryInfo) (target : Target K) → ((a b : K) (w : V) → eq a b ≡ true → keeps a w → keeps b w)
-      → hash ≡ hash_of key → keeps key v → IsSound keeps hash_of lives earliest contents → GoesWith target → Puts lives target hash v info contents new → IsSound keeps hash_of lives (earlier earliest (deadline_of lives info)) new
-  IsSound-put keeps hash_of lives earliest new hash v info (Over n shared) alike hashed kept sound goes put =
+  pub IsSound-put : (keeps : K → V → Type 0) (hash_of : K → ℕ) (lives : Lives) (new : Contents K V) (hash : ℕ) (v : V) (info : EntryInfo) (target : Target K) → ((a b : K) (w : V) → eq a b ≡ true → keeps a w → keeps b w)
+      → hash ≡ hash_of key → keeps key v → IsSound keeps hash_of lives contents → GoesWith target → Puts target hash v info contents new → IsDated lives info → IsSound keeps hash_of lives new
+  IsSound-put keeps hash_of lives new hash v info (Over n shared) alike hashed kept sound goes put dated =
       let row = goes.0 in
       let done = rw goes.1 at put in
-      IsSound-overwritten keeps hash_of lives earliest contents new sound n row v info _ goes.1 (alike key (arc_value row.key) v (laws.symm key (arc_value row.key) ∙ goes.2) kept)
+      IsSound-overwritten keeps hash_of lives contents new sound n row v info _ goes.1 (alike key (arc_value row.key) v (laws.symm key (arc_value row.key) ∙ goes.2) kept)
       (λ was. alike (arc_value row.key) (arc_value shared) row.value (laws.congr (arc_value row.key) key (arc_value shared) goes.2 ∙ laws.symm key (arc_value shared) ∙ goes.3) was)
-      done.0 done.1
-  IsSound-put keeps hash_of lives earliest new hash v info (New shared) alike hashed kept sound goes put =
-      IsSound-added keeps hash_of lives earliest contents new sound put.0 _ (hashed ∙ ap hash_of (sym goes)) (subst (λ k. keeps k v) (sym goes) kept) put.1 put.2 put.3
+      done.0 done.1 dated
+  IsSound-put keeps hash_of lives new hash v info (New shared) alike hashed kept sound goes put dated =
+      IsSound-added keeps hash_of lives contents new sound put.0 _ (hashed ∙ ap hash_of (sym goes)) (subst (λ k. keeps k v) (sym goes) kept) put.1 put.2 put.3 dated
 
   -- A target is where the definitions write: over the write that is held for the key, whose stored key it has, or anew where
   -- none is held.
@@ -73,7 +76,7 @@ module _ {K V : Type 0} (eq : K → K → Bool) (laws : IsEquivalence eq) (key :
   IsWhere (New shared) = (held eq key (stored_orders contents) ≡ []) × (arc_value shared ≡ key)
 
   -- so is the target by a lookup of the key
-  pub where-lookup : {keeps : K → V → Type 0} {hash_of : K → ℕ} {lives : Lives} {earliest : Option ℕ} → IsSound keeps hash_of lives earliest contents → ((a b : K) → eq a b ≡ true → hash_of a ≡ hash_of b)
+  pub where-lookup : {keeps : K → V → Type 0} {hash_of : K → ℕ} {lives : Lives} → IsSound keeps hash_of lives contents → ((a b : K) → eq a b ≡ true → hash_of a ≡ hash_of b)
       → (hash : ℕ) (lookup : Lookup K) (target : Target K) → hash ≡ hash_of key → IsLookupOf eq key hash (entries contents) lookup → IsTargetFor key lookup target → IsWhere target
   where-lookup sound respects hash (Stored n stored) (Over m shared) hashed is for_it =
       (is.0, ap (λ i. row_under i (entries contents)) for_it.0 ∙ is.1, same-key eq key hash is.0 is.2, ap arc_value for_it.1 ∙ is.3)
@@ -82,38 +85,42 @@ module _ {K V : Type 0} (eq : K → K → Bool) (laws : IsEquivalence eq) (key :
   where-lookup {hash_of = hash_of} sound respects hash Absent (New shared) hashed is for_it = (held-absent eq contents hash_of respects sound.hashed key hash hashed is, for_it)
 
   -- Once a value was put there, the view is that after a write.
-  pub becomes-put : (settings : Settings K V) (lives : Lives) (expired_alike : HasLives settings lives) (frequency : List ℕ → ℕ → ℕ) (latest number : ℕ) → HasOneEach eq (stored_orders contents)
-      → (new : Contents K V) (v : V) (at hash weight : ℕ) (info : EntryInfo) (target : Target K) → IsWhere target → hash ≡ settings.behaviour.hash key → weight ≡ settings.behaviour.weight key v
-      → IsInfoOf settings.behaviour lives target v weight (max latest at) contents info → Puts lives target hash v info contents new
+  pub becomes-put : (settings : Settings K V) (lives : Lives) (expired_alike : HasLives settings lives) (frequency : List ℕ → ℕ → ℕ) (latest number : ℕ) → HasOneEach eq (stored_orders contents) → AreDated lives (entries contents)
+      → (new : Contents K V) (v : V) (at hash weight : ℕ) (info : EntryInfo) (target : Target K) → max latest at < 2 ^ 64 → IsWhere target → hash ≡ settings.behaviour.hash key → weight ≡ settings.behaviour.weight key v
+      → IsInfoOf settings.behaviour target v weight (max latest at) contents info → Puts target hash v info contents new
       → Becomes eq (view_with settings contents frequency latest number) (Written key v at) (view_with settings new frequency (max latest at) (number + 1))
-  becomes-put settings lives expired_alike frequency latest number one new v at hash weight info (Over n shared) is hashed weighed kept put =
+  becomes-put settings lives expired_alike frequency latest number one dated new v at hash weight info (Over n shared) is_moment is hashed weighed kept put =
       let row = is.0 in
       let done = rw is.1 at put in
       let own = rw (is.1, is.3) at kept.own in
       let modified = kept.modified in
-      let late : is_expired settings (stored_write row) (max latest at) ≡ has_come (deadline_of lives row.info) (max latest at) = ap (λ (expired : Row K V → ℕ → Bool). expired row (max latest at)) expired_alike in
+      let row_dated : IsDated lives row.info = of-row (λ (r : Row K V). IsDated lives r.info) n (entries contents) row dated is.1 in
+      let live : is_live settings (stored_write row) (max latest at) ≡ not (row.info.is_hidden || has_come row.info.deadline (max latest at)) =
+      ap (λ (expired : Row K V → ℕ → Bool). not row.info.is_hidden && not (expired row (max latest at))) expired_alike ∙ alive-kept lives row.info row_dated (max latest at) is_moment in
+      let why : cause_of settings Replaced (stored_write row) (max latest at) ≡ cause_at Replaced row.info (max latest at) =
+      ap (λ (expired : Row K V → ℕ → Bool). cond row.info.is_hidden Explicit (cond (expired row (max latest at)) Expired Replaced)) expired_alike ∙ cause-kept lives row.info row_dated (max latest at) is_moment Replaced in
       becomes-overwritten eq settings contents frequency latest number one new key at n row is.1 is.2 v info _
       (stored-same (after_write settings key v (max latest at) (Some (stored_write row))) (overwritten v info row) refl refl refl (sym (kept.weight_is ∙ weighed)) (sym modified) (sym kept.accessed)
-      (ap (λ t. given (cond (not t) (settings.behaviour.lifetimes.updated (arc_value row.key) v (max latest at) (rest (own_of row.info) (max latest at))) (settings.behaviour.lifetimes.created (arc_value row.key) v (max latest at))) (max latest at)) late ∙ sym own)
-      refl)
-      is.3 refl (rw modified (ap (λ t. cond t Expired Replaced) (sym late))) done.0 done.1
-  becomes-put settings lives expired_alike frequency latest number one new v at hash weight info (New shared) is hashed weighed kept put =
+      (ap (λ t. given (cond t (settings.behaviour.lifetimes.updated (arc_value row.key) v (max latest at) (rest (own_of row.info) (max latest at))) (settings.behaviour.lifetimes.created (arc_value row.key) v (max latest at))) (max latest at)) live ∙ sym own)
+      (sym kept.shown))
+      is.3 refl (rw modified (sym why)) done.0 done.1
+  becomes-put settings lives expired_alike frequency latest number one dated new v at hash weight info (New shared) is_moment is hashed weighed kept put =
       let own = rw is.1 at kept.own in
       let row : Row K V = record { key = shared; hash = hash; value = v; info = info } in
       becomes-opened eq settings contents frequency latest number new key v at put.0 row is.0
-      (stored-same (after_write settings key v (max latest at) None) row (sym is.1) (sym hashed) refl (sym (kept.weight_is ∙ weighed)) (sym kept.modified) (sym kept.accessed) (sym own) refl)
+      (stored-same (after_write settings key v (max latest at) None) row (sym is.1) (sym hashed) refl (sym (kept.weight_is ∙ weighed)) (sym kept.modified) (sym kept.accessed) (sym own) (sym kept.shown))
       put.1 put.2 put.3
 
   -- so it is where the moment has just been recorded
-  pub becomes-put-now : (settings : Settings K V) (lives : Lives) (expired_alike : HasLives settings lives) (frequency : List ℕ → ℕ → ℕ) (moment number : ℕ) → HasOneEach eq (stored_orders contents)
-      → (new : Contents K V) (v : V) (at hash weight : ℕ) (info : EntryInfo) (target : Target K) → IsWhere target → hash ≡ settings.behaviour.hash key → weight ≡ settings.behaviour.weight key v
-      → IsInfoOf settings.behaviour lives target v weight (max moment at) contents info → Puts lives target hash v info contents new
+  pub becomes-put-now : (settings : Settings K V) (lives : Lives) (expired_alike : HasLives settings lives) (frequency : List ℕ → ℕ → ℕ) (moment number : ℕ) → HasOneEach eq (stored_orders contents) → AreDated lives (entries contents)
+      → (new : Contents K V) (v : V) (at hash weight : ℕ) (info : EntryInfo) (target : Target K) → max moment at < 2 ^ 64 → IsWhere target → hash ≡ settings.behaviour.hash key → weight ≡ settings.behaviour.weight key v
+      → IsInfoOf settings.behaviour target v weight (max moment at) contents info → Puts target hash v info contents new
       → Becomes eq (view_with settings contents frequency (max moment at) number) (Written key v at) (view_with settings new frequency (max moment at) (number + 1))
-  becomes-put-now settings lives expired_alike frequency moment number one new v at hash weight info target is hashed weighed kept put =
+  becomes-put-now settings lives expired_alike frequency moment number one dated new v at hash weight info target is_moment is hashed weighed kept put =
       let idle : max (max moment at) at ≡ max moment at = omega arith in
       subst (λ m. Becomes eq (view_with settings contents frequency (max moment at) number) (Written key v at) (view_with settings new frequency m (number + 1))) idle
-      (becomes-put settings lives expired_alike frequency (max moment at) number one new v at hash weight info target is hashed weighed
-      (subst (λ m. IsInfoOf settings.behaviour lives target v weight m contents info) (sym idle) kept) put)
+      (becomes-put settings lives expired_alike frequency (max moment at) number one dated new v at hash weight info target (rw idle is_moment) is hashed weighed
+      (subst (λ m. IsInfoOf settings.behaviour target v weight m contents info) (sym idle) kept) put)
 
 -- what is held after a maintenance was held before it
 stood : {A : Type 0} (t : Bool) (x y : A) → y ∷ [] ≡ option_to_list (cond t None (Some x)) → y ≡ x
@@ -136,7 +143,7 @@ module _ {K V : Type 0} (eq : K → K → Bool) (laws : IsEquivalence eq) (setti
   one-kept k = (_, held-now k (one k).0 (one k).1)
 
   -- and the target of a key that was looked for before is where the definitions write now
-  pub where-now : (key : K) {keeps : K → V → Type 0} {hash_of : K → ℕ} {lives : Lives} {earliest due : Option ℕ} → IsSound keeps hash_of lives earliest contents → IsSound keeps hash_of lives due kept
+  pub where-now : (key : K) {keeps : K → V → Type 0} {hash_of : K → ℕ} {lives : Lives} → IsSound keeps hash_of lives contents → IsSound keeps hash_of lives kept
       → ((a b : K) → eq a b ≡ true → hash_of a ≡ hash_of b) → (hash : ℕ) (lookup : Lookup K) (own : Arc K Global) (target : Target K) → hash ≡ hash_of key → arc_value own ≡ key
       → IsLookupOf eq key hash (entries contents) lookup → IsTargetNow eq hash lookup own (entries kept) target → IsWhere eq laws key kept target
   where-now key sound sound_then respects hash (Stored n stored) own (Over m shared) hashed owned is still =

@@ -1,8 +1,10 @@
 -- What a state keeps, by its fields.
-use Rattle.std.specs.Prelude.{◌≡◌, ℕ, List, ◌++◌, map, option_map, Option}
+use Rattle.std.specs.Prelude.{◌≡◌, ℕ, List, ◌++◌, map, option_map, Option, String}
 use Rattle.std.specs.Arc.{arc_value}
 use Rattle.std.specs.List.{AllByRecursion}
 use Rattle.std.specs.Duration.{as_nanos}
+use Rattle.std.specs.String.{string_bytes}
+use Rattle.std.specs.declared.alloc.Global.{Global}
 use Rattle.std.specs.declared.time.Duration.{Duration}
 use Rattle.moka_model.specs.Lives.{Write}
 use Rattle.moka_model.specs.Maintenance.{Queues}
@@ -10,12 +12,14 @@ use Rattle.moka_model.specs.StandsFor.{Books}
 use Rattle.moka_ways.specs.declared.lives.Lives.{Lives}
 use Rattle.moka_ways.specs.Behaviour.{BehaviourData}
 use Rattle.moka_table.specs.Table.{Contents, entries, stored_writes, removal_of}
-use Rattle.moka_maintain.specs.Maintain.{IsDueFrom}
+use Rattle.moka_ways.specs.Lives.{AreDated}
 pub use Rattle.moka_ways.specs.StateData.{SettingsData, StateData}
 
 -- the settings of a state that is built with these
-abbrev pub settings_of : {H W X : Type 0} → Option Duration → Option Duration → Option ℕ → ℕ → BehaviourData H W X → SettingsData H W X
-settings_of time_to_live time_to_idle max_capacity first_number behaviour = record {
+abbrev pub settings_of : {H W X : Type 0} → Option (String Global) → Option Duration → Option Duration → Option ℕ → ℕ →
+    BehaviourData H W X → SettingsData H W X
+settings_of name time_to_live time_to_idle max_capacity first_number behaviour = record {
+  name = option_map string_bytes name;
   time_to_live = option_map as_nanos time_to_live;
   time_to_idle = option_map as_nanos time_to_idle;
   max_capacity = max_capacity;
@@ -41,11 +45,10 @@ module _ {K V : Type 0} where
     next_number = next_number;
   }
 
-  -- Each row has the hash of its key; each key and value, stored or noticed, are in the relation that the cache keeps;
-  -- and no admitted value's deadline comes before the earliest.
-  pub record IsSound (keeps : K → V → Type 0) (hash_of : K → ℕ) (lives : Lives) (earliest : Option ℕ)
-      (contents : Contents K V) : Type 0 where
-    pub due : IsDueFrom earliest lives contents.admitted
+  -- Each row has the hash of its key, and keeps the deadline of its value; and each key and value, stored or noticed,
+  -- are in the relation that the cache keeps.
+  pub record IsSound (keeps : K → V → Type 0) (hash_of : K → ℕ) (lives : Lives) (contents : Contents K V) : Type 0 where
+    pub dated : AreDated lives (entries contents)
     pub hashed : AllByRecursion (λ p. p.1.hash ≡ hash_of (arc_value p.1.key)) (entries contents)
     pub kept : AllByRecursion (λ p. keeps (arc_value p.1.key) p.1.value) (entries contents)
     pub notices_kept : AllByRecursion (λ n. keeps (arc_value n.key) n.value) contents.notices

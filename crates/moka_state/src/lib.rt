@@ -1,9 +1,11 @@
 //! The cache as a plain value: its rows, its state, and its calls.
 #![tactic(auto)]
 
+pub mod removal;
 pub mod state;
 pub mod step;
 
-pub use moka_rows::{list_rows, rows};
+pub use moka_due::due_rows;
+pub use moka_rows::{list_rows, packed, rows};
 pub use moka_slab::slab_rows;
 pub use moka_ways::view;

@@ -1,6 +1,7 @@
 //! The cache as a plain value, lent with `&mut`, with every moment handed in.
-ghost use Rattle.std.specs.Prelude.{◌≡◌, ◌≢◌, ◌+◌, ◌≤◌, true, false, [], ◌++◌, length, min, map, option_map, IsOk, IfOk, IfErr, IfSome, OnOk, OnErr, None, IsErrAnd, ◌∷◌};
+ghost use Rattle.std.specs.Prelude.{◌≡◌, ◌≢◌, ◌+◌, ◌≤◌, ◌↔◌, true, false, [], ◌++◌, length, min, map, option_map, IsNone, IsOk, IfOk, IfErr, IfSome, OnOk, OnErr, None, IsErrAnd, ◌∷◌};
 ghost use Rattle.std.specs.Arc.{arc_value};
+ghost use Rattle.std.specs.Duration.{as_nanos};
 ghost use Rattle.std.specs.List.{AllByRecursion};
 ghost use Rattle.moka_model.specs.Lives.{is_live};
 ghost use Rattle.moka_model.specs.Events.{Maintained, latest};
@@ -11,30 +12,34 @@ ghost use Rattle.moka_model.specs.Calls.{Get, ContainsKey, Insert, Invalidate, R
 ghost use Rattle.moka_model.specs.SizeLaws.{WeighsOnes};
 ghost use Rattle.moka_policy.specs.Policy.{is_lru};
 ghost use Rattle.moka_table.specs.Table.{entries, removal_of};
-ghost use Rattle.moka_maintain.specs.Maintain.{IsDueFrom, IsMaintained};
+ghost use Rattle.moka_ways.specs.Lives.{AreDated};
+ghost use Rattle.moka_maintain.specs.Maintain.{IsMaintained};
 ghost use Rattle.moka_ways.specs.Behaviour.{hash_by};
 ghost use Rattle.moka_state.specs.State.{StateData, settings_of, books_by, all_writes, IsSound};
 ghost use Rattle.moka_state.specs.Write.{WriteEnds};
 
+use moka_due::due_rows::DueRows;
 use moka_maintain::maintain::maintain;
 use moka_model::notification::{Notice, RemovalCause};
-use moka_policy::policy::{CacheTypes, EvictionPolicy, FrequencySource, Refused};
-use moka_rows::rows::{EntryInfo, RowStore};
-use moka_slab::slab_rows::SlabRows;
+use moka_policy::policy::{CacheTypes, EvictionPolicy, FrequencySource, Policy, Refused};
+use moka_rows::rows::RowStore;
 use moka_table::shared_key::{IntoShared, Owned};
 use moka_table::table::Table;
 use moka_ways::behaviour::Behaviour;
-use moka_ways::lives::{Lives, earlier};
+use moka_ways::lives::Lives;
 use moka_ways::view::StateView;
 use std::alloc::Global;
 use std::hash::Hash;
 use std::marker::Model;
 use std::sync::Arc;
 use std::time::Duration;
+use thiserror::Error;
 
 /// What a cache is made from.
 #[derive(Drop)]
 pub struct Settings<K: Eq, V: Clone, C: CacheTypes<K, V>> {
+    /// What the cache is called.
+    pub name: Option<String>,
     /// How long a value lives after its write.
     pub time_to_live: Option<Duration>,
     /// How long a value lives after its last use: its write, or a recorded look that found it live.
@@ -42,6 +47,8 @@ pub struct Settings<K: Eq, V: Clone, C: CacheTypes<K, V>> {
     /// How much may stay stored, by the weights of the values; none is no bound. A cache may pass
     /// it by the 64 keys that may wait for a maintenance. With 0 nothing is stored.
     pub max_capacity: Option<u64>,
+    /// How many keys there is room for from the start.
+    pub initial_capacity: usize,
     /// Which keys leave where the cache has passed its capacity, and which new ones are admitted.
     pub eviction_policy: EvictionPolicy,
     /// Weighs each value when it is written; without one each weighs 1, so that the capacity is a
@@ -57,7 +64,9 @@ pub struct Settings<K: Eq, V: Clone, C: CacheTypes<K, V>> {
 }
 
 /// A refused `insert`, with the key and the value that it was given.
-#[derive(Debug, Drop)]
+#[derive(Debug, Drop, Error)]
+#[error("insert was refused ({cause}) and changed nothing: key and value are handed back, to try again \
+     with more memory, or with another cache where its numbers are used up")]
 pub struct InsertRefused<K, V> {
     /// The key, as it was given.
     pub key: K,
@@ -67,18 +76,27 @@ pub struct InsertRefused<K, V> {
     pub cause: Refused,
 }
 
+impl<K: Drop, V: Drop> From<InsertRefused<K, V>> for Refused {
+    ghost from_gives = { λ refused cause. cause ≡ refused.cause };
+
+    fn from(refused: InsertRefused<K, V>) -> Refused {
+        refused.cause
+    }
+}
+
 /// A write that finds as many keys waiting runs a maintenance first.
 const FLUSH_POINT: usize = 64;
 
 /// A cache over a store of rows.
 #[derive(Drop)]
 pub struct State<K: Hash + Drop, V: Clone, C: CacheTypes<K, V>, R: RowStore<K, V>> {
-    table: Table<K, V, R>,
+    name: Option<String>,
+    pub(crate) table: Table<K, V, R>,
     upkeep: Upkeep<C::Frequency>,
-    latest: u64,
+    pub(crate) latest: u64,
     first_number: u64,
     next_number: u64,
-    behaviour: Behaviour<K, V, C>,
+    pub(crate) behaviour: Behaviour<K, V, C>,
     alloc: Global,
 }
 
@@ -87,51 +105,66 @@ pub struct State<K: Hash + Drop, V: Clone, C: CacheTypes<K, V>, R: RowStore<K, V
 struct Upkeep<F: FrequencySource> {
     lives: Lives,
     max_capacity: Option<u64>,
-    // No admitted value's deadline comes before it; without it none comes.
-    earliest: Option<u128>,
     // It has noted the hash of each key that `get` looked for.
     source: F,
 }
 
 impl<F: FrequencySource> Upkeep<F> {
-    /// Runs a maintenance of a table, and notes the earliest deadline of what stays, or an earlier
-    /// moment.
+    /// Runs a maintenance of a table.
     fn maintain<K: Eq + Drop, V: Drop, R: RowStore<K, V>>(
-        &mut self,
+        &self,
         table: &mut Table<K, V, R>,
         policy: EvictionPolicy,
         now: u64,
     )
-        requires { IsDueFrom self.old.earliest self.old.lives table.old.admitted }
-        ensures maintained { IsMaintained self.old.lives (is_lru policy) (F.count self.old.source)
-            self.old.max_capacity now table.old table.new }
-        ensures due { IsDueFrom self.new.earliest self.old.lives (entries table.new) }
+        ensures maintained { AreDated self.now.lives (entries table.old) →
+            IsMaintained self.now.lives (is_lru policy) (F.count self.now.source)
+            self.now.max_capacity now table.old table.new }
         ensures room { table.old.room ≤ table.new.room }
-        ensures lives { self.new.lives ≡ self.old.lives }
-        ensures max_capacity { self.new.max_capacity ≡ self.old.max_capacity }
-        ensures source { self.new.source ≡ self.old.source }
     {
-        self.earliest = maintain(
+        // Its clause `visited` bounds this count; nothing else asks for it.
+        let mut visits = 0;
+        maintain(
             table,
-            &self.lives,
             self.max_capacity,
             policy,
             &self.source,
-            self.earliest,
             now,
+            &mut visits,
         );
     }
 }
 
-/// A cache over rows in a slab.
-pub type CacheState<K, V, C> = State<K, V, C, SlabRows<K, V>>;
+// A table without rows, with room for so many.
+fn empty_table<K: Eq + Drop, V: Drop, R: RowStore<K, V>>(
+    alloc: Global,
+    capacity: usize,
+) -> Result<Table<K, V, R>, Refused>
+    ensures rows { IfOk result (λ table. entries table ≡ []) }
+    ensures notices { IfOk result (λ table. table.notices ≡ []) }
+    ensures room { IfOk result (λ table. capacity ≤ table.room) }
+    ensures cause { IfErr result (λ cause. cause ≡ Refused.OutOfMemory) }
+{
+    let mut table = Table::new(alloc);
+    match table.reserve(capacity) {
+        Ok(()) => Ok(table),
+        Err(_) => Err(Refused::OutOfMemory),
+    }
+}
+
+/// A cache over rows in a slab, of which the first dead one is known without a walk.
+///
+/// ```
+/// type Sessions = CacheState<u64, String, Plain>;
+/// ```
+pub type CacheState<K, V, C> = State<K, V, C, DueRows<K, V>>;
 
 impl<K: Hash + Drop, V: Clone, C: CacheTypes<K, V>, R: RowStore<K, V>> Model for State<K, V, C, R> {
     ghost Value = { StateData K V C.Hasher C.Weigher C.Expiry C.Frequency };
 
     ghost view = { λ state. record {
-      settings = settings_of state.upkeep.lives.time_to_live state.upkeep.lives.time_to_idle
-          state.upkeep.max_capacity state.first_number state.behaviour;
+      settings = settings_of state.name state.upkeep.lives.time_to_live
+          state.upkeep.lives.time_to_idle state.upkeep.max_capacity state.first_number state.behaviour;
       books = books_by state.table state.latest state.next_number;
       source = state.upkeep.source;
     } };
@@ -139,39 +172,40 @@ impl<K: Hash + Drop, V: Clone, C: CacheTypes<K, V>, R: RowStore<K, V>> Model for
     ghost invariant = { λ state. IsSound C.keeps
         (hash_by C.Hasher.build_hasher C.Hasher.Hasher.write C.Hasher.Hasher.finish K.hash_input
         state.behaviour.hasher)
-        state.upkeep.lives state.upkeep.earliest state.table };
+        state.upkeep.lives state.table };
 }
 
 impl<K: Hash + Drop, V: Clone, C: CacheTypes<K, V>, R: RowStore<K, V>> State<K, V, C, R> {
     /// A cache without values. The weigher and the expiry, where they are given, do what the
-    /// cache's types say of them. It takes the memory of the source of frequencies, and no other.
+    /// cache's types say of them. It takes the memory of the source of frequencies, and of the rows
+    /// and notices of the initial capacity.
     pub fn new(alloc: Global, settings: Settings<K, V, C>) -> Result<Self, Refused>
         requires weighs { IfSome settings.weigher (λ weigher.
             C.Weigher.weighs (arc_value weigher) (C.weight (arc_value weigher))) }
         requires gives { IfSome settings.expiry (λ expiry.
             C.Expiry.gives (arc_value expiry) (C.lifetimes (arc_value expiry))) }
-        ensures empty { IfOk result (λ state. ⟦<C as StateView<K, V>>⟧.stands_for
-            (⟦<C as StateView<K, V>>⟧.settings
-            (settings_of settings.time_to_live settings.time_to_idle settings.max_capacity
+        ensures settings { IfOk result (λ state. state.settings ≡ settings_of settings.name
+            settings.time_to_live settings.time_to_idle settings.max_capacity
             settings.first_number (record {
               is_lru = is_lru settings.eviction_policy;
               hasher = arc_value settings.hasher;
               weigher = option_map arc_value settings.weigher;
               expiry = option_map arc_value settings.expiry;
-            })))
-            state []) }
+            })) }
+        ensures empty { IfOk result (λ state. ⟦<C as StateView<K, V>>⟧.stands_for
+            (⟦<C as StateView<K, V>>⟧.settings state.settings) state []) }
         ensures cause { IfErr result (λ cause. cause ≡ Refused.OutOfMemory) }
     {
         let source = C::Frequency::opening(alloc)?;
         Ok(State {
-            table: Table::new(alloc),
+            name: settings.name,
+            table: empty_table(alloc, settings.initial_capacity)?,
             upkeep: Upkeep {
                 lives: Lives {
                     time_to_live: settings.time_to_live,
                     time_to_idle: settings.time_to_idle,
                 },
                 max_capacity: settings.max_capacity,
-                earliest: None,
                 source,
             },
             latest: 0,
@@ -193,6 +227,12 @@ impl<K: Hash + Drop, V: Clone, C: CacheTypes<K, V>, R: RowStore<K, V>> State<K, 
     ///
     /// Refused for want of memory for the value's copy alone: a look that finds no live value takes
     /// none and succeeds. Reads the rows that have the key's hash.
+    ///
+    /// ```
+    /// if let Some(line) = lines.get(&number, 0)? {
+    ///     return Ok(line);
+    /// }
+    /// ```
     pub fn get(&mut self, key: &K, now: u64) -> Result<Option<V>, Refused>
         ensures reply { IfOk result (λ found.
             ⟦<C as StateView<K, V>>⟧.answers self.old (Get key.now now) (Found found)) }
@@ -219,8 +259,8 @@ impl<K: Hash + Drop, V: Clone, C: CacheTypes<K, V>, R: RowStore<K, V>> State<K, 
             return Ok(None);
         };
         let row = self.table.row(number);
-        let info = row.info;
-        if self.upkeep.lives.is_expired(info, now) {
+        let info = row.info();
+        if info.is_dead(now) {
             self.upkeep.source.note(hash);
             self.latest = now;
             return Ok(None);
@@ -228,14 +268,10 @@ impl<K: Hash + Drop, V: Clone, C: CacheTypes<K, V>, R: RowStore<K, V>> State<K, 
         let Ok(value) = row.value.clone() else {
             return Err(Refused::OutOfMemory);
         };
-        let info = EntryInfo {
-            last_accessed: info.last_accessed.max(now),
-            own_life: self.behaviour.life_of_hit(&row.key, &row.value, info, now),
-            ..info
-        };
-        self.table.touch(number, info);
-        // The life of its own may end earlier than before.
-        self.upkeep.earliest = earlier(self.upkeep.earliest, self.upkeep.lives.deadline(info));
+        let own_life = self.behaviour.life_of_hit(&row.key, &row.value, info, now);
+        let last_accessed = info.last_accessed.max(now);
+        let touch = self.upkeep.lives.used(info, last_accessed, own_life);
+        self.table.touch(number, touch);
         self.upkeep.source.note(hash);
         self.latest = now;
         Ok(Some(value))
@@ -249,6 +285,16 @@ impl<K: Hash + Drop, V: Clone, C: CacheTypes<K, V>, R: RowStore<K, V>> State<K, 
     /// else with `OutOfMemory` alone. A refused write hands back the key and the value, and changes
     /// nothing. Where the capacity is 0 it succeeds without memory. Reads the rows that have the
     /// key's hash, beside a maintenance.
+    ///
+    /// ```
+    /// match pages.insert(number, name, 0) {
+    ///     Ok(()) => delete_those_that_left(rt, pages),
+    ///     Err(refused) => {
+    ///         fs::remove_file(rt, &refused.value)?;
+    ///         Err(refused.cause.into())
+    ///     }
+    /// }
+    /// ```
     pub fn insert(&mut self, key: K, value: V, now: u64) -> Result<(), InsertRefused<K, V>>
         requires { C.keeps key value }
         ensures { WriteEnds
@@ -328,8 +374,7 @@ impl<K: Hash + Drop, V: Clone, C: CacheTypes<K, V>, R: RowStore<K, V>> State<K, 
         let info = self
             .table
             .info_of(&target, &value, weight, now, &self.behaviour, lives);
-        self.table.put(target, hash, value, info, lives);
-        self.upkeep.earliest = earlier(self.upkeep.earliest, lives.deadline(info));
+        self.table.put(target, hash, value, info);
         self.latest = now;
         self.next_number += 1;
         Ok(())
@@ -346,10 +391,7 @@ impl<K: Hash + Drop, V: Clone, C: CacheTypes<K, V>, R: RowStore<K, V>> State<K, 
         let hash = self.behaviour.hash(key);
         match self.table.find(key, hash) {
             None => false,
-            Some(number) => !self
-                .upkeep
-                .lives
-                .is_expired(self.table.row(number).info, now),
+            Some(number) => !self.table.row(number).info().is_dead(now),
         }
     }
 
@@ -361,18 +403,31 @@ impl<K: Hash + Drop, V: Clone, C: CacheTypes<K, V>, R: RowStore<K, V>> State<K, 
         self.latest = now;
         let hash = self.behaviour.hash(key);
         if let Some(number) = self.table.find(key, hash) {
-            let info = self.table.row(number).info;
-            let cause = self.upkeep.lives.cause(info, now, RemovalCause::Explicit);
+            let info = self.table.row(number).info();
+            let cause = info.cause(now, RemovalCause::Explicit);
             self.table.evict(number, cause);
         }
     }
 
-    /// The first notice that has not been taken, in the order of leaving. It takes no memory.
+    /// The first notice that has not been taken, in the order of leaving; none exactly where all
+    /// are taken. It takes no memory.
+    ///
+    /// ```
+    /// while let Some(notice) = pages.take_notice() {
+    ///     fs::remove_file(rt, &notice.value)?;
+    ///     println!(rt; "deleted {}: {:?}", notice.value, notice.cause)?;
+    /// }
+    /// ```
     pub fn take_notice(&mut self) -> Option<Notice<K, V>>
         ensures reply { ⟦<C as StateView<K, V>>⟧.answers self.old TakeNotice
             (Noticed (option_map removal_of result)) }
         ensures stands { ⟦<C as StateView<K, V>>⟧.follows self.old TakeNotice self.new }
         ensures kept { IfSome result (λ notice. C.keeps (arc_value notice.key) notice.value) }
+
+        // So a loop that takes notices ends.
+        ensures none { IsNone result ↔ (self.old.books.notices ≡ []) }
+        ensures fewer { IfSome result (λ _.
+            length self.old.books.notices ≡ length self.new.books.notices + 1) }
     {
         self.table.take_notice()
     }
@@ -384,6 +439,16 @@ impl<K: Hash + Drop, V: Clone, C: CacheTypes<K, V>, R: RowStore<K, V>> State<K, 
     ///
     /// Visits the waiting rows, for each the admitted ones that would have to leave for it, and the
     /// others only where one may have expired.
+    ///
+    /// ```
+    /// sessions.run_pending_tasks(now);
+    /// while let Some(notice) = sessions.take_notice() {
+    ///     println!(rt;
+    ///         "session {} of {}: {:?}",
+    ///         notice.key, notice.value, notice.cause
+    ///     )?;
+    /// }
+    /// ```
     pub fn run_pending_tasks(&mut self, now: u64)
         ensures stands { ⟦<C as StateView<K, V>>⟧.follows self.old (RunPendingTasks now) self.new }
 
@@ -428,6 +493,31 @@ impl<K: Hash + Drop, V: Clone, C: CacheTypes<K, V>, R: RowStore<K, V>> State<K, 
         ensures stands { ⟦<C as StateView<K, V>>⟧.follows self.now WeightedSize self.now }
     {
         self.table.weight().min(u128::from(u64::MAX)) as u64
+    }
+
+    /// What it is called.
+    pub fn name(&self) -> Option<&str>
+        ensures { option_map (λ name. name.now) result ≡ self.now.settings.name }
+    {
+        self.name.as_deref()
+    }
+
+    /// How much it may store and how long its values live, as it was built. It is one segment.
+    pub fn policy(&self) -> Policy
+        ensures max_capacity { result.max_capacity ≡ self.now.settings.max_capacity }
+        ensures num_segments { result.num_segments ≡ 1 }
+        ensures time_to_live { option_map as_nanos result.time_to_live
+            ≡ self.now.settings.time_to_live }
+        ensures time_to_idle { option_map as_nanos result.time_to_idle
+            ≡ self.now.settings.time_to_idle }
+    {
+        let lives = &self.upkeep.lives;
+        Policy::new(
+            self.upkeep.max_capacity,
+            1,
+            lives.time_to_live,
+            lives.time_to_idle,
+        )
     }
 
     // The allocator that it keeps.

@@ -52,3 +52,14 @@ module _ {R : Type 0} where
       → length (admitted' ++ waiting') ≡ length (admitted ++ waiting) + 1
   length-added n row admitted waiting admitted' waiting' a w =
       rw (a, w) (omega (arith, length-append admitted (waiting ++ (n, row) ∷ []), length-append waiting ((n, row) ∷ []), length-append admitted waiting))
+
+  -- and so does the leaving of the first admitted row
+  pub length-first : (n : ℕ) (row : R) (admitted waiting admitted' waiting' : List (ℕ × R)) → admitted ≡ (n, row) ∷ admitted' → waiting' ≡ waiting
+      → length (admitted' ++ waiting') + 1 ≡ length (admitted ++ waiting)
+  length-first n row admitted waiting admitted' waiting' a w = rw (a, w) (omega arith)
+
+  -- a change of a row in its place keeps it
+  pub length-changed : (n : ℕ) (change : R → R) (admitted waiting admitted' waiting' : List (ℕ × R)) → admitted' ≡ with_row n change admitted → waiting' ≡ with_row n change waiting
+      → length (admitted' ++ waiting') ≡ length (admitted ++ waiting)
+  length-changed n change admitted waiting admitted' waiting' a w =
+      rw (a, w) (omega (arith, length-append (with_row n change admitted) (with_row n change waiting), length-append admitted waiting, length-with_row n change admitted, length-with_row n change waiting))

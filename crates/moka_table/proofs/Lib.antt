@@ -3,3 +3,5 @@ pub mod Each
 pub mod Finds
 pub mod Lengths
 pub mod Weights
+pub mod AllHidden
+pub mod Walks

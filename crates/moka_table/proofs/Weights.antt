@@ -1,16 +1,23 @@
 -- How heavy the rows of an order are together, before and after a change of one of them.
-use Rattle.std.proofs.Common.{◌≡◌, ℕ, ◌+◌, ◌*◌, ◌<◌, ◌≤◌, ◌^◌, Bool, true, false, Option, Some, None, MatchOption, List, [], ◌∷◌, ◌++◌, length, refl, sym, ap, subst, ◌∙◌, arith, append_assoc}
+use Rattle.std.proofs.Common.{◌≡◌, ℕ, ◌+◌, ◌*◌, ◌<◌, ◌≤◌, ◌^◌, ◌==◌, Bool, true, false, cond, Option, Some, None, MatchOption, List, [], ◌∷◌, ◌++◌, length, refl, sym, ap, subst, ◌∙◌, arith, append_assoc}
 use Rattle.std.specs.Option.{IsSome, IfSome}
 use Rattle.std.specs.List.{AllByRecursion}
-use Rattle.std.proofs.lemmas.Bool.{true≢false}
 use Rattle.moka_model.specs.Maintenance.{total}
 use Rattle.moka_model.proofs.Callers.{total-append}
 use Rattle.moka_rows.specs.declared.rows.Row.{Row}
 use Rattle.moka_table.specs.declared.table.Weights.{Weights}
-use Rattle.moka_rows.specs.Rows.{row_under, with_row, without_row, NumbersDiffer}
-use Rattle.moka_table.specs.Table.{Contents, entries, weight_of, UsesRow, TakesRow, AreWeightsWith, IsKept}
+use Rattle.moka_rows.specs.Rows.{row_under, with_row, without_row, hidden, other, IsOrderOf, NumbersDiffer}
+use Rattle.moka_rows.specs.declared.rows.Order.{Order}
+use Rattle.moka_rows.specs.declared.rows.Order.TheVariants.{Admitted, Waiting}
+use Rattle.moka_table.specs.Table.{Contents, entries, weight_of, weight_in, AreShown, UsesRow, TakesRow, IsKept}
 use Rattle.moka_rows.proofs.Callers.{all-append, all-front, all-back, absent-before, row_under-at, row_under-append_left, row_under-append_right, split_at_row}
-use Rattle.moka_table.proofs.Each.{of-used, of-taken}
+use Rattle.moka_table.proofs.Lengths.{length-changed}
+use Rattle.moka_table.proofs.Each.{of-row, of-used, of-taken}
+
+-- an order weighs no more than both
+pub weight_in-le : (order : Order) (weights : Weights) → weight_in order weights ≤ weights.admitted + weights.waiting
+weight_in-le Admitted weights = omega arith
+weight_in-le Waiting weights = omega arith
 
 module _ {K V : Type 0} where
   -- rows whose weights are of 32 bits weigh less than as many times the least that is not
@@ -64,29 +71,48 @@ module _ {K V : Type 0} where
   pub row-le : (n : ℕ) (row : Row K V) (rows : List (ℕ × Row K V)) → row_under n rows ≡ Some row → row.info.policy_weight ≤ total weight_of rows
   row-le n row rows there = let rest = total-without_row n row rows there in omega arith
 
-  module _ (n : ℕ) (row : Row K V) (admitted waiting : List (ℕ × Row K V)) (there : row_under n (admitted ++ waiting) ≡ Some row)
-      (is_admitted : Bool) (is : MatchOption (row_under n admitted) (is_admitted ≡ false) (λ _. is_admitted ≡ true)) where
-    -- the order in which a row stands, by whether it is admitted
-    pub is-admitted : is_admitted ≡ true → row_under n admitted ≡ Some row
-    is-admitted yes_it_is = go (row_under n admitted) refl is
+  -- The weights of both orders once the row under a number has another weight.
+  abbrev pub AreWeightsWith : ℕ → ℕ → List (ℕ × Row K V) → List (ℕ × Row K V) → Weights → Type 0
+  AreWeightsWith n weight admitted waiting weights = MatchOption (row_under n admitted)
+      ((weights.admitted ≡ total weight_of admitted)
+      × IfSome (row_under n waiting) (λ row. weights.waiting + row.info.policy_weight ≡ total weight_of waiting + weight))
+      (λ row. (weights.admitted + row.info.policy_weight ≡ total weight_of admitted + weight) × (weights.waiting ≡ total weight_of waiting))
+
+  module _ (n : ℕ) (row : Row K V) (admitted waiting : List (ℕ × Row K V)) (there : row_under n (admitted ++ waiting) ≡ Some row) where
+    -- the row stands in one of the orders
+    stands : (P : Type 0) → (row_under n admitted ≡ Some row → P) → (row_under n admitted ≡ None → row_under n waiting ≡ Some row → P) → P
+    stands P admits waits = go (row_under n admitted) refl
       where
-        go : (o : Option (Row K V)) → row_under n admitted ≡ o → MatchOption o (is_admitted ≡ false) (λ _. is_admitted ≡ true) → row_under n admitted ≡ Some row
-        go None absent not_it = absurd (true≢false (sym yes_it_is ∙ not_it))
-        go (Some r) found so = found ∙ sym (row_under-append_left n admitted waiting r found) ∙ there
+        go : (o : Option (Row K V)) → row_under n admitted ≡ o → P
+        go None absent = waits absent (sym (row_under-append_right n admitted waiting absent) ∙ there)
+        go (Some r) found = admits (found ∙ sym (row_under-append_left n admitted waiting r found) ∙ there)
 
-    pub is-waiting : is_admitted ≡ false → (row_under n admitted ≡ None) × (row_under n waiting ≡ Some row)
-    is-waiting it_is_not = go (row_under n admitted) refl is
-      where
-        go : (o : Option (Row K V)) → row_under n admitted ≡ o → MatchOption o (is_admitted ≡ false) (λ _. is_admitted ≡ true) → (row_under n admitted ≡ None) × (row_under n waiting ≡ Some row)
-        go None absent so = (absent, sym (row_under-append_right n admitted waiting absent) ∙ there)
-        go (Some r) found so = absurd (true≢false (sym so ∙ it_is_not))
+    module _ (weights : Weights) (a : weights.admitted ≡ total weight_of admitted) (w : weights.waiting ≡ total weight_of waiting) where
+      -- where it keeps its weight, both orders keep theirs
+      pub with-same : AreWeightsWith n row.info.policy_weight admitted waiting weights
+      with-same = stands _ (λ found. rw found (omega (arith, a), w)) (λ absent found. rw (absent, found) (a, omega (arith, w)))
 
-    -- and the weights with another weight of it
-    pub with-admitted : (weight : ℕ) (weights : Weights) → is_admitted ≡ true → weights.admitted + row.info.policy_weight ≡ total weight_of admitted + weight → weights.waiting ≡ total weight_of waiting → AreWeightsWith n weight admitted waiting weights
-    with-admitted weight weights so a w = rw (is-admitted so) (a, w)
+      module _ (order : Order) (is : IsOrderOf n admitted order) where
+        -- it is no heavier than its order, which weighs no more than all rows
+        pub with-le : row.info.policy_weight ≤ weight_in order weights
+        with-le = stands _
+            (λ found. let o : order ≡ Admitted = rw found at is in let le = row-le n row admitted found in rw o (omega (arith, a)))
+            (λ absent found. let o : order ≡ Waiting = rw absent at is in let le = row-le n row waiting found in rw o (omega (arith, w)))
 
-    pub with-waiting : (weight : ℕ) (weights : Weights) → is_admitted ≡ false → weights.admitted ≡ total weight_of admitted → weights.waiting + row.info.policy_weight ≡ total weight_of waiting + weight → AreWeightsWith n weight admitted waiting weights
-    with-waiting weight weights so a w = let here = is-waiting so in rw (here.0, here.1) (a, w)
+        -- and with another weight of it its order weighs as much more as it does
+        pub with-changed : (weight : ℕ) (after : Weights) → weight_in order after + row.info.policy_weight ≡ weight_in order weights + weight
+            → weight_in (other order) after ≡ weight_in (other order) weights → AreWeightsWith n weight admitted waiting after
+        with-changed weight after changed others = stands _
+            (λ found.
+            let o : order ≡ Admitted = rw found at is in
+            let c : after.admitted + row.info.policy_weight ≡ weights.admitted + weight = rw o at changed in
+            let s : after.waiting ≡ weights.waiting = rw o at others in
+            rw found (omega (arith, a, c), s ∙ w))
+            (λ absent found.
+            let o : order ≡ Waiting = rw absent at is in
+            let c : after.waiting + row.info.policy_weight ≡ weights.waiting + weight = rw o at changed in
+            let s : after.admitted ≡ weights.admitted = rw o at others in
+            rw (absent, found) (s ∙ a, omega (arith, w, c)))
 
   module _ (n : ℕ) (change : Row K V → Row K V) (row : Row K V) (old new : Contents K V) (weight : ℕ) (weights : Weights)
       (there : row_under n (entries old) ≡ Some row) (changed_weight : (change row).info.policy_weight ≡ weight) (used : UsesRow n change old new) (are : AreWeightsWith n weight old.admitted old.waiting weights) where
@@ -146,28 +172,43 @@ module _ {K V : Type 0} where
   IsLight p = weight_of p < 2 ^ 32
 
   abbrev rows : List (ℕ × Row K V) → List (ℕ × Row K V) → Contents K V
-  rows admitted waiting = record { admitted = admitted; waiting = waiting; notices = []; room = 0 }
+  rows admitted waiting = record { admitted = admitted; waiting = waiting; notices = []; may_hide = false; room = 0 }
 
-  module _ (admitted waiting : List (ℕ × Row K V)) (weights : Weights) (notices places : ℕ) (kept : IsKept admitted waiting weights notices places)
+  abbrev IsShown : ℕ × Row K V → Type 0
+  IsShown p = p.1.info.is_hidden ≡ false
+
+  -- what holds of each row does so once one that waits is admitted
+  all-admitted : (P : ℕ × Row K V → Type 0) (n : ℕ) (row : Row K V) (admitted waiting : List (ℕ × Row K V)) → row_under n waiting ≡ Some row → AllByRecursion P (admitted ++ waiting)
+      → AllByRecursion P ((admitted ++ (n, row) ∷ []) ++ without_row n waiting)
+  all-admitted P n row admitted waiting found all =
+      let c = split_at_row n row waiting found in
+      let waits : AllByRecursion P (c.0 ++ (n, row) ∷ c.1) = subst (AllByRecursion P) c.2.whole (all-back P admitted waiting all) in
+      let from_it = all-back P c.0 ((n, row) ∷ c.1) waits in
+      let rest : AllByRecursion P (without_row n waiting) = subst (AllByRecursion P) (sym c.2.rest) (all-append P c.0 c.1 (all-front P c.0 ((n, row) ∷ c.1) waits) from_it.1) in
+      all-append P (admitted ++ (n, row) ∷ []) (without_row n waiting) (all-append P admitted ((n, row) ∷ []) (all-front P admitted waiting all) (from_it.0, tt)) rest
+
+  -- and once one of which it holds is added to those that wait
+  all-added : (P : ℕ × Row K V → Type 0) (p : ℕ × Row K V) (admitted waiting : List (ℕ × Row K V)) → AllByRecursion P (admitted ++ waiting) → P p → AllByRecursion P (admitted ++ (waiting ++ p ∷ []))
+  all-added P p admitted waiting all it =
+      all-append P admitted (waiting ++ p ∷ []) (all-front P admitted waiting all) (all-append P waiting (p ∷ []) (all-back P admitted waiting all) (it, tt))
+
+  module _ (admitted waiting : List (ℕ × Row K V)) (weights : Weights) (may_hide : Bool) (notices places : ℕ) (kept : IsKept admitted waiting weights may_hide notices places)
       (admitted' waiting' : List (ℕ × Row K V)) (weights' : Weights) (notices' places' : ℕ) (few : length (admitted' ++ waiting') + notices' ≤ places') where
     -- What a table keeps to stays so: after a use of a row,
-    pub kept-used : (n : ℕ) (change : Row K V → Row K V) (weight : ℕ) → IsSome (row_under n (admitted ++ waiting)) → ((row : Row K V) → (change row).info.policy_weight ≡ weight) → weight < 2 ^ 32
-        → UsesRow n change (rows admitted waiting) (rows admitted' waiting') → AreWeightsWith n weight admitted waiting weights' → IsKept admitted' waiting' weights' notices' places'
-    kept-used n change weight there changed_weight is_light used are = go (row_under n (admitted ++ waiting)) refl there
-      where
-        go : (o : Option (Row K V)) → row_under n (admitted ++ waiting) ≡ o → IsSome o → IsKept admitted' waiting' weights' notices' places'
-        go None absent some = cc
-        go (Some row) found some =
-            let after = weights-used n change row (rows admitted waiting) (rows admitted' waiting') weight weights' found (changed_weight row) used are in
-            record {
-              few = few;
-              light = of-used (λ r. r.info.policy_weight < 2 ^ 32) n change row (rows admitted waiting) (rows admitted' waiting') kept.light found (rw (changed_weight row) is_light) used;
-              admitted_weight = after.0;
-              waiting_weight = after.1;
-            }
+    pub kept-used : (n : ℕ) (change : Row K V → Row K V) (row : Row K V) (weight : ℕ) → row_under n (admitted ++ waiting) ≡ Some row → (change row).info.policy_weight ≡ weight → weight < 2 ^ 32
+        → (row.info.is_hidden ≡ false → (change row).info.is_hidden ≡ false) → UsesRow n change (rows admitted waiting) (rows admitted' waiting') → AreWeightsWith n weight admitted waiting weights' → IsKept admitted' waiting' weights' may_hide notices' places'
+    kept-used n change row weight found changed_weight is_light stays_shown used are =
+        let after = weights-used n change row (rows admitted waiting) (rows admitted' waiting') weight weights' found changed_weight used are in
+        record {
+          few = few;
+          light = of-used (λ r. r.info.policy_weight < 2 ^ 32) n change row (rows admitted waiting) (rows admitted' waiting') kept.light found (rw changed_weight is_light) used;
+          admitted_weight = after.0;
+          waiting_weight = after.1;
+          shown = λ none. of-used (λ r. r.info.is_hidden ≡ false) n change row (rows admitted waiting) (rows admitted' waiting') (kept.shown none) found (stays_shown (of-row (λ r. r.info.is_hidden ≡ false) n (admitted ++ waiting) row (kept.shown none) found)) used;
+        }
 
     -- after a removal,
-    pub kept-taken : (n : ℕ) (row : Row K V) → row_under n (admitted ++ waiting) ≡ Some row → TakesRow n (rows admitted waiting) (rows admitted' waiting') → AreWeightsWith n 0 admitted waiting weights' → IsKept admitted' waiting' weights' notices' places'
+    pub kept-taken : (n : ℕ) (row : Row K V) → row_under n (admitted ++ waiting) ≡ Some row → TakesRow n (rows admitted waiting) (rows admitted' waiting') → AreWeightsWith n 0 admitted waiting weights' → IsKept admitted' waiting' weights' may_hide notices' places'
     kept-taken n row found taken are =
         let after = weights-taken n row (rows admitted waiting) (rows admitted' waiting') weights' found taken are in
         record {
@@ -175,33 +216,91 @@ module _ {K V : Type 0} where
           light = of-taken (λ r. r.info.policy_weight < 2 ^ 32) n row (rows admitted waiting) (rows admitted' waiting') kept.light found taken;
           admitted_weight = after.0;
           waiting_weight = after.1;
+          shown = λ none. of-taken (λ r. r.info.is_hidden ≡ false) n row (rows admitted waiting) (rows admitted' waiting') (kept.shown none) found taken;
         }
 
     -- after an admission,
     pub kept-admitted : (n : ℕ) (row : Row K V) → row_under n waiting ≡ Some row → admitted' ≡ admitted ++ (n, row) ∷ [] → waiting' ≡ without_row n waiting
-        → weights'.admitted ≡ weights.admitted + row.info.policy_weight → weights'.waiting + row.info.policy_weight ≡ weights.waiting → IsKept admitted' waiting' weights' notices' places'
+        → weights'.admitted ≡ weights.admitted + row.info.policy_weight → weights'.waiting + row.info.policy_weight ≡ weights.waiting → IsKept admitted' waiting' weights' may_hide notices' places'
     kept-admitted n row found a w more less =
-        let c = split_at_row n row waiting found in
-        let waits : AllByRecursion IsLight (c.0 ++ (n, row) ∷ c.1) = subst (AllByRecursion IsLight) c.2.whole (all-back IsLight admitted waiting kept.light) in
-        let from_it = all-back IsLight c.0 ((n, row) ∷ c.1) waits in
-        let rest : AllByRecursion IsLight (without_row n waiting) = subst (AllByRecursion IsLight) (sym c.2.rest) (all-append IsLight c.0 c.1 (all-front IsLight c.0 ((n, row) ∷ c.1) waits) from_it.1) in
         let last = total-append weight_of admitted ((n, row) ∷ []) in
         let left = total-without_row n row waiting found in
         record {
           few = few;
-          light = rw (a, w) (all-append IsLight (admitted ++ (n, row) ∷ []) (without_row n waiting) (all-append IsLight admitted ((n, row) ∷ []) (all-front IsLight admitted waiting kept.light) (from_it.0, tt)) rest);
+          light = rw (a, w) (all-admitted IsLight n row admitted waiting found kept.light);
           admitted_weight = rw a (omega (arith, more, last, kept.admitted_weight));
           waiting_weight = rw w (omega (arith, less, left, kept.waiting_weight));
+          shown = λ none. rw (a, w) (all-admitted IsShown n row admitted waiting found (kept.shown none));
         }
 
     -- and after a row was added
-    pub kept-added : (n : ℕ) (row : Row K V) → row.info.policy_weight < 2 ^ 32 → admitted' ≡ admitted → waiting' ≡ waiting ++ (n, row) ∷ []
-        → weights'.admitted ≡ weights.admitted → weights'.waiting ≡ weights.waiting + row.info.policy_weight → IsKept admitted' waiting' weights' notices' places'
-    kept-added n row is_light a w same more =
+    pub kept-added : (n : ℕ) (row : Row K V) → row.info.policy_weight < 2 ^ 32 → row.info.is_hidden ≡ false → admitted' ≡ admitted → waiting' ≡ waiting ++ (n, row) ∷ []
+        → weights'.admitted ≡ weights.admitted → weights'.waiting ≡ weights.waiting + row.info.policy_weight → IsKept admitted' waiting' weights' may_hide notices' places'
+    kept-added n row is_light is_shown a w same more =
         let last = total-append weight_of waiting ((n, row) ∷ []) in
         record {
           few = few;
-          light = rw (a, w) (all-append IsLight admitted (waiting ++ (n, row) ∷ []) (all-front IsLight admitted waiting kept.light) (all-append IsLight waiting ((n, row) ∷ []) (all-back IsLight admitted waiting kept.light) (is_light, tt)));
+          light = rw (a, w) (all-added IsLight (n, row) admitted waiting kept.light is_light);
           admitted_weight = rw a (same ∙ kept.admitted_weight);
           waiting_weight = rw w (omega (arith, more, last, kept.waiting_weight));
+          shown = λ none. rw (a, w) (all-added IsShown (n, row) admitted waiting (kept.shown none) is_shown);
         }
+
+    -- after the first admitted row left,
+    pub kept-first : (n : ℕ) (row : Row K V) → admitted ≡ (n, row) ∷ admitted' → waiting' ≡ waiting → weights'.admitted + row.info.policy_weight ≡ weights.admitted → weights'.waiting ≡ weights.waiting
+        → IsKept admitted' waiting' weights' may_hide notices' places'
+    kept-first n row a w less same =
+        let sum : total weight_of admitted ≡ row.info.policy_weight + total weight_of admitted' = ap (total weight_of) a in
+        let rest : (P : ℕ × Row K V → Type 0) → AllByRecursion P (admitted ++ waiting) → AllByRecursion P (admitted' ++ waiting) = λ P all. (subst (λ l. AllByRecursion P (l ++ waiting)) a all).1 in
+        record {
+          few = few;
+          light = rw w (rest IsLight kept.light);
+          admitted_weight = omega (arith, sum, less, kept.admitted_weight);
+          waiting_weight = rw w (same ∙ kept.waiting_weight);
+          shown = λ none. rw w (rest IsShown (kept.shown none));
+        }
+
+-- Hidden rows keep their weights, and their order its own.
+module _ {K V : Type 0} (n : ℕ) where
+  total-hidden : (rows : List (ℕ × Row K V)) → total weight_of (with_row n hidden rows) ≡ total weight_of rows
+  total-hidden [] = refl
+  total-hidden (p ∷ ps) = go (p.0 == n) (total-hidden ps)
+    where
+      go : (b : Bool) → total weight_of (with_row n hidden ps) ≡ total weight_of ps → total weight_of (cond b ((p.0, hidden p.1) ∷ ps) (p ∷ with_row n hidden ps)) ≡ weight_of p + total weight_of ps
+      go true same = refl
+      go false same = ap (λ w. weight_of p + w) same
+
+  light-hidden : (rows : List (ℕ × Row K V)) → AllByRecursion IsLight rows → AllByRecursion IsLight (with_row n hidden rows)
+  light-hidden [] light = tt
+  light-hidden (p ∷ ps) light = go (p.0 == n) (light-hidden ps light.1)
+    where
+      go : (b : Bool) → AllByRecursion IsLight (with_row n hidden ps) → AllByRecursion IsLight (cond b ((p.0, hidden p.1) ∷ ps) (p ∷ with_row n hidden ps))
+      go true rest = (light.0, light.1)
+      go false rest = (light.0, rest)
+
+  -- so a table keeps to what it does where one is hidden, and none need be shown from then on
+  pub kept-hidden : (admitted waiting admitted' waiting' : List (ℕ × Row K V)) (weights : Weights) (may_hide : Bool) (notices places : ℕ) → IsKept admitted waiting weights may_hide notices places
+      → admitted' ≡ with_row n hidden admitted → waiting' ≡ with_row n hidden waiting → IsKept admitted' waiting' weights true notices places
+  kept-hidden admitted waiting admitted' waiting' weights may_hide notices places kept a w =
+      record {
+        few = omega (arith, kept.few, length-changed n hidden admitted waiting admitted' waiting' a w);
+        light = rw (a, w) (all-append IsLight (with_row n hidden admitted) (with_row n hidden waiting) (light-hidden admitted (all-front IsLight admitted waiting kept.light)) (light-hidden waiting (all-back IsLight admitted waiting kept.light)));
+        admitted_weight = rw a (kept.admitted_weight ∙ sym (total-hidden admitted));
+        waiting_weight = rw w (kept.waiting_weight ∙ sym (total-hidden waiting));
+        shown = λ (no : true ≡ false). cc;
+      }
+
+-- where none is hidden, it keeps to that too
+pub kept-shown : {K V : Type 0} (admitted waiting : List (ℕ × Row K V)) (weights : Weights) (may_hide : Bool) (notices places : ℕ) → IsKept admitted waiting weights may_hide notices places → AreShown (admitted ++ waiting)
+    → IsKept admitted waiting weights false notices places
+kept-shown admitted waiting weights may_hide notices places kept shown = record {
+  few = kept.few;
+  light = kept.light;
+  admitted_weight = kept.admitted_weight;
+  waiting_weight = kept.waiting_weight;
+  shown = λ _. shown;
+}
+
+-- the first of some admitted rows is no heavier than they are
+pub first-le : {K V : Type 0} (n : ℕ) (row : Row K V) (admitted rest : List (ℕ × Row K V)) (weight : ℕ) → admitted ≡ (n, row) ∷ rest → weight ≡ total weight_of admitted → row.info.policy_weight ≤ weight
+first-le n row admitted rest weight is sum = let parts : total weight_of admitted ≡ row.info.policy_weight + total weight_of rest = ap (total weight_of) is in omega (arith, sum, parts)

@@ -1,21 +1,31 @@
--- What a table holds: the rows in their two orders, the notices not taken, and for how many more rows it has room.
-use Rattle.std.specs.Prelude.{false, ◌≡◌, ℕ, ◌+◌, ◌<◌, ◌≤◌, ◌^◌, List, [], ◌∷◌, ◌++◌, length, map, IfSome, MatchOption}
+-- What a table holds: the rows in their two orders, the notices not taken, whether a row may be hidden, and for how many
+-- more rows it has room.
+use Rattle.std.specs.Prelude.{Bool, false, ◌≡◌, ℕ, ◌+◌, ◌<◌, ◌≤◌, ◌^◌, List, [], ◌∷◌, ◌++◌, length, map, MatchOption}
 use Rattle.std.specs.Arc.{arc_value}
 use Rattle.std.specs.List.{AllByRecursion}
 use Rattle.moka_model.specs.declared.notification.Notice.{Notice}
+use Rattle.moka_model.specs.declared.notification.RemovalCause.{RemovalCause}
 use Rattle.moka_model.specs.Lives.{Write}
 use Rattle.moka_model.specs.Removals.{Removal}
 use Rattle.moka_model.specs.Maintenance.{total}
 use Rattle.moka_rows.specs.declared.rows.Row.{Row}
+use Rattle.moka_rows.specs.declared.rows.Order.{Order}
+use Rattle.moka_rows.specs.declared.rows.Order.TheVariants.{Admitted, Waiting}
 use Rattle.moka_table.specs.declared.table.Weights.{Weights}
 use Rattle.moka_ways.specs.Lives.{own_of}
-use Rattle.moka_rows.specs.Rows.{with_row, without_row, row_under}
+use Rattle.moka_rows.specs.Rows.{with_row, without_row, row_under, hidden}
 
 pub record Contents (K V : Type 0) : Type 0 where
   pub admitted : List (ℕ × Row K V)
   pub waiting : List (ℕ × Row K V)
   pub notices : List (Notice K V)
+  pub may_hide : Bool
   pub room : ℕ
+
+-- how heavy the rows of an order are together
+abbrev pub weight_in : Order → Weights → ℕ
+weight_in Admitted weights = weights.admitted
+weight_in Waiting weights = weights.waiting
 
 module _ {K V : Type 0} where
   -- all rows, with their numbers
@@ -33,7 +43,7 @@ module _ {K V : Type 0} where
         last_modified = row.info.last_modified;
         last_accessed = row.info.last_accessed;
         own_life = own_of row.info;
-        is_hidden = false;
+        is_hidden = row.info.is_hidden;
       }
 
   -- how heavy a row is
@@ -48,7 +58,15 @@ module _ {K V : Type 0} where
   abbrev pub removal_of : Notice K V → Removal K V
   removal_of notice = record { key = arc_value notice.key; value = notice.value; cause = notice.cause }
 
-  -- nothing but the room changed
+  -- none of these rows is hidden
+  abbrev pub AreShown : List (ℕ × Row K V) → Type 0
+  AreShown rows = AllByRecursion (λ p. p.1.info.is_hidden ≡ false) rows
+
+  -- the same rows, each hidden
+  abbrev pub all_hidden : List (ℕ × Row K V) → List (ℕ × Row K V)
+  all_hidden rows = map (λ p. (p.0, hidden p.1)) rows
+
+  -- the rows, the notices and their orders are the same
   abbrev pub SameRows : Contents K V → Contents K V → Type 0
   SameRows old new = (new.admitted ≡ old.admitted) × (new.waiting ≡ old.waiting) × (new.notices ≡ old.notices)
 
@@ -65,17 +83,17 @@ module _ {K V : Type 0} where
       ((new.admitted ≡ old.admitted) × (new.waiting ≡ without_row n old.waiting))
       (λ _. (new.admitted ≡ without_row n old.admitted) × (new.waiting ≡ old.waiting))
 
-  -- The weights of both orders once the row under a number has another weight.
-  abbrev pub AreWeightsWith : ℕ → ℕ → List (ℕ × Row K V) → List (ℕ × Row K V) → Weights → Type 0
-  AreWeightsWith n weight admitted waiting weights = MatchOption (row_under n admitted)
-      ((weights.admitted ≡ total weight_of admitted)
-      × IfSome (row_under n waiting) (λ row. weights.waiting + row.info.policy_weight ≡ total weight_of waiting + weight))
-      (λ row. (weights.admitted + row.info.policy_weight ≡ total weight_of admitted + weight) × (weights.waiting ≡ total weight_of waiting))
+  -- the first admitted row was taken out, and noticed with this cause
+  pub record EvictsOne (cause : RemovalCause) (first : ℕ × Row K V) (old new : Contents K V) : Type 0 where
+    pub admitted : old.admitted ≡ first ∷ new.admitted
+    pub waiting : new.waiting ≡ old.waiting
+    pub notices : new.notices ≡ old.notices ++ record { key = first.1.key; value = first.1.value; cause = cause } ∷ []
 
-  -- What a table keeps to: it has a place for a notice of each row, each weight is one of 32 bits, and the weights of
-  -- both orders are those of their rows.
-  pub record IsKept (admitted waiting : List (ℕ × Row K V)) (weights : Weights) (notices places : ℕ) : Type 0 where
+  -- What a table keeps to: it has a place for a notice of each row, each weight is one of 32 bits, the weights of both
+  -- orders are those of their rows, and no row is hidden where none may be.
+  pub record IsKept (admitted waiting : List (ℕ × Row K V)) (weights : Weights) (may_hide : Bool) (notices places : ℕ) : Type 0 where
     pub few : length (admitted ++ waiting) + notices ≤ places
     pub light : AllByRecursion (λ p. weight_of p < 2 ^ 32) (admitted ++ waiting)
     pub admitted_weight : weights.admitted ≡ total weight_of admitted
     pub waiting_weight : weights.waiting ≡ total weight_of waiting
+    pub shown : may_hide ≡ false → AreShown (admitted ++ waiting)

@@ -1,19 +1,18 @@
 -- Where a write goes, and what it does there.
-use Rattle.std.specs.Prelude.{⊤, ◌≡◌, ℕ, Bool, not, if◌then◌else◌, Option, IsSome, IfSome, Some, List, [], ◌∷◌, ◌++◌}
+use Rattle.std.specs.Prelude.{⊤, ◌≡◌, ℕ, Bool, false, not, ◌||◌, if◌then◌else◌, Option, IsSome, IfSome, Some, List, [], ◌∷◌, ◌++◌}
 use Rattle.std.specs.Arc.{arc_value}
 use Rattle.std.specs.declared.sync.Arc.{Arc}
 use Rattle.std.specs.declared.alloc.Global.{Global}
-use Rattle.moka_model.specs.declared.notification.RemovalCause.TheVariants.{Expired, Replaced}
+use Rattle.moka_model.specs.declared.notification.RemovalCause.TheVariants.{Replaced}
 use Rattle.moka_model.specs.Lives.{Behaviour, OwnLife, has_come, rest, given}
-use Rattle.moka_ways.specs.declared.lives.Lives.{Lives}
 use Rattle.moka_rows.specs.declared.rows.EntryInfo.{EntryInfo}
 use Rattle.moka_rows.specs.declared.rows.Row.{Row}
 use Rattle.moka_table.specs.declared.table.Lookup.{Lookup}
 use Rattle.moka_table.specs.declared.table.Lookup.TheVariants.{Stored, Absent}
 use Rattle.moka_table.specs.declared.target.Target.{Target}
 use Rattle.moka_table.specs.declared.target.Target.TheVariants.{Over, New}
-use Rattle.moka_rows.specs.Rows.{row_under, overwritten, IsRowOf, NoneIsRowOf}
-use Rattle.moka_ways.specs.Lives.{deadline_of, own_of}
+use Rattle.moka_rows.specs.Rows.{row_under, overwritten, cause_at, IsRowOf, NoneIsRowOf}
+use Rattle.moka_ways.specs.Lives.{own_of}
 use Rattle.moka_table.specs.Table.{Contents, entries, UsesRow}
 
 -- the target of a write of a key, by what a look for it found
@@ -38,33 +37,34 @@ module _ {K V : Type 0} where
   HasTarget (New key) c = ⊤
 
   -- The life of its own that a value gets at a target: over a live value that of an update, and else that of a creation.
-  abbrev pub IsOwnIn : Behaviour K V → Lives → Target K → V → ℕ → Contents K V → Option OwnLife → Type 0
-  IsOwnIn behaviour lives (Over number key) value at c own = IfSome (row_under number (entries c)) (λ row.
+  abbrev pub IsOwnIn : Behaviour K V → Target K → V → ℕ → Contents K V → Option OwnLife → Type 0
+  IsOwnIn behaviour (Over number key) value at c own = IfSome (row_under number (entries c)) (λ row.
       own ≡ given
-      (if not (has_come (deadline_of lives row.info) at)
+      (if not (row.info.is_hidden || has_come row.info.deadline at)
       then behaviour.lifetimes.updated (arc_value key) value at (rest (own_of row.info) at)
       else behaviour.lifetimes.created (arc_value key) value at) at)
-  IsOwnIn behaviour lives (New key) value at c own = own ≡ given (behaviour.lifetimes.created (arc_value key) value at) at
+  IsOwnIn behaviour (New key) value at c own = own ≡ given (behaviour.lifetimes.created (arc_value key) value at) at
 
-  -- what is kept of a value that is written to a target at a moment
-  pub record IsInfoOf (behaviour : Behaviour K V) (lives : Lives) (target : Target K) (value : V) (weight at : ℕ) (c : Contents K V)
+  -- what is kept of a value that is written to a target at a moment, beside its deadline
+  pub record IsInfoOf (behaviour : Behaviour K V) (target : Target K) (value : V) (weight at : ℕ) (c : Contents K V)
       (info : EntryInfo) : Type 0 where
     pub modified : info.last_modified ≡ at
     pub accessed : info.last_accessed ≡ at
     pub weight_is : info.policy_weight ≡ weight
-    pub own : IsOwnIn behaviour lives target value at c (own_of info)
+    pub shown : info.is_hidden ≡ false
+    pub own : IsOwnIn behaviour target value at c (own_of info)
 
   -- A value is put to a target. Over the value of a row it is a use of the row, and the value before is noticed under
   -- the stored key; a new row waits behind all others.
-  abbrev pub Puts : Lives → Target K → ℕ → V → EntryInfo → Contents K V → Contents K V → Type 0
-  Puts lives (Over number key) hash value info old new = IfSome (row_under number (entries old)) (λ row.
+  abbrev pub Puts : Target K → ℕ → V → EntryInfo → Contents K V → Contents K V → Type 0
+  Puts (Over number key) hash value info old new = IfSome (row_under number (entries old)) (λ row.
       UsesRow number (overwritten value info) old new
       × (new.notices ≡ old.notices ++ record {
         key = key;
         value = row.value;
-        cause = if has_come (deadline_of lives row.info) info.last_modified then Expired else Replaced;
+        cause = cause_at Replaced row.info info.last_modified;
       } ∷ []))
-  Puts lives (New key) hash value info old new =
+  Puts (New key) hash value info old new =
       (number : ℕ) × (new.admitted ≡ old.admitted)
       × (new.waiting ≡ old.waiting ++ (number, record { key = key; hash = hash; value = value; info = info }) ∷ [])
       × (new.notices ≡ old.notices)

@@ -1,12 +1,13 @@
 //! Where a write goes, once all memory for it is taken.
-ghost use Rattle.std.specs.Prelude.{◌≡◌, ◌<◌, IfOk, IfErr};
+ghost use Rattle.std.specs.Prelude.{◌≡◌, ◌<◌, false, IfOk, IfErr};
 ghost use Rattle.moka_table.specs.Target.{IsTargetFor, IsTargetNow, HasTarget, IsInfoOf, Puts};
+ghost use Rattle.moka_ways.specs.Lives.{IsDated};
 ghost use Rattle.moka_table.specs.Table.{entries};
 
 use crate::shared_key::IntoShared;
 use crate::table::{Lookup, Table};
-use moka_model::notification::RemovalCause;
 use moka_policy::policy::CacheTypes;
+use moka_rows::packed::PackedInfo;
 use moka_rows::rows::{EntryInfo, Row, RowStore};
 use moka_ways::behaviour::Behaviour;
 use moka_ways::lives::Lives;
@@ -60,31 +61,29 @@ impl<K: Eq + Drop, V: Drop, R: RowStore<K, V>> Table<K, V, R> {
     }
 
     /// Puts a value to a target, at the moments of a write. It takes none of the memory that was
-    /// not made room for.
-    pub fn put(&mut self, target: Target<K>, hash: u64, value: V, info: EntryInfo, lives: &Lives)
+    /// not made room for. A value is not hidden when it is put.
+    pub fn put(&mut self, target: Target<K>, hash: u64, value: V, info: EntryInfo)
         requires stored { HasTarget target self.old }
         requires room { 0 < self.old.room }
-        ensures { Puts lives.now target hash value info self.old self.new }
+        requires shown { info.is_hidden ≡ false }
+        ensures puts { Puts target hash value info self.old self.new }
+        ensures may_hide { self.new.may_hide ≡ self.old.may_hide }
     {
         match target {
-            Target::Over { number, key } => {
-                let was = self.row(number).info;
-                let cause = lives.cause(was, info.last_modified, RemovalCause::Replaced);
-                self.overwrite(number, key, value, info, cause);
-            }
+            Target::Over { number, key } => self.overwrite(number, key, value, info),
             Target::New { key } => self.add(Row {
                 key,
                 hash,
                 value,
-                info,
+                info: PackedInfo::new(info),
             }),
         }
     }
 }
 
 impl<K: Hash + Drop, V: Clone, R: RowStore<K, V>> Table<K, V, R> {
-    /// What is to be kept of a value of this weight that a write puts to a target at a moment. The
-    /// expiry is asked here for the life of its own.
+    /// What is to be kept of a value of this weight that a write puts to a target at a moment, with
+    /// its deadline. The expiry is asked here for the life of its own.
     pub fn info_of<C: CacheTypes<K, V>>(
         &self,
         target: &Target<K>,
@@ -95,21 +94,25 @@ impl<K: Hash + Drop, V: Clone, R: RowStore<K, V>> Table<K, V, R> {
         lives: &Lives,
     ) -> EntryInfo
         requires { HasTarget target.now self.now }
-        ensures { IsInfoOf (⟦<C as BehaviourView<K, V>>⟧.behaviour behaviour.now) lives.now
+        ensures info { IsInfoOf (⟦<C as BehaviourView<K, V>>⟧.behaviour behaviour.now)
             target.now value.now weight now self.now result }
+        ensures dated { IsDated lives.now result }
     {
         let own_life = match target {
             Target::Over { number, key } => {
-                let was = self.row(*number).info;
-                behaviour.life_over(key, value, was, lives.is_expired(was, now), now)
+                let was = self.row(*number).info();
+                behaviour.life_over(key, value, was, !was.is_dead(now), now)
             }
             Target::New { key } => behaviour.life_of_new(key, value, now),
         };
-        EntryInfo {
+        let info = EntryInfo {
             last_modified: now,
             last_accessed: now,
             own_life,
+            deadline: None,
             policy_weight: weight,
-        }
+            is_hidden: false,
+        };
+        lives.dated(info)
     }
 }

@@ -1,9 +1,12 @@
 //! A weigher and an expiry that are made from data of the run.
-ghost use Rattle.std.specs.Prelude.{◌≡◌, ◌*◌, min, Some, refl};
+ghost use Rattle.std.specs.Prelude.{◌≡◌, ◌*◌, min, Some, false, refl};
 ghost use Rattle.std.proofs.Math.Path.{◌∙◌};
 
 use crate::keys::ByNumber;
-use moka::policy::{CacheTypes, CountTable, EvictionPolicy, Expiry, Refused, Weigher};
+use moka::policy::{
+    CacheTypes, CountTable, EvictionPolicy, Expiry, ManualClock, NoListener, NoPredicate, Refused,
+    Weigher,
+};
 use moka::state::{CacheState, Settings};
 use std::alloc::Global;
 use std::convert::Infallible;
@@ -74,7 +77,13 @@ impl CacheTypes<u64, u32> for ByData {
 
     type Expiry = Seconds;
 
+    type Predicate = NoPredicate;
+
     type Frequency = CountTable<6>;
+
+    type Listener = NoListener;
+
+    type Clock = ManualClock;
 
     type Error = Infallible;
 
@@ -87,6 +96,8 @@ impl CacheTypes<u64, u32> for ByData {
       read = λ _ _ _ rest _. rest;
       updated = λ _ _ _ _. Some (given.seconds * 1_000_000_000);
     } };
+
+    ghost test = { λ _ _ _. false };
 
     ghost keeps = { λ _ _. Unit {0} };
 
@@ -110,6 +121,8 @@ fn cache(alloc: Global, scale: u32, seconds: u64) -> Result<CacheState<u64, u32,
     CacheState::new(
         alloc,
         Settings {
+            name: None,
+            initial_capacity: 0,
             time_to_live: None,
             time_to_idle: None,
             max_capacity: Some(20),

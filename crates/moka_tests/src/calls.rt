@@ -1,8 +1,12 @@
 //! Each call of a cache, by tables.
 use crate::keys::{ByNumber, Collides, LastDigit};
-use crate::subject::{Answer, Call, Row, Rules, UNLIMITED, answers, answers_by, answers_patiently};
+use crate::subject::{
+    Answer, CacheRows, Call, Row, Rules, UNLIMITED, answers, answers_by, answers_patiently,
+};
+use crate::values::Value;
 use moka::notification::RemovalCause;
 use moka::policy::Refused;
+use moka::state::ListRows;
 use std::hash::BuildHasherDefault;
 use std::test::Fail;
 
@@ -76,6 +80,53 @@ fn ends_the_time_to_live(rt: HostRuntime) -> Result<(), Fail> {
         ..UNLIMITED
     };
     answers(&rt, rt.alloc(), rules, &TO_LIVE)
+}
+
+/// The first two are admitted, and the third waits.
+const HIDDEN: [Row; 22] = [
+    (Call::Insert(1, "one"), 0, Answer::Done),
+    (Call::Insert(2, "two"), 0, Answer::Done),
+    (Call::RunPendingTasks, 0, Answer::Done),
+    (Call::Insert(3, "three"), 0, Answer::Done),
+    (Call::InvalidateAll, 0, Answer::Done),
+    (Call::Get(1), 0, Answer::Absent),
+    (Call::ContainsKey(3), 0, Answer::Contains(false)),
+    (Call::EntryCount, 0, Answer::Counted(3)),
+    (Call::NoticeCount, 0, Answer::Counted(0)),
+    (Call::Insert(2, "again"), 0, Answer::Done),
+    (
+        Call::TakeNotice,
+        0,
+        Answer::Noticed(2, "two", RemovalCause::Explicit),
+    ),
+    (Call::Get(2), 0, Answer::Found("again")),
+    (Call::Remove(1), 0, Answer::Absent),
+    (
+        Call::TakeNotice,
+        0,
+        Answer::Noticed(1, "one", RemovalCause::Explicit),
+    ),
+    (Call::RunPendingTasks, 0, Answer::Done),
+    (
+        Call::TakeNotice,
+        0,
+        Answer::Noticed(3, "three", RemovalCause::Explicit),
+    ),
+    (Call::EntryCount, 0, Answer::Counted(1)),
+    (Call::Remove(2), 0, Answer::Found("again")),
+    (
+        Call::TakeNotice,
+        0,
+        Answer::Noticed(2, "again", RemovalCause::Explicit),
+    ),
+    (Call::Remove(2), 0, Answer::Absent),
+    (Call::EntryCount, 0, Answer::Counted(0)),
+    (Call::TakeNotice, 0, Answer::NoNotice),
+];
+
+#[test]
+fn hides_all_and_removes(rt: HostRuntime) -> Result<(), Fail> {
+    answers(&rt, rt.alloc(), UNLIMITED, &HIDDEN)
 }
 
 const LOOKED: [Row; 3] = [
@@ -164,7 +215,7 @@ fn answers_each_step(rt: HostRuntime) -> Result<(), Fail> {
         first_number: u64::MAX - 1,
         ..UNLIMITED
     };
-    answers_patiently(&rt, rt.alloc(), rules, &ALL_STEPS)
+    answers_patiently::<CacheRows<u64, Value>>(&rt, rt.alloc(), rules, &ALL_STEPS)
 }
 
 /// Those keys are equal where their last digits are.
@@ -283,5 +334,11 @@ const WRITTEN: [Row; 10] = [
 /// It passes also where one request for memory is refused, whichever.
 #[test]
 fn keeps_its_values_where_a_call_is_refused(rt: HostRuntime) -> Result<(), Fail> {
-    answers_patiently(&rt, rt.alloc(), UNLIMITED, &WRITTEN)
+    answers_patiently::<CacheRows<u64, Value>>(&rt, rt.alloc(), UNLIMITED, &WRITTEN)
+}
+
+/// So does this.
+#[test]
+fn keeps_its_values_in_lists_where_a_call_is_refused(rt: HostRuntime) -> Result<(), Fail> {
+    answers_patiently::<ListRows<u64, Value>>(&rt, rt.alloc(), UNLIMITED, &WRITTEN)
 }

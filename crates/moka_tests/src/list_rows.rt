@@ -3,7 +3,7 @@ ghost use Rattle.std.specs.Prelude.{◌++◌, IsSome, IfSome};
 ghost use Rattle.moka.specs.Rows.{row_under};
 
 use crate::subject::room;
-use moka::state::{EntryInfo, ListRows, Row, RowStore};
+use moka::state::{EntryInfo, ListRows, PackedInfo, Row, RowStore, Touch};
 use std::alloc::{AllocError, Global};
 use std::process::Abort;
 use std::sync::Arc;
@@ -13,14 +13,28 @@ const FIRST: EntryInfo = EntryInfo {
     last_modified: 5,
     last_accessed: 5,
     own_life: None,
+    deadline: None,
     policy_weight: 1,
+    is_hidden: false,
 };
 
 const LATER: EntryInfo = EntryInfo {
     last_modified: 8,
     last_accessed: 8,
     own_life: None,
+    deadline: None,
     policy_weight: 1,
+    is_hidden: false,
+};
+
+/// A use leaves the moment of the write.
+const USED: EntryInfo = EntryInfo {
+    last_modified: 5,
+    last_accessed: 8,
+    own_life: None,
+    deadline: None,
+    policy_weight: 1,
+    is_hidden: false,
 };
 
 /// A call of a store of rows; most are about the row of a key of a hash.
@@ -98,18 +112,25 @@ fn used<R: RowStore<u64, &'static str>>(
         Use::Find => row_of(keys, Some(number)),
         Use::Read => {
             let row = rows.row(number);
-            Answer::Value(row.value, row.info)
+            Answer::Value(row.value, row.info())
         }
         Use::IsAdmitted => Answer::Is(rows.is_admitted(number)),
-        Use::Next => row_of(keys, rows.next(number)),
+        Use::Next => row_of(keys, rows.next(number, &mut 0)),
         Use::Touch => {
-            rows.touch(number, LATER);
+            rows.touch(
+                number,
+                Touch {
+                    last_accessed: 8,
+                    own_life: None,
+                    deadline: None,
+                },
+            );
             Answer::Done
         }
-        Use::Overwrite(value) => Answer::Before(rows.overwrite(number, value, LATER)),
+        Use::Overwrite(value) => Answer::Before(rows.overwrite(number, value, LATER).value),
         Use::Remove => {
-            let row = rows.remove(number);
-            Answer::Value(row.value, row.info)
+            let (row, _) = rows.remove(number);
+            Answer::Value(row.value, row.info())
         }
     }
 }
@@ -123,12 +144,12 @@ fn add<R: RowStore<u64, &'static str>>(
     value: &'static str,
 ) -> Result<usize, AllocError> {
     let key = Arc::new(alloc, key)?;
-    rows.reserve()?;
+    rows.reserve(1)?;
     Ok(rows.add(Row {
         key,
         hash,
         value,
-        info: FIRST,
+        info: PackedInfo::new(FIRST),
     }))
 }
 
@@ -194,16 +215,16 @@ const KEPT: [(Call, Answer); 21] = [
     ),
     (Call::Of(2, 7, Use::Read), Answer::Value("two again", LATER)),
     (Call::Of(1, 7, Use::Touch), Answer::Done),
-    (Call::Of(1, 7, Use::Read), Answer::Value("one", LATER)),
+    (Call::Of(1, 7, Use::Read), Answer::Value("one", USED)),
     (
         Call::Of(2, 7, Use::Remove),
         Answer::Value("two again", LATER),
     ),
     (Call::Len, Answer::Counted(2)),
     (Call::Of(2, 7, Use::Find), Answer::Absent),
-    (Call::Of(1, 7, Use::Read), Answer::Value("one", LATER)),
+    (Call::Of(1, 7, Use::Read), Answer::Value("one", USED)),
     (Call::Of(3, 9, Use::Read), Answer::Value("three", FIRST)),
-    (Call::Of(1, 7, Use::Remove), Answer::Value("one", LATER)),
+    (Call::Of(1, 7, Use::Remove), Answer::Value("one", USED)),
     (Call::Of(3, 9, Use::Remove), Answer::Value("three", FIRST)),
     (Call::Len, Answer::Counted(0)),
 ];

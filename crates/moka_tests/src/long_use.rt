@@ -1,10 +1,14 @@
 //! Thousands of calls, none of which is refused, by tables that are made.
-use crate::keys::Collides;
-use crate::subject::{Answer, Call, Row, Rules, UNLIMITED, answers, answers_by, room};
-use crate::values::{Given, plain};
+use crate::keys::ByNumber;
+use crate::subject::{
+    Answer, CacheRows, Call, Row, Rules, UNLIMITED, answered_alike, answers, answers_as_its_twin,
+    answers_over, room,
+};
+use crate::values::{Given, Value, plain};
 use moka::notification::RemovalCause;
+use moka::state::ListRows;
 use std::alloc::{AllocError, Global};
-use std::hash::BuildHasherDefault;
+use std::process::Abort;
 use std::test::Fail;
 
 /// Numbers in no order that shows, the same in each run.
@@ -78,6 +82,11 @@ fn calls(alloc: Global, len: usize, keys: u64) -> Result<Vec<Row>, AllocError> {
     Ok(rows)
 }
 
+/// Each call answers what the table says over the store of the caches, which is quick enough for long tables.
+fn in_a_slab(rt: &impl Abort, alloc: Global, rules: Rules, rows: &[Row]) -> Result<(), Fail> {
+    answers_over::<u64, ByNumber, CacheRows<u64, Value>>(rt, alloc, rules, rows)
+}
+
 /// A capacity under either policy, with or without weights and with all kinds of lives, and none at all.
 const ALL_RULES: [Rules; 6] = [
     UNLIMITED,
@@ -122,14 +131,51 @@ fn refuses_none_of_thousands_of_calls(rt: HostRuntime) -> Result<(), Fail> {
     for (len, keys) in [(1000, 3), (3000, 80), (5000, 2000)] {
         let rows = calls(rt.alloc(), len, keys)?;
         for rules in ALL_RULES {
+            in_a_slab(&rt, rt.alloc(), rules, rows.as_slice())?;
+        }
+    }
+    Ok(())
+}
+
+/// Each key by its own hash, and all by one.
+#[test]
+fn both_stores_answer_alike(rt: HostRuntime) -> Result<(), Fail> {
+    for (len, keys) in [(1000, 3), (1000, 200)] {
+        let rows = calls(rt.alloc(), len, keys)?;
+        for rules in ALL_RULES {
+            answered_alike::<u64, ByNumber, CacheRows<u64, Value>, ListRows<u64, Value>>(
+                &rt,
+                rt.alloc(),
+                rules,
+                rows.as_slice(),
+            )?;
             answers(&rt, rt.alloc(), rules, rows.as_slice())?;
         }
     }
-    let rows = calls(rt.alloc(), 1000, 200)?;
-    for rules in ALL_RULES {
-        answers_by::<u64, BuildHasherDefault<Collides>>(&rt, rt.alloc(), rules, rows.as_slice())?;
-    }
     Ok(())
+}
+
+/// Keys that come and go, most of them often enough that all lists of a store grow more than once.
+const FEW: Rules = Rules {
+    max_capacity: Some(5),
+    initial_capacity: 3,
+    is_tiny_lfu: true,
+    time_to_live: Some(100),
+    ..UNLIMITED
+};
+
+/// It passes also where one request for memory is refused, whichever.
+#[test]
+fn a_slab_answers_as_its_twin(rt: HostRuntime) -> Result<(), Fail> {
+    let rows = calls(rt.alloc(), 60, 30)?;
+    answers_as_its_twin::<CacheRows<u64, Value>>(&rt, rt.alloc(), FEW, rows.as_slice())
+}
+
+/// So does this.
+#[test]
+fn lists_answer_as_their_twin(rt: HostRuntime) -> Result<(), Fail> {
+    let rows = calls(rt.alloc(), 60, 30)?;
+    answers_as_its_twin::<ListRows<u64, Value>>(&rt, rt.alloc(), FEW, rows.as_slice())
 }
 
 /// How many keys are written one after another.
@@ -156,7 +202,7 @@ fn refuses_no_write_at_any_length(rt: HostRuntime) -> Result<(), Fail> {
         rows.push((Call::TakeNotice, 0, noticed))?;
     }
     rows.push((Call::TakeNotice, 0, Answer::NoNotice))?;
-    answers(&rt, rt.alloc(), UNLIMITED, rows.as_slice())
+    in_a_slab(&rt, rt.alloc(), UNLIMITED, rows.as_slice())
 }
 
 const FEW_CALLS: [Row; 5] = [
@@ -174,6 +220,7 @@ fn opens_with_all_settings(rt: HostRuntime) -> Result<(), Fail> {
         for _ in 0..50 {
             let rules = Rules {
                 max_capacity: Some(numbers.below(greatest)),
+                initial_capacity: numbers.below(greatest.min(100)) as usize,
                 is_tiny_lfu: numbers.below(2) == 0,
                 time_to_live: numbers.life(),
                 time_to_idle: Some(numbers.below(greatest)),

@@ -1,5 +1,8 @@
 //! Maintenances, by tables.
-use crate::subject::{Answer, Call, Row, Rules, UNLIMITED, answers, answers_patiently, room};
+use crate::subject::{
+    Answer, CacheRows, Call, Row, Rules, UNLIMITED, answers, answers_patiently, room,
+};
+use crate::values::Value;
 use moka::notification::RemovalCause;
 use moka::policy::Refused;
 use std::alloc::{AllocError, Global};
@@ -128,7 +131,7 @@ fn flushes_before_a_write_that_finds_64_keys_waiting(rt: HostRuntime) -> Result<
         let noticed = Answer::Noticed(key, "first", RemovalCause::Size);
         rows.push((Call::TakeNotice, 0, noticed))?;
     }
-    answers_patiently(&rt, rt.alloc(), TEN, rows.as_slice())
+    answers_patiently::<CacheRows<u64, Value>>(&rt, rt.alloc(), TEN, rows.as_slice())
 }
 
 /// The key that is written is let go by the flush before its write, which then finds it not stored.
@@ -150,7 +153,7 @@ fn flushes_before_an_overwrite(rt: HostRuntime) -> Result<(), Fail> {
     for row in OVER_A_VALUE_THAT_LEAVES {
         rows.push(row)?;
     }
-    answers_patiently(&rt, rt.alloc(), TEN, rows.as_slice())
+    answers_patiently::<CacheRows<u64, Value>>(&rt, rt.alloc(), TEN, rows.as_slice())
 }
 
 #[test]

@@ -4,8 +4,13 @@
 //! `rt try --test --fail-alloc N` the Nth request of each test is refused, so each test here, which asks for memory just
 //! before and just behind the calls that take none, fails at some N for want of the first, and at N + 1 for want of the
 //! second.
-use crate::subject::{Answer, Call, Row, Rules, UNLIMITED, answers, answers_between_requests};
+use crate::subject::{
+    Answer, CacheRows, Call, Row, Rules, UNLIMITED, answers, answers_between_requests,
+    answers_patiently,
+};
+use crate::values::Value;
 use moka::notification::RemovalCause;
+use moka::state::ListRows;
 use std::test::Fail;
 
 /// A value that leaves in each way, and whose notice is taken then. What is kept after each call is counted with each
@@ -126,7 +131,13 @@ fn takes_no_memory_but_for_writes(rt: HostRuntime) -> Result<(), Fail> {
         time_to_live: Some(10),
         ..UNLIMITED
     };
-    answers_between_requests(&rt, rt.alloc(), rules, &BEFORE, &WITHOUT_MEMORY)
+    answers_between_requests::<CacheRows<u64, Value>>(
+        &rt,
+        rt.alloc(),
+        rules,
+        &BEFORE,
+        &WITHOUT_MEMORY,
+    )
 }
 
 /// 3 was looked for once, 4 not, and nor were those that are admitted.
@@ -159,7 +170,13 @@ fn takes_no_memory_to_judge_by_frequency(rt: HostRuntime) -> Result<(), Fail> {
         is_tiny_lfu: true,
         ..UNLIMITED
     };
-    answers_between_requests(&rt, rt.alloc(), rules, &BEFORE, &BY_FREQUENCY)
+    answers_between_requests::<CacheRows<u64, Value>>(
+        &rt,
+        rt.alloc(),
+        rules,
+        &BEFORE,
+        &BY_FREQUENCY,
+    )
 }
 
 const AT_A_CAPACITY_OF_0: [Row; 8] = [
@@ -179,5 +196,41 @@ fn takes_no_memory_to_write_at_a_capacity_of_0(rt: HostRuntime) -> Result<(), Fa
         max_capacity: Some(0),
         ..UNLIMITED
     };
-    answers_between_requests(&rt, rt.alloc(), rules, &[], &AT_A_CAPACITY_OF_0)
+    answers_between_requests::<CacheRows<u64, Value>>(
+        &rt,
+        rt.alloc(),
+        rules,
+        &[],
+        &AT_A_CAPACITY_OF_0,
+    )
+}
+
+const OPENED: [Row; 8] = [
+    (Call::EntryCount, 0, Answer::Counted(0)),
+    (Call::Insert(1, "one"), 0, Answer::Done),
+    (Call::Insert(2, "two"), 0, Answer::Done),
+    (Call::RunPendingTasks, 0, Answer::Done),
+    (Call::Get(1), 0, Answer::Absent),
+    (Call::Get(2), 0, Answer::Found("two")),
+    (
+        Call::TakeNotice,
+        0,
+        Answer::Noticed(1, "one", RemovalCause::Size),
+    ),
+    (Call::TakeNotice, 0, Answer::NoNotice),
+];
+
+/// A cache with room from the start takes memory when it is made. Where that is refused, whichever request it is, it is
+/// for want of memory, and one that is made anew answers as if nothing had been refused.
+#[test]
+fn opens_with_room_from_the_start(rt: HostRuntime) -> Result<(), Fail> {
+    let rules = Rules {
+        max_capacity: Some(1),
+        initial_capacity: 100,
+        is_weighed: true,
+        may_expire: true,
+        ..UNLIMITED
+    };
+    answers_patiently::<CacheRows<u64, Value>>(&rt, rt.alloc(), rules, &OPENED)?;
+    answers_patiently::<ListRows<u64, Value>>(&rt, rt.alloc(), rules, &OPENED)
 }

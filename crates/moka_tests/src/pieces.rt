@@ -2,8 +2,8 @@
 use crate::keys::ByNumber;
 use moka::notification::RemovalCause;
 use moka::policy::{
-    CountTable, EvictionPolicy, ExpireBy, Expiry, FrequencySource, NoExpiry, NoWeigher, NumberHash,
-    Refused, WeighBy, Weigher,
+    CountTable, EvictionPolicy, ExpireBy, Expiry, FrequencySketch, FrequencySource, NoExpiry,
+    NoPredicate, NoWeigher, NumberHash, Predicate, Refused, WeighBy, Weigher,
 };
 use std::alloc::Global;
 use std::hash::{BuildHasher, Hasher};
@@ -60,6 +60,34 @@ fn a_closure_weighs(rt: HostRuntime) -> Result<(), Fail> {
     Ok(())
 }
 
+/// Asserts of which of two values a predicate holds.
+fn tested<P: Predicate<u64, u64>>(rt: &impl Abort, predicate: &P, expected: [bool; 2])
+    requires { (test : _) × P.tests predicate.now test }
+{
+    assert_eq!(rt; predicate.holds(&3, &0), expected[0]);
+    assert_eq!(rt; predicate.holds(&4, &0), expected[1]);
+}
+
+#[test]
+fn no_predicate_holds_of_nothing(rt: HostRuntime) -> Result<(), Fail> {
+    tested(&rt, &NoPredicate, [false, false]);
+    Ok(())
+}
+
+#[test]
+fn tells_evictions(rt: HostRuntime) -> Result<(), Fail> {
+    let causes = [
+        (RemovalCause::Expired, true),
+        (RemovalCause::Explicit, false),
+        (RemovalCause::Replaced, false),
+        (RemovalCause::Size, true),
+    ];
+    for (cause, expected) in causes {
+        assert_eq!(rt; cause.was_evicted(), expected);
+    }
+    Ok(())
+}
+
 /// Asserts the lives that an expiry gives to a value after a creation, a look and an update, the last two with a rest.
 fn lived<E: Expiry<u64, u64>>(rt: &impl Abort, expiry: &E, expected: [Option<Duration>; 3])
     requires { (lives : _) × E.gives expiry.now lives }
@@ -104,28 +132,75 @@ fn opened<F: FrequencySource>(rt: &impl Abort, alloc: Global) -> Result<F, Refus
     }
 }
 
-/// After so many notes of one hash its estimate is this.
+/// Asserts the estimates of some hashes after some notes, each of a hash so many times.
+fn estimates<F: FrequencySource>(
+    rt: &impl Abort,
+    alloc: Global,
+    notes: &[(u64, u64)],
+    expected: &[(u64, u8)],
+) -> Result<(), Fail> {
+    let mut source: F = opened(rt, alloc)?;
+    for (hash, times) in notes {
+        for _ in 0..*times {
+            source.note(*hash);
+        }
+    }
+    for (hash, count) in expected {
+        assert_eq!(rt;
+            source.estimate(*hash),
+            *count,
+            "hash {hash} after {notes:?}"
+        );
+    }
+    Ok(())
+}
+
+/// After so many notes of one hash its estimate is this, by a table of one counter and a sketch of one in each row.
 const ESTIMATES: [(u64, u8); 6] = [(9, 9), (10, 5), (19, 14), (20, 7), (29, 15), (30, 7)];
 
+/// They pass also where one request for memory is refused, whichever.
 #[test]
 fn estimates_notes(rt: HostRuntime) -> Result<(), Fail> {
-    for (notes, expected) in ESTIMATES {
-        let mut table: CountTable<0> = opened(&rt, rt.alloc())?;
-        for _ in 0..notes {
-            table.note(3);
-        }
-        assert_eq!(rt; table.estimate(5), expected, "after {notes} notes");
+    for (times, count) in ESTIMATES {
+        estimates::<CountTable<0>>(&rt, rt.alloc(), &[(3, times)], &[(3, count), (5, count)])?;
+        estimates::<FrequencySketch<0>>(&rt, rt.alloc(), &[(3, times)], &[(3, count), (5, count)])?;
     }
     Ok(())
 }
 
 #[test]
 fn hashes_share_counters_by_their_lowest_bits(rt: HostRuntime) -> Result<(), Fail> {
-    let mut table: CountTable<6> = opened(&rt, rt.alloc())?;
-    for hash in [5, 69, 133] {
-        table.note(hash);
+    let notes = [(5, 1), (69, 1), (133, 1)];
+    estimates::<CountTable<6>>(&rt, rt.alloc(), &notes, &[(197, 3), (6, 0)])
+}
+
+/// Notes of hashes, and the estimates of others by a sketch of four counters in each row.
+const SKETCHED: [(&[(u64, u64)], &[(u64, u8)]); 6] = [
+    (&[], &[(0, 0), (u64::MAX, 0)]),
+    // They share all four counters.
+    (&[(1, 2), (5, 1)], &[(9, 3), (2, 0)]),
+    // They share three, and each has one of its own.
+    (&[(1, 3), (16_385, 1)], &[(16_385, 1), (1, 3), (2, 0)]),
+    // Each of four others shares another counter with it.
+    (
+        &[
+            (1, 1),
+            (16_384, 1),
+            (268_435_456, 1),
+            (4_398_046_511_104, 1),
+        ],
+        &[(4_398_314_962_945, 1), (1, 1)],
+    ),
+    (&[(1, 30), (2, 9)], &[(1, 15), (2, 9)]),
+    // The fortieth note halves.
+    (&[(1, 30), (2, 10)], &[(1, 7), (2, 5)]),
+];
+
+/// It passes also where one request for memory is refused, whichever.
+#[test]
+fn a_sketch_takes_the_least_of_four_counters(rt: HostRuntime) -> Result<(), Fail> {
+    for (notes, expected) in SKETCHED {
+        estimates::<FrequencySketch<2>>(&rt, rt.alloc(), notes, expected)?;
     }
-    assert_eq!(rt; table.estimate(197), 3);
-    assert_eq!(rt; table.estimate(6), 0);
     Ok(())
 }

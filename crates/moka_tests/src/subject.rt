@@ -5,23 +5,27 @@
 //! - where there is a capacity and each value weighs one, no more keys are stored than it allows, and 64;
 //! - a call that was refused has left the numbers of keys and notices and the weight as they were, no expiry was asked,
 //!   and a write has handed back its key and its value.
-use crate::keys::{ByNumber, Key};
+use crate::keys::{ByNumber, Collides, Key};
 use crate::values::{Counts, Given, Types, Value, Watch, heavy, plain};
 use moka::notification::RemovalCause;
 use moka::policy::{EvictionPolicy, Refused};
-use moka::state::{CacheState, InsertRefused, Reply, Settings, Step};
+use moka::state::{DueRows, InsertRefused, ListRows, Reply, RowStore, Settings, State, Step};
 use std::alloc::{AllocError, Global};
-use std::hash::BuildHasher;
+use std::hash::{BuildHasher, BuildHasherDefault};
 use std::process::Abort;
 use std::sync::Arc;
 use std::test::Fail;
 use std::time::Duration;
 
-/// How a cache is built: its capacity and its policy, its lives in seconds, its first number, and whether values are
+/// The store in which the caches keep their rows.
+pub(crate) type CacheRows<K, V> = DueRows<K, V>;
+
+/// How a cache is built: its capacities and its policy, its lives in seconds, its first number, and whether values are
 /// weighed and have lives of their own.
 #[derive(Clone, Copy)]
 pub(crate) struct Rules {
     pub max_capacity: Option<u64>,
+    pub initial_capacity: usize,
     pub is_tiny_lfu: bool,
     pub time_to_live: Option<u64>,
     pub time_to_idle: Option<u64>,
@@ -33,6 +37,7 @@ pub(crate) struct Rules {
 /// No capacity, no lives, and values that weigh one.
 pub(crate) const UNLIMITED: Rules = Rules {
     max_capacity: None,
+    initial_capacity: 0,
     is_tiny_lfu: false,
     time_to_live: None,
     time_to_idle: None,
@@ -53,6 +58,8 @@ pub(crate) enum Call {
     /// A write of any value.
     InsertGiven(u64, Given),
     Invalidate(u64),
+    Remove(u64),
+    InvalidateAll,
     RunPendingTasks,
     EntryCount,
     WeightedSize,
@@ -91,10 +98,10 @@ pub(crate) enum Way {
     Runs,
 }
 
-/// A cache under test.
+/// A cache under test, over a store of rows.
 #[derive(Drop)]
-struct Subject<K: Key, H: BuildHasher + Drop> {
-    cache: CacheState<K, Value, Types<H>>,
+struct Subject<K: Key, H: BuildHasher + Drop, R: RowStore<K, Value>> {
+    cache: State<K, Value, Types<H>, R>,
     rules: Rules,
     watch: Arc<Watch>,
     /// How many share the watch beside the values.
@@ -131,6 +138,8 @@ fn settings<K: Key, H: BuildHasher + Default + Drop>(
     watch: &Arc<Watch>,
 ) -> Result<Settings<K, Value, Types<H>>, AllocError> {
     Ok(Settings {
+        name: None,
+        initial_capacity: rules.initial_capacity,
         max_capacity: rules.max_capacity,
         eviction_policy: if rules.is_tiny_lfu {
             EvictionPolicy::tiny_lfu()
@@ -154,13 +163,13 @@ fn settings<K: Key, H: BuildHasher + Default + Drop>(
     })
 }
 
-impl<K: Key, H: BuildHasher + Default + Drop> Subject<K, H> {
+impl<K: Key, H: BuildHasher + Default + Drop, R: RowStore<K, Value>> Subject<K, H, R> {
     /// A cache for so many rows.
     fn new(alloc: Global, rules: Rules, is_patient: bool, rows: usize) -> Result<Self, Fail> {
         let watch = shared(alloc, Watch::new())?;
-        let cache = match CacheState::new(alloc, settings(alloc, rules, &watch)?) {
+        let cache = match State::new(alloc, settings(alloc, rules, &watch)?) {
             Err(Refused::OutOfMemory) if is_patient => {
-                CacheState::new(alloc, settings(alloc, rules, &watch)?)?
+                State::new(alloc, settings(alloc, rules, &watch)?)?
             }
             built => built?,
         };
@@ -219,6 +228,15 @@ impl<K: Key, H: BuildHasher + Default + Drop> Subject<K, H> {
             Call::InsertGiven(number, given) => self.insert(rt, number, given, now)?,
             Call::Invalidate(number) => {
                 self.cache.invalidate(&K::of(number), now);
+                Answer::Done
+            }
+            Call::Remove(number) => match self.cache.remove(&K::of(number), now) {
+                Ok(Some(value)) => Answer::Found(value.given.text),
+                Ok(None) => Answer::Absent,
+                Err(refused) => Answer::Refused(refused),
+            },
+            Call::InvalidateAll => {
+                self.cache.invalidate_all();
                 Answer::Done
             }
             Call::RunPendingTasks => {
@@ -280,7 +298,11 @@ impl<K: Key, H: BuildHasher + Default + Drop> Subject<K, H> {
             Call::EntryCount => Some(Step::EntryCount),
             Call::WeightedSize => Some(Step::WeightedSize),
             Call::TakeNotice => Some(Step::TakeNotice),
-            Call::NoticeCount | Call::Asked | Call::RefuseCopies(_) => None,
+            Call::Remove(_)
+            | Call::InvalidateAll
+            | Call::NoticeCount
+            | Call::Asked
+            | Call::RefuseCopies(_) => None,
         })
     }
 
@@ -440,7 +462,11 @@ impl<K: Key, H: BuildHasher + Default + Drop> Subject<K, H> {
 fn is_step(call: Call) -> bool {
     !matches!(
         call,
-        Call::NoticeCount | Call::Asked | Call::RefuseCopies(_)
+        Call::Remove(_)
+            | Call::InvalidateAll
+            | Call::NoticeCount
+            | Call::Asked
+            | Call::RefuseCopies(_)
     )
 }
 
@@ -492,8 +518,8 @@ fn said<K: Key>(reply: Reply<K, Value>) -> Answer {
     }
 }
 
-/// Does a table once. The answer is whether it went through.
-fn done<K: Key, H: BuildHasher + Default + Drop>(
+/// Does a table once, over a store of rows. The answer is whether it went through.
+fn done<K: Key, H: BuildHasher + Default + Drop, R: RowStore<K, Value>>(
     rt: &impl Abort,
     alloc: Global,
     rules: Rules,
@@ -501,43 +527,81 @@ fn done<K: Key, H: BuildHasher + Default + Drop>(
     way: Way,
     rows: &[Row],
 ) -> Result<bool, Fail> {
-    let mut subject: Subject<K, H> = Subject::new(alloc, rules, is_patient, rows.len())?;
+    let mut subject: Subject<K, H, R> = Subject::new(alloc, rules, is_patient, rows.len())?;
     subject.table(rt, way, rows)
 }
 
-/// Each call of a table at its moment answers what the table says, in each way, with these keys and this hasher.
-pub(crate) fn answers_by<K: Key, H: BuildHasher + Default + Drop>(
+/// Each call of a table at its moment answers what the table says, in each way, with these keys and this hasher, over
+/// this store.
+pub(crate) fn answers_over<K: Key, H: BuildHasher + Default + Drop, R: RowStore<K, Value>>(
     rt: &impl Abort,
     alloc: Global,
     rules: Rules,
     rows: &[Row],
 ) -> Result<(), Fail> {
     for way in [Way::Calls, Way::Steps, Way::Runs] {
-        assert!(rt; done::<K, H>(rt, alloc, rules, false, way, rows)?);
+        assert!(rt; done::<K, H, R>(rt, alloc, rules, false, way, rows)?);
     }
     Ok(())
 }
 
-/// So it is with number keys, each of which is its own hash.
+/// So it is over either store.
+pub(crate) fn answers_by<K: Key, H: BuildHasher + Default + Drop>(
+    rt: &impl Abort,
+    alloc: Global,
+    rules: Rules,
+    rows: &[Row],
+) -> Result<(), Fail> {
+    answers_over::<K, H, CacheRows<K, Value>>(rt, alloc, rules, rows)?;
+    answers_over::<K, H, ListRows<K, Value>>(rt, alloc, rules, rows)
+}
+
+/// Two stores answer each call of a table alike, with these keys and this hasher.
+pub(crate) fn answered_alike<
+    K: Key,
+    H: BuildHasher + Default + Drop,
+    R: RowStore<K, Value>,
+    S: RowStore<K, Value>,
+>(rt: &impl Abort, alloc: Global, rules: Rules, rows: &[Row]) -> Result<(), Fail> {
+    let mut one: Subject<K, H, R> = Subject::new(alloc, rules, false, 0)?;
+    let mut other: Subject<K, H, S> = Subject::new(alloc, rules, false, 0)?;
+    for (place, (call, now, _)) in rows.iter().enumerate() {
+        let expected = other.by_call(rt, *call, *now)?;
+        let found = one.by_call(rt, *call, *now)?;
+        assert_eq!(rt; found, expected, "row {place}");
+        assert!(rt; one.sizes() == other.sizes(), "row {place}");
+        one.holds(rt);
+    }
+    Ok(())
+}
+
+/// Each call of a table answers what the table says, over either store, with number keys, each of which is its own hash.
+/// Where all keys have one hash, both stores answer alike.
 pub(crate) fn answers(
     rt: &impl Abort,
     alloc: Global,
     rules: Rules,
     rows: &[Row],
 ) -> Result<(), Fail> {
-    answers_by::<u64, ByNumber>(rt, alloc, rules, rows)
+    answers_by::<u64, ByNumber>(rt, alloc, rules, rows)?;
+    answered_alike::<
+        u64,
+        BuildHasherDefault<Collides>,
+        CacheRows<u64, Value>,
+        ListRows<u64, Value>,
+    >(rt, alloc, rules, rows)
 }
 
 /// So it is also where one request for memory is refused, whichever: what was refused is then done again.
-pub(crate) fn answers_patiently(
+pub(crate) fn answers_patiently<R: RowStore<u64, Value>>(
     rt: &impl Abort,
     alloc: Global,
     rules: Rules,
     rows: &[Row],
 ) -> Result<(), Fail> {
     for way in [Way::Runs, Way::Steps, Way::Calls] {
-        if !done::<u64, ByNumber>(rt, alloc, rules, true, way, rows)? {
-            assert!(rt; done::<u64, ByNumber>(rt, alloc, rules, false, way, rows)?);
+        if !done::<u64, ByNumber, R>(rt, alloc, rules, true, way, rows)? {
+            assert!(rt; done::<u64, ByNumber, R>(rt, alloc, rules, false, way, rows)?);
         }
     }
     Ok(())
@@ -545,17 +609,56 @@ pub(crate) fn answers_patiently(
 
 /// Does the first calls, and then the others between two requests for memory of its own. In a run where the last request
 /// before those calls is the one that is refused, the next request of all is the one behind them, unless they took memory.
-pub(crate) fn answers_between_requests(
+pub(crate) fn answers_between_requests<R: RowStore<u64, Value>>(
     rt: &impl Abort,
     alloc: Global,
     rules: Rules,
     before: &[Row],
     rows: &[Row],
 ) -> Result<(), Fail> {
-    let mut subject: Subject<u64, ByNumber> = Subject::new(alloc, rules, false, 0)?;
+    let mut subject: Subject<u64, ByNumber, R> = Subject::new(alloc, rules, false, 0)?;
     subject.rows(rt, Way::Calls, before)?;
     assert!(rt; Arc::new(alloc, 0_u64).is_ok(), "refused before the calls");
     subject.rows(rt, Way::Calls, rows)?;
     assert!(rt; Arc::new(alloc, 0_u64).is_ok(), "refused behind the calls");
+    Ok(())
+}
+
+/// What the calls of a table answer, of which one request for memory may be refused, whichever: what was refused, and has
+/// changed nothing, is then done again.
+fn answers_of<R: RowStore<u64, Value>>(
+    rt: &impl Abort,
+    alloc: Global,
+    rules: Rules,
+    rows: &[Row],
+) -> Result<Vec<Answer>, Fail> {
+    let mut subject: Subject<u64, ByNumber, R> = Subject::new(alloc, rules, true, 0)?;
+    let mut answers = room(alloc, rows.len())?;
+    for (call, now, _) in rows {
+        let before = (subject.sizes(), subject.watch.counts());
+        let mut found = subject.by_call(rt, *call, *now)?;
+        if found == Answer::Refused(Refused::OutOfMemory) {
+            subject.is_unchanged(rt, before);
+            found = subject.by_call(rt, *call, *now)?;
+        }
+        subject.holds(rt);
+        answers.push(found)?;
+    }
+    Ok(answers)
+}
+
+/// Two caches over this store answer alike, of which at most one is refused a request for memory.
+pub(crate) fn answers_as_its_twin<R: RowStore<u64, Value>>(
+    rt: &impl Abort,
+    alloc: Global,
+    rules: Rules,
+    rows: &[Row],
+) -> Result<(), Fail> {
+    let answers = answers_of::<R>(rt, alloc, rules, rows)?;
+    let twin = answers_of::<R>(rt, alloc, rules, rows)?;
+    for (place, answer) in answers.iter().enumerate() {
+        assert_eq!(rt; twin.get(place), Some(answer), "row {place}");
+        assert!(rt; !matches!(answer, Answer::Refused(_)), "row {place}");
+    }
     Ok(())
 }

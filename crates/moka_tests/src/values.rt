@@ -1,9 +1,9 @@
 //! The values of the tests, and what weighs them and gives them lives of their own.
-ghost use Rattle.std.specs.Prelude.{◌≡◌, ◌-◌, ◌*◌, Some, option_map, refl, if◌then◌else◌};
+ghost use Rattle.std.specs.Prelude.{◌≡◌, ◌-◌, ◌*◌, Some, option_map, false, refl, if◌then◌else◌};
 ghost use Rattle.std.specs.Option.{option_or};
 
 use crate::keys::Key;
-use moka::policy::{CacheTypes, CountTable, Expiry, Weigher};
+use moka::policy::{CacheTypes, CountTable, Expiry, ManualClock, NoListener, NoPredicate, Weigher};
 use std::alloc::AllocError;
 use std::cell::Cell;
 use std::convert::Infallible;
@@ -191,7 +191,13 @@ impl<K: Key, H: BuildHasher + Drop> CacheTypes<K, Value> for Types<H> {
 
     type Expiry = Watch;
 
+    type Predicate = NoPredicate;
+
     type Frequency = CountTable<6>;
+
+    type Listener = NoListener;
+
+    type Clock = ManualClock;
 
     type Error = Infallible;
 
@@ -204,6 +210,8 @@ impl<K: Key, H: BuildHasher + Drop> CacheTypes<K, Value> for Types<H> {
       read = λ _ value read_at left written_at. if value.given.doubles then Some (read_at - written_at) else option_or (option_map (λ seconds. seconds * 1000000000) value.given.life_after_look) left;
       updated = λ _ _ _ left. left;
     } };
+
+    ghost test = { λ _ _ _. false };
 
     ghost keeps = { λ _ _. Unit {0} };
 

@@ -1,10 +1,12 @@
 -- The deadline of a row's value.
-use Rattle.std.specs.Prelude.{ℕ, Option, option_map}
+use Rattle.std.specs.Prelude.{◌≡◌, ℕ, ◌-◌, ◌^◌, nat_le, if◌then◌else◌, Option, Some, None, List, option_map}
+use Rattle.std.specs.List.{AllByRecursion}
 use Rattle.std.specs.Duration.{as_nanos}
 use Rattle.moka_model.specs.Lives.{ends_at, earlier, own_end}
 use Rattle.moka_model.specs.Lives as model
 use Rattle.moka_ways.specs.declared.lives.Lives.{Lives}
 use Rattle.moka_rows.specs.declared.rows.EntryInfo.{EntryInfo}
+use Rattle.moka_rows.specs.declared.rows.Row.{Row}
 use Rattle.moka_rows.specs.declared.rows.OwnLife.{OwnLife}
 
 -- a life of its own, as the definitions have it
@@ -20,3 +22,20 @@ abbrev pub deadline_of : Lives → EntryInfo → Option ℕ
 deadline_of lives info =
     earlier (earlier (ends_at (option_map as_nanos lives.time_to_live) info.last_modified)
     (ends_at (option_map as_nanos lives.time_to_idle) info.last_accessed)) (own_end (own_of info))
+
+-- the deadline that is kept for one: none where that is past the last moment, since it never comes
+abbrev pub within_moments : Option ℕ → Option ℕ
+within_moments None = None
+within_moments (Some deadline) = if nat_le deadline (2 ^ 64 - 1) then Some deadline else None
+
+-- what is kept of a value, with its deadline under these lives
+abbrev pub dated : Lives → EntryInfo → EntryInfo
+dated lives info = record info { deadline = within_moments (deadline_of lives info) }
+
+-- the deadline that is kept is the one under these lives
+abbrev pub IsDated : Lives → EntryInfo → Type 0
+IsDated lives info = info.deadline ≡ within_moments (deadline_of lives info)
+
+-- so is that of each row
+abbrev pub AreDated : {K V : Type 0} → Lives → List (ℕ × Row K V) → Type 0
+AreDated lives rows = AllByRecursion (λ p. IsDated lives p.1.info) rows

@@ -1,5 +1,5 @@
 -- What a state keeps, and what this means.
-use Rattle.std.specs.Prelude.{ℕ, Bool, List, Option}
+use Rattle.std.specs.Prelude.{ℕ, Bool, false, List, Option}
 use Rattle.moka_policy.specs.Frequency.{after_notes}
 use Rattle.moka_model.specs.Lives.{Behaviour, Settings}
 use Rattle.moka_model.specs.Steps.{AcceptedStep}
@@ -13,6 +13,7 @@ estimates noted count source more hash = count (after_notes source noted more) h
 
 -- What a state was built with, as data; it never changes.
 pub record SettingsData (H W X : Type 0) : Type 0 where
+  pub name : Option (List ℕ)
   pub time_to_live : Option ℕ
   pub time_to_idle : Option ℕ
   pub max_capacity : Option ℕ
@@ -34,6 +35,7 @@ module _ {K V H W X : Type 0} (behaviour_in : BehaviourData H W X → Behaviour 
     time_to_idle = kept.time_to_idle;
     max_capacity = kept.max_capacity;
     first_number = kept.first_number;
+    supports_closures = false;  -- no cache hides by tests yet
     behaviour = behaviour_in kept.behaviour;
     frequency = frequency;
   }

@@ -1,6 +1,6 @@
 //! The behaviour of a cache: its policy, how its keys are hashed, what its values weigh, and the
 //! lives of their own that they get.
-ghost use Rattle.std.specs.Prelude.{◌≡◌, true, not, if◌then◌else◌, option_map, IfSome};
+ghost use Rattle.std.specs.Prelude.{◌≡◌, true, if◌then◌else◌, option_map, IfSome};
 ghost use Rattle.std.specs.Arc.{arc_value};
 ghost use Rattle.moka_model.specs.Lives.{rest, given};
 ghost use Rattle.moka_policy.specs.Policy.{is_lru};
@@ -112,23 +112,23 @@ impl<K: Hash + Drop, V: Clone, C: CacheTypes<K, V>> Behaviour<K, V, C> {
         }
     }
 
-    /// The life of its own of a value that is written at a moment over another one, which is
-    /// expired or not.
+    /// The life of its own of a value that is written at a moment over another one, which is live
+    /// then or not: only a live one is updated.
     pub fn life_over(
         &self,
         key: &K,
         value: &V,
         was: EntryInfo,
-        is_expired: bool,
+        is_live: bool,
         now: u64,
     ) -> Option<OwnLife>
         ensures { let lives = (⟦<C as BehaviourView<K, V>>⟧.behaviour self.now).lifetimes in
             option_map own_life result ≡ given
-            (if not is_expired then lives.updated key.now value.now now (rest (own_of was) now)
+            (if is_live then lives.updated key.now value.now now (rest (own_of was) now)
             else lives.created key.now value.now now)
             now }
     {
-        if is_expired {
+        if !is_live {
             return self.life_of_new(key, value, now);
         }
         let left = rest(was.own_life, now);

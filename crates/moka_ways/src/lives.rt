@@ -1,11 +1,11 @@
 //! How long a value lives.
-ghost use Rattle.std.specs.Prelude.{◌≡◌, option_map, if◌then◌else◌};
+ghost use Rattle.std.specs.Prelude.{◌≡◌, option_map};
 ghost use Rattle.std.specs.Duration.{as_nanos};
-ghost use Rattle.moka_model.specs.Lives.{ends_at, earlier, has_come, own_end, rest, given};
-ghost use Rattle.moka_ways.specs.Lives.{deadline_of, own_life};
+ghost use Rattle.moka_model.specs.Lives.{ends_at, earlier, own_end, rest, given};
+ghost use Rattle.moka_rows.specs.Rows.{used_at};
+ghost use Rattle.moka_ways.specs.Lives.{deadline_of, within_moments, own_life, dated, IsDated};
 
-use moka_model::notification::RemovalCause;
-use moka_rows::rows::{EntryInfo, OwnLife};
+use moka_rows::rows::{EntryInfo, OwnLife, Touch};
 use std::time::Duration;
 
 /// The lives that a cache gives each of its values.
@@ -19,35 +19,41 @@ pub struct Lives {
 
 impl Lives {
     /// The moment from which a value with these moments and this life of its own is expired, in
-    /// nanoseconds.
-    pub fn deadline(&self, info: EntryInfo) -> Option<u128>
-        ensures { result ≡ deadline_of self.now info }
+    /// nanoseconds; none where it is past the last moment, `u64::MAX`, since it never comes.
+    pub fn deadline(&self, info: EntryInfo) -> Option<u64>
+        ensures { result ≡ within_moments (deadline_of self.now info) }
     {
         let shared = earlier(
             ends_at(self.time_to_live, info.last_modified),
             ends_at(self.time_to_idle, info.last_accessed),
         );
-        earlier(shared, own_end(info.own_life))
+        within_moments(earlier(shared, own_end(info.own_life)))
     }
 
-    /// Whether a value with these moments and this life is expired at a moment.
-    pub fn is_expired(&self, info: EntryInfo, now: u64) -> bool
-        ensures { result ≡ has_come (deadline_of self.now info) now }
+    /// What is kept of a value, with its deadline.
+    pub fn dated(&self, info: EntryInfo) -> EntryInfo
+        ensures { result ≡ dated self.now info }
     {
-        has_come(self.deadline(info), now)
-    }
-
-    /// The cause under which such a value leaves: expired, where its deadline has come, and else
-    /// the caller's own.
-    pub fn cause(&self, info: EntryInfo, now: u64, own: RemovalCause) -> RemovalCause
-        ensures { result ≡
-            (if has_come (deadline_of self.now info) now then RemovalCause.Expired else own) }
-    {
-        if self.is_expired(info, now) {
-            RemovalCause::Expired
-        } else {
-            own
+        EntryInfo {
+            deadline: self.deadline(info),
+            ..info
         }
+    }
+
+    /// The use of a value at a moment, with the life of its own and the deadline that it has from
+    /// then on.
+    pub fn used(&self, info: EntryInfo, last_accessed: u64, own_life: Option<OwnLife>) -> Touch
+        ensures accessed { result.last_accessed ≡ last_accessed }
+        ensures own { result.own_life ≡ own_life }
+        ensures dated { IsDated self.now (used_at result info) }
+    {
+        let touch = Touch {
+            last_accessed,
+            own_life,
+            deadline: None,
+        };
+        let deadline = self.deadline(info.used_at(touch));
+        Touch { deadline, ..touch }
     }
 }
 
@@ -95,18 +101,18 @@ pub fn given(life: Option<Duration>, now: u64) -> Option<OwnLife>
     }
 }
 
-/// Whether a deadline has come at a moment.
-pub fn has_come(deadline: Option<u128>, now: u64) -> bool
-    ensures { result ≡ has_come deadline now }
+/// A deadline that is not past the last moment.
+fn within_moments(deadline: Option<u128>) -> Option<u64>
+    ensures { result ≡ within_moments deadline }
 {
     match deadline {
-        None => false,
-        Some(deadline) => deadline <= u128::from(now),
+        None => None,
+        Some(deadline) => u64::try_from(deadline).ok(),
     }
 }
 
 /// The earlier of two deadlines, where there are two.
-pub fn earlier(a: Option<u128>, b: Option<u128>) -> Option<u128>
+fn earlier(a: Option<u128>, b: Option<u128>) -> Option<u128>
     ensures { result ≡ earlier a b }
 {
     match (a, b) {

@@ -6,7 +6,7 @@ use Rattle.std.proofs.lemmas.Option.{option_and_then_some}
 use Rattle.std.proofs.lemmas.Slice.Eq.{bytes_eq-Decides}
 use Rattle.std.proofs.lemmas.List.Splits.{join_with_byte-slice_split}
 use Rattle.mokabox_lines.specs.declared.command.Command.{Command}
-use Rattle.mokabox_lines.specs.declared.command.Command.TheVariants.{At, Insert, Get, Has, Invalidate, Tasks, Count, Weight, Notices}
+use Rattle.mokabox_lines.specs.declared.command.Command.TheVariants.{At, Insert, Get, Has, Invalidate, Tasks, Count, Weight, Notices, Policy}
 use Rattle.mokabox_lines.specs.Command.{PlainCommand, plain_command, command_fields, line_of, IsExpressible, Reader, insert_of, alone, words, read_by, command_of, command_by_line}
 use Rattle.mokabox_lines.specs.Fields.{fields_of, number_of, text_of, sole_number_of, sole_text_of, IsText}
 use Rattle.mokabox_lines.proofs.NumberLaws.{number_takes, number_again}
@@ -86,7 +86,7 @@ words_take = (
                 alone_takes (codes "weight") Weight refl tt,
                 (
                   alone_takes (codes "notices") Notices refl tt,
-                  tt,
+                  (alone_takes (codes "policy") Policy refl tt, tt),
                 ),
               ),
             ),
@@ -122,6 +122,7 @@ command_again Tasks sayable = refl
 command_again Count sayable = refl
 command_again Weight sayable = refl
 command_again Notices sayable = refl
+command_again Policy sayable = refl
 
 number_written : (word : List ℕ) (n : ℕ) → is_plain word ≡ true → n < 2 ^ 64 → AllByRecursion IsField (word ∷ decimal n ∷ [])
 number_written word n plain small = (word_field word plain, (number_field n small, tt))
@@ -137,6 +138,7 @@ command_fields_are Tasks sayable = (omega arith, (word_field (codes "tasks") ref
 command_fields_are Count sayable = (omega arith, (word_field (codes "count") refl, tt))
 command_fields_are Weight sayable = (omega arith, (word_field (codes "weight") refl, tt))
 command_fields_are Notices sayable = (omega arith, (word_field (codes "notices") refl, tt))
+command_fields_are Policy sayable = (omega arith, (word_field (codes "policy") refl, tt))
 
 -- a line that is read as a command is the one that it is written as
 pub line_takes : (line : List ℕ) (command : PlainCommand) → command_by_line line ≡ Some command → (line ≡ line_of command) × IsExpressible command

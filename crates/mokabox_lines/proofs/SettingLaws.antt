@@ -10,7 +10,7 @@ use Rattle.std.proofs.lemmas.Str.Pattern.{IsSplitOnceResult, split_parts}
 use Rattle.mokabox_lines.specs.declared.settings.Eviction.{Eviction}
 use Rattle.mokabox_lines.specs.declared.settings.Eviction.TheVariants.{Lru, TinyLfu}
 use Rattle.mokabox_lines.specs.declared.settings.Setting.{Setting}
-use Rattle.mokabox_lines.specs.declared.settings.Setting.TheVariants.{TimeToLive, TimeToIdle, FirstNumber, Capacity, Policy, Weigher}
+use Rattle.mokabox_lines.specs.declared.settings.Setting.TheVariants.{TimeToLive, TimeToIdle, FirstNumber, Capacity, InitialCapacity, Policy, Weigher}
 use Rattle.mokabox_lines.specs.declared.settings.Settings.{Settings}
 use Rattle.mokabox_lines.specs.declared.settings.Weighing.{Weighing}
 use Rattle.mokabox_lines.specs.declared.settings.Weighing.TheVariants.{Bytes}
@@ -98,10 +98,13 @@ names_take = (
       (
         numbered (codes "capacity") Capacity (λ n. refl) (λ n small. small),
         (
-          policy_takes,
+          numbered (codes "initial") InitialCapacity (λ n. refl) (λ n small. small),
           (
-            weigher_takes,
-            tt,
+            policy_takes,
+            (
+              weigher_takes,
+              tt,
+            ),
           ),
         ),
       ),
@@ -130,6 +133,7 @@ setting_again (TimeToLive seconds) small = rw (number_again seconds small) refl
 setting_again (TimeToIdle seconds) small = rw (number_again seconds small) refl
 setting_again (FirstNumber number) small = rw (number_again number small) refl
 setting_again (Capacity most) small = rw (number_again most small) refl
+setting_again (InitialCapacity count) small = rw (number_again count small) refl
 setting_again (Policy Lru) givable = refl
 setting_again (Policy TinyLfu) givable = refl
 setting_again (Weigher Bytes) givable = refl
@@ -165,6 +169,7 @@ setting_field (TimeToLive seconds) small = joined_field (codes "ttl=") (decimal 
 setting_field (TimeToIdle seconds) small = joined_field (codes "tti=") (decimal seconds) (word_field (codes "tti=") refl) (number_field seconds small)
 setting_field (FirstNumber number) small = joined_field (codes "first=") (decimal number) (word_field (codes "first=") refl) (number_field number small)
 setting_field (Capacity most) small = joined_field (codes "capacity=") (decimal most) (word_field (codes "capacity=") refl) (number_field most small)
+setting_field (InitialCapacity count) small = joined_field (codes "initial=") (decimal count) (word_field (codes "initial=") refl) (number_field count small)
 setting_field (Policy Lru) givable = word_field (codes "policy=lru") refl
 setting_field (Policy TinyLfu) givable = word_field (codes "policy=tinylfu") refl
 setting_field (Weigher Bytes) givable = word_field (codes "weigher=bytes") refl

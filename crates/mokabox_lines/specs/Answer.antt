@@ -1,15 +1,15 @@
-use Rattle.std.specs.Prelude.{ℕ, true, false, List, [], ◌∷◌, ◌++◌, codes}
+use Rattle.std.specs.Prelude.{ℕ, true, false, List, [], ◌∷◌, ◌++◌, Option, Some, None, codes}
 use Rattle.std.specs.Fmt.{decimal}
 use Rattle.std.specs.String.{string_bytes}
 use Rattle.moka_model.specs.declared.notification.RemovalCause.{RemovalCause}
 use Rattle.moka_model.specs.declared.notification.RemovalCause.TheVariants as causes
+use Rattle.moka_policy.specs.declared.builder_utils.BuildError.{BuildError}
+use Rattle.moka_policy.specs.declared.builder_utils.BuildError.TheVariants as builds
 use Rattle.moka_policy.specs.declared.policy.Refused as moka_refused
 use Rattle.moka_policy.specs.declared.policy.Refused.TheVariants as refusals
 use Rattle.mokabox_lines.specs.declared.answer.Answer.{Answer}
 use Rattle.mokabox_lines.specs.declared.answer.Answer.TheVariants.{Done, Found, NotFound, Whether, Counted, Refused, NotBuilt, Left, End}
-use Rattle.mokabox_lines.specs.declared.answer.Answer.TheVariants.{BadLine}
-use Rattle.mokabox_lines.specs.declared.answer.BuildRefusal.{BuildRefusal}
-use Rattle.mokabox_lines.specs.declared.answer.BuildRefusal.TheVariants as builds
+use Rattle.mokabox_lines.specs.declared.answer.Answer.TheVariants.{Policy, BadLine}
 
 -- the number by which a refusal is printed
 abbrev pub refusal_number : moka_refused.Refused → ℕ
@@ -17,7 +17,11 @@ refusal_number refusals.OutOfMemory = 1
 refusal_number refusals.NumbersUsedUp = 2
 
 -- the number by which a refusal to build is printed
-abbrev pub build_refusal_number : BuildRefusal → ℕ
+abbrev pub build_refusal_number : BuildError → ℕ
+build_refusal_number builds.NoSegments = 1
+build_refusal_number builds.TooManySegments = 2
+build_refusal_number builds.TimeToLiveTooLong = 3
+build_refusal_number builds.TimeToIdleTooLong = 4
 build_refusal_number builds.OutOfMemory = 5
 
 -- the word by which a cause is printed
@@ -26,6 +30,11 @@ cause_text causes.Expired = codes "Expired"
 cause_text causes.Explicit = codes "Explicit"
 cause_text causes.Replaced = codes "Replaced"
 cause_text causes.Size = codes "Size"
+
+-- how a number is printed that may not be there
+abbrev pub measure_text : Option ℕ → List ℕ
+measure_text None = codes "none"
+measure_text (Some number) = decimal number
 
 -- the line that an answer is printed as, without its end
 abbrev pub answer_text : Answer → List ℕ
@@ -38,6 +47,9 @@ answer_text (Counted count) = decimal count
 answer_text (Refused refused) = codes "refused " ++ decimal (refusal_number refused)
 answer_text (NotBuilt refusal) = codes "refused build " ++ decimal (build_refusal_number refusal)
 answer_text (Left key value cause) = codes "notice " ++ (decimal key ++ (32 ∷ (string_bytes value ++ (32 ∷ cause_text cause))))
+answer_text (Policy capacity live idle segments) =
+    codes "policy capacity " ++ (measure_text capacity.0 ++ (codes " ttl " ++ (measure_text live.0
+    ++ (codes " tti " ++ (measure_text idle.0 ++ (codes " segments " ++ decimal segments))))))
 answer_text End = codes "end"
 answer_text BadLine = codes "bad line"
 

@@ -6,6 +6,7 @@ use Rattle.std.specs.Str.{bytes_eq}
 use Rattle.mokabox_lines.specs.Fields.{line_reading, number_of, sole_number_of, sole_text_of, IsText}
 use Rattle.mokabox_lines.specs.declared.command.Command.{Command}
 use Rattle.mokabox_lines.specs.declared.command.Command.TheVariants.{At, Insert, Get, Has, Invalidate, Tasks, Count, Weight, Notices}
+use Rattle.mokabox_lines.specs.declared.command.Command.TheVariants.{Policy}
 
 -- a command with the bytes of its texts
 abbrev pub PlainCommand : Type 0
@@ -21,6 +22,7 @@ plain_command Tasks = Tasks
 plain_command Count = Count
 plain_command Weight = Weight
 plain_command Notices = Notices
+plain_command Policy = Policy
 
 -- the fields that a command is written as
 abbrev pub command_fields : PlainCommand → List (List ℕ)
@@ -33,6 +35,7 @@ command_fields Tasks = codes "tasks" ∷ []
 command_fields Count = codes "count" ∷ []
 command_fields Weight = codes "weight" ∷ []
 command_fields Notices = codes "notices" ∷ []
+command_fields Policy = codes "policy" ∷ []
 
 -- the line that a command is written as, its fields separated by one space
 abbrev pub line_of : PlainCommand → List ℕ
@@ -49,6 +52,7 @@ IsExpressible Tasks = Unit {0}
 IsExpressible Count = Unit {0}
 IsExpressible Weight = Unit {0}
 IsExpressible Notices = Unit {0}
+IsExpressible Policy = Unit {0}
 
 -- what reads the fields behind a command's word
 abbrev pub Reader : Type 0
@@ -73,6 +77,7 @@ words = (codes "at", λ rest. option_map At (sole_number_of rest))
     ∷ (codes "count", alone Count)
     ∷ (codes "weight", alone Weight)
     ∷ (codes "notices", alone Notices)
+    ∷ (codes "policy", alone Policy)
     ∷ []
 
 abbrev pub read_by : List (List ℕ × Reader) → List ℕ → Reader

@@ -7,7 +7,8 @@ use Rattle.mokabox_lines.specs.Fields.{line_reading, number_of}
 use Rattle.mokabox_lines.specs.declared.settings.Eviction.{Eviction}
 use Rattle.mokabox_lines.specs.declared.settings.Eviction.TheVariants.{Lru, TinyLfu}
 use Rattle.mokabox_lines.specs.declared.settings.Setting.{Setting}
-use Rattle.mokabox_lines.specs.declared.settings.Setting.TheVariants.{TimeToLive, TimeToIdle, FirstNumber, Capacity, Policy, Weigher}
+use Rattle.mokabox_lines.specs.declared.settings.Setting.TheVariants.{TimeToLive, TimeToIdle, FirstNumber, Capacity}
+use Rattle.mokabox_lines.specs.declared.settings.Setting.TheVariants.{InitialCapacity, Policy, Weigher}
 use Rattle.mokabox_lines.specs.declared.settings.Settings.{Settings}
 use Rattle.mokabox_lines.specs.declared.settings.Weighing.{Weighing}
 use Rattle.mokabox_lines.specs.declared.settings.Weighing.TheVariants.{Bytes}
@@ -31,6 +32,7 @@ setting_text (TimeToLive seconds) = codes "ttl=" ++ decimal seconds
 setting_text (TimeToIdle seconds) = codes "tti=" ++ decimal seconds
 setting_text (FirstNumber number) = codes "first=" ++ decimal number
 setting_text (Capacity most) = codes "capacity=" ++ decimal most
+setting_text (InitialCapacity count) = codes "initial=" ++ decimal count
 setting_text (Policy eviction) = codes "policy=" ++ eviction_text eviction
 setting_text (Weigher weighing) = codes "weigher=" ++ weighing_text weighing
 
@@ -44,12 +46,21 @@ IsGivable (TimeToLive seconds) = seconds < 2 ^ 64
 IsGivable (TimeToIdle seconds) = seconds < 2 ^ 64
 IsGivable (FirstNumber number) = number < 2 ^ 64
 IsGivable (Capacity most) = most < 2 ^ 64
+IsGivable (InitialCapacity count) = count < 2 ^ 64
 IsGivable (Policy eviction) = Unit {0}
 IsGivable (Weigher weighing) = Unit {0}
 
 -- no setting is given
 abbrev pub none_given : Settings
-none_given = record { time_to_live = None; time_to_idle = None; first_number = None; capacity = None; policy = None; weigher = None }
+none_given = record {
+  time_to_live = None;
+  time_to_idle = None;
+  first_number = None;
+  capacity = None;
+  initial_capacity = None;
+  policy = None;
+  weigher = None;
+}
 
 -- the settings and one more, which isn't given yet
 abbrev pub with_setting : Settings → Setting → Option Settings
@@ -60,6 +71,8 @@ with_setting settings (TimeToIdle seconds) =
 with_setting settings (FirstNumber number) =
     if is_some settings.first_number then None else Some (record settings { first_number = Some number })
 with_setting settings (Capacity most) = if is_some settings.capacity then None else Some (record settings { capacity = Some most })
+with_setting settings (InitialCapacity count) =
+    if is_some settings.initial_capacity then None else Some (record settings { initial_capacity = Some count })
 with_setting settings (Policy eviction) = if is_some settings.policy then None else Some (record settings { policy = Some eviction })
 with_setting settings (Weigher weighing) = if is_some settings.weigher then None else Some (record settings { weigher = Some weighing })
 
@@ -91,6 +104,7 @@ names = (codes "ttl", λ value. option_map TimeToLive (number_of value))
     ∷ (codes "tti", λ value. option_map TimeToIdle (number_of value))
     ∷ (codes "first", λ value. option_map FirstNumber (number_of value))
     ∷ (codes "capacity", λ value. option_map Capacity (number_of value))
+    ∷ (codes "initial", λ value. option_map InitialCapacity (number_of value))
     ∷ (codes "policy", λ value. option_map Policy (eviction_of value))
     ∷ (codes "weigher", λ value. option_map Weigher (weighing_of value))
     ∷ []

@@ -1,18 +1,27 @@
 //! What the program prints: a line for each answer.
 ghost use Rattle.std.specs.Prelude.{◌≡◌, Some, OnOk};
 ghost use Rattle.std.specs.Io.KnownBytes.{Appends};
-ghost use Rattle.mokabox_lines.specs.Answer.{answer_text, answer_line, cause_text, refusal_number, build_refusal_number};
+ghost use Rattle.mokabox_lines.specs.Answer.{answer_text, answer_line, cause_text, measure_text, refusal_number, build_refusal_number};
 
 use moka_model::notification::RemovalCause;
+use moka_policy::builder_utils::BuildError;
 use moka_policy::policy::Refused;
 use std::io::Write;
 use std::{fmt, io};
 
-/// Why a cache was not built.
+/// A number, where there is one.
 #[derive(Clone, Copy, Debug, PartialEq, Eq)]
-pub enum BuildRefusal {
-    /// Memory was refused.
-    OutOfMemory,
+pub struct Measure(pub Option<u64>);
+
+impl fmt::Display for Measure {
+    ghost output = { λ measure. Some (measure_text measure.0) };
+
+    fn fmt<W: fmt::Write>(&self, f: &mut fmt::Formatter<W>) -> fmt::Result {
+        match self.0 {
+            Some(number) => write!(f, "{number}"),
+            None => write!(f, "none"),
+        }
+    }
 }
 
 /// One line of what the program prints.
@@ -31,9 +40,11 @@ pub enum Answer {
     /// The step was refused.
     Refused(Refused),
     /// The cache was not built.
-    NotBuilt(BuildRefusal),
+    NotBuilt(BuildError),
     /// A value that left, with its key before it and the cause behind it.
     Left(u64, String, RemovalCause),
+    /// A cache's capacity, its time to live and to idle in seconds, and its number of segments.
+    Policy(Measure, Measure, Measure, u64),
     /// No further notice is there.
     End,
     /// The line is none of a script's.
@@ -62,6 +73,10 @@ impl fmt::Display for Answer {
                 let cause = cause_text(*cause);
                 write!(f, "notice {key} {value} {cause}")
             }
+            Answer::Policy(capacity, live, idle, segments) => write!(
+                f,
+                "policy capacity {capacity} ttl {live} tti {idle} segments {segments}"
+            ),
             Answer::End => write!(f, "end"),
             Answer::BadLine => write!(f, "bad line"),
         }
@@ -87,11 +102,15 @@ fn refusal_number(refused: Refused) -> u8
 }
 
 /// The number by which a refusal to build is printed.
-fn build_refusal_number(refusal: BuildRefusal) -> u8
+fn build_refusal_number(refusal: BuildError) -> u8
     ensures { result ≡ build_refusal_number refusal }
 {
     match refusal {
-        BuildRefusal::OutOfMemory => 5,
+        BuildError::NoSegments => 1,
+        BuildError::TooManySegments => 2,
+        BuildError::TimeToLiveTooLong => 3,
+        BuildError::TimeToIdleTooLong => 4,
+        BuildError::OutOfMemory => 5,
     }
 }
 

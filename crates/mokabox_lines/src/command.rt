@@ -26,6 +26,8 @@ pub enum Command<T> {
     Weight,
     /// Takes all notices.
     Notices,
+    /// Asks for the cache's policy.
+    Policy,
 }
 
 /// The command that a line writes. `None` where it writes none.
@@ -57,6 +59,7 @@ fn read(mut fields: Fields<'_>) -> Option<Command<&str>>
         "count" => alone(fields, Command::Count)?,
         "weight" => alone(fields, Command::Weight)?,
         "notices" => alone(fields, Command::Notices)?,
+        "policy" => alone(fields, Command::Policy)?,
         _ => return None,
     };
     Some(command)

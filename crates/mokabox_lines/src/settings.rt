@@ -18,6 +18,8 @@ pub struct Settings {
     pub first_number: Option<u64>,
     /// How much may stay stored, by weight.
     pub capacity: Option<u64>,
+    /// How many keys there is room for from the start.
+    pub initial_capacity: Option<u64>,
     /// Which keys leave where the capacity is passed, and which are admitted.
     pub policy: Option<Eviction>,
     /// How values are weighed.
@@ -51,6 +53,8 @@ pub enum Setting {
     FirstNumber(u64),
     /// How much may stay stored, by weight.
     Capacity(u64),
+    /// How many keys there is room for from the start.
+    InitialCapacity(u64),
     /// Which keys leave where the capacity is passed, and which are admitted.
     Policy(Eviction),
     /// How values are weighed.
@@ -68,6 +72,7 @@ impl Settings {
             Setting::TimeToIdle(seconds) => give(&mut settings.time_to_idle, seconds)?,
             Setting::FirstNumber(number) => give(&mut settings.first_number, number)?,
             Setting::Capacity(most) => give(&mut settings.capacity, most)?,
+            Setting::InitialCapacity(count) => give(&mut settings.initial_capacity, count)?,
             Setting::Policy(eviction) => give(&mut settings.policy, eviction)?,
             Setting::Weigher(weighing) => give(&mut settings.weigher, weighing)?,
         }
@@ -128,6 +133,7 @@ fn read_setting(field: &str) -> Option<Setting>
         "tti" => Some(Setting::TimeToIdle(number(value)?)),
         "first" => Some(Setting::FirstNumber(number(value)?)),
         "capacity" => Some(Setting::Capacity(number(value)?)),
+        "initial" => Some(Setting::InitialCapacity(number(value)?)),
         "policy" => Some(Setting::Policy(read_eviction(value)?)),
         "weigher" => Some(Setting::Weigher(read_weighing(value)?)),
         _ => None,

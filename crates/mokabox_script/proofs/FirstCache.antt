@@ -1,42 +1,39 @@
 -- A cache that was just built is where a script begins.
-use Rattle.std.proofs.Common.{◌≡◌, ◌*◌, ◌%◌, ◌^◌, ◌<◌, ℕ, Bool, is_some, [], Option, Some, None, option_map, unwrap_or, nat_eq, refl, ap, ◌∙◌, subst}
+use Rattle.std.proofs.Common.{◌≡◌, ◌%◌, ◌^◌, ◌<◌, ℕ, Bool, false, is_some, [], Option, Some, None, option_map, nat_eq, refl, ap, ◌∙◌, subst}
 use Rattle.std.proofs.Math.Path.{fun_ext}
-use Rattle.std.specs.Arc.{arc_value}
-use Rattle.std.specs.declared.sync.Arc.{Arc}
-use Rattle.std.specs.declared.alloc.Global.{Global}
 use Rattle.std.specs.declared.convert.Infallible.{Infallible}
 use Rattle.std.specs.Duration.{as_nanos}
-use Rattle.std.specs.declared.time.Duration.{Duration}
 use Rattle.std.specs.Hash.BuildHasherDefault.{initial_hasher}
 use Rattle.std.specs.String.{string_bytes}
 use Rattle.moka_policy.proofs.Callers.{number_hash-remainder}
 use Rattle.moka_policy.specs.Frequency.{none_noted, noted, estimated, estimate_after}
-use Rattle.moka_model.specs.Lives.{no_lifetimes}
+use Rattle.moka_model.specs.Lives.{Lifetimes, no_lifetimes}
+use Rattle.moka_policy.specs.declared.expiry.NoExpiry.{NoExpiry}
 use Rattle.moka_model.specs.StandsFor.{StandsFor}
 use Rattle.moka_state.specs.Behaviour as behaviours
-use Rattle.moka_state.specs.StateData.{estimates, settings_by}
-use Rattle.moka_state.specs.State.{settings_of}
+use Rattle.moka_state.specs.StateData.{SettingsData, estimates, settings_by}
+use Rattle.moka_sync.specs.Builder.{settings_built}
 use Rattle.mokabox_lines.specs.declared.settings.Settings.{Settings}
 use Rattle.mokabox_lines.specs.declared.settings.Weighing.{Weighing}
 use Rattle.mokabox_lines.specs.declared.settings.Weighing.TheVariants as weighings
 use Rattle.mokabox_lines.specs.Settings.{byte_weight}
 use Rattle.mokabox_script.specs.declared.session.Bytes.{Bytes}
 use Rattle.mokabox_script.specs.Script.{Text, CacheSettings, beginning, is_lru_by, weight_by, cache_settings}
-use Rattle.mokabox_script.specs.Session.{CacheData, CacheHasher, cache_hash, cache_behaviour, view, IsAt}
-
--- a number of seconds
-abbrev in_nanos : Option ℕ → Option ℕ
-in_nanos seconds = option_map (λ n. n * 1_000_000_000) seconds
+use Rattle.mokabox_script.specs.Session.{CacheData, CacheHasher, cache_hash, cache_behaviour, view, IsAt, Told, IsTold}
 
 -- the weight of a text, by the weigher of a cache
-abbrev text_weight : Option (Arc Bytes Global) → ℕ → Text → ℕ
-text_weight weigher = behaviours.weight_by (λ it key text. byte_weight (string_bytes text)) (option_map arc_value weigher)
+abbrev text_weight : Option Bytes → ℕ → Text → ℕ
+text_weight weigher = behaviours.weight_by (λ it key text. byte_weight (string_bytes text)) weigher
 
 -- the weight of a text as the settings say
 abbrev weight_given : Option Weighing → ℕ → Text → ℕ
 weight_given weighing key text = weight_by weighing (string_bytes text)
 
-weighed_by : (weigher : Option (Arc Bytes Global)) (weighing : Option Weighing) → is_some weigher ≡ is_some weighing → text_weight weigher ≡ weight_given weighing
+-- the lives of their own that texts have
+abbrev own_lives : Option NoExpiry → Lifetimes ℕ Text
+own_lives expiry = behaviours.lifetimes_by (λ it. no_lifetimes) expiry
+
+weighed_by : (weigher : Option Bytes) (weighing : Option Weighing) → is_some weigher ≡ is_some weighing → text_weight weigher ≡ weight_given weighing
 weighed_by None None same = refl
 weighed_by None (Some weighings.Bytes) same = cc
 weighed_by (Some weigher) None same = cc
@@ -46,30 +43,42 @@ weighed_by (Some weigher) (Some weighings.Bytes) same = refl
 hashed_by : (hasher : CacheHasher) → (initial_hasher hasher).hash < 2 ^ 64 → cache_hash hasher ≡ (λ key. key % 2 ^ 64)
 hashed_by hasher small = fun_ext (λ key. number_hash-remainder (initial_hasher hasher).hash key small)
 
--- what a cache of texts is built with, by what the settings change
-abbrev settings_with : Settings → Option ℕ → Option ℕ → ℕ → Bool → (ℕ → ℕ) → (ℕ → Text → ℕ) → CacheSettings
-settings_with given live idle first is_lru hash weight = record {
+-- what a cache of texts is built with
+abbrev settings_with : Option ℕ → Option ℕ → Option ℕ → ℕ → Bool → (ℕ → ℕ) → (ℕ → Text → ℕ) → Lifetimes ℕ Text → CacheSettings
+settings_with live idle capacity first is_lru hash weight own = record {
   time_to_live = live;
   time_to_idle = idle;
-  max_capacity = given.capacity;
+  max_capacity = capacity;
   first_number = first;
-  behaviour = record { is_lru = is_lru; hash = hash; weight = weight; lifetimes = no_lifetimes };
+  supports_closures = false;
+  behaviour = record { is_lru = is_lru; hash = hash; weight = weight; lifetimes = own };
   frequency = estimate_after 6;
 }
 
--- the cache of a session that was just built
-pub begins : (given : Settings) (cache : CacheData) (live idle : Option Duration) (first : ℕ) (is_lru : Bool) (weigher : Option (Arc Bytes Global)) (hasher : CacheHasher) → option_map as_nanos live ≡ in_nanos given.time_to_live → option_map as_nanos idle ≡ in_nanos given.time_to_idle → first ≡ unwrap_or given.first_number 0 → is_lru ≡ is_lru_by given.policy → is_some weigher ≡ is_some given.weigher → (initial_hasher hasher).hash < 2 ^ 64
-    → StandsFor {E = Infallible} nat_eq (settings_by cache_behaviour (estimates (noted 6) (estimated 6) (none_noted 6)) (settings_of live idle given.capacity first (record { is_lru = is_lru; hasher = hasher; weigher = option_map arc_value weigher; expiry = None }))) (view cache) [] → IsAt cache 0 (cache_settings given) beginning
-begins given cache live idle first is_lru weigher hasher lives idles firsts policy weighed small stands =
-    let live_by : Option ℕ = in_nanos given.time_to_live in
-    let idle_by : Option ℕ = in_nanos given.time_to_idle in
-    let first_by : ℕ = unwrap_or given.first_number 0 in
+-- what the data of a cache's settings mean
+abbrev meant : SettingsData CacheHasher Bytes NoExpiry → CacheSettings
+meant kept = settings_by cache_behaviour (estimates (noted 6) (estimated 6) (none_noted 6)) kept
+
+-- a cache whose builder was told these settings has them
+built_so : (given : Settings) (told : Told) (hasher : CacheHasher) → IsTold given told → (initial_hasher hasher).hash < 2 ^ 64 → meant (settings_built told hasher) ≡ cache_settings given
+built_so given told hasher is small =
+    let wanted : CacheSettings = cache_settings given in
+    let live : Option ℕ = option_map as_nanos told.time_to_live in
+    let idle : Option ℕ = option_map as_nanos told.time_to_idle in
     let hash : ℕ → ℕ = λ key. key % 2 ^ 64 in
-    let same : settings_with given (option_map as_nanos live) (option_map as_nanos idle) first is_lru (cache_hash hasher) (text_weight weigher) ≡ cache_settings given =
-    ap (λ l. settings_with given l (option_map as_nanos idle) first is_lru (cache_hash hasher) (text_weight weigher)) lives
-    ∙ ap (λ l. settings_with given live_by l first is_lru (cache_hash hasher) (text_weight weigher)) idles
-    ∙ ap (λ n. settings_with given live_by idle_by n is_lru (cache_hash hasher) (text_weight weigher)) firsts
-    ∙ ap (λ b. settings_with given live_by idle_by first_by b (cache_hash hasher) (text_weight weigher)) policy
-    ∙ ap (λ h. settings_with given live_by idle_by first_by (is_lru_by given.policy) h (text_weight weigher)) (hashed_by hasher small)
-    ∙ ap (λ w. settings_with given live_by idle_by first_by (is_lru_by given.policy) hash w) (weighed_by weigher given.weigher weighed) in
+    let weight : ℕ → Text → ℕ = weight_given given.weigher in
+    ap (λ l. settings_with l idle told.max_capacity told.first_number told.is_lru (cache_hash hasher) (text_weight told.weigher) (own_lives told.expiry)) is.time_to_live
+    ∙ ap (λ l. settings_with wanted.time_to_live l told.max_capacity told.first_number told.is_lru (cache_hash hasher) (text_weight told.weigher) (own_lives told.expiry)) is.time_to_idle
+    ∙ ap (λ c. settings_with wanted.time_to_live wanted.time_to_idle c told.first_number told.is_lru (cache_hash hasher) (text_weight told.weigher) (own_lives told.expiry)) is.max_capacity
+    ∙ ap (λ n. settings_with wanted.time_to_live wanted.time_to_idle given.capacity n told.is_lru (cache_hash hasher) (text_weight told.weigher) (own_lives told.expiry)) is.first_number
+    ∙ ap (λ b. settings_with wanted.time_to_live wanted.time_to_idle given.capacity wanted.first_number b (cache_hash hasher) (text_weight told.weigher) (own_lives told.expiry)) is.is_lru
+    ∙ ap (λ h. settings_with wanted.time_to_live wanted.time_to_idle given.capacity wanted.first_number (is_lru_by given.policy) h (text_weight told.weigher) (own_lives told.expiry)) (hashed_by hasher small)
+    ∙ ap (λ w. settings_with wanted.time_to_live wanted.time_to_idle given.capacity wanted.first_number (is_lru_by given.policy) hash w (own_lives told.expiry)) (weighed_by told.weigher given.weigher is.weigher)
+    ∙ ap (λ e. settings_with wanted.time_to_live wanted.time_to_idle given.capacity wanted.first_number (is_lru_by given.policy) hash weight (own_lives e)) is.expiry
+
+-- the cache of a session that was just built
+pub begins : (given : Settings) (cache : CacheData) (told : Told) (hasher : CacheHasher) → IsTold given told → (initial_hasher hasher).hash < 2 ^ 64 → cache.settings ≡ settings_built told hasher
+    → StandsFor {E = Infallible} nat_eq (meant cache.settings) (view cache) [] → IsAt cache 0 (cache_settings given) beginning
+begins given cache told hasher is small built stands =
+    let same : meant cache.settings ≡ cache_settings given = ap meant built ∙ built_so given told hasher is small in
     record { stands = subst (λ settings. StandsFor {E = Infallible} nat_eq settings (view cache) []) same stands; now = refl }

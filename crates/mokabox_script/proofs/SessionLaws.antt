@@ -11,7 +11,7 @@ use Rattle.mokabox_lines.specs.Answer.{answer_text}
 use Rattle.mokabox_lines.specs.declared.answer.Answer.{Answer}
 use Rattle.mokabox_lines.specs.Command.{PlainCommand}
 use Rattle.mokabox_lines.specs.declared.command.Command.TheVariants as commands
-use Rattle.mokabox_script.specs.Script.{Text, is_copy, CacheSettings, CacheStep, Makes, moment_after, answer_of, CallsPrint}
+use Rattle.mokabox_script.specs.Script.{Text, is_copy, CacheSettings, CacheStep, Makes, moment_after, answer_of, CallsPrint, policy_line, told}
 use Rattle.mokabox_script.specs.Session.{CacheData, view, Prints}
 
 -- The cache goes from one state to another by a call with this reply.
@@ -22,12 +22,18 @@ pub record Goes (old new : CacheData) (call : Call ℕ Text) (reply : Reply ℕ 
 -- the moment of what follows
 pub moved : (cache : CacheData) (moment later : ℕ) → Prints cache moment (commands.At later) [] cache later
 moved cache moment later settings before is =
-    (record before { moment = later }, ([], refl, (refl, refl), refl), record { stands = is.stands; now = refl })
+    (record before { moment = later }, ([], [], refl, (refl, refl), refl, refl), record { stands = is.stands; now = refl })
+
+-- the policy, by the settings that the cache was built with
+pub policy_told : (cache : CacheData) (moment : ℕ) (lines : List (List ℕ)) → lines ≡ policy_line (view cache).settings ∷ [] → Prints cache moment commands.Policy lines cache moment
+policy_told cache moment lines are settings before is =
+    (before, ([], [], refl, (refl, refl), are ∙ ap (λ s. policy_line s ∷ []) is.stands.settings, sym is.now ∙ is.now), is)
 
 -- A command is one call, that of a step.
 pub record IsOneCall (moment : ℕ) (command : PlainCommand) (step : Step ℕ Text) : Type 0 where
   pub makes : (notices : ℕ) → Makes notices moment command (call_of step ∷ [])
   pub stays : (at : ℕ) → moment_after command at ≡ at
+  pub says_nothing : (settings : CacheSettings) → told settings command ≡ []
 
 -- then its line is that of the reply to the step
 pub one_call : (old new : CacheData) (moment : ℕ) (command : PlainCommand) (step : Step ℕ Text) (reply : Reply ℕ Text) (answer : Answer) (items : List Answer) → IsOneCall moment command step → Goes old new (call_of step) reply → answer ≡ answer_of reply → items ≡ answer ∷ [] → Prints old moment command (map answer_text items) new moment
@@ -35,7 +41,7 @@ one_call old new moment command step reply answer items is_one goes is_answer ar
     let made : (notices : ℕ) → Makes notices before.moment command (call_of step ∷ []) = subst (λ at. (notices : ℕ) → Makes notices at command (call_of step ∷ [])) is.now is_one.makes in
     let line : map answer_text items ≡ answer_text (answer_of reply) ∷ [] = ap (map answer_text) are ∙ ap (λ a. answer_text a ∷ []) is_answer in (
       record { steps = after_reply nat_eq settings (call_of step) reply before.steps; moment = before.moment },
-      (call_of step ∷ [], made _, (reply, [], goes.reply_is settings before.steps is.stands, line, (refl, refl)), sym (is_one.stays before.moment)),
+      (call_of step ∷ [], map answer_text items, made _, (reply, [], goes.reply_is settings before.steps is.stands, line, (refl, refl)), ap (λ lines. lines ++ map answer_text items) (sym (is_one.says_nothing settings)), sym (is_one.stays before.moment)),
       record { stands = goes.stands settings before.steps is.stands; now = is.now },
     )
 
@@ -77,7 +83,7 @@ all_taken old new moment count printed counted has settings before is =
     let taken = has settings before.steps is.stands in
     let all = counted ∙ ap (λ b. length b.notices + 1) is.stands.books in (
       record { steps = taken.after; moment = before.moment },
-      (replicate count calls.TakeNotice, ap (λ n. replicate n calls.TakeNotice) all, taken.prints, refl),
+      (replicate count calls.TakeNotice, printed, ap (λ n. replicate n calls.TakeNotice) all, taken.prints, refl, refl),
       record { stands = taken.stands; now = is.now },
     )
 

@@ -1,7 +1,8 @@
 -- What a script prints, by the calls of its cache.
-use Rattle.std.specs.Prelude.{◌≡◌, ℕ, ◌+◌, ◌*◌, ◌%◌, ◌^◌, Bool, true, false, ◌||◌, List, [], ◌∷◌, ◌++◌, length, flat_map, replicate, Option}
-use Rattle.std.specs.Prelude.{Some, None, String, option_map, unwrap_or, nat_eq, codes, ◌⊎◌, if◌then◌else◌}
+use Rattle.std.specs.Prelude.{◌≡◌, ℕ, ◌+◌, ◌*◌, ◌/◌, ◌%◌, ◌^◌, Bool, true, false, ◌||◌, List, [], ◌∷◌, ◌++◌, length}
+use Rattle.std.specs.Prelude.{flat_map, replicate, Option, Some, None, String, option_map, unwrap_or, nat_eq, codes, ◌⊎◌, if◌then◌else◌}
 use Rattle.std.specs.Arc.{arc_value}
+use Rattle.std.specs.Fmt.{decimal}
 use Rattle.std.specs.List.{onto_first}
 use Rattle.std.specs.String.{string_bytes}
 use Rattle.std.specs.declared.alloc.Global.{Global}
@@ -16,12 +17,16 @@ use Rattle.moka_policy.specs.Frequency.{estimate_after}
 use Rattle.moka_state.specs.Step.{IsReplyTo, after_reply}
 use Rattle.moka_state.specs.declared.step.Reply.{Reply}
 use Rattle.moka_state.specs.declared.step.Reply.TheVariants as replies
-use Rattle.mokabox_lines.specs.Answer.{answer_text}
+use Rattle.moka_policy.specs.Building.{too_long_of}
+use Rattle.moka_policy.specs.declared.builder_utils.BuildError.{BuildError}
+use Rattle.moka_policy.specs.declared.builder_utils.BuildError.TheVariants.{OutOfMemory}
+use Rattle.mokabox_lines.specs.Answer.{answer_text, measure_text}
 use Rattle.mokabox_lines.specs.declared.answer.Answer.{Answer}
 use Rattle.mokabox_lines.specs.declared.answer.Answer.TheVariants as answers
 use Rattle.mokabox_lines.specs.Command.{PlainCommand, command_by_line}
 use Rattle.mokabox_lines.specs.Settings.{settings_by, byte_weight}
 use Rattle.mokabox_lines.specs.declared.command.Command.TheVariants.{At, Insert, Get, Has, Invalidate, Tasks, Count, Weight, Notices}
+use Rattle.mokabox_lines.specs.declared.command.Command.TheVariants.{Policy}
 use Rattle.mokabox_lines.specs.declared.settings.Eviction.{Eviction}
 use Rattle.mokabox_lines.specs.declared.settings.Eviction.TheVariants.{Lru, TinyLfu}
 use Rattle.mokabox_lines.specs.declared.settings.Settings.{Settings}
@@ -61,6 +66,7 @@ Makes notices moment Tasks made = made ≡ calls.RunPendingTasks moment ∷ []
 Makes notices moment Count made = made ≡ calls.EntryCount ∷ []
 Makes notices moment Weight made = made ≡ calls.WeightedSize ∷ []
 Makes notices moment Notices made = made ≡ replicate (notices + 1) calls.TakeNotice
+Makes notices moment Policy made = made ≡ []
 
 -- the moment of the commands after a command
 abbrev pub moment_after : PlainCommand → ℕ → ℕ
@@ -85,11 +91,28 @@ CallsPrint settings steps (call ∷ more) printed after =
     (reply : Reply ℕ Text) × (rest : List (List ℕ)) × IsReplyTo nat_eq is_copy settings steps call reply
     × (printed ≡ answer_text (answer_of reply) ∷ rest) × CallsPrint settings (after_reply nat_eq settings call reply steps) more rest after
 
+-- a moment in whole seconds
+abbrev pub in_seconds : Option ℕ → Option ℕ
+in_seconds nanos = option_map (λ n. n / 1_000_000_000) nanos
+
+-- The policy of a cache, its lives in seconds. It is one segment.
+abbrev pub policy_line : CacheSettings → List ℕ
+policy_line settings =
+    codes "policy capacity " ++ (measure_text settings.max_capacity ++ (codes " ttl " ++ (measure_text (in_seconds settings.time_to_live)
+    ++ (codes " tti " ++ (measure_text (in_seconds settings.time_to_idle) ++ (codes " segments " ++ decimal 1))))))
+
+-- what a command prints of the settings alone
+abbrev pub told : CacheSettings → PlainCommand → List (List ℕ)
+told settings Policy = policy_line settings ∷ []
+told settings command = []
+
 -- What a command prints, and how far the script has come then.
 abbrev pub CommandPrints : CacheSettings → Course → PlainCommand → List (List ℕ) → Course → Type 0
 CommandPrints settings before command printed after =
-    (made : List (Call ℕ Text)) × Makes (length (notices_left nat_eq settings (events_in before.steps))) before.moment command made
-    × CallsPrint settings before.steps made printed after.steps × (after.moment ≡ moment_after command before.moment)
+    (made : List (Call ℕ Text)) × (answers : List (List ℕ))
+    × Makes (length (notices_left nat_eq settings (events_in before.steps))) before.moment command made
+    × CallsPrint settings before.steps made answers after.steps × (printed ≡ told settings command ++ answers)
+    × (after.moment ≡ moment_after command before.moment)
 
 -- What a line prints, how far the script has come then, and whether the line is bad.
 abbrev pub LinePrints : CacheSettings → Course → Option PlainCommand → List (List ℕ) → Course → Bool → Type 0
@@ -122,6 +145,7 @@ cache_settings settings = record {
   time_to_idle = option_map (λ seconds. seconds * 1_000_000_000) settings.time_to_idle;
   max_capacity = settings.capacity;
   first_number = unwrap_or settings.first_number 0;
+  supports_closures = false;
   behaviour = record {
     is_lru = is_lru_by settings.policy;
     hash = λ key. key % 2 ^ 64;
@@ -131,6 +155,14 @@ cache_settings settings = record {
   frequency = estimate_after 6;
 }
 
+-- Which of the two lives a cache is not built with, if one is too long.
+abbrev pub lives_refused : Settings → Option BuildError
+lives_refused settings = too_long_of (cache_settings settings).time_to_live (cache_settings settings).time_to_idle
+
+-- what is printed where a cache is not built
+abbrev pub not_built : BuildError → List ℕ
+not_built cause = answer_text (answers.NotBuilt cause)
+
 -- where a script begins
 abbrev pub beginning : Course
 beginning = record { steps = []; moment = 0 }
@@ -138,13 +170,15 @@ beginning = record { steps = []; moment = 0 }
 abbrev pub status_of : Bool → ℕ
 status_of bad = if bad then 2 else 0
 
--- What the first line and those after it print, and the status at the end.
+-- What the first line and those after it print, and the status at the end. A cache whose lives are not too long may be refused
+-- for want of memory.
 abbrev pub FirstPrints : Option Settings → List (List ℕ) → List (List ℕ) → ℕ → Type 0
 FirstPrints None lines printed status = (printed ≡ codes "bad line" ∷ []) × (status ≡ 2)
 FirstPrints (Some settings) lines printed status =
-    ((rest : List (List ℕ)) × (bad : Bool) × (printed ≡ codes "ok" ∷ rest) × LinesPrint (cache_settings settings) beginning lines rest bad
+    ((rest : List (List ℕ)) × (bad : Bool) × (lives_refused settings ≡ None) × (printed ≡ codes "ok" ∷ rest)
+    × LinesPrint (cache_settings settings) beginning lines rest bad
     × (status ≡ status_of bad))
-    ⊎ ((printed ≡ codes "refused build 5" ∷ []) × (status ≡ 2))
+    ⊎ ((printed ≡ not_built (unwrap_or (lives_refused settings) OutOfMemory) ∷ []) × (status ≡ 2))
 
 -- The lines of an input: a line end ends a line, and what stands behind the last one is a line if it is anything.
 abbrev pub lines_of : List ℕ → List (List ℕ)

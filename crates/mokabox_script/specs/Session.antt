@@ -1,11 +1,13 @@
 -- How far a script has come where its session is, and what the session prints.
-use Rattle.std.specs.Prelude.{◌≡◌, ℕ, Bool, List, Option, nat_eq}
+use Rattle.std.specs.Prelude.{◌≡◌, ℕ, Bool, List, Option, None, is_some, option_map, unwrap_or, nat_eq}
+use Rattle.std.specs.Duration.{as_nanos}
 use Rattle.std.specs.Hash.{u64 as number_writes}
 use Rattle.std.specs.Hash.BuildHasherDefault.{initial_hasher}
 use Rattle.std.specs.Io.KnownBytes.{Appends}
 use Rattle.std.specs.String.{string_bytes}
 use Rattle.std.specs.declared.hash.BuildHasherDefault.{BuildHasherDefault}
 use Rattle.moka_policy.specs.declared.expiry.NoExpiry.{NoExpiry}
+use Rattle.moka_policy.specs.declared.listener.NoListener.{NoListener}
 use Rattle.moka_policy.specs.declared.policy.NumberHash.{NumberHash}
 use Rattle.moka_policy.specs.Frequency.{Counts, none_noted, noted, estimated}
 use Rattle.moka_policy.specs.NumberHash.{number_hash}
@@ -14,8 +16,10 @@ use Rattle.moka_model.specs.StandsFor.{View, StandsFor}
 use Rattle.moka_state.specs.Behaviour.{BehaviourData, hash_by, behaviour_by}
 use Rattle.moka_state.specs.StateData.{StateData, estimates, view_by}
 use Rattle.mokabox_lines.specs.Command.{PlainCommand, command_by_line}
+use Rattle.moka_sync.specs.Builder.{BuilderData}
 use Rattle.mokabox_lines.specs.Settings.{byte_weight}
-use Rattle.mokabox_script.specs.Script.{Text, CacheSettings, Course, CommandPrints, LinePrints, lines_text}
+use Rattle.mokabox_lines.specs.declared.settings.Settings.{Settings}
+use Rattle.mokabox_script.specs.Script.{Text, CacheSettings, Course, CommandPrints, LinePrints, cache_settings, is_lru_by, lines_text}
 use Rattle.mokabox_script.specs.declared.session.Bytes.{Bytes}
 
 -- what makes the hashers of a script's cache
@@ -37,6 +41,21 @@ cache_behaviour = behaviour_by cache_hash (λ weigher key text. byte_weight (str
 -- what a script's cache is, by what it keeps
 abbrev pub view : CacheData → View ℕ Text
 view = view_by cache_behaviour (estimates (noted 6) (estimated 6)) (none_noted 6)
+
+-- what the builder of a script's cache was told
+abbrev pub Told : Type 0
+Told = BuilderData Bytes NoExpiry NoListener
+
+-- A builder was told what these settings say, and no more.
+pub record IsTold (given : Settings) (told : Told) : Type 0 where
+  pub name : told.name ≡ None
+  pub max_capacity : told.max_capacity ≡ given.capacity
+  pub time_to_live : option_map as_nanos told.time_to_live ≡ (cache_settings given).time_to_live
+  pub time_to_idle : option_map as_nanos told.time_to_idle ≡ (cache_settings given).time_to_idle
+  pub is_lru : told.is_lru ≡ is_lru_by given.policy
+  pub weigher : is_some told.weigher ≡ is_some given.weigher
+  pub expiry : told.expiry ≡ None
+  pub first_number : told.first_number ≡ unwrap_or given.first_number 0
 
 -- A session is where the script has come: its cache stands for the accepted steps, and its moment is the script's.
 pub record IsAt (cache : CacheData) (moment : ℕ) (settings : CacheSettings) (course : Course) : Type 0 where

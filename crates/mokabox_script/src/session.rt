@@ -1,5 +1,5 @@
 //! The cache that a script drives.
-ghost use Rattle.std.specs.Prelude.{◌≡◌, refl, map, is_some, IfOk};
+ghost use Rattle.std.specs.Prelude.{◌≡◌, None, false, refl, map, is_some, unwrap_or, IfOk, IfErr, OnOk};
 ghost use Rattle.std.specs.Arc.{arc_value};
 ghost use Rattle.std.specs.String.{string_bytes};
 ghost use Rattle.std.proofs.Math.Path.{◌∙◌};
@@ -7,14 +7,20 @@ ghost use Rattle.moka_model.specs.Lives.{no_lifetimes};
 ghost use Rattle.moka_policy.specs.Policy.{is_lru};
 ghost use Rattle.mokabox_lines.specs.Answer.{answer_text};
 ghost use Rattle.mokabox_lines.specs.Command.{plain_command};
-ghost use Rattle.mokabox_script.specs.Script.{beginning, is_lru_by, cache_settings, answer_of};
-ghost use Rattle.mokabox_script.specs.Session.{IsAt, Prints};
+ghost use Rattle.mokabox_script.specs.Script.{beginning, is_lru_by, cache_settings, lives_refused, answer_of};
+ghost use Rattle.mokabox_script.specs.Session.{IsAt, IsTold, Prints};
 ghost use Rattle.mokabox_lines.specs.Settings.{byte_weight};
 ghost use Rattle.mokabox_lines.specs.declared.command.Command.TheVariants as commands;
 
-use moka::policy::{CacheTypes, CountTable, EvictionPolicy, NoExpiry, NumberHash, Weigher};
-use moka::state::{CacheState, Reply, Settings, Step};
-use mokabox_lines::answer::{Answer, BuildRefusal};
+use moka::common::builder_utils::BuildError;
+use moka::policy::{
+    CacheTypes, CountTable, EvictionPolicy, ManualClock, NoExpiry, NoListener, NoPredicate,
+    NumberHash, Weigher,
+};
+use moka::state::{CacheState, Reply, Step};
+use moka::sync::CacheBuilder;
+use moka::sync::builder::Single;
+use mokabox_lines::answer::{Answer, Measure};
 use mokabox_lines::command::Command;
 use mokabox_lines::settings;
 use mokabox_lines::settings::{Eviction, Weighing};
@@ -34,7 +40,13 @@ impl CacheTypes<u64, String> for ScriptTypes {
 
     type Expiry = NoExpiry;
 
+    type Predicate = NoPredicate;
+
     type Frequency = CountTable<6>;
+
+    type Listener = NoListener;
+
+    type Clock = ManualClock;
 
     type Error = Infallible;
 
@@ -43,6 +55,8 @@ impl CacheTypes<u64, String> for ScriptTypes {
     ghost equal_keys_weigh = { λ _ _ _ _ _. refl };
 
     ghost lifetimes = { λ _. no_lifetimes };
+
+    ghost test = { λ _ _ _. false };
 
     ghost keeps = { λ _ _. Unit {0} };
 
@@ -74,34 +88,18 @@ pub struct Session {
 }
 
 impl Session {
-    /// A cache with these settings, at moment 0.
-    pub fn new(alloc: Global, settings: settings::Settings) -> Result<Self, BuildRefusal>
-        ensures { IfOk result (λ session. IsAt session.cache session.moment (cache_settings settings) beginning) }
+    /// A cache with these settings, at moment 0. Refused where a life is too long, and else for want of memory alone.
+    pub fn new(alloc: Global, settings: settings::Settings) -> Result<Self, BuildError>
+        ensures begun { IfOk result (λ session. IsAt session.cache session.moment (cache_settings settings) beginning) }
+        ensures accepted { OnOk result (lives_refused settings ≡ None) }
+        ensures refused { IfErr result (λ cause. cause ≡ unwrap_or (lives_refused settings) BuildError.OutOfMemory) }
     {
-        let Ok(hasher) = Arc::new(alloc, BuildHasherDefault::default()) else {
-            return Err(BuildRefusal::OutOfMemory);
-        };
-        let Ok(weigher) = weigher_of(alloc, settings.weigher) else {
-            return Err(BuildRefusal::OutOfMemory);
-        };
-        let settings = Settings {
-            time_to_live: settings.time_to_live.map(Duration::from_secs),
-            time_to_idle: settings.time_to_idle.map(Duration::from_secs),
-            max_capacity: settings.capacity,
-            eviction_policy: policy_of(settings.policy),
-            weigher,
-            expiry: None,
-            first_number: settings.first_number.unwrap_or(0),
-            hasher,
-        };
-        match CacheState::new(alloc, settings) {
-            Ok(cache) => Ok(Session {
-                alloc,
-                cache,
-                moment: 0,
-            }),
-            Err(_) => Err(BuildRefusal::OutOfMemory),
-        }
+        let cache = builder_of(settings).build_state(alloc, BuildHasherDefault::default())?;
+        Ok(Session {
+            alloc,
+            cache,
+            moment: 0,
+        })
     }
 
     /// Does a command, and answers it. An `Err` is want of memory for the answers or for what is handed in: the command
@@ -117,6 +115,7 @@ impl Session {
                 return Ok(Vec::new(self.alloc));
             }
             Command::Notices => return self.notices(),
+            Command::Policy => return self.policy(),
             Command::Insert(key, value) => Step::Insert {
                 key: self.shared(key)?,
                 value: String::from_str(self.alloc, value)?,
@@ -139,6 +138,21 @@ impl Session {
             Command::Weight => Step::WeightedSize,
         };
         let answer = answer_of(self.cache.step(step));
+        Ok(vec![in self.alloc; answer]?)
+    }
+
+    // The cache's policy, its lives in seconds.
+    fn policy(&self) -> Result<Vec<Answer>, AllocError>
+        ensures { IfOk result (λ answers. Prints self.now.cache self.now.moment commands.Policy
+            (map answer_text answers.items) self.now.cache self.now.moment) }
+    {
+        let policy = self.cache.policy();
+        let answer = Answer::Policy(
+            Measure(policy.max_capacity()),
+            Measure(policy.time_to_live().map(|life| life.as_secs())),
+            Measure(policy.time_to_idle().map(|life| life.as_secs())),
+            policy.num_segments() as u64,
+        );
         Ok(vec![in self.alloc; answer]?)
     }
 
@@ -181,13 +195,65 @@ fn answer_of(reply: Reply<u64, String>) -> Answer
     }
 }
 
-// What weighs the values of a cache, where its settings say how.
-fn weigher_of(alloc: Global, weighing: Option<Weighing>) -> Result<Option<Arc<Bytes>>, AllocError>
-    ensures { IfOk result (λ weigher. is_some weigher ≡ is_some weighing) }
+// The builder of a script's cache.
+type Builder = CacheBuilder<u64, String, ScriptTypes, Single>;
+
+// What builds the cache that these settings give.
+fn builder_of(settings: settings::Settings) -> Builder
+    ensures { IsTold settings result }
+{
+    let builder = CacheBuilder::default()
+        .eviction_policy(policy_of(settings.policy))
+        .first_number(settings.first_number.unwrap_or(0))
+        .initial_capacity(settings.initial_capacity.unwrap_or(0) as usize);
+    let builder = limited(builder, settings.capacity);
+    let builder = lived(builder, settings.time_to_live.map(Duration::from_secs));
+    let builder = idled(builder, settings.time_to_idle.map(Duration::from_secs));
+    weighed(builder, settings.weigher)
+}
+
+// The builder that is told a capacity, where there is one.
+fn limited(builder: Builder, capacity: Option<u64>) -> Builder
+    requires { builder.max_capacity ≡ None }
+    ensures { result ≡ record builder { max_capacity = capacity } }
+{
+    match capacity {
+        Some(capacity) => builder.max_capacity(capacity),
+        None => builder,
+    }
+}
+
+// The builder that is told a time to live, where there is one.
+fn lived(builder: Builder, time_to_live: Option<Duration>) -> Builder
+    requires { builder.time_to_live ≡ None }
+    ensures { result ≡ record builder { time_to_live = time_to_live } }
+{
+    match time_to_live {
+        Some(life) => builder.time_to_live(life),
+        None => builder,
+    }
+}
+
+// The builder that is told a time to idle, where there is one.
+fn idled(builder: Builder, time_to_idle: Option<Duration>) -> Builder
+    requires { builder.time_to_idle ≡ None }
+    ensures { result ≡ record builder { time_to_idle = time_to_idle } }
+{
+    match time_to_idle {
+        Some(life) => builder.time_to_idle(life),
+        None => builder,
+    }
+}
+
+// The builder that is told a weigher, where the settings say how to weigh.
+fn weighed(builder: Builder, weighing: Option<Weighing>) -> Builder
+    requires { builder.weigher ≡ None }
+    ensures weigher { is_some result.weigher ≡ is_some weighing }
+    ensures others { result ≡ record builder { weigher = result.weigher } }
 {
     match weighing {
-        Some(Weighing::Bytes) => Ok(Some(Arc::new(alloc, Bytes)?)),
-        None => Ok(None),
+        Some(Weighing::Bytes) => builder.weigher(Bytes),
+        None => builder,
     }
 }
 

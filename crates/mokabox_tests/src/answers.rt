@@ -1,7 +1,8 @@
 //! The line of each answer, and the code of each status.
+use moka::common::builder_utils::BuildError;
 use moka::notification::RemovalCause;
 use moka::policy::Refused;
-use mokabox_lines::answer::{Answer, BuildRefusal, write_answer};
+use mokabox_lines::answer::{Answer, Measure, write_answer};
 use mokabox_script::script::Status;
 use std::test::Fail;
 
@@ -20,8 +21,28 @@ fn answers_have_their_lines(rt: HostRuntime) -> Result<(), Fail> {
         (Answer::Refused(Refused::OutOfMemory), "refused 1\n"),
         (Answer::Refused(Refused::NumbersUsedUp), "refused 2\n"),
         (
-            Answer::NotBuilt(BuildRefusal::OutOfMemory),
+            Answer::NotBuilt(BuildError::NoSegments),
+            "refused build 1\n",
+        ),
+        (
+            Answer::NotBuilt(BuildError::TooManySegments),
+            "refused build 2\n",
+        ),
+        (
+            Answer::NotBuilt(BuildError::TimeToLiveTooLong),
+            "refused build 3\n",
+        ),
+        (
+            Answer::NotBuilt(BuildError::TimeToIdleTooLong),
+            "refused build 4\n",
+        ),
+        (
+            Answer::NotBuilt(BuildError::OutOfMemory),
             "refused build 5\n",
+        ),
+        (
+            Answer::Policy(Measure(Some(100)), Measure(None), Measure(Some(0)), 8),
+            "policy capacity 100 ttl none tti 0 segments 8\n",
         ),
         (
             Answer::Left(7, value, RemovalCause::Size),

@@ -1,6 +1,9 @@
 //! Arguments, and readers and writers that fail.
 use crate::runs::{Row, SOUND, Way, goes};
+use mokabox_script::program::run_program;
 use mokabox_script::script::Status;
+use std::fs;
+use std::io::BufWriter;
 use std::test::Fail;
 
 const USAGE: &str = "usage: mokabox [threads N]\n";
@@ -101,6 +104,17 @@ fn a_flush_that_fails_fails_the_run(rt: HostRuntime) -> Result<(), Fail> {
         USAGE.as_bytes(),
         Status::Failed,
     )
+}
+
+// On a full device the answers are lost when they are flushed, as the program flushes them.
+#[test]
+fn a_full_device_fails_the_run(rt: HostRuntime) -> Result<(), Fail> {
+    let device = fs::create(&rt, "/dev/full")?;
+    let mut writer = BufWriter::new(rt.alloc(), device)?;
+    let status = run_program(rt.alloc(), &[], SCRIPT.as_bytes(), &mut writer);
+    assert_eq!(rt; status, Status::Failed);
+    assert_eq!(rt; status.code(), 1);
+    Ok(())
 }
 
 const BROKEN: [Row; 8] = [

@@ -28,6 +28,7 @@ fn bad_lines_are_said(rt: HostRuntime) -> Result<(), Fail> {
         b"tasks 1",
         b"count 1",
         b"weight 1",
+        b"policy 1",
         b"at",
         b"insert 1 \xff\xfe",
         b"insert 1 \xed\xa0\x80",

@@ -125,6 +125,56 @@ fn the_first_line_says_how_the_cache_is_built(rt: HostRuntime) -> Result<(), Fai
     prints(&rt, rt.alloc(), &FIRST_LINES)
 }
 
+const BUILT: [Row; 10] = [
+    (
+        "new capacity=100 ttl=2700 tti=900\npolicy\n",
+        "ok\npolicy capacity 100 ttl 2700 tti 900 segments 1\n",
+        Status::Done,
+    ),
+    (
+        "new\npolicy\nget 1\n",
+        "ok\npolicy capacity none ttl none tti none segments 1\nnone\n",
+        Status::Done,
+    ),
+    (
+        "new ttl=31536000000 tti=31536000000\npolicy\n",
+        "ok\npolicy capacity none ttl 31536000000 tti 31536000000 segments 1\n",
+        Status::Done,
+    ),
+    (
+        "new ttl=31536000001\ncount\n",
+        "refused build 3\n",
+        Status::Bad,
+    ),
+    ("new tti=31536000001\n", "refused build 4\n", Status::Bad),
+    (
+        "new tti=31536000001 ttl=31536000001\n",
+        "refused build 3\n",
+        Status::Bad,
+    ),
+    (
+        "new ttl=18446744073709551615 ttl=1\n",
+        "bad line\n",
+        Status::Bad,
+    ),
+    (
+        "new initial=100 capacity=2 policy=lru\ninsert 1 a\nget 1\ncount\npolicy\n",
+        "ok\nok\nsome a\n1\npolicy capacity 2 ttl none tti none segments 1\n",
+        Status::Done,
+    ),
+    ("new initial=1 initial=1\n", "bad line\n", Status::Bad),
+    (
+        "new ttl=10\npolicy\nat 5\npolicy x\n",
+        "ok\npolicy capacity none ttl 10 tti none segments 1\nbad line\n",
+        Status::Bad,
+    ),
+];
+
+#[test]
+fn a_cache_is_built_as_its_policy_says(rt: HostRuntime) -> Result<(), Fail> {
+    prints(&rt, rt.alloc(), &BUILT)
+}
+
 const WEIGHED: [Row; 2] = [
     (
         "new capacity=5 weigher=bytes\ninsert 1 abc\ninsert 2 de\nget 1\nget 2\ntasks\n\

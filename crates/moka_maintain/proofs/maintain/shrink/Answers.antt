@@ -4,4 +4,4 @@ use Rattle.moka_table.specs.Table.{weight_of}
 use Rattle.moka_maintain.proofs.maintain.shrink.Goals as goal
 
 pub evict_first-requires : goal.evict_first-requires
-evict_first-requires g c = omega (arith, c.victims-count.ensures, front-le weight_of c.args.capacity 0 c.args.table.now.admitted)
+evict_first-requires g c = omega (arith, c.victims-count.ensures.count, front-le weight_of c.args.capacity 0 c.args.table.now.admitted)

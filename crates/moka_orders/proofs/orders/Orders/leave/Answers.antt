@@ -21,6 +21,8 @@ returns-then-is_admitted c =
     let there = in-admitted _ _ c.args.number c.is_admitted-is_admitted.result c.requires c.is_admitted-is_admitted.ensures.waiting c.if-is_admitted.true in
     let m = left-admitted c.args.self.now.nodes.items c.unlink.new.nodes.items c.args.number _ _ c.args.self.now.ringed there c.unlink.ensures in
     record {
+      was_admitted = c.is_admitted-is_admitted.ensures.admitted;
+      was_waiting = c.is_admitted-is_admitted.ensures.waiting;
       admitted = m.admitted;
       waiting = m.waiting;
       kept = record { same = λ k. ap row_of (c.unlink.ensures.rest.same k); hash = c.unlink.ensures.rest.hash; places = c.unlink.ensures.rest.len };
@@ -31,6 +33,8 @@ returns-else-is_admitted c =
     let there = in-waiting _ _ c.args.number c.is_admitted-is_admitted.result c.requires c.is_admitted-is_admitted.ensures.admitted c.if-is_admitted.false in
     let m = left-waiting c.args.self.now.nodes.items c.unlink.new.nodes.items c.args.number _ _ c.args.self.now.ringed there c.unlink.ensures in
     record {
+      was_admitted = c.is_admitted-is_admitted.ensures.admitted;
+      was_waiting = c.is_admitted-is_admitted.ensures.waiting;
       admitted = m.admitted;
       waiting = m.waiting;
       kept = record { same = λ k. ap row_of (c.unlink.ensures.rest.same k); hash = c.unlink.ensures.rest.hash; places = c.unlink.ensures.rest.len };

@@ -16,7 +16,7 @@ returns c =
     let moved = kept c.args.self.now.nodes.items c.grow.new.nodes.items _ _
     (λ k. ap (λ n. n.next) (g.same k)) (λ k. ap (λ n. n.prev) (g.same k)) (λ k. ap (λ n. n.is_admitted) (g.same k)) g.more g.few c.args.self.now.ringed in
     record {
-      place = c.grow.ensures.place;
+      made = c.grow.ensures.places;
       admitted = moved.admitted;
       waiting = moved.waiting;
       same = λ k. ap (λ n. row_of n.same) (g.same k);

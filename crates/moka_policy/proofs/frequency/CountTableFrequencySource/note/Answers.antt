@@ -1,9 +1,14 @@
-use Rattle.std.proofs.Common.{rules, ◌≡◌, ◌/◌, ◌≤◌, ℕ, map, set, arith, ap, ◌∙◌, length, length-set}
+use Rattle.std.proofs.Common.{rules, ◌≡◌, ◌/◌, ◌≤◌, ℕ, map, min, set, arith, sym, ap, ◌∙◌, length, length-set}
 use Rattle.std.proofs.lemmas.List.{length-map}
 use Rattle.std.proofs.lemmas.List.Elements.{All-set}
 use Rattle.moka_policy.specs.Frequency.{counter_count}
 use Rattle.moka_policy.proofs.CounterTables.{halved_is_table, written_over}
 use Rattle.moka_policy.proofs.frequency.CountTableFrequencySource.note.Goals as goal
+
+pub place_of-place-requires : goal.place_of-place-requires
+place_of-place-requires g c =
+    let same : length c.self.inside.counters.items ≡ c.self.inside.counters.len = search rules in
+    (min g.row.BITS 20, c.len.ensures ∙ sym same ∙ c.self.invariant.length_is)
 
 -- the counters were halved
 pub invariant_of-self : goal.invariant_of-self

@@ -12,22 +12,22 @@ invariant_of-self-clause-numbered g c =
 
 pub invariant_of-self-in-Waiting-clause-numbered : goal.invariant_of-self-in-Waiting-clause-numbered
 invariant_of-self-in-Waiting-clause-numbered g c =
-    rw c.overwrite.ensures.after
+    rw c.overwrite-value-in-Waiting.ensures.after
     (IsNumbered-changed c.args.self.now.next c.args.number c.in-Waiting.place c.args.self.now.admitted.items c.args.self.now.waiting.items
     c.index_mut.result.now (overwritten c.args.value c.args.info) c.in-Waiting.ensures.1 c.index_mut.ensures.value c.args.self.now.numbered)
 
 pub returns-in-Admitted-clause-before : goal.returns-in-Admitted-clause-before
 returns-in-Admitted-clause-before g c =
-    rw (row_under-append_left c.args.number c.args.self.now.admitted.items c.args.self.now.waiting.items _ (c.in-Admitted.ensures.row c.remove-row.result c.remove-row.ensures.value)) c.overwrite-before.ensures.before
+    rw (row_under-append_left c.args.number c.args.self.now.admitted.items c.args.self.now.waiting.items _ (c.in-Admitted.ensures.row c.remove-row.result c.remove-row.ensures.value)) (c.overwrite-value.ensures.value, c.overwrite-value.ensures.info)
 
 pub returns-in-Waiting-clause-before : goal.returns-in-Waiting-clause-before
 returns-in-Waiting-clause-before g c =
     rw (
       row_under-append_right c.args.number c.args.self.now.admitted.items c.args.self.now.waiting.items c.in-Waiting.ensures.0,
       c.in-Waiting.ensures.1.row c.index_mut.result.now c.index_mut.ensures.value,
-    ) c.overwrite.ensures.before
+    ) (c.overwrite-value-in-Waiting.ensures.value, c.overwrite-value-in-Waiting.ensures.info)
 
 pub returns-in-Waiting-clause-after : goal.returns-in-Waiting-clause-after
 returns-in-Waiting-clause-after g c =
-    rw (c.in-Waiting.ensures.0, c.overwrite.ensures.after)
+    rw (c.in-Waiting.ensures.0, c.overwrite-value-in-Waiting.ensures.after)
     (refl, c.in-Waiting.ensures.1.changed c.index_mut.result.now (overwritten c.args.value c.args.info) c.index_mut.ensures.value)

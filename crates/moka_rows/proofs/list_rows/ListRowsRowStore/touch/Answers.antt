@@ -13,8 +13,8 @@ pub invariant_of-self-in-Waiting-clause-numbered : goal.invariant_of-self-in-Wai
 invariant_of-self-in-Waiting-clause-numbered g c =
     rw c.touch-in-Waiting.ensures
     (IsNumbered-changed c.args.self.now.next c.args.number c.in-Waiting.place c.args.self.now.admitted.items c.args.self.now.waiting.items
-    c.index_mut.result.now (touched c.args.info) c.in-Waiting.ensures.1 c.index_mut.ensures.value c.args.self.now.numbered)
+    c.index_mut.result.now (touched c.args.touch) c.in-Waiting.ensures.1 c.index_mut.ensures.value c.args.self.now.numbered)
 
 pub returns-in-Waiting-clause-after : goal.returns-in-Waiting-clause-after
 returns-in-Waiting-clause-after g c =
-    rw (c.in-Waiting.ensures.0, c.touch-in-Waiting.ensures) (refl, c.in-Waiting.ensures.1.changed c.index_mut.result.now (touched c.args.info) c.index_mut.ensures.value)
+    rw (c.in-Waiting.ensures.0, c.touch-in-Waiting.ensures) (refl, c.in-Waiting.ensures.1.changed c.index_mut.result.now (touched c.args.touch) c.index_mut.ensures.value)

@@ -1,6 +1,22 @@
-use Rattle.std.proofs.Common.{◌+◌, Some, refl}
+use Rattle.std.proofs.Common.{◌+◌, Some, refl, arith}
+use Rattle.moka_slab.proofs.RoomLemmas.{has-room, room-taken}
 use Rattle.moka_slab.proofs.TiedLemmas.{fresh-number, puts-update, added-tied, added-fresh, added-admitted, added-waiting}
 use Rattle.moka_slab.proofs.slab_rows.SlabRowsRowStore.add.Goals as goal
+
+pub insert_reserved-key-requires : goal.insert_reserved-key-requires
+insert_reserved-key-requires g c = (has-room c.args.self.now.rows c.args.self.now.links c.requires).row
+
+pub add-requires-clause-within : goal.add-requires-clause-within
+add-requires-clause-within g c =
+    (has-room c.args.self.now.rows c.args.self.now.links c.requires).place c.insert_reserved-key.result (omega (arith, c.insert_reserved-key.ensures.key_in_range, c.insert_reserved-key.ensures.capacity))
+
+pub add-requires-clause-room : goal.add-requires-clause-room
+add-requires-clause-room g c = (has-room c.args.self.now.rows c.args.self.now.links c.requires).hash
+
+pub returns-clause-room : goal.returns-clause-room
+returns-clause-room g c =
+    room-taken c.args.self.now.rows c.insert_reserved-key.new.self c.args.self.now.links c.add.new.self c.insert_reserved-key.ensures.capacity c.insert_reserved-key.ensures.len
+    c.add.ensures.places c.add.ensures.spare
 
 pub add-requires-clause-absent : goal.add-requires-clause-absent
 add-requires-clause-absent g c = fresh-number c.args.self.now.rows c.args.self.now.links (c.insert_reserved-key.result + 2) c.insert_reserved-key.result c.args.self.now.tied refl c.insert_reserved-key.ensures.was_vacant

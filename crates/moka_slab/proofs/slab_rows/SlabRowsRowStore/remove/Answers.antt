@@ -1,7 +1,7 @@
 use Rattle.std.proofs.Common.{◌≡◌, ℕ, ◌+◌, ◌-◌, ◌≤◌, None, arith}
-use Rattle.moka_links.proofs.Callers.{linked-above, linked-within}
-use Rattle.moka_slab.proofs.RoomLemmas.{room-left}
-use Rattle.moka_slab.proofs.TiedLemmas.{linked-found, puts-update, removed-tied, removed-rest, under-all}
+use Rattle.moka_links.proofs.Callers.{linked-above}
+use Rattle.moka_slab.proofs.RoomLemmas.{room-kept}
+use Rattle.moka_slab.proofs.TiedLemmas.{linked-found, puts-update, removed-tied, removed-rest, under-all, order-said}
 use Rattle.moka_slab.proofs.slab_rows.SlabRowsRowStore.remove.Goals as goal
 
 back : (n : ℕ) → 2 ≤ n → n ≡ (n - 2) + 2
@@ -34,6 +34,11 @@ returns-clause-rest g c =
 
 pub returns-clause-room : goal.returns-clause-room
 returns-clause-room g c =
-    room-left c.args.self.now.rows c.remove-2.new.self c.args.self.now.links c.remove.new.self c.args.number
-    (linked-above c.args.self.now.links c.args.number (linked-found c.args.self.now.rows c.args.self.now.links c.args.number c.requires)) (linked-within c.args.self.now.links c.args.number (linked-found c.args.self.now.rows c.args.self.now.links c.args.number c.requires))
-    c.remove-2.ensures.key_is_next c.remove-2.ensures.capacity c.remove-2.ensures.len c.remove.ensures.kept.places c.remove.ensures.kept.spare
+    room-kept c.args.self.now.rows c.remove-2.new.self c.args.self.now.links c.remove.new.self c.remove-2.ensures.capacity (omega (arith, c.remove-2.ensures.len))
+    c.remove.ensures.kept.places c.remove.ensures.kept.spare
+
+pub returns-clause-order : goal.returns-clause-order
+returns-clause-order g c =
+    rw c.order-order.ensures
+    (order-said c.args.self.now.rows c.args.self.now.links c.args.number c.remove-2.result c.remove.result (linked-found c.args.self.now.rows c.args.self.now.links c.args.number c.requires) c.remove-2.ensures.value
+    c.remove.ensures.was_admitted c.remove.ensures.was_waiting)

@@ -1,8 +1,8 @@
-use Rattle.std.proofs.Common.{◌-◌, Some, refl, subst}
+use Rattle.std.proofs.Common.{◌-◌, Some, refl, subst, arith}
 use Rattle.slab.specs.Slab.{with_value}
 use Rattle.moka_rows.specs.Rows.{touched}
-use Rattle.moka_links.proofs.Callers.{linked-above, in-admitted, in-waiting}
-use Rattle.moka_slab.proofs.TiedLemmas.{linked-found, linked-admitted, Puts, puts-write, used-tied, used-in-admitted, used-in-waiting}
+use Rattle.moka_links.proofs.Callers.{linked-above}
+use Rattle.moka_slab.proofs.TiedLemmas.{linked-found, Puts, puts-write, used-tied, used-orders}
 use Rattle.moka_slab.proofs.RoomLemmas.{room-kept, len-write}
 use Rattle.moka_slab.proofs.slab_rows.SlabRowsRowStore.touch.Goals as goal
 
@@ -12,43 +12,30 @@ overflow_sub-number g c = linked-above c.args.self.now.links c.args.number (link
 pub index_mut-requires : goal.index_mut-requires
 index_mut-requires g c = c.args.self.now.tied.stored c.args.number (linked-found c.args.self.now.rows c.args.self.now.links c.args.number c.requires)
 
-pub is_admitted-requires : goal.is_admitted-requires
-is_admitted-requires g c = linked-found c.args.self.now.rows c.args.self.now.links c.args.number c.requires
-
-pub admit-requires : goal.admit-requires
-admit-requires g c = linked-found c.args.self.now.rows c.args.self.now.links c.args.number c.requires
+pub touch-requires-2 : goal.touch-requires-2
+touch-requires-2 g c = linked-found c.args.self.now.rows c.args.self.now.links c.args.number c.requires
 
 pub invariant_of-self : goal.invariant_of-self
-invariant_of-self g c = record {
-  tied = used-tied c.args.self.now.rows (with_value c.args.self.now.rows (c.args.number - 2) c.touch.new.self) c.args.self.now.links c.admit.new.self c.args.self.now.tied c.args.number c.index_mut.result.now (touched c.args.info) c.index_mut.ensures.value
-      (subst (λ x. Puts c.args.self.now.rows (with_value c.args.self.now.rows (c.args.number - 2) c.touch.new.self) c.args.number (Some x)) c.touch.ensures
-      (puts-write c.args.self.now.rows c.args.number c.index_mut.result.now c.touch.new.self (linked-above c.args.self.now.links c.args.number (linked-found c.args.self.now.rows c.args.self.now.links c.args.number c.requires)) c.index_mut.ensures.value)) refl
-      (linked-admitted c.args.self.now.links c.admit.new.self c.args.number (linked-found c.args.self.now.rows c.args.self.now.links c.args.number c.requires) c.admit.ensures.admitted c.admit.ensures.waiting) c.admit.ensures.kept.hash;
-}
+invariant_of-self g c =
+    let there = linked-found c.args.self.now.rows c.args.self.now.links c.args.number c.requires in
+    let rows = with_value c.args.self.now.rows (c.args.number - 2) c.touch.new.self in
+    let puts = subst (λ x. Puts c.args.self.now.rows rows c.args.number (Some x)) c.touch.ensures
+    (puts-write c.args.self.now.rows c.args.number c.index_mut.result.now c.touch.new.self (linked-above c.args.self.now.links c.args.number there) c.index_mut.ensures.value) in
+    record {
+      tied = used-tied c.args.self.now.rows rows c.args.self.now.links c.touch-2.new.self c.args.self.now.tied c.args.number c.index_mut.result.now (touched c.args.touch) c.index_mut.ensures.value
+          puts refl there c.touch-2.result c.touch-2.ensures.admitted c.touch-2.ensures.waits c.touch-2.ensures.waiting c.touch-2.ensures.kept.hash;
+    }
 
-pub invariant_of-self-else-is_admitted : goal.invariant_of-self-else-is_admitted
-invariant_of-self-else-is_admitted g c = record {
-  tied = used-tied c.args.self.now.rows (with_value c.args.self.now.rows (c.args.number - 2) c.touch.new.self) c.args.self.now.links c.args.self.now.links c.args.self.now.tied c.args.number c.index_mut.result.now (touched c.args.info) c.index_mut.ensures.value
-      (subst (λ x. Puts c.args.self.now.rows (with_value c.args.self.now.rows (c.args.number - 2) c.touch.new.self) c.args.number (Some x)) c.touch.ensures
-      (puts-write c.args.self.now.rows c.args.number c.index_mut.result.now c.touch.new.self (linked-above c.args.self.now.links c.args.number (linked-found c.args.self.now.rows c.args.self.now.links c.args.number c.requires)) c.index_mut.ensures.value)) refl
-      (λ k q. q) (λ k. refl);
-}
+pub returns-clause-after : goal.returns-clause-after
+returns-clause-after g c =
+    let there = linked-found c.args.self.now.rows c.args.self.now.links c.args.number c.requires in
+    let rows = with_value c.args.self.now.rows (c.args.number - 2) c.touch.new.self in
+    let puts = subst (λ x. Puts c.args.self.now.rows rows c.args.number (Some x)) c.touch.ensures
+    (puts-write c.args.self.now.rows c.args.number c.index_mut.result.now c.touch.new.self (linked-above c.args.self.now.links c.args.number there) c.index_mut.ensures.value) in
+    used-orders c.args.self.now.rows rows c.args.self.now.links c.touch-2.new.self c.args.self.now.tied c.args.number c.index_mut.result.now (touched c.args.touch) c.index_mut.ensures.value
+    puts refl there c.touch-2.result c.touch-2.ensures.admitted c.touch-2.ensures.waits c.touch-2.ensures.waiting
 
-pub returns-then-is_admitted-clause-after : goal.returns-then-is_admitted-clause-after
-returns-then-is_admitted-clause-after g c =
-    used-in-admitted c.args.self.now.rows (with_value c.args.self.now.rows (c.args.number - 2) c.touch.new.self) c.args.self.now.links c.admit.new.self c.args.self.now.tied c.args.number c.index_mut.result.now (touched c.args.info) c.index_mut.ensures.value
-    (subst (λ x. Puts c.args.self.now.rows (with_value c.args.self.now.rows (c.args.number - 2) c.touch.new.self) c.args.number (Some x)) c.touch.ensures
-    (puts-write c.args.self.now.rows c.args.number c.index_mut.result.now c.touch.new.self (linked-above c.args.self.now.links c.args.number (linked-found c.args.self.now.rows c.args.self.now.links c.args.number c.requires)) c.index_mut.ensures.value)) refl
-    (in-admitted c.args.self.now.links c.args.number c.is_admitted.result (linked-found c.args.self.now.rows c.args.self.now.links c.args.number c.requires) c.is_admitted.ensures.waiting c.if-is_admitted.true) c.admit.ensures.admitted c.admit.ensures.waiting
-
-pub returns-then-is_admitted-clause-room : goal.returns-then-is_admitted-clause-room
-returns-then-is_admitted-clause-room g c =
-    room-kept c.args.self.now.rows (with_value c.args.self.now.rows (c.args.number - 2) c.touch.new.self) c.args.self.now.links c.admit.new.self refl refl
-    (len-write c.args.self.now.rows (c.args.number - 2) c.index_mut.result.now c.touch.new.self c.index_mut.ensures.value) c.admit.ensures.kept.places c.admit.ensures.kept.spare
-
-pub returns-else-is_admitted-clause-after : goal.returns-else-is_admitted-clause-after
-returns-else-is_admitted-clause-after g c =
-    used-in-waiting c.args.self.now.rows (with_value c.args.self.now.rows (c.args.number - 2) c.touch.new.self) c.args.self.now.links c.args.self.now.links c.args.self.now.tied c.args.number c.index_mut.result.now (touched c.args.info) c.index_mut.ensures.value
-    (subst (λ x. Puts c.args.self.now.rows (with_value c.args.self.now.rows (c.args.number - 2) c.touch.new.self) c.args.number (Some x)) c.touch.ensures
-    (puts-write c.args.self.now.rows c.args.number c.index_mut.result.now c.touch.new.self (linked-above c.args.self.now.links c.args.number (linked-found c.args.self.now.rows c.args.self.now.links c.args.number c.requires)) c.index_mut.ensures.value)) refl
-    (in-waiting c.args.self.now.links c.args.number c.is_admitted.result (linked-found c.args.self.now.rows c.args.self.now.links c.args.number c.requires) c.is_admitted.ensures.admitted c.if-is_admitted.false) refl refl
+pub returns-clause-room : goal.returns-clause-room
+returns-clause-room g c =
+    room-kept c.args.self.now.rows (with_value c.args.self.now.rows (c.args.number - 2) c.touch.new.self) c.args.self.now.links c.touch-2.new.self refl
+    (omega (arith, len-write c.args.self.now.rows (c.args.number - 2) c.index_mut.result.now c.touch.new.self c.index_mut.ensures.value)) c.touch-2.ensures.kept.places c.touch-2.ensures.kept.spare

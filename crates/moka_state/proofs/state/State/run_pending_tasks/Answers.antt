@@ -10,24 +10,24 @@ use Rattle.moka_state.proofs.state.State.run_pending_tasks.Goals as goal
 pub invariant_of-self : goal.invariant_of-self
 invariant_of-self g c =
     let s = c.self.inside in
-    rw c.maintain.ensures.lives (IsSound-maintained _ _ s.upkeep.lives s.upkeep.earliest s.table c.maintain.new.table c.self.invariant _ _ s.upkeep.max_capacity c.maintain.new.self.earliest c.max-now.result c.maintain.ensures.maintained c.maintain.ensures.due)
+    IsSound-maintained _ _ s.upkeep.lives s.table c.maintain.new.table c.self.invariant _ _ s.upkeep.max_capacity c.max-now.result (c.maintain.ensures.maintained c.self.invariant.dated)
 
 pub returns-clause-stands : goal.returns-clause-stands
 returns-clause-stands g c =
     let s = c.self.inside in
-    rw (← c.self.view_is, c.max-now.ensures, c.maintain.ensures.lives, c.maintain.ensures.max_capacity, c.maintain.ensures.source) (follows-event g.K.PartialEq.eq g.met.K.Eq.laws _ _ (RunPendingTasks c.args.now) (Maintained None c.args.now) (λ _ _. refl)
-    (λ _. becomes-maintained g.K.PartialEq.eq _ s.upkeep.lives refl s.table _ s.latest s.next_number c.args.now c.maintain.new.table (rw (c.policy.ensures, c.max-now.ensures) at c.maintain.ensures.maintained)))
+    rw (← c.self.view_is, c.max-now.ensures) (follows-event g.K.PartialEq.eq g.met.K.Eq.laws _ _ (RunPendingTasks c.args.now) (Maintained None c.args.now) (λ _ _. refl)
+    (λ _. becomes-maintained g.K.PartialEq.eq _ s.upkeep.lives refl s.table _ s.latest s.next_number c.args.now c.maintain.new.table (rw (c.policy.ensures, c.max-now.ensures) at (c.maintain.ensures.maintained c.self.invariant.dated))))
 
 pub returns-clause-all_live : goal.returns-clause-all_live
 returns-clause-all_live g c given steps stands =
     let s = c.self.inside in
     let same = rw (← c.self.view_is) at stands in
-    live-after g.K.PartialEq.eq given steps _ s.upkeep.lives refl s.table _ s.latest s.next_number same c.args.now c.maintain.new.table (rw (c.policy.ensures, c.max-now.ensures) at c.maintain.ensures.maintained)
+    live-after g.K.PartialEq.eq given steps _ s.upkeep.lives refl s.table _ s.latest s.next_number same c.args.now c.maintain.new.table (rw (c.policy.ensures, c.max-now.ensures) at (c.maintain.ensures.maintained c.self.invariant.dated))
 
 pub returns-clause-within : goal.returns-clause-within
 returns-clause-within g c =
     let s = c.self.inside in
-    rw c.maintain.ensures.max_capacity (stored-within s.upkeep.lives s.upkeep.max_capacity c.max-now.result s.table c.maintain.new.table c.maintain.ensures.maintained)
+    stored-within s.upkeep.lives s.upkeep.max_capacity c.max-now.result s.table c.maintain.new.table (c.maintain.ensures.maintained c.self.invariant.dated)
 
 pub returns-clause-count : goal.returns-clause-count
 returns-clause-count g c given steps stands ones = writes-within g.K.PartialEq.eq given _ c.args.now steps ones (returns-clause-stands g c given steps stands)

@@ -1,17 +1,28 @@
 use Rattle.std.proofs.Common.{arith}
+use Rattle.moka_model.proofs.Callers.{total-append}
+use Rattle.moka_table.specs.Table.{weight_of}
 use Rattle.moka_table.proofs.Lengths.{length-taken}
-use Rattle.moka_table.proofs.Weights.{kept-taken}
+use Rattle.moka_table.proofs.Weights.{total-light, weight_in-le, with-le, with-changed, kept-taken}
 use Rattle.moka_table.proofs.table.Table.evict.Goals as goal
+
+pub with-self-inside-requires-clause-before : goal.with-self-inside-requires-clause-before
+with-self-inside-requires-clause-before g c =
+    rw c.info.ensures (with-le c.args.number c.remove-row.result.0 _ _ c.remove-row.ensures.row c.self.inside.weights c.self.invariant.admitted_weight c.self.invariant.waiting_weight c.remove-row.result.1 c.remove-row.ensures.order)
+
+pub with-self-inside-requires-clause-fits : goal.with-self-inside-requires-clause-fits
+with-self-inside-requires-clause-fits g c =
+    omega (arith, weight_in-le c.remove-row.result.1 c.self.inside.weights, c.self.invariant, total-light _ c.self.invariant.light, total-append weight_of (g.R.RowStore.admitted c.self.inside.rows) (g.R.RowStore.waiting c.self.inside.rows))
 
 pub invariant_of-self : goal.invariant_of-self
 invariant_of-self g c =
-    let are = rw (← c.self.view_is) at c.weights_with-weights.ensures in
-    let fewer = length-taken c.args.number c.remove-key.result _ _ _ _ c.remove-key.ensures.row c.remove-key.ensures.rest in
-    kept-taken (g.R.RowStore.admitted c.self.inside.rows) (g.R.RowStore.waiting c.self.inside.rows) c.self.inside.weights _ _ c.self.invariant
-    (g.R.RowStore.admitted c.remove-key.new.self) (g.R.RowStore.waiting c.remove-key.new.self) c.weights_with-weights.result _ _ (omega (arith, fewer, c.self.invariant.few, c.in-Ok.ensures.len, c.in-Ok.ensures.in_place))
-    c.args.number c.remove-key.result c.remove-key.ensures.row c.remove-key.ensures.rest are
+    let fewer = length-taken c.args.number c.remove-row.result.0 _ _ _ _ c.remove-row.ensures.row c.remove-row.ensures.rest in
+    kept-taken (g.R.RowStore.admitted c.self.inside.rows) (g.R.RowStore.waiting c.self.inside.rows) c.self.inside.weights _ _ _ c.self.invariant
+    (g.R.RowStore.admitted c.remove-row.new.self) (g.R.RowStore.waiting c.remove-row.new.self) c.with-self-inside.result _ _ (omega (arith, fewer, c.self.invariant.few, c.in-Ok.ensures.len, c.in-Ok.ensures.in_place))
+    c.args.number c.remove-row.result.0 c.remove-row.ensures.row c.remove-row.ensures.rest
+    (with-changed c.args.number c.remove-row.result.0 _ _ c.remove-row.ensures.row c.self.inside.weights c.self.invariant.admitted_weight c.self.invariant.waiting_weight c.remove-row.result.1 c.remove-row.ensures.order
+    0 c.with-self-inside.result (rw c.info.ensures at c.with-self-inside.ensures.changed) c.with-self-inside.ensures.others)
 
 pub returns-clause-room : goal.returns-clause-room
 returns-clause-room g c =
-    let fewer = length-taken c.args.number c.remove-key.result _ _ _ _ c.remove-key.ensures.row c.remove-key.ensures.rest in
-    rw (← c.self.view_is) (omega (arith, fewer, c.self.invariant, c.remove-key.ensures.room, c.in-Ok.ensures.len, c.in-Ok.ensures.in_place))
+    let fewer = length-taken c.args.number c.remove-row.result.0 _ _ _ _ c.remove-row.ensures.row c.remove-row.ensures.rest in
+    rw (← c.self.view_is) (omega (arith, fewer, c.self.invariant, c.remove-row.ensures.room, c.in-Ok.ensures.len, c.in-Ok.ensures.in_place))

@@ -1,14 +1,16 @@
-use Rattle.std.proofs.Common.{refl, arith}
+use Rattle.std.proofs.Common.{refl, ◌<◌, ◌^◌, arith}
 use Rattle.moka_rows.specs.Rows.{touched}
+use Rattle.moka_table.proofs.Each.{of-row}
+use Rattle.moka_table.proofs.Finds.{stored-row}
 use Rattle.moka_table.proofs.Lengths.{length-used}
-use Rattle.moka_table.proofs.Weights.{kept-used}
+use Rattle.moka_table.proofs.Weights.{kept-used, with-same}
 use Rattle.moka_table.proofs.table.Table.touch.Goals as goal
 
 pub invariant_of-self : goal.invariant_of-self
 invariant_of-self g c =
-    let there = rw (← c.self.view_is) at c.requires in
-    let are = rw (← c.self.view_is) at c.weights_with-weights.ensures in
-    let same = length-used c.args.number (touched c.args.info) _ _ _ _ c.touch.ensures.after in
-    kept-used (g.R.RowStore.admitted c.self.inside.rows) (g.R.RowStore.waiting c.self.inside.rows) c.self.inside.weights _ _ c.self.invariant
-    (g.R.RowStore.admitted c.touch.new.self) (g.R.RowStore.waiting c.touch.new.self) c.weights_with-weights.result _ _ (omega (arith, same, c.self.invariant.few))
-    c.args.number (touched c.args.info) c.args.info.policy_weight there (λ row. refl) (omega arith) c.touch.ensures.after are
+    let row = stored-row _ (rw (← c.self.view_is) at c.requires) in
+    let same = length-used c.args.number (touched c.args.touch) _ _ _ _ c.touch.ensures.after in
+    kept-used (g.R.RowStore.admitted c.self.inside.rows) (g.R.RowStore.waiting c.self.inside.rows) c.self.inside.weights _ _ _ c.self.invariant
+    (g.R.RowStore.admitted c.touch.new.self) (g.R.RowStore.waiting c.touch.new.self) c.self.inside.weights _ _ (omega (arith, same, c.self.invariant.few))
+    c.args.number (touched c.args.touch) row.0 row.0.info.policy_weight row.1 refl (of-row (λ r. r.info.policy_weight < 2 ^ 32) c.args.number _ row.0 c.self.invariant.light row.1) (λ is. is) c.touch.ensures.after
+    (with-same c.args.number row.0 _ _ row.1 c.self.inside.weights c.self.invariant.admitted_weight c.self.invariant.waiting_weight)

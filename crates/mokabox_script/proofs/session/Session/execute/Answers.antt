@@ -13,12 +13,12 @@ pub returns : goal.returns
 returns c =
     let now = c.args.self.now.moment in
     let one : IsOneCall c.args.self.now.moment (plain_command c.args.command) c.match-command.step = elim c.match-command.branch [
-      | in-Insert+in_ok-shared-in-Insert+in_ok-from_str-in-Insert w ↦ rw (w.in-Insert.is, w.step-is) (record { makes = λ notices. (w.in_ok-from_str-in-Insert.field-0, w.in_ok-from_str-in-Insert.ensures.ok, ap (λ k. calls.Insert k w.in_ok-from_str-in-Insert.field-0 now ∷ []) w.in_ok-shared-in-Insert.ensures); stays = λ at. refl })
-      | in-Get+in_ok-shared-in-Get w ↦ rw (w.in-Get.is, w.step-is) (record { makes = λ notices. ap (λ k. calls.Get k now ∷ []) w.in_ok-shared-in-Get.ensures; stays = λ at. refl })
-      | in-Has+in_ok-shared-in-Has w ↦ rw (w.in-Has.is, w.step-is) (record { makes = λ notices. ap (λ k. calls.ContainsKey k now ∷ []) w.in_ok-shared-in-Has.ensures; stays = λ at. refl })
-      | in-Invalidate+in_ok-shared-in-Invalidate w ↦ rw (w.in-Invalidate.is, w.step-is) (record { makes = λ notices. ap (λ k. calls.Invalidate k now ∷ []) w.in_ok-shared-in-Invalidate.ensures; stays = λ at. refl })
-      | in-Tasks w ↦ rw (w.in-Tasks.is, w.step-is) (record { makes = λ notices. refl; stays = λ at. refl })
-      | in-Count w ↦ rw (w.in-Count.is, w.step-is) (record { makes = λ notices. refl; stays = λ at. refl })
-      | in-Weight w ↦ rw (w.in-Weight.is, w.step-is) (record { makes = λ notices. refl; stays = λ at. refl })
+      | in-Insert+in_ok-shared-in-Insert+in_ok-from_str-in-Insert w ↦ rw (w.in-Insert.is, w.step-is) (record { makes = λ notices. (w.in_ok-from_str-in-Insert.field-0, w.in_ok-from_str-in-Insert.ensures.ok, ap (λ k. calls.Insert k w.in_ok-from_str-in-Insert.field-0 now ∷ []) w.in_ok-shared-in-Insert.ensures); stays = λ at. refl; says_nothing = λ settings. refl })
+      | in-Get+in_ok-shared-in-Get w ↦ rw (w.in-Get.is, w.step-is) (record { makes = λ notices. ap (λ k. calls.Get k now ∷ []) w.in_ok-shared-in-Get.ensures; stays = λ at. refl; says_nothing = λ settings. refl })
+      | in-Has+in_ok-shared-in-Has w ↦ rw (w.in-Has.is, w.step-is) (record { makes = λ notices. ap (λ k. calls.ContainsKey k now ∷ []) w.in_ok-shared-in-Has.ensures; stays = λ at. refl; says_nothing = λ settings. refl })
+      | in-Invalidate+in_ok-shared-in-Invalidate w ↦ rw (w.in-Invalidate.is, w.step-is) (record { makes = λ notices. ap (λ k. calls.Invalidate k now ∷ []) w.in_ok-shared-in-Invalidate.ensures; stays = λ at. refl; says_nothing = λ settings. refl })
+      | in-Tasks w ↦ rw (w.in-Tasks.is, w.step-is) (record { makes = λ notices. refl; stays = λ at. refl; says_nothing = λ settings. refl })
+      | in-Count w ↦ rw (w.in-Count.is, w.step-is) (record { makes = λ notices. refl; stays = λ at. refl; says_nothing = λ settings. refl })
+      | in-Weight w ↦ rw (w.in-Weight.is, w.step-is) (record { makes = λ notices. refl; stays = λ at. refl; says_nothing = λ settings. refl })
     ] in
     one_call _ _ _ _ c.match-command.step c.step.result c.answer_of-answer.result _ one (record { reply_is = c.step.ensures.reply; stands = c.step.ensures.stands }) c.answer_of-answer.ensures c.in_ok-vec.ensures.items

@@ -1,0 +1,167 @@
+//! What the caches are measured on.
+use crate::numbers::Numbers;
+use std::alloc::{AllocError, Global};
+
+/// How long the values of a cache live, in calls.
+#[derive(Clone, Copy)]
+pub(crate) enum Life {
+    Endless,
+    /// So many after the write.
+    ToLive(u64),
+    /// So many after the last use.
+    ToIdle(u64),
+    /// So many after the write, as an expiry says of each value.
+    Own(u64),
+}
+
+/// What is done with each key of a load.
+#[derive(Clone, Copy, PartialEq)]
+pub(crate) enum Kind {
+    /// The key is looked for, and written where it is not found.
+    Look,
+    /// The key is written.
+    Insert,
+    /// The key is looked for. All keys were written before.
+    Hit,
+    /// The key is written. All keys were written before.
+    Overwrite,
+}
+
+/// A load: the capacity of the caches, the keys, and what is done with each.
+#[derive(Clone, Copy)]
+pub(crate) struct Load {
+    pub name: &'static str,
+    pub kind: Kind,
+    pub capacity: u32,
+    /// How many keys there are for looks: `2^octaves - 1`, each as often as its inverse.
+    pub octaves: u32,
+    /// How many calls are measured, behind as many that are not.
+    pub calls: u32,
+    pub life: Life,
+}
+
+/// 100,000 of about a million keys.
+const LOOKS: Load = Load {
+    name: "looks",
+    kind: Kind::Look,
+    capacity: 100_000,
+    octaves: 20,
+    calls: 1_000_000,
+    life: Life::Endless,
+};
+
+const HITS: Load = Load {
+    name: "hits",
+    kind: Kind::Hit,
+    ..LOOKS
+};
+
+/// The loads, each of which every cache is measured on.
+pub(crate) const LOADS: [Load; 8] = [
+    LOOKS,
+    Load {
+        name: "inserts",
+        kind: Kind::Insert,
+        ..LOOKS
+    },
+    HITS,
+    Load {
+        name: "looks, each value living 100,000 calls",
+        calls: 250_000,
+        life: Life::ToLive(100_000),
+        ..LOOKS
+    },
+    Load {
+        name: "looks, capacity 1,000",
+        capacity: 1_000,
+        octaves: 14,
+        ..LOOKS
+    },
+    Load {
+        name: "looks, capacity 10,000",
+        capacity: 10_000,
+        octaves: 17,
+        ..LOOKS
+    },
+    Load {
+        name: "hits, capacity 1,000",
+        capacity: 1_000,
+        ..HITS
+    },
+    Load {
+        name: "hits, capacity 1,000,000",
+        capacity: 1_000_000,
+        ..HITS
+    },
+];
+
+/// Looks and overwrites with and without lives, at a capacity. Each life is as many calls as the capacity, so that about
+/// as many values leave since they expired as for want of room.
+pub(crate) fn with_lives(capacity: u32, octaves: u32) -> [Load; 6] {
+    let calls = u64::from(capacity);
+    let looks = Load {
+        name: "looks",
+        kind: Kind::Look,
+        capacity,
+        octaves,
+        calls: 1_000_000,
+        life: Life::Endless,
+    };
+    let overwrites = Load {
+        name: "overwrites",
+        kind: Kind::Overwrite,
+        ..looks
+    };
+    [
+        looks,
+        Load {
+            name: "looks, a time to live",
+            life: Life::ToLive(calls),
+            ..looks
+        },
+        Load {
+            name: "looks, a time to idle",
+            life: Life::ToIdle(calls),
+            ..looks
+        },
+        Load {
+            name: "looks, an expiry",
+            life: Life::Own(calls),
+            ..looks
+        },
+        overwrites,
+        Load {
+            name: "overwrites, a time to live",
+            life: Life::ToLive(calls),
+            ..overwrites
+        },
+    ]
+}
+
+/// The capacities at which that is measured, each with the octaves of its keys.
+pub(crate) const SIZES: [(u32, u32); 3] = [(10_000, 17), (100_000, 20), (1_000_000, 24)];
+
+/// A load of few calls, for the run without arguments.
+pub(crate) const SMALL: Load = Load {
+    capacity: 100,
+    octaves: 10,
+    calls: 1_000,
+    ..LOOKS
+};
+
+impl Load {
+    /// The keys of its calls, in order: those before it is measured, and as many that are.
+    pub(crate) fn keys(&self, alloc: Global) -> Result<Vec<u64>, AllocError> {
+        let mut numbers = Numbers::new(20_261_123);
+        let calls = self.calls.saturating_mul(2);
+        let mut keys = Vec::with_capacity(alloc, calls as usize)?;
+        for call in 0..calls {
+            keys.push(match self.kind {
+                Kind::Look => u64::from(numbers.skewed(self.octaves)),
+                Kind::Insert => u64::from(call),
+                Kind::Hit | Kind::Overwrite => u64::from(numbers.below(self.capacity)),
+            })?;
+        }
+        Ok(keys)
+    }
+}

@@ -1,0 +1,16 @@
+//! Measures the cache beside the `lru` of the kit. Without arguments it prints how many of a thousand looks each finds.
+#![tactic(auto)]
+
+mod load;
+mod measure;
+mod numbers;
+mod own_lives;
+mod subject;
+mod table;
+
+use std::{env, io};
+
+fn main(rt: HostRuntime) -> io::Result<()> {
+    let arguments: Vec<String> = env::args(&rt)?.skip(1).collect(rt.alloc())?;
+    table::run(&rt, rt.alloc(), &arguments)
+}

@@ -1,0 +1,176 @@
+//! One cache on one load.
+use crate::load::{Kind, Load};
+use crate::subject::{Ours, Subject, Theirs};
+use moka::policy::{CountTable, EvictionPolicy, FrequencySketch, FrequencySource};
+use std::alloc::{AllocError, Global};
+use std::hash::{BuildHasher, BuildHasherDefault, DefaultHasher, FoldHasher};
+use std::io;
+use std::sync::Wait;
+use std::time::{Clock, Instant};
+
+/// Which cache is measured.
+#[derive(Clone, Copy, PartialEq)]
+pub(crate) enum Which {
+    /// The kit's.
+    Theirs,
+    /// Ours, least recently used.
+    Lru,
+    /// Ours, TinyLFU with a table of `2^20` counters.
+    Table,
+    /// Ours, TinyLFU with a sketch of about twice as many counters in a row as the capacity.
+    Sketch,
+}
+
+/// Which hasher it has: SipHash with fixed keys, or the kit's quick one.
+#[derive(Clone, Copy, PartialEq)]
+pub(crate) enum Hashing {
+    Sip,
+    Fold,
+}
+
+/// What a run came to.
+#[derive(Clone, Copy)]
+pub(crate) struct Outcome {
+    pub nanos: u64,
+    pub hits: u64,
+}
+
+/// Makes a cache, and runs a load on it.
+pub(crate) fn measured<R: Wait + Clock + Copy>(
+    rt: &R,
+    alloc: Global,
+    which: Which,
+    hashing: Hashing,
+    load: &Load,
+    keys: &[u64],
+) -> io::Result<Outcome> {
+    match hashing {
+        Hashing::Sip => by::<BuildHasherDefault<DefaultHasher>, R>(rt, alloc, which, load, keys),
+        Hashing::Fold => by::<BuildHasherDefault<FoldHasher>, R>(rt, alloc, which, load, keys),
+    }
+}
+
+fn by<H: BuildHasher + Default + Drop, R: Wait + Clock + Copy>(
+    rt: &R,
+    alloc: Global,
+    which: Which,
+    load: &Load,
+    keys: &[u64],
+) -> io::Result<Outcome> {
+    match which {
+        Which::Theirs => timed(rt, Theirs::<H, R>::new(alloc, load, *rt)?, load, keys),
+        Which::Lru => ours::<H, CountTable<0>, R>(rt, alloc, EvictionPolicy::lru(), load, keys),
+        Which::Table => ours::<H, CountTable<20>, R>(
+            rt,
+            alloc,
+            EvictionPolicy::tiny_lfu(),
+            load,
+            keys,
+        ),
+        Which::Sketch => sketched::<H, R>(rt, alloc, load, keys),
+    }
+}
+
+/// With a sketch of the size that suits the capacity.
+fn sketched<H: BuildHasher + Default + Drop, R: Wait + Clock + Copy>(
+    rt: &R,
+    alloc: Global,
+    load: &Load,
+    keys: &[u64],
+) -> io::Result<Outcome> {
+    let policy = EvictionPolicy::tiny_lfu();
+    match load.capacity {
+        0..=1_000 => ours::<H, FrequencySketch<11>, R>(rt, alloc, policy, load, keys),
+        1_001..=10_000 => ours::<H, FrequencySketch<14>, R>(rt, alloc, policy, load, keys),
+        10_001..=100_000 => ours::<H, FrequencySketch<18>, R>(rt, alloc, policy, load, keys),
+        _ => ours::<H, FrequencySketch<20>, R>(rt, alloc, policy, load, keys),
+    }
+}
+
+fn ours<H: BuildHasher + Default + Drop, F: FrequencySource, R: Clock>(
+    rt: &R,
+    alloc: Global,
+    policy: EvictionPolicy,
+    load: &Load,
+    keys: &[u64],
+) -> io::Result<Outcome> {
+    timed(rt, Ours::<H, F>::new(alloc, load, policy)?, load, keys)
+}
+
+/// Runs a load, and takes the time of its second half: the first half brings the cache to where it stays.
+fn timed<S: Subject>(
+    clock: &impl Clock,
+    mut subject: S,
+    load: &Load,
+    keys: &[u64],
+) -> io::Result<Outcome> {
+    let (before, measured) = keys.split_at(keys.len() / 2);
+    prepare(&mut subject, load, before)?;
+    let begun = Instant::now(clock)?;
+    let hits = hits_of(&mut subject, load.kind, measured, before.len())?;
+    let took = begun.elapsed(clock)?;
+    Ok(Outcome {
+        nanos: u64::try_from(took.as_nanos()).unwrap_or(u64::MAX),
+        hits,
+    })
+}
+
+/// Brings a cache to where it stays: writes the keys of the loads that look for what is there, and runs the first half.
+fn prepare<S: Subject>(subject: &mut S, load: &Load, before: &[u64]) -> Result<(), AllocError> {
+    if matches!(load.kind, Kind::Hit | Kind::Overwrite) {
+        for key in 0..load.capacity {
+            subject.insert(u64::from(key), 0)?;
+        }
+        subject.settle(0);
+    }
+    hits_of(subject, load.kind, before, 0)?;
+    Ok(())
+}
+
+/// Runs keys of a load, each at its own moment, from a moment on. Answers how many of the looks found their key.
+fn hits_of<S: Subject>(
+    subject: &mut S,
+    kind: Kind,
+    keys: &[u64],
+    first: usize,
+) -> Result<u64, AllocError> {
+    let mut hits = 0_u64;
+    for (place, key) in keys.iter().enumerate() {
+        let now = first.wrapping_add(place) as u64;
+        if matches!(kind, Kind::Look | Kind::Hit) && subject.look(*key, now)? {
+            hits = hits.wrapping_add(1);
+        } else if kind != Kind::Hit {
+            subject.insert(*key, now)?;
+        }
+    }
+    Ok(hits)
+}
+
+/// Makes a cache of ours, least recently used, runs a load on it, and answers the longest that a single call of the second
+/// half took, in nanoseconds. The clock is asked before and behind each.
+pub(crate) fn slowest<R: Clock>(
+    rt: &R,
+    alloc: Global,
+    load: &Load,
+    keys: &[u64],
+) -> io::Result<u64> {
+    let policy = EvictionPolicy::lru();
+    let mut subject = Ours::<BuildHasherDefault<FoldHasher>, CountTable<0>>::new(
+        alloc, load, policy,
+    )?;
+    let (before, measured) = keys.split_at(keys.len() / 2);
+    prepare(&mut subject, load, before)?;
+    let mut longest = 0;
+    for (place, key) in measured.iter().enumerate() {
+        let begun = Instant::now(rt)?;
+        hits_of(
+            &mut subject,
+            load.kind,
+            &[*key],
+            before.len().wrapping_add(place),
+        )?;
+        let took = begun.elapsed(rt)?.as_nanos();
+        longest = u64::try_from(took).unwrap_or(u64::MAX).max(longest);
+    }
+    Ok(longest)
+}

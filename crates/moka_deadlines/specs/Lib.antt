@@ -1,0 +1,4 @@
+pub use Rattle.moka_rows.specs.Rows
+pub mod Deadlines
+pub mod Least
+pub mod Slots

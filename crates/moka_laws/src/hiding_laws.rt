@@ -1,0 +1,71 @@
+//! The laws of mass invalidation, and the law that no pair of a key and a value is lost or doubled.
+ghost use Rattle.std.specs.Prelude.{◌≡◌, ◌↔◌, ℕ, ◌+◌, Bool, true, false, Some, None, List, [], ◌∷◌, ◌++◌};
+ghost use Rattle.moka_model.specs.declared.notification.RemovalCause.{RemovalCause};
+ghost use Rattle.moka_model.specs.declared.notification.RemovalCause.TheVariants.{Explicit};
+ghost use Rattle.moka_model.specs.Lives.{Settings, Write};
+ghost use Rattle.moka_model.specs.Events.{Event, Written, Hidden};
+ghost use Rattle.moka_model.specs.Admission.{frequency};
+ghost use Rattle.moka_model.specs.Orders.{orders, standing};
+ghost use Rattle.moka_model.specs.Numbers.{entry_count};
+ghost use Rattle.moka_model.specs.Removals.{removals, removals_at, removal_of, notices_left};
+ghost use Rattle.moka_model.specs.Steps.{AcceptedStep, events_in};
+ghost use Rattle.moka_model.specs.Calls.{Call, InvalidateAll, InvalidateIf, accepted, after};
+ghost use Rattle.moka_laws.specs.Laws.{IsUnwritten, LastWrite, given_out};
+ghost use Rattle.moka_laws.specs.HidingLaws.{HidingEvent, IsNotFound, IsInvalidation, SeesKeysAlike, count_written, count_standing, count_left};
+
+/// A write is hidden exactly where, behind it, an event hides by a test that holds of its stored
+/// key and its value. So what is written later is not, and nothing leaves at such an event.
+pub fn hidden_exactly_where_a_test_held_since<K: Eq, V>()
+    ensures exactly { (settings : Settings K V) (h : List (Event K V)) (k : K) (w : Write K V) (last : LastWrite K.eq settings k h)
+        → standing K.eq settings k h ≡ Some w
+        → (w.is_hidden ≡ true) ↔ HidingEvent w.key w.value last.later }
+    ensures later_writes { (settings : Settings K V) (h : List (Event K V)) (k : K) (v : V) (at : ℕ) (w : Write K V)
+        → standing K.eq settings k (Written k v at ∷ h) ≡ Some w → w.is_hidden ≡ false }
+    ensures none_leaves { (settings : Settings K V) (h : List (Event K V)) (test : K → V → Bool) → removals_at K.eq settings (Hidden test) h ≡ [] }
+{}
+
+/// What was hidden is never found again: after a call that hides everything nothing is found under
+/// a key until it is written; after one that hides by a test so it is with what passes the test,
+/// and what does not pass it stands as it stood.
+pub fn what_is_hidden_is_never_found<K: Eq, V, E>()
+    ensures all { (settings : Settings K V) (later steps : List (AcceptedStep K V E)) (k : K) → IsUnwritten K.eq k (events_in later)
+        → IsNotFound K.eq settings k (later ++ after K.eq settings InvalidateAll steps) }
+    ensures by_test { (settings : Settings K V) (later steps : List (AcceptedStep K V E)) (test : K → V → Bool) (k : K) (w : Write K V)
+        → settings.supports_closures ≡ true → standing K.eq settings k (events_in steps) ≡ Some w → test w.key w.value ≡ true
+        → IsUnwritten K.eq k (events_in later)
+        → IsNotFound K.eq settings k (later ++ after K.eq settings (InvalidateIf test) steps) }
+    ensures others { (settings : Settings K V) (steps : List (AcceptedStep K V E)) (test : K → V → Bool) (k : K) (w : Write K V)
+        → standing K.eq settings k (events_in steps) ≡ Some w → test w.key w.value ≡ false
+        → standing K.eq settings k (events_in (after K.eq settings (InvalidateIf test) steps)) ≡ Some w }
+{}
+
+/// Whatever takes a hidden write away, it leaves as removed.
+pub fn what_was_hidden_leaves_as_removed<K, V>()
+    ensures { (settings : Settings K V) (own : RemovalCause) (at : ℕ) (w : Write K V) → w.is_hidden ≡ true
+        → (removal_of settings own at w).cause ≡ Explicit }
+{}
+
+/// No invalidation changes a frequency.
+pub fn an_invalidation_changes_no_frequency<K: Eq, V, E>()
+    ensures { (settings : Settings K V) (steps : List (AcceptedStep K V E)) (call : Call K V) (hash : ℕ) → IsInvalidation call
+        → frequency settings (events_in (after K.eq settings call steps)) hash ≡ frequency settings (events_in steps) hash }
+{}
+
+/// A call is refused by its name exactly where it hides by a test and the cache does not support
+/// that. Then nothing has changed.
+pub fn tests_alone_are_refused_by_name<K: Eq, V, E>()
+    ensures exactly { (settings : Settings K V) (steps : List (AcceptedStep K V E)) (call : Call K V)
+        → (accepted K.eq settings steps call ≡ None) ↔ ((test : K → V → Bool) × (call ≡ InvalidateIf test) × (settings.supports_closures ≡ false)) }
+    ensures nothing { (settings : Settings K V) (steps : List (AcceptedStep K V E)) (call : Call K V)
+        → accepted K.eq settings steps call ≡ None → after K.eq settings call steps ≡ steps }
+{}
+
+/// Each pair of a key and a value that was written stands, or has left and was not given out yet,
+/// or was given out by a notice, and so just once: as many of them pass a test that does not tell
+/// equal keys apart.
+pub fn each_pair_stands_or_was_noticed<K: Eq, V>()
+    ensures stands_or_left { (settings : Settings K V) (h : List (Event K V)) (test : K → V → Bool) → SeesKeysAlike K.eq test
+        → count_written test h ≡ count_standing test (orders K.eq settings h) + count_left test (removals K.eq settings h) }
+    ensures left { (settings : Settings K V) (h : List (Event K V)) (test : K → V → Bool)
+        → count_left test (removals K.eq settings h) ≡ count_left test (notices_left K.eq settings h) + count_left test (given_out K.eq settings h) }
+{}

@@ -1,0 +1,17 @@
+use Rattle.std.proofs.Common.{◌≡◌, ℕ, ◌+◌, ◌≤◌, List, length}
+use Rattle.moka_rows.specs.declared.rows.Row.{Row}
+use Rattle.moka_rows.proofs.Callers.{rows_from}
+use Rattle.moka_maintain.proofs.Sweeping.{Sweeps}
+use Rattle.moka_maintain.proofs.maintain.sweep_each.Given as goal
+
+-- The rows before the cursor are swept, each by one step, and those from the cursor on are not.
+abbrev pub invariant-loop-cursor : goal.invariant-loop-cursor
+invariant-loop-cursor g l = record {
+  room : l.fn.table.room ≤ l.table.room;
+  waiting : l.table.waiting ≡ l.fn.table.waiting;
+  sweeps : (kept : List (ℕ × Row _ _)) × (rest : List (ℕ × Row _ _)) × Sweeps l.now l.fn.table.admitted l.fn.table.notices l.table.admitted l.table.notices l.cursor kept rest
+      × (l.visits + length rest ≤ l.fn.visits + length l.fn.table.admitted);
+}
+
+abbrev pub decreases-loop-cursor : goal.decreases-loop-cursor
+decreases-loop-cursor g l = length (rows_from l.cursor l.table.admitted)

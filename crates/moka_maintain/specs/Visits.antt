@@ -1,0 +1,41 @@
+-- How many steps from a row to the one behind it a maintenance may take.
+use Rattle.std.specs.Prelude.{ℕ, ◌+◌, Bool, if◌then◌else◌, Option, List, [], ◌∷◌, length, drop}
+use Rattle.moka_model.specs.Maintenance.{fits, front, judge}
+use Rattle.moka_rows.specs.declared.rows.Row.{Row}
+use Rattle.moka_rows.specs.Rows.{living_at}
+use Rattle.moka_table.specs.Table.{Contents, weight_of}
+use Rattle.moka_maintain.specs.Maintain.{row_wins}
+
+module _ {K V : Type 0} where
+  -- To judge a row that waits: over its victims, for their weight, and where it is not least recently used that decides
+  -- once more, for their frequencies. None are asked for a row that is heavier than the capacity.
+  abbrev pub visits_for : Bool → Option ℕ → List (ℕ × Row K V) → ℕ × Row K V → ℕ
+  visits_for is_lru capacity admitted p =
+      let victims = front weight_of capacity (weight_of p) admitted in
+      if fits (weight_of {K = K} {V = V}) capacity (weight_of p) [] then victims + (if is_lru then 0 else victims) else 0
+
+  -- to judge the first of these rows
+  abbrev pub visits_first : Bool → Option ℕ → List (ℕ × Row K V) → List (ℕ × Row K V) → ℕ
+  visits_first is_lru capacity admitted [] = 0
+  visits_first is_lru capacity admitted (p ∷ ps) = visits_for is_lru capacity admitted p
+
+  -- to judge them all, in order
+  abbrev pub visits_judging : Bool → (ℕ → ℕ) → Option ℕ → List (ℕ × Row K V) → List (ℕ × Row K V) → ℕ
+  visits_judging is_lru frequency_of capacity admitted [] = 0
+  visits_judging is_lru frequency_of capacity admitted (p ∷ ps) = visits_for is_lru capacity admitted p
+      + visits_judging is_lru frequency_of capacity
+      (judge weight_of capacity (row_wins is_lru frequency_of) admitted p ps).after.admitted ps
+
+  -- To let the admitted leave that are hidden or expired: over each that is admitted where one may be hidden. Else none, since
+  -- the expired are found without a walk.
+  abbrev pub visits_sweeping : Contents K V → ℕ
+  visits_sweeping c = if c.may_hide then length c.admitted else 0
+
+  -- In all: over the admitted where one may be hidden, over each row that waits, over those that leave since they are
+  -- over the capacity, and to judge those that wait and live.
+  abbrev pub visits_of : Bool → (ℕ → ℕ) → Option ℕ → ℕ → Contents K V → ℕ
+  visits_of is_lru frequency_of capacity at c =
+      let admitted = living_at at c.admitted in
+      let over = front weight_of capacity 0 admitted in
+      visits_sweeping c + (length c.waiting
+      + (over + visits_judging is_lru frequency_of capacity (drop over admitted) (living_at at c.waiting)))

@@ -1,0 +1,27 @@
+//! The id of a mass invalidation by a predicate.
+ghost use Rattle.std.specs.Prelude.{◌≡◌, IfOk};
+ghost use Rattle.std.specs.String.{string_bytes};
+ghost use Rattle.moka_predicate_ids.specs.PredicateId.{id_by, stream_after_id};
+
+use rand_core::Rng;
+use std::alloc::{AllocError, Global};
+use uuid::Uuid;
+
+/// The id of a mass invalidation by a predicate: the text of a version 4 UUID.
+///
+/// It has 36 characters, lower-case hexadecimal digits with hyphens behind the 8th, 12th, 16th and
+/// 20th of them; the first of the third group is a `4`, that of the fourth one of `8`, `9`, `a` and
+/// `b`. The rest comes from the generator that was handed in: one that repeats itself gives the
+/// same id again, which harms nothing.
+pub type PredicateId = String;
+
+/// An id from a generator's next sixteen bytes. Refused where memory for its text is; the bytes are
+/// drawn then too.
+pub fn new_predicate_id<R: Rng>(alloc: Global, generator: &mut R) -> Result<PredicateId, AllocError>
+    ensures id { IfOk result (λ id. string_bytes id ≡ id_by (R.stream generator.old)) }
+    ensures drawn { R.stream generator.new ≡ stream_after_id (R.stream generator.old) }
+{
+    let mut buffer = Uuid::encode_buffer();
+    let uuid = Uuid::new_v4(generator);
+    String::from_str(alloc, uuid.hyphenated().encode_lower(&mut buffer))
+}

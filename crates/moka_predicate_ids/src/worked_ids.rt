@@ -1,0 +1,21 @@
+//! Worked cases of ids, at generators that repeat one byte: each computes.
+ghost use Rattle.std.specs.Prelude.{◌≡◌, length, codes};
+ghost use Rattle.rand_core.specs.Stream.{next_u64};
+ghost use Rattle.moka_predicate_ids.specs.PredicateId.{id_by, stream_after_id, counts_bytes, repeats};
+
+/// Of bytes that are all ones only the digits that say the version and the variant are not `f`, and
+/// of zeros not `0`; each other digit is the byte's own, the upper half first.
+pub fn ids_of_one_byte()
+    ensures ones { id_by (repeats 255) ≡ codes "ffffffff-ffff-4fff-bfff-ffffffffffff" }
+    ensures zeros { id_by (repeats 0) ≡ codes "00000000-0000-4000-8000-000000000000" }
+    ensures others { id_by (repeats 26) ≡ codes "1a1a1a1a-1a1a-4a1a-9a1a-1a1a1a1a1a1a" }
+    ensures characters { length (id_by (repeats 26)) ≡ 36 }
+{}
+
+/// An id takes one draw of sixteen bytes off a generator: one that answers the number of bytes drawn
+/// so far answers 16 then.
+pub fn an_id_draws_sixteen_bytes()
+    ensures before { (next_u64 counts_bytes).0 ≡ 0 }
+    ensures after { (next_u64 (stream_after_id counts_bytes)).0 ≡ 16 }
+    ensures twice { (next_u64 (stream_after_id (stream_after_id counts_bytes))).0 ≡ 32 }
+{}

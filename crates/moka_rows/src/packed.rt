@@ -1,0 +1,106 @@
+//! What a row keeps of its value, in few bytes.
+ghost use Rattle.std.specs.Prelude.{◌≡◌, true, if◌then◌else◌, Some, None};
+
+use crate::rows::{EntryInfo, OwnLife};
+use std::marker::Model;
+use std::time::Duration;
+
+/// What a row keeps of its value.
+///
+/// A contract sees the `EntryInfo` itself. The fields are private, and without the room that an
+/// `Option` takes to say whether there is one.
+#[derive(Drop)]
+pub struct PackedInfo {
+    last_modified: u64,
+    last_accessed: u64,
+    deadline: u64,
+    from: u64,
+    life: Duration,
+    policy_weight: u32,
+    has_deadline: bool,
+    has_own_life: bool,
+    is_hidden: bool,
+}
+
+impl Model for PackedInfo {
+    ghost use Rattle.std.specs.Prelude.{if◌then◌else◌, Some, None};
+    ghost use Rattle.moka_rows.specs.declared.rows.EntryInfo.{EntryInfo};
+
+    ghost Value = { EntryInfo };
+
+    ghost view = { λ s. record {
+      last_modified = s.last_modified;
+      last_accessed = s.last_accessed;
+      own_life = if s.has_own_life then Some (record { from = s.from; life = s.life }) else None;
+      deadline = if s.has_deadline then Some s.deadline else None;
+      policy_weight = s.policy_weight;
+      is_hidden = s.is_hidden;
+    } };
+}
+
+/// Whether there is a value, and the value, or else the other one.
+fn flagged<T: Copy>(value: Option<T>, otherwise: T) -> (bool, T)
+    ensures { (if result.0 then Some result.1 else None) ≡ value }
+{
+    match value {
+        Some(value) => (true, value),
+        None => (false, otherwise),
+    }
+}
+
+/// The value, where there is one.
+fn unflagged<T: Copy>(is_there: bool, value: T) -> Option<T>
+    ensures { result ≡ (if is_there then Some value else None) }
+{
+    if is_there { Some(value) } else { None }
+}
+
+impl PackedInfo {
+    /// What is kept of a value, packed.
+    pub fn new(info: EntryInfo) -> Self
+        ensures { result ≡ info }
+    {
+        let (has_deadline, deadline) = flagged(info.deadline, 0);
+        let none = OwnLife {
+            from: 0,
+            life: Duration::ZERO,
+        };
+        let (has_own_life, own) = flagged(info.own_life, none);
+        PackedInfo {
+            last_modified: info.last_modified,
+            last_accessed: info.last_accessed,
+            deadline,
+            from: own.from,
+            life: own.life,
+            policy_weight: info.policy_weight,
+            has_deadline,
+            has_own_life,
+            is_hidden: info.is_hidden,
+        }
+    }
+
+    /// What is kept of the value.
+    pub fn info(&self) -> EntryInfo
+        ensures { result ≡ self.now }
+    {
+        let own = OwnLife {
+            from: self.from,
+            life: self.life,
+        };
+        EntryInfo {
+            last_modified: self.last_modified,
+            last_accessed: self.last_accessed,
+            own_life: unflagged(self.has_own_life, own),
+            deadline: unflagged(self.has_deadline, self.deadline),
+            policy_weight: self.policy_weight,
+            is_hidden: self.is_hidden,
+        }
+    }
+
+    /// Hides the value.
+    pub fn hide(&mut self)
+        ensures { self.new ≡ record self.old { is_hidden = true } }
+    {
+        self.is_hidden = true;
+    }
+}

@@ -1,0 +1,2 @@
+pub mod Sketch
+pub use Rattle.moka_policy.specs.Frequency

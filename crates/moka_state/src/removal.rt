@@ -1,0 +1,80 @@
+//! The calls that remove by a caller's wish and more than [`State::invalidate`] does: one answers what it removes, and
+//! one removes all.
+ghost use Rattle.std.specs.Prelude.{◌≡◌, ◌||◌, true, None, Some, if◌then◌else◌, IsOk, IfOk, IfErr, IfSome, OnOk, OnErr};
+ghost use Rattle.moka_model.specs.Lives.{has_come};
+ghost use Rattle.moka_model.specs.Steps.{events_in};
+ghost use Rattle.moka_model.specs.Calls.{Remove, InvalidateAll, Found, IsCopyOf, live_at};
+
+use crate::state::State;
+use moka_model::notification::RemovalCause;
+use moka_policy::policy::{CacheTypes, Refused};
+use moka_rows::rows::{Row, RowStore};
+use moka_ways::view::StateView;
+use std::hash::Hash;
+
+/// A copy of a row's value, where that is live at a moment.
+fn copy_of_live<K, V: Clone>(row: &Row<K, V>, now: u64) -> Result<Option<V>, Refused>
+    ensures copy { IfOk result (IsCopyOf V.is_clone
+        (if row.now.info.is_hidden || has_come row.now.info.deadline now then None
+        else Some row.now.value)) }
+    ensures dead { (row.now.info.is_hidden || has_come row.now.info.deadline now) ≡ true →
+        IsOk result }
+    ensures infallible { V.is_infallible row.now.value → IsOk result }
+    ensures cause { IfErr result (λ cause. cause ≡ Refused.OutOfMemory) }
+{
+    if row.info().is_dead(now) {
+        return Ok(None);
+    }
+    match row.value.clone() {
+        Ok(value) => Ok(Some(value)),
+        Err(_) => Err(Refused::OutOfMemory),
+    }
+}
+
+impl<K: Hash + Drop, V: Clone, C: CacheTypes<K, V>, R: RowStore<K, V>> State<K, V, C, R> {
+    /// Removes a key, and answers its live value. What stood for the key, live or not, is noticed.
+    ///
+    /// Refused for want of memory for the value's copy alone: where no live value stands it takes
+    /// none and succeeds. Reads the rows that have the key's hash.
+    pub fn remove(&mut self, key: &K, now: u64) -> Result<Option<V>, Refused>
+        ensures reply { IfOk result (λ found.
+            ⟦<C as StateView<K, V>>⟧.answers self.old (Remove key.now now) (Found found)) }
+        ensures stands { OnOk result
+            (⟦<C as StateView<K, V>>⟧.follows self.old (Remove key.now now) self.new) }
+        ensures kept { IfOk result (λ found. IfSome found (C.keeps key.now)) }
+
+        // Only the copy can be refused, and then nothing has changed.
+        ensures refused { OnErr result (self.new ≡ self.old) }
+        ensures cause { IfErr result (λ cause. cause ≡ Refused.OutOfMemory) }
+
+        // It is not where nothing is live, nor where the copies of the live value never fail.
+        ensures miss { ⟦<C as StateView<K, V>>⟧.at_each_history self.old (λ settings steps.
+            live_at K.eq settings key.now now (events_in steps) ≡ None → IsOk result) }
+        ensures copied { ⟦<C as StateView<K, V>>⟧.at_each_history self.old (λ settings steps.
+            IfSome (live_at K.eq settings key.now now (events_in steps)) (λ live.
+            V.is_infallible live.value → IsOk result)) }
+    {
+        let now = self.latest.max(now);
+        let hash = self.behaviour.hash(key);
+        let Some(number) = self.table.find(key, hash) else {
+            self.latest = now;
+            return Ok(None);
+        };
+        let row = self.table.row(number);
+        let cause = row.info().cause(now, RemovalCause::Explicit);
+        let found = copy_of_live(row, now)?;
+        self.table.evict(number, cause);
+        self.latest = now;
+        Ok(found)
+    }
+
+    /// Removes all keys. From then on no value that stood is found; each is noticed once it leaves,
+    /// at a maintenance or where its key is written or removed. It has no moment, and takes no
+    /// memory. Visits each row.
+    pub fn invalidate_all(&mut self)
+        ensures { ⟦<C as StateView<K, V>>⟧.follows self.old InvalidateAll self.new }
+    {
+        let mut visits = 0;
+        self.table.hide_all(&mut visits);
+    }
+}

@@ -1,0 +1,53 @@
+-- What a builder was told, and the settings of what it builds.
+use Rattle.std.specs.Prelude.{ℕ, ◌^◌, Bool, false, List, Option, Some, None, option_map, nat_eq, nat_lt, if◌then◌else◌}
+use Rattle.std.specs.Duration.{as_nanos}
+use Rattle.std.specs.declared.time.Duration.{Duration}
+use Rattle.moka_policy.specs.declared.builder_utils.BuildError.{BuildError}
+use Rattle.moka_policy.specs.declared.builder_utils.BuildError.TheVariants.{NoSegments, TooManySegments}
+use Rattle.moka_state.specs.StateData.{SettingsData}
+
+-- What a builder was told. Its weigher is a W, its expiry an X and its listener an L.
+pub record BuilderData (W X L : Type 0) : Type 0 where
+  pub name : Option (List ℕ)
+  pub max_capacity : Option ℕ
+  pub initial_capacity : ℕ
+  pub is_lru : Bool
+  pub time_to_live : Option Duration
+  pub time_to_idle : Option Duration
+  pub weigher : Option W
+  pub expiry : Option X
+  pub listener : Option L
+  pub first_number : ℕ
+  pub num_segments : ℕ
+
+-- Where nothing is said the cache is one segment without a bound, its policy is TinyLFU and its numbers begin with 0.
+abbrev pub nothing_said : {W X L : Type 0} → BuilderData W X L
+nothing_said = record {
+  name = None;
+  max_capacity = None;
+  initial_capacity = 0;
+  is_lru = false;
+  time_to_live = None;
+  time_to_idle = None;
+  weigher = None;
+  expiry = None;
+  listener = None;
+  first_number = 0;
+  num_segments = 1;
+}
+
+-- Why a cache is not built with so many segments.
+abbrev pub segments_refused : ℕ → Option BuildError
+segments_refused count =
+    if nat_eq count 0 then Some NoSegments else (if nat_lt (2 ^ 63) count then Some TooManySegments else None)
+
+-- The settings of a state that is built so, with this hasher.
+abbrev pub settings_built : {H W X L : Type 0} → BuilderData W X L → H → SettingsData H W X
+settings_built told hasher = record {
+  name = told.name;
+  time_to_live = option_map as_nanos told.time_to_live;
+  time_to_idle = option_map as_nanos told.time_to_idle;
+  max_capacity = told.max_capacity;
+  first_number = told.first_number;
+  behaviour = record { is_lru = told.is_lru; hasher = hasher; weigher = told.weigher; expiry = told.expiry };
+}

@@ -1,0 +1,5 @@
+//! Caches that threads share, and what builds caches.
+#![tactic(auto)]
+
+pub mod builder;
+pub mod cache;

@@ -1,0 +1,185 @@
+//! What a builder builds, and what it refuses.
+use moka::common::builder_utils::{BuildError, ensure_expirations};
+use moka::policy::{EvictionPolicy, ManualClock, NoExpiry, NoListener, NoWeigher, Policy, Refused};
+use moka::ready::{FoldState, Plain};
+use moka::state::{CacheState, InsertRefused};
+use moka::sync::builder::Single;
+use moka::sync::{Cache, CacheBuilder};
+use std::alloc::{AllocError, Global};
+use std::hash::BuildHasherDefault;
+use std::sync::Arc;
+use std::test::Fail;
+use std::time::Duration;
+
+type Builder = CacheBuilder<u64, String, Plain, Single>;
+
+fn hasher() -> FoldState {
+    BuildHasherDefault::default()
+}
+
+const LONGEST: u64 = 31_536_000_000;
+
+#[test]
+fn a_life_of_1000_years_is_the_longest(rt: HostRuntime) {
+    let longest = Duration::from_secs(LONGEST);
+    let longer = Duration::new(LONGEST, 1);
+    for (live, idle, refused) in [
+        (None, None, None),
+        (Some(longest), Some(longest), None),
+        (Some(longer), None, Some(BuildError::TimeToLiveTooLong)),
+        (None, Some(longer), Some(BuildError::TimeToIdleTooLong)),
+        (
+            Some(longer),
+            Some(longer),
+            Some(BuildError::TimeToLiveTooLong),
+        ),
+        (
+            Some(longest),
+            Some(longer),
+            Some(BuildError::TimeToIdleTooLong),
+        ),
+    ] {
+        assert_eq!(rt; ensure_expirations(live, idle).err(), refused);
+    }
+}
+
+#[test]
+fn a_state_is_built_by_the_settings(rt: HostRuntime) -> Result<(), Fail> {
+    let builder: Builder = CacheBuilder::new(400);
+    let mut state = builder
+        .max_capacity(300)
+        .max_capacity(400)
+        .initial_capacity(10)
+        .eviction_policy(EvictionPolicy::lru())
+        .time_to_live(Duration::from_secs(2700))
+        .time_to_idle(Duration::from_secs(900))
+        .first_number(u64::MAX)
+        .name(rt.alloc(), "tracked_sessions")?
+        .build_state(rt.alloc(), hasher())?;
+    assert_eq!(rt; state.name(), Some("tracked_sessions"));
+    let policy = Policy::new(
+        Some(400),
+        1,
+        Some(Duration::from_secs(2700)),
+        Some(Duration::from_secs(900)),
+    );
+    assert_eq!(rt; state.policy(), policy);
+    let InsertRefused { key, value, cause } = state
+        .insert(1, String::from_str(rt.alloc(), "a")?, 0)
+        .err()
+        .ok_or("a refusal")?;
+    assert_eq!(rt;
+        (key, value.as_str(), cause),
+        (1, "a", Refused::NumbersUsedUp)
+    );
+    Ok(())
+}
+
+#[test]
+fn a_cache_has_1_to_2_to_63_segments(rt: HostRuntime) {
+    for (count, refused) in [
+        (0, Some(BuildError::NoSegments)),
+        (1, None),
+        (24, None),
+        (1 << 63, None),
+        ((1 << 63) + 1, Some(BuildError::TooManySegments)),
+    ] {
+        let builder: Builder = CacheBuilder::default();
+        assert_eq!(rt; builder.segments(count).err(), refused);
+    }
+}
+
+#[test]
+fn refusals_say_what_was_refused(rt: HostRuntime) -> Result<(), Fail> {
+    for (refusal, text) in [
+        (BuildError::NoSegments, "NoSegments"),
+        (BuildError::TooManySegments, "TooManySegments"),
+        (BuildError::TimeToLiveTooLong, "TimeToLiveTooLong"),
+        (BuildError::TimeToIdleTooLong, "TimeToIdleTooLong"),
+        (BuildError::OutOfMemory, "OutOfMemory"),
+    ] {
+        assert_eq!(rt; format!(in rt.alloc(); "{refusal}")?.as_str(), text);
+    }
+    let refused = InsertRefused {
+        key: 1_u64,
+        value: 2_u64,
+        cause: Refused::NumbersUsedUp,
+    };
+    assert_eq!(rt;
+        format!(in rt.alloc(); "{refused}")?.as_str(),
+        "insert was refused (NumbersUsedUp) and changed nothing: key and value are handed back, to try again \
+         with more memory, or with another cache where its numbers are used up"
+    );
+    assert_eq!(rt; Refused::from(refused), Refused::NumbersUsedUp);
+    Ok(())
+}
+
+type Clock = Arc<ManualClock>;
+
+type Shared<W> = Cache<u64, Arc<u64>, Plain<Clock>, W>;
+
+type State = CacheState<u64, Arc<u64>, Plain<Clock>>;
+
+// A builder to which all is told that takes memory: then, or when it builds.
+fn told(alloc: Global) -> Result<CacheBuilder<u64, Arc<u64>, Plain<Clock>, Single>, BuildError> {
+    CacheBuilder::new(400)
+        .initial_capacity(100)
+        .weigher(NoWeigher)
+        .expire_after(NoExpiry)
+        .eviction_listener(NoListener)
+        .name(alloc, "tracked_sessions")
+}
+
+fn built_state(alloc: Global) -> Result<State, BuildError> {
+    told(alloc)?.build_state(alloc, hasher())
+}
+
+fn built(rt: HostRuntime, clock: Clock) -> Result<Shared<HostRuntime>, BuildError> {
+    told(rt.alloc())?.build_with_hasher(rt.alloc(), hasher(), clock, rt)
+}
+
+// Shares a value. Where memory is refused, it asks once more.
+fn shared<T: Drop>(alloc: Global, value: T) -> Result<Arc<T>, AllocError> {
+    match Arc::new(alloc, value) {
+        Ok(value) => Ok(value),
+        Err(failed) => Ok(Arc::new(alloc, failed.value)?),
+    }
+}
+
+// Where one request for memory is refused, whichever, a state is not built for want of memory, and one that is built anew
+// is as if nothing had been refused.
+#[test]
+fn a_state_is_built_anew_where_memory_was_refused(rt: HostRuntime) -> Result<(), Fail> {
+    let alloc = rt.alloc();
+    let value = shared(alloc, 7)?;
+    let mut state = match built_state(alloc) {
+        Err(BuildError::OutOfMemory) => built_state(alloc)?,
+        built => built?,
+    };
+    assert_eq!(rt; state.name(), Some("tracked_sessions"));
+    assert_eq!(rt; state.policy(), Policy::new(Some(400), 1, None, None));
+    if state.insert(1, value.clone()?, 0).is_err() {
+        state.insert(1, value, 0)?;
+    }
+    assert_eq!(rt; state.entry_count(), 1);
+    Ok(())
+}
+
+// So it is with a cache that threads share.
+#[test]
+fn a_cache_is_built_anew_where_memory_was_refused(rt: HostRuntime) -> Result<(), Fail> {
+    let alloc = rt.alloc();
+    let value = shared(alloc, 7)?;
+    let clock = shared(alloc, ManualClock::new(0))?;
+    let cache = match built(rt, clock.clone()?) {
+        Err(BuildError::OutOfMemory) => built(rt, clock)?,
+        built => built?,
+    };
+    assert_eq!(rt; cache.name(), Some("tracked_sessions"));
+    assert_eq!(rt; cache.policy(), Policy::new(Some(400), 1, None, None));
+    if cache.insert(1, value.clone()?).is_err() {
+        cache.insert(1, value)?;
+    }
+    assert!(rt; cache.contains_key(&1));
+    Ok(())
+}
