@@ -2,16 +2,17 @@ use Rattle.std.proofs.Common.{◌≡◌, ◌<◌, ◌^◌, ℕ, ◌∷◌, [], L
 use Rattle.std.specs.List.{AllByRecursion, join_with_byte}
 use Rattle.std.specs.Fmt.{decimal}
 use Rattle.std.specs.Str.{bytes_eq}
-use Rattle.std.proofs.lemmas.Option.{option_and_then_some}
+use Rattle.std.proofs.lemmas.Option.{option_and_then_some, same_Some}
 use Rattle.std.proofs.lemmas.Slice.Eq.{bytes_eq-Decides}
 use Rattle.std.proofs.lemmas.List.Splits.{join_with_byte-slice_split}
 use Rattle.mokabox_lines.specs.declared.command.Command.{Command}
-use Rattle.mokabox_lines.specs.declared.command.Command.TheVariants.{At, Insert, Get, Has, Invalidate, Tasks, Count, Weight, Notices, Policy}
+use Rattle.mokabox_lines.specs.declared.command.Command.TheVariants.{At, Insert, Get, Has, Invalidate, Tasks, Count, Weight, Notices, Policy, Remove, InvalidateAll, InvalidateIf}
 use Rattle.mokabox_lines.specs.Command.{PlainCommand, plain_command, command_fields, line_of, IsExpressible, Reader, insert_of, alone, words, read_by, command_of, command_by_line}
-use Rattle.mokabox_lines.specs.Fields.{fields_of, number_of, text_of, sole_number_of, sole_text_of, IsText}
+use Rattle.mokabox_lines.specs.Fields.{fields_of, number_of, text_of, sole_number_of, sole_text_of, none_empty, texts_of, IsText}
 use Rattle.mokabox_lines.proofs.NumberLaws.{number_takes, number_again}
 use Rattle.mokabox_lines.proofs.Truth.{mapped}
-use Rattle.mokabox_lines.proofs.FieldTexts.{IsField, says_takes, says_again, text_field, number_field, word_field, is_plain}
+use Rattle.mokabox_lines.proofs.FieldLaws.{texts_whole}
+use Rattle.mokabox_lines.proofs.FieldTexts.{IsField, says_takes, says_again, line_fields, text_field, text_fields, number_field, word_field, is_plain}
 
 -- a number is the one field that is left
 sole_number_takes : (rest : List (List ℕ)) (n : ℕ) → sole_number_of rest ≡ Some n → (rest ≡ decimal n ∷ []) × (n < 2 ^ 64)
@@ -67,6 +68,38 @@ alone_takes word command spelled sayable [] given each h =
     subst (IsWritten (word ∷ [])) same (spelled, sayable)
 alone_takes word command spelled sayable (field ∷ more) given each h = cc
 
+-- fields none of which is empty are texts
+texts_are : (fields : List (List ℕ)) → AllByRecursion IsField fields → none_empty fields ≡ true → AllByRecursion IsText fields
+texts_are [] each some = tt
+texts_are ([] ∷ more) each some = cc
+texts_are ((byte ∷ bytes) ∷ more) each some =
+    (record { some = omega arith; spaceless = each.0.spaceless; utf8 = each.0.utf8 }, texts_are more each.1 some)
+
+-- texts are the fields of the text that they make
+texts_take : (rest : List (List ℕ)) (values : List ℕ) → AllByRecursion IsField rest → texts_of rest ≡ Some values → (rest ≡ fields_of values) × AllByRecursion IsText (fields_of values)
+texts_take [] values each h = cc
+texts_take (field ∷ more) values each h = either (none_empty (field ∷ more)) refl h where
+  either : (test : Bool) → none_empty (field ∷ more) ≡ test → cond test (Some (join_with_byte 32 (field ∷ more))) None ≡ Some values → (field ∷ more ≡ fields_of values) × AllByRecursion IsText (fields_of values)
+  either true e given =
+      let whole : field ∷ more ≡ fields_of values = sym (line_fields field more each) ∙ ap fields_of (same_Some (join_with_byte 32 (field ∷ more)) values given) in
+      (whole, subst (AllByRecursion IsText) whole (texts_are (field ∷ more) each e))
+  either false e given = cc
+
+texts_some : (fields : List (List ℕ)) → AllByRecursion IsText fields → none_empty fields ≡ true
+texts_some [] each = refl
+texts_some ([] ∷ more) each = absurd (omega (arith, each.0.some))
+texts_some ((byte ∷ bytes) ∷ more) each = texts_some more each.1
+
+texts_again : (values : List ℕ) → AllByRecursion IsText (fields_of values) → texts_of (fields_of values) ≡ Some values
+texts_again values each = sym (texts_whole values (texts_some (fields_of values) each))
+
+texts_behind : Takes (codes "invalidate-if") (λ rest. option_map InvalidateIf (texts_of rest))
+texts_behind rest command each h =
+    let read = mapped InvalidateIf (texts_of rest) command h in
+    let parts = texts_take rest read.0 each read.1 in
+    let whole : codes "invalidate-if" ∷ rest ≡ command_fields (InvalidateIf read.0) = ap (λ fields. codes "invalidate-if" ∷ fields) parts.0 in
+    subst (IsWritten (codes "invalidate-if" ∷ rest)) read.2 (whole, parts.1)
+
 words_take : AllByRecursion (λ entry. Takes entry.0 entry.1) words
 words_take = (
   number_behind (codes "at") At (λ n. refl) (λ n small. small),
@@ -79,14 +112,23 @@ words_take = (
         (
           number_behind (codes "invalidate") Invalidate (λ n. refl) (λ n small. small),
           (
-            alone_takes (codes "tasks") Tasks refl tt,
+            number_behind (codes "remove") Remove (λ n. refl) (λ n small. small),
             (
-              alone_takes (codes "count") Count refl tt,
+              alone_takes (codes "invalidate-all") InvalidateAll refl tt,
               (
-                alone_takes (codes "weight") Weight refl tt,
+                texts_behind,
                 (
-                  alone_takes (codes "notices") Notices refl tt,
-                  (alone_takes (codes "policy") Policy refl tt, tt),
+                  alone_takes (codes "tasks") Tasks refl tt,
+                  (
+                    alone_takes (codes "count") Count refl tt,
+                    (
+                      alone_takes (codes "weight") Weight refl tt,
+                      (
+                        alone_takes (codes "notices") Notices refl tt,
+                        (alone_takes (codes "policy") Policy refl tt, tt),
+                      ),
+                    ),
+                  ),
                 ),
               ),
             ),
@@ -118,6 +160,9 @@ command_again (Insert key value) parts = rw (number_again key parts.0, text_agai
 command_again (Get key) small = rw (number_again key small) refl
 command_again (Has key) small = rw (number_again key small) refl
 command_again (Invalidate key) small = rw (number_again key small) refl
+command_again (Remove key) small = rw (number_again key small) refl
+command_again InvalidateAll sayable = refl
+command_again (InvalidateIf values) each = rw (texts_again values each) refl
 command_again Tasks sayable = refl
 command_again Count sayable = refl
 command_again Weight sayable = refl
@@ -134,6 +179,9 @@ command_fields_are (Insert key value) parts = (omega arith, (word_field (codes "
 command_fields_are (Get key) small = (omega arith, number_written (codes "get") key refl small)
 command_fields_are (Has key) small = (omega arith, number_written (codes "has") key refl small)
 command_fields_are (Invalidate key) small = (omega arith, number_written (codes "invalidate") key refl small)
+command_fields_are (Remove key) small = (omega arith, number_written (codes "remove") key refl small)
+command_fields_are InvalidateAll sayable = (omega arith, (word_field (codes "invalidate-all") refl, tt))
+command_fields_are (InvalidateIf values) each = (omega arith, (word_field (codes "invalidate-if") refl, text_fields (fields_of values) each))
 command_fields_are Tasks sayable = (omega arith, (word_field (codes "tasks") refl, tt))
 command_fields_are Count sayable = (omega arith, (word_field (codes "count") refl, tt))
 command_fields_are Weight sayable = (omega arith, (word_field (codes "weight") refl, tt))

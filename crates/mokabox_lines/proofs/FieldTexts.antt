@@ -75,7 +75,7 @@ fields_are line utf8 =
     both (fields_of line) (fields_spaceless line) (utf8_fields (fields_of line) joined)
 
 -- such fields, joined by spaces, make a line that has them
-line_fields : (field : List ℕ) (fields : List (List ℕ)) → AllByRecursion IsField (field ∷ fields) → fields_of (join_with_byte 32 (field ∷ fields)) ≡ field ∷ fields
+pub line_fields : (field : List ℕ) (fields : List (List ℕ)) → AllByRecursion IsField (field ∷ fields) → fields_of (join_with_byte 32 (field ∷ fields)) ≡ field ∷ fields
 line_fields field [] each = slice_split_none (λ b. eqb b 32) field (not_spaces field each.0.spaceless)
 line_fields field (other ∷ fields) each =
     slice_split_at (λ b. eqb b 32) field 32 (join_with_byte 32 (other ∷ fields)) (not_spaces field each.0.spaceless) refl
@@ -118,6 +118,10 @@ other_says {A} read line other = chosen (is_utf8 line) refl where
 -- a text is a field
 pub text_field : (text : List ℕ) → IsText text → IsField text
 text_field text is = record { spaceless = is.spaceless; utf8 = is.utf8 }
+
+pub text_fields : (texts : List (List ℕ)) → AllByRecursion IsText texts → AllByRecursion IsField texts
+text_fields [] each = tt
+text_fields (text ∷ more) each = (text_field text each.0, text_fields more each.1)
 
 -- the digits of a number are a field
 pub number_field : (n : ℕ) → n < 2 ^ 64 → IsField (decimal n)

@@ -10,7 +10,7 @@ use Rattle.std.proofs.lemmas.Str.Pattern.{IsSplitOnceResult, split_parts}
 use Rattle.mokabox_lines.specs.declared.settings.Eviction.{Eviction}
 use Rattle.mokabox_lines.specs.declared.settings.Eviction.TheVariants.{Lru, TinyLfu}
 use Rattle.mokabox_lines.specs.declared.settings.Setting.{Setting}
-use Rattle.mokabox_lines.specs.declared.settings.Setting.TheVariants.{TimeToLive, TimeToIdle, FirstNumber, Capacity, InitialCapacity, Policy, Weigher}
+use Rattle.mokabox_lines.specs.declared.settings.Setting.TheVariants.{TimeToLive, TimeToIdle, FirstNumber, Capacity, InitialCapacity, Policy, Weigher, Closures}
 use Rattle.mokabox_lines.specs.declared.settings.Settings.{Settings}
 use Rattle.mokabox_lines.specs.declared.settings.Weighing.{Weighing}
 use Rattle.mokabox_lines.specs.declared.settings.Weighing.TheVariants.{Bytes}
@@ -123,12 +123,19 @@ value_by_takes (entry ∷ entries) name take value setting h = either (bytes_eq 
 
 -- a field that is read as a setting is what it is written as
 setting_takes : (field : List ℕ) (setting : Setting) → setting_of field ≡ Some setting → (field ≡ setting_text setting) × IsGivable setting
-setting_takes field setting h = option_and_then_some (λ parts. value_by names parts.0 parts.1) (halves field) setting h (λ parts cut given.
-    let read = value_by_takes names parts.0 names_take parts.1 setting given in
-    (halves_take field parts cut ∙ read.0, read.1))
+unfolding setting_of
+setting_takes field setting h = either (bytes_eq field (codes "closures")) refl h where
+  either : (test : Bool) → bytes_eq field (codes "closures") ≡ test → cond test (Some Closures) (option_and_then (λ parts. value_by names parts.0 parts.1) (halves field)) ≡ Some setting → (field ≡ setting_text setting) × IsGivable setting
+  either true e given =
+      let same : field ≡ codes "closures" = (bytes_eq-Decides field (codes "closures")).0 e in
+      subst (λ x. (field ≡ setting_text x) × IsGivable x) (same_Some Closures setting given) (same, tt)
+  either false e given = option_and_then_some (λ parts. value_by names parts.0 parts.1) (halves field) setting given (λ parts cut rest.
+      let read = value_by_takes names parts.0 names_take parts.1 setting rest in
+      (halves_take field parts cut ∙ read.0, read.1))
 
 -- what a setting is written as is read as that setting
 setting_again : (setting : Setting) → IsGivable setting → setting_of (setting_text setting) ≡ Some setting
+unfolding setting_of
 setting_again (TimeToLive seconds) small = rw (number_again seconds small) refl
 setting_again (TimeToIdle seconds) small = rw (number_again seconds small) refl
 setting_again (FirstNumber number) small = rw (number_again number small) refl
@@ -137,6 +144,7 @@ setting_again (InitialCapacity count) small = rw (number_again count small) refl
 setting_again (Policy Lru) givable = refl
 setting_again (Policy TinyLfu) givable = refl
 setting_again (Weigher Bytes) givable = refl
+setting_again Closures givable = refl
 
 -- the fields that are read as settings are what they are written as
 abbrev AreGiven : List (List ℕ) → Settings → Settings → Type 0
@@ -173,6 +181,7 @@ setting_field (InitialCapacity count) small = joined_field (codes "initial=") (d
 setting_field (Policy Lru) givable = word_field (codes "policy=lru") refl
 setting_field (Policy TinyLfu) givable = word_field (codes "policy=tinylfu") refl
 setting_field (Weigher Bytes) givable = word_field (codes "weigher=bytes") refl
+setting_field Closures givable = word_field (codes "closures") refl
 
 setting_fields : (given : List Setting) → AllByRecursion IsGivable given → AllByRecursion IsField (map setting_text given)
 setting_fields [] givable = tt

@@ -7,9 +7,11 @@ use Rattle.moka_policy.specs.declared.builder_utils.BuildError.{BuildError}
 use Rattle.moka_policy.specs.declared.builder_utils.BuildError.TheVariants as builds
 use Rattle.moka_policy.specs.declared.policy.Refused as moka_refused
 use Rattle.moka_policy.specs.declared.policy.Refused.TheVariants as refusals
+use Rattle.moka_predicate_ids.specs.declared.predicate_error.PredicateError.{PredicateError}
+use Rattle.moka_predicate_ids.specs.declared.predicate_error.PredicateError.TheVariants as predicates
 use Rattle.mokabox_lines.specs.declared.answer.Answer.{Answer}
 use Rattle.mokabox_lines.specs.declared.answer.Answer.TheVariants.{Done, Found, NotFound, Whether, Counted, Refused, NotBuilt, Left, End}
-use Rattle.mokabox_lines.specs.declared.answer.Answer.TheVariants.{Policy, BadLine}
+use Rattle.mokabox_lines.specs.declared.answer.Answer.TheVariants.{NotHidden, Policy, BadLine}
 
 -- the number by which a refusal is printed
 abbrev pub refusal_number : moka_refused.Refused → ℕ
@@ -23,6 +25,11 @@ build_refusal_number builds.TooManySegments = 2
 build_refusal_number builds.TimeToLiveTooLong = 3
 build_refusal_number builds.TimeToIdleTooLong = 4
 build_refusal_number builds.OutOfMemory = 5
+
+-- the number by which a refusal to remove by what values are is printed
+abbrev pub predicate_error_number : PredicateError → ℕ
+predicate_error_number predicates.InvalidationClosuresDisabled = 1
+predicate_error_number predicates.OutOfMemory = 2
 
 -- the word by which a cause is printed
 abbrev pub cause_text : RemovalCause → List ℕ
@@ -46,6 +53,7 @@ answer_text (Whether false) = codes "false"
 answer_text (Counted count) = decimal count
 answer_text (Refused refused) = codes "refused " ++ decimal (refusal_number refused)
 answer_text (NotBuilt refusal) = codes "refused build " ++ decimal (build_refusal_number refusal)
+answer_text (NotHidden refusal) = codes "error " ++ decimal (predicate_error_number refusal)
 answer_text (Left key value cause) = codes "notice " ++ (decimal key ++ (32 ∷ (string_bytes value ++ (32 ∷ cause_text cause))))
 answer_text (Policy capacity live idle segments) =
     codes "policy capacity " ++ (measure_text capacity.0 ++ (codes " ttl " ++ (measure_text live.0

@@ -1,12 +1,12 @@
 use Rattle.std.specs.Prelude.{ℕ, ◌^◌, ◌<◌, List, [], ◌∷◌, Option, Some, None, option_map, option_and_then, codes, if◌then◌else◌}
 use Rattle.std.specs.Borrow.{Bor}
 use Rattle.std.specs.Fmt.{decimal}
-use Rattle.std.specs.List.{join_with_byte}
+use Rattle.std.specs.List.{AllByRecursion, join_with_byte}
 use Rattle.std.specs.Str.{bytes_eq}
-use Rattle.mokabox_lines.specs.Fields.{line_reading, number_of, sole_number_of, sole_text_of, IsText}
+use Rattle.mokabox_lines.specs.Fields.{line_reading, fields_of, number_of, sole_number_of, sole_text_of, texts_of, IsText}
 use Rattle.mokabox_lines.specs.declared.command.Command.{Command}
 use Rattle.mokabox_lines.specs.declared.command.Command.TheVariants.{At, Insert, Get, Has, Invalidate, Tasks, Count, Weight, Notices}
-use Rattle.mokabox_lines.specs.declared.command.Command.TheVariants.{Policy}
+use Rattle.mokabox_lines.specs.declared.command.Command.TheVariants.{Remove, InvalidateAll, InvalidateIf, Policy}
 
 -- a command with the bytes of its texts
 abbrev pub PlainCommand : Type 0
@@ -18,6 +18,9 @@ plain_command (Insert key value) = Insert key value.now
 plain_command (Get key) = Get key
 plain_command (Has key) = Has key
 plain_command (Invalidate key) = Invalidate key
+plain_command (Remove key) = Remove key
+plain_command InvalidateAll = InvalidateAll
+plain_command (InvalidateIf values) = InvalidateIf values.now
 plain_command Tasks = Tasks
 plain_command Count = Count
 plain_command Weight = Weight
@@ -31,6 +34,9 @@ command_fields (Insert key value) = codes "insert" ∷ decimal key ∷ value ∷
 command_fields (Get key) = codes "get" ∷ decimal key ∷ []
 command_fields (Has key) = codes "has" ∷ decimal key ∷ []
 command_fields (Invalidate key) = codes "invalidate" ∷ decimal key ∷ []
+command_fields (Remove key) = codes "remove" ∷ decimal key ∷ []
+command_fields InvalidateAll = codes "invalidate-all" ∷ []
+command_fields (InvalidateIf values) = codes "invalidate-if" ∷ fields_of values
 command_fields Tasks = codes "tasks" ∷ []
 command_fields Count = codes "count" ∷ []
 command_fields Weight = codes "weight" ∷ []
@@ -48,6 +54,9 @@ IsExpressible (Insert key value) = (key < 2 ^ 64) × IsText value
 IsExpressible (Get key) = key < 2 ^ 64
 IsExpressible (Has key) = key < 2 ^ 64
 IsExpressible (Invalidate key) = key < 2 ^ 64
+IsExpressible (Remove key) = key < 2 ^ 64
+IsExpressible InvalidateAll = Unit {0}
+IsExpressible (InvalidateIf values) = AllByRecursion IsText (fields_of values)
 IsExpressible Tasks = Unit {0}
 IsExpressible Count = Unit {0}
 IsExpressible Weight = Unit {0}
@@ -73,6 +82,9 @@ words = (codes "at", λ rest. option_map At (sole_number_of rest))
     ∷ (codes "get", λ rest. option_map Get (sole_number_of rest))
     ∷ (codes "has", λ rest. option_map Has (sole_number_of rest))
     ∷ (codes "invalidate", λ rest. option_map Invalidate (sole_number_of rest))
+    ∷ (codes "remove", λ rest. option_map Remove (sole_number_of rest))
+    ∷ (codes "invalidate-all", alone InvalidateAll)
+    ∷ (codes "invalidate-if", λ rest. option_map InvalidateIf (texts_of rest))
     ∷ (codes "tasks", alone Tasks)
     ∷ (codes "count", alone Count)
     ∷ (codes "weight", alone Weight)

@@ -1,7 +1,7 @@
-use Rattle.std.specs.Prelude.{◌≡◌, ◌<◌, ◌⊎◌, length, slice_index, ℕ, ◌^◌, ◌==◌, nat_lt, Bool, ◌&&◌, List, [], ◌∷◌, Option, Some, None}
+use Rattle.std.specs.Prelude.{◌≡◌, ◌<◌, ◌⊎◌, length, slice_index, ℕ, ◌^◌, ◌==◌, nat_lt, Bool, true, false, ◌&&◌, List, [], ◌∷◌, Option, Some, None}
 use Rattle.std.specs.Prelude.{option_and_then, All, ◌≢◌, if◌then◌else◌}
 use Rattle.std.specs.Borrow.{Bor}
-use Rattle.std.specs.List.{slice_split}
+use Rattle.std.specs.List.{slice_split, join_with_byte}
 use Rattle.std.specs.Fmt.{decimal}
 use Rattle.std.specs.Str.{bytes_eq, is_utf8, IsUtf8}
 use Rattle.std.specs.Str.Parse.{digits_value}
@@ -46,6 +46,17 @@ sole_number_of fields = option_and_then number_of (sole_of fields)
 -- the one field as a text
 abbrev pub sole_text_of : List (List ℕ) → Option (List ℕ)
 sole_text_of fields = option_and_then text_of (sole_of fields)
+
+-- no field is empty
+abbrev pub none_empty : List (List ℕ) → Bool
+none_empty [] = true
+none_empty ([] ∷ more) = false
+none_empty ((byte ∷ bytes) ∷ more) = none_empty more
+
+-- the fields as texts, with one space between each two, where there is one and none is empty
+abbrev pub texts_of : List (List ℕ) → Option (List ℕ)
+texts_of [] = None
+texts_of (field ∷ more) = if none_empty (field ∷ more) then Some (join_with_byte 32 (field ∷ more)) else None
 
 -- the bytes of a text: some, none of them a space, and UTF-8
 pub record IsText (bytes : List ℕ) : Type 0 where

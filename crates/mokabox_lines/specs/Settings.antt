@@ -1,4 +1,4 @@
-use Rattle.std.specs.Prelude.{◌==◌, ◌^◌, ◌<◌, ℕ, List, [], ◌∷◌, ◌++◌, length, min, Option, Some, None, is_some, map, option_map}
+use Rattle.std.specs.Prelude.{◌==◌, ◌^◌, ◌<◌, ℕ, true, false, List, [], ◌∷◌, ◌++◌, length, min, Option, Some, None, is_some, map, option_map}
 use Rattle.std.specs.Prelude.{option_and_then, codes, if◌then◌else◌}
 use Rattle.std.specs.Fmt.{decimal}
 use Rattle.std.specs.List.{join_with_byte}
@@ -8,7 +8,7 @@ use Rattle.mokabox_lines.specs.declared.settings.Eviction.{Eviction}
 use Rattle.mokabox_lines.specs.declared.settings.Eviction.TheVariants.{Lru, TinyLfu}
 use Rattle.mokabox_lines.specs.declared.settings.Setting.{Setting}
 use Rattle.mokabox_lines.specs.declared.settings.Setting.TheVariants.{TimeToLive, TimeToIdle, FirstNumber, Capacity}
-use Rattle.mokabox_lines.specs.declared.settings.Setting.TheVariants.{InitialCapacity, Policy, Weigher}
+use Rattle.mokabox_lines.specs.declared.settings.Setting.TheVariants.{InitialCapacity, Policy, Weigher, Closures}
 use Rattle.mokabox_lines.specs.declared.settings.Settings.{Settings}
 use Rattle.mokabox_lines.specs.declared.settings.Weighing.{Weighing}
 use Rattle.mokabox_lines.specs.declared.settings.Weighing.TheVariants.{Bytes}
@@ -35,6 +35,7 @@ setting_text (Capacity most) = codes "capacity=" ++ decimal most
 setting_text (InitialCapacity count) = codes "initial=" ++ decimal count
 setting_text (Policy eviction) = codes "policy=" ++ eviction_text eviction
 setting_text (Weigher weighing) = codes "weigher=" ++ weighing_text weighing
+setting_text Closures = codes "closures"
 
 -- the first line that gives the settings, in this order
 abbrev pub first_line_of : List Setting → List ℕ
@@ -49,6 +50,7 @@ IsGivable (Capacity most) = most < 2 ^ 64
 IsGivable (InitialCapacity count) = count < 2 ^ 64
 IsGivable (Policy eviction) = Unit {0}
 IsGivable (Weigher weighing) = Unit {0}
+IsGivable Closures = Unit {0}
 
 -- no setting is given
 abbrev pub none_given : Settings
@@ -60,6 +62,7 @@ none_given = record {
   initial_capacity = None;
   policy = None;
   weigher = None;
+  closures = false;
 }
 
 -- the settings and one more, which isn't given yet
@@ -75,6 +78,7 @@ with_setting settings (InitialCapacity count) =
     if is_some settings.initial_capacity then None else Some (record settings { initial_capacity = Some count })
 with_setting settings (Policy eviction) = if is_some settings.policy then None else Some (record settings { policy = Some eviction })
 with_setting settings (Weigher weighing) = if is_some settings.weigher then None else Some (record settings { weigher = Some weighing })
+with_setting settings Closures = if settings.closures then None else Some (record settings { closures = true })
 
 -- the settings with all of these, of which none is given twice
 abbrev pub settings_with_all : Settings → List Setting → Option Settings
@@ -113,9 +117,10 @@ abbrev pub value_by : List (List ℕ × (List ℕ → Option Setting)) → List 
 value_by [] name value = None
 value_by (entry ∷ entries) name value = if bytes_eq name entry.0 then entry.1 value else value_by entries name value
 
--- the setting that a field gives
-abbrev pub setting_of : List ℕ → Option Setting
-setting_of field = option_and_then (λ parts. value_by names parts.0 parts.1) (halves field)
+-- the setting that a field gives: one word alone, or a name and a value
+unfoldable pub setting_of : List ℕ → Option Setting
+setting_of field =
+    if bytes_eq field (codes "closures") then Some Closures else option_and_then (λ parts. value_by names parts.0 parts.1) (halves field)
 
 -- the settings with those that the fields give
 abbrev pub settings_from : Settings → List (List ℕ) → Option Settings

@@ -1,11 +1,12 @@
 //! What the program prints: a line for each answer.
 ghost use Rattle.std.specs.Prelude.{◌≡◌, Some, OnOk};
 ghost use Rattle.std.specs.Io.KnownBytes.{Appends};
-ghost use Rattle.mokabox_lines.specs.Answer.{answer_text, answer_line, cause_text, measure_text, refusal_number, build_refusal_number};
+ghost use Rattle.mokabox_lines.specs.Answer.{answer_text, answer_line, cause_text, measure_text, refusal_number, build_refusal_number, predicate_error_number};
 
 use moka_model::notification::RemovalCause;
 use moka_policy::builder_utils::BuildError;
 use moka_policy::policy::Refused;
+use moka_predicate_ids::predicate_error::PredicateError;
 use std::io::Write;
 use std::{fmt, io};
 
@@ -41,6 +42,8 @@ pub enum Answer {
     Refused(Refused),
     /// The cache was not built.
     NotBuilt(BuildError),
+    /// A removal by what values are was refused.
+    NotHidden(PredicateError),
     /// A value that left, with its key before it and the cause behind it.
     Left(u64, String, RemovalCause),
     /// A cache's capacity, its time to live and to idle in seconds, and its number of segments.
@@ -68,6 +71,10 @@ impl fmt::Display for Answer {
             Answer::NotBuilt(refusal) => {
                 let number = build_refusal_number(*refusal);
                 write!(f, "refused build {number}")
+            }
+            Answer::NotHidden(refusal) => {
+                let number = predicate_error_number(*refusal);
+                write!(f, "error {number}")
             }
             Answer::Left(key, value, cause) => {
                 let cause = cause_text(*cause);
@@ -111,6 +118,16 @@ fn build_refusal_number(refusal: BuildError) -> u8
         BuildError::TimeToLiveTooLong => 3,
         BuildError::TimeToIdleTooLong => 4,
         BuildError::OutOfMemory => 5,
+    }
+}
+
+/// The number by which a refusal to remove by what values are is printed.
+fn predicate_error_number(refusal: PredicateError) -> u8
+    ensures { result ≡ predicate_error_number refusal }
+{
+    match refusal {
+        PredicateError::InvalidationClosuresDisabled => 1,
+        PredicateError::OutOfMemory => 2,
     }
 }
 

@@ -18,6 +18,12 @@ pub enum Command<T> {
     Has(u64),
     /// Removes a key.
     Invalidate(u64),
+    /// Removes a key, and asks for its value.
+    Remove(u64),
+    /// Removes all keys.
+    InvalidateAll,
+    /// Removes each key whose value is one of these: texts, one space between each two.
+    InvalidateIf(T),
     /// Runs the pending tasks.
     Tasks,
     /// Asks how many keys are stored.
@@ -55,6 +61,9 @@ fn read(mut fields: Fields<'_>) -> Option<Command<&str>>
         "get" => Command::Get(fields.sole_number()?),
         "has" => Command::Has(fields.sole_number()?),
         "invalidate" => Command::Invalidate(fields.sole_number()?),
+        "remove" => Command::Remove(fields.sole_number()?),
+        "invalidate-all" => alone(fields, Command::InvalidateAll)?,
+        "invalidate-if" => Command::InvalidateIf(fields.texts()?),
         "tasks" => alone(fields, Command::Tasks)?,
         "count" => alone(fields, Command::Count)?,
         "weight" => alone(fields, Command::Weight)?,

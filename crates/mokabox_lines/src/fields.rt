@@ -1,7 +1,7 @@
 //! The fields of a line: its parts between the spaces.
 ghost use Rattle.std.specs.Prelude.{◌≡◌, ◌∷◌, ◌↔◌, IsTrue, option_map};
 ghost use Rattle.std.specs.Iterator.{YieldsFirstRef, item_count};
-ghost use Rattle.mokabox_lines.specs.Fields.{fields_of, fields_in, IsPadded, number_of, text_of, sole_of, sole_number_of, sole_text_of};
+ghost use Rattle.mokabox_lines.specs.Fields.{fields_of, fields_in, IsPadded, number_of, text_of, sole_of, sole_number_of, sole_text_of, texts_of};
 
 /// The fields of a line that are still to be read.
 #[derive(Drop)]
@@ -42,6 +42,20 @@ impl<'a> Fields<'a> {
         ensures { option_map (λ x. x.now) result ≡ sole_text_of (fields_left self.entry) }
     {
         text(self.sole()?)
+    }
+
+    /// The fields that are left, as they stand in the line, as texts. `None` where none is left, or
+    /// one is empty.
+    pub fn texts(self) -> Option<&'a str>
+        ensures { option_map (λ x. x.now) result ≡ texts_of (fields_left self.entry) }
+    {
+        let texts = self.rest?;
+        for part in Fields::of(texts) {
+            if part.is_empty() {
+                return None;
+            }
+        }
+        Some(texts)
     }
 }
 

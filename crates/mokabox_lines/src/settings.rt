@@ -1,5 +1,5 @@
 //! The first line of a script, and the settings that it gives.
-ghost use Rattle.std.specs.Prelude.{◌≡◌, ◌↔◌, IsSome, IfSome, OnSome, List, option_map};
+ghost use Rattle.std.specs.Prelude.{◌≡◌, ◌↔◌, true, false, IsSome, IfSome, OnSome, List, option_map};
 ghost use Rattle.std.specs.List.{AllByRecursion};
 ghost use Rattle.mokabox_lines.specs.FieldsLeft.{fields_left};
 ghost use Rattle.mokabox_lines.specs.Settings.{halves, setting_of, eviction_of, weighing_of, with_setting, settings_of, settings_by, first_line_of, IsGivable, settings_together};
@@ -24,6 +24,8 @@ pub struct Settings {
     pub policy: Option<Eviction>,
     /// How values are weighed.
     pub weigher: Option<Weighing>,
+    /// Whether keys may be removed by what their values are.
+    pub closures: bool,
 }
 
 /// Which keys leave a cache that is too full, and which are admitted.
@@ -59,6 +61,8 @@ pub enum Setting {
     Policy(Eviction),
     /// How values are weighed.
     Weigher(Weighing),
+    /// Keys may be removed by what their values are.
+    Closures,
 }
 
 impl Settings {
@@ -75,6 +79,7 @@ impl Settings {
             Setting::InitialCapacity(count) => give(&mut settings.initial_capacity, count)?,
             Setting::Policy(eviction) => give(&mut settings.policy, eviction)?,
             Setting::Weigher(weighing) => give(&mut settings.weigher, weighing)?,
+            Setting::Closures => set(&mut settings.closures)?,
         }
         Some(settings)
     }
@@ -89,6 +94,18 @@ fn give<T: Drop>(place: &mut Option<T>, value: T) -> Option<()>
         return None;
     }
     *place = Some(value);
+    Some(())
+}
+
+/// Sets what is said by a word alone. `None` where it is set already.
+fn set(flag: &mut bool) -> Option<()>
+    ensures once { IsSome result ↔ (flag.old ≡ false) }
+    ensures given { OnSome result (flag.new ≡ true) }
+{
+    if *flag {
+        return None;
+    }
+    *flag = true;
     Some(())
 }
 
@@ -124,9 +141,13 @@ fn read(mut fields: Fields<'_>) -> Option<Settings>
 }
 
 /// The setting that a field gives.
+#[tactic(auto, unfolding(crate::specs::Settings::setting_of))]
 fn read_setting(field: &str) -> Option<Setting>
     ensures { result ≡ setting_of field.now }
 {
+    if field == "closures" {
+        return Some(Setting::Closures);
+    }
     let (name, value) = named(field)?;
     match name {
         "ttl" => Some(Setting::TimeToLive(number(value)?)),
