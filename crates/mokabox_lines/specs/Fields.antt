@@ -1,4 +1,4 @@
-use Rattle.std.specs.Prelude.{◌≡◌, ◌<◌, ◌⊎◌, length, slice_index, ℕ, ◌^◌, ◌==◌, nat_lt, Bool, true, false, ◌&&◌, List, [], ◌∷◌, Option, Some, None}
+use Rattle.std.specs.Prelude.{◌≡◌, ◌<◌, ◌⊎◌, length, slice_index, ℕ, ◌^◌, ◌==◌, nat_lt, Bool, true, false, ◌&&◌, ◌||◌, List, [], ◌∷◌, Option, Some, None}
 use Rattle.std.specs.Prelude.{option_and_then, All, ◌≢◌, if◌then◌else◌}
 use Rattle.std.specs.Borrow.{Bor}
 use Rattle.std.specs.List.{slice_split, join_with_byte}
@@ -57,6 +57,11 @@ none_empty ((byte ∷ bytes) ∷ more) = none_empty more
 abbrev pub texts_of : List (List ℕ) → Option (List ℕ)
 texts_of [] = None
 texts_of (field ∷ more) = if none_empty (field ∷ more) then Some (join_with_byte 32 (field ∷ more)) else None
+
+-- whether one of the fields is this text
+abbrev pub is_one_of : List ℕ → List (List ℕ) → Bool
+is_one_of text [] = false
+is_one_of text (field ∷ more) = bytes_eq field text || is_one_of text more
 
 -- the bytes of a text: some, none of them a space, and UTF-8
 pub record IsText (bytes : List ℕ) : Type 0 where

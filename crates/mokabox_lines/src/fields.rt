@@ -1,7 +1,7 @@
 //! The fields of a line: its parts between the spaces.
 ghost use Rattle.std.specs.Prelude.{◌≡◌, ◌∷◌, ◌↔◌, IsTrue, option_map};
 ghost use Rattle.std.specs.Iterator.{YieldsFirstRef, item_count};
-ghost use Rattle.mokabox_lines.specs.Fields.{fields_of, fields_in, IsPadded, number_of, text_of, sole_of, sole_number_of, sole_text_of, texts_of};
+ghost use Rattle.mokabox_lines.specs.Fields.{fields_of, fields_in, IsPadded, number_of, text_of, sole_of, sole_number_of, sole_text_of, texts_of, is_one_of};
 
 /// The fields of a line that are still to be read.
 #[derive(Drop)]
@@ -56,6 +56,18 @@ impl<'a> Fields<'a> {
             }
         }
         Some(texts)
+    }
+
+    /// Whether one of the fields that are left is this text.
+    pub fn contains(self, text: &str) -> bool
+        ensures { result ≡ is_one_of text.now (fields_left self.entry) }
+    {
+        for field in self {
+            if field == text {
+                return true;
+            }
+        }
+        false
     }
 }
 

@@ -24,9 +24,10 @@ use Rattle.mokabox_lines.specs.Answer.{answer_text, measure_text}
 use Rattle.mokabox_lines.specs.declared.answer.Answer.{Answer}
 use Rattle.mokabox_lines.specs.declared.answer.Answer.TheVariants as answers
 use Rattle.mokabox_lines.specs.Command.{PlainCommand, command_by_line}
+use Rattle.mokabox_lines.specs.Fields.{fields_of, is_one_of}
 use Rattle.mokabox_lines.specs.Settings.{settings_by, byte_weight}
 use Rattle.mokabox_lines.specs.declared.command.Command.TheVariants.{At, Insert, Get, Has, Invalidate, Tasks, Count, Weight, Notices}
-use Rattle.mokabox_lines.specs.declared.command.Command.TheVariants.{Policy}
+use Rattle.mokabox_lines.specs.declared.command.Command.TheVariants.{Remove, InvalidateAll, InvalidateIf, Policy}
 use Rattle.mokabox_lines.specs.declared.settings.Eviction.{Eviction}
 use Rattle.mokabox_lines.specs.declared.settings.Eviction.TheVariants.{Lru, TinyLfu}
 use Rattle.mokabox_lines.specs.declared.settings.Settings.{Settings}
@@ -54,6 +55,10 @@ pub record Course : Type 0 where
   pub steps : List CacheStep
   pub moment : ℕ
 
+-- whether the bytes of a text are those of one of the texts that stand with one space between each two
+abbrev pub is_among : List ℕ → Text → Bool
+is_among texts text = is_one_of (string_bytes text) (fields_of texts)
+
 -- The calls that a command makes at a moment, when this many notices are left. A text that it hands in has the command's
 -- bytes. All notices are taken, and then once more, when there is none.
 abbrev pub Makes : ℕ → ℕ → PlainCommand → List (Call ℕ Text) → Type 0
@@ -62,6 +67,9 @@ Makes notices moment (Insert key value) made = (text : Text) × (string_bytes te
 Makes notices moment (Get key) made = made ≡ calls.Get key moment ∷ []
 Makes notices moment (Has key) made = made ≡ calls.ContainsKey key moment ∷ []
 Makes notices moment (Invalidate key) made = made ≡ calls.Invalidate key moment ∷ []
+Makes notices moment (Remove key) made = made ≡ calls.Remove key moment ∷ []
+Makes notices moment InvalidateAll made = made ≡ calls.InvalidateAll ∷ []
+Makes notices moment (InvalidateIf texts) made = made ≡ calls.InvalidateIf (λ key text. is_among texts text) ∷ []
 Makes notices moment Tasks made = made ≡ calls.RunPendingTasks moment ∷ []
 Makes notices moment Count made = made ≡ calls.EntryCount ∷ []
 Makes notices moment Weight made = made ≡ calls.WeightedSize ∷ []
@@ -83,6 +91,7 @@ answer_of (replies.Counted count) = answers.Counted count
 answer_of (replies.Noticed None) = answers.End
 answer_of (replies.Noticed (Some notice)) = answers.Left (arc_value notice.key) notice.value notice.cause
 answer_of (replies.Refused cause) = answers.Refused cause
+answer_of (replies.PredicateRefused cause) = answers.NotHidden cause
 
 -- What calls print, a line for the reply to each, and the accepted steps after them: a refused call leaves them as they are.
 abbrev pub CallsPrint : CacheSettings → List CacheStep → List (Call ℕ Text) → List (List ℕ) → List CacheStep → Type 0
@@ -145,7 +154,7 @@ cache_settings settings = record {
   time_to_idle = option_map (λ seconds. seconds * 1_000_000_000) settings.time_to_idle;
   max_capacity = settings.capacity;
   first_number = unwrap_or settings.first_number 0;
-  supports_closures = false;
+  supports_closures = settings.closures;
   behaviour = record {
     is_lru = is_lru_by settings.policy;
     hash = λ key. key % 2 ^ 64;

@@ -55,6 +55,7 @@ pub record IsTold (given : Settings) (told : Told) : Type 0 where
   pub is_lru : told.is_lru ≡ is_lru_by given.policy
   pub weigher : is_some told.weigher ≡ is_some given.weigher
   pub expiry : told.expiry ≡ None
+  pub closures : told.closures ≡ given.closures
   pub first_number : told.first_number ≡ unwrap_or given.first_number 0
 
 -- A session is where the script has come: its cache stands for the accepted steps, and its moment is the script's.

@@ -2,6 +2,7 @@
 //! of its reader and its writer.
 #![tactic(auto)]
 
+mod one_of;
 pub mod program;
 pub mod script;
 mod session;

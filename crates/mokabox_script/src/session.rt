@@ -7,15 +7,16 @@ ghost use Rattle.moka_model.specs.Lives.{no_lifetimes};
 ghost use Rattle.moka_policy.specs.Policy.{is_lru};
 ghost use Rattle.mokabox_lines.specs.Answer.{answer_text};
 ghost use Rattle.mokabox_lines.specs.Command.{plain_command};
-ghost use Rattle.mokabox_script.specs.Script.{beginning, is_lru_by, cache_settings, lives_refused, answer_of};
+ghost use Rattle.mokabox_script.specs.Script.{beginning, is_lru_by, cache_settings, lives_refused, answer_of, is_among};
 ghost use Rattle.mokabox_script.specs.Session.{IsAt, IsTold, Prints};
 ghost use Rattle.mokabox_lines.specs.Settings.{byte_weight};
 ghost use Rattle.mokabox_lines.specs.declared.command.Command.TheVariants as commands;
 
+use crate::one_of::OneOf;
 use moka::common::builder_utils::BuildError;
 use moka::policy::{
-    CacheTypes, CountTable, EvictionPolicy, ManualClock, NoExpiry, NoListener, NoPredicate,
-    NumberHash, Weigher,
+    CacheTypes, CountTable, EvictionPolicy, ManualClock, NoExpiry, NoListener, NumberHash,
+    Weigher,
 };
 use moka::state::{CacheState, Reply, Step};
 use moka::sync::CacheBuilder;
@@ -40,7 +41,7 @@ impl CacheTypes<u64, String> for ScriptTypes {
 
     type Expiry = NoExpiry;
 
-    type Predicate = NoPredicate;
+    type Predicate = OneOf;
 
     type Frequency = CountTable<6>;
 
@@ -56,7 +57,7 @@ impl CacheTypes<u64, String> for ScriptTypes {
 
     ghost lifetimes = { λ _. no_lifetimes };
 
-    ghost test = { λ _ _ _. false };
+    ghost test = { λ it _ text. is_among (string_bytes it.texts) text };
 
     ghost keeps = { λ _ _. Unit {0} };
 
@@ -133,6 +134,14 @@ impl Session {
                 key: self.shared(key)?,
                 now,
             },
+            Command::Remove(key) => Step::Remove {
+                key: self.shared(key)?,
+                now,
+            },
+            Command::InvalidateAll => Step::InvalidateAll,
+            Command::InvalidateIf(texts) => Step::InvalidateIf {
+                predicate: Arc::new(self.alloc, OneOf::new(self.alloc, texts)?)?,
+            },
             Command::Tasks => Step::RunPendingTasks { now },
             Command::Count => Step::EntryCount,
             Command::Weight => Step::WeightedSize,
@@ -192,6 +201,7 @@ fn answer_of(reply: Reply<u64, String>) -> Answer
         Reply::Noticed(Some(notice)) => Answer::Left(*notice.key, notice.value, notice.cause),
         Reply::Noticed(None) => Answer::End,
         Reply::Refused(refused) => Answer::Refused(refused),
+        Reply::PredicateRefused(refused) => Answer::NotHidden(refused),
     }
 }
 
@@ -209,7 +219,8 @@ fn builder_of(settings: settings::Settings) -> Builder
     let builder = limited(builder, settings.capacity);
     let builder = lived(builder, settings.time_to_live.map(Duration::from_secs));
     let builder = idled(builder, settings.time_to_idle.map(Duration::from_secs));
-    weighed(builder, settings.weigher)
+    let builder = weighed(builder, settings.weigher);
+    supporting(builder, settings.closures)
 }
 
 // The builder that is told a capacity, where there is one.
@@ -254,6 +265,18 @@ fn weighed(builder: Builder, weighing: Option<Weighing>) -> Builder
     match weighing {
         Some(Weighing::Bytes) => builder.weigher(Bytes),
         None => builder,
+    }
+}
+
+// The builder that is told to hide by predicates, where the settings say so.
+fn supporting(builder: Builder, closures: bool) -> Builder
+    requires { builder.closures ≡ false }
+    ensures { result ≡ record builder { closures = closures } }
+{
+    if closures {
+        builder.support_invalidation_closures()
+    } else {
+        builder
     }
 }
 

@@ -1,6 +1,7 @@
 //! The line of each answer, and the code of each status.
 use moka::common::builder_utils::BuildError;
 use moka::notification::RemovalCause;
+use moka::PredicateError;
 use moka::policy::Refused;
 use mokabox_lines::answer::{Answer, Measure, write_answer};
 use mokabox_script::script::Status;
@@ -39,6 +40,14 @@ fn answers_have_their_lines(rt: HostRuntime) -> Result<(), Fail> {
         (
             Answer::NotBuilt(BuildError::OutOfMemory),
             "refused build 5\n",
+        ),
+        (
+            Answer::NotHidden(PredicateError::InvalidationClosuresDisabled),
+            "error 1\n",
+        ),
+        (
+            Answer::NotHidden(PredicateError::OutOfMemory),
+            "error 2\n",
         ),
         (
             Answer::Policy(Measure(Some(100)), Measure(None), Measure(Some(0)), 8),

@@ -8,6 +8,8 @@ mod answers;
 #[cfg(test)]
 mod failures;
 #[cfg(test)]
+mod hiding;
+#[cfg(test)]
 mod lines;
 #[cfg(test)]
 mod runs;

@@ -201,11 +201,13 @@ const ADMITTED: [Row; 1] = [(
     "new capacity=3\ninsert 1 alice\ninsert 2 bob\nget 1\nget 2\ntasks\n\
      insert 3 cindy\nget 3\ntasks\nget 1\nget 2\ntasks\n\
      insert 4 david\ntasks\nnotices\nget 4\ninsert 4 david\ntasks\nnotices\nget 4\n\
-     insert 4 dennis\ntasks\nnotices\nget 4\ninvalidate 2\nnotices\n",
+     insert 4 dennis\ntasks\nnotices\nget 4\ninvalidate 2\nnotices\n\
+     remove 2\nremove 4\nnotices\n",
     "ok\nok\nok\nsome alice\nsome bob\nok\n\
      ok\nsome cindy\nok\nsome alice\nsome bob\nok\n\
      ok\nok\nnotice 4 david Size\nend\nnone\nok\nok\nnotice 4 david Size\nend\nnone\n\
-     ok\nok\nnotice 3 cindy Size\nend\nsome dennis\nok\nnotice 2 bob Explicit\nend\n",
+     ok\nok\nnotice 3 cindy Size\nend\nsome dennis\nok\nnotice 2 bob Explicit\nend\n\
+     none\nsome dennis\nnotice 4 dennis Explicit\nend\n",
     Status::Done,
 )];
 

@@ -4,7 +4,7 @@ use Rattle.mokabox_lines.specs.Command.{plain_command}
 use Rattle.mokabox_script.proofs.SessionLaws.{IsOneCall, moved, one_call}
 use Rattle.mokabox_script.proofs.session.Session.execute.Goals as goal
 use Rattle.mokabox_script.proofs.session.Session.execute.Goals.{in-Insert+in_ok-shared-in-Insert+in_ok-from_str-in-Insert, in-Get+in_ok-shared-in-Get}
-use Rattle.mokabox_script.proofs.session.Session.execute.Goals.{in-Has+in_ok-shared-in-Has, in-Invalidate+in_ok-shared-in-Invalidate, in-Tasks, in-Count, in-Weight}
+use Rattle.mokabox_script.proofs.session.Session.execute.Goals.{in-Has+in_ok-shared-in-Has, in-Invalidate+in_ok-shared-in-Invalidate, in-Remove+in_ok-shared-in-Remove, in-InvalidateAll, in-Tasks, in-Count, in-Weight}
 
 pub returns-in-At : goal.returns-in-At
 returns-in-At c = rw (c.in-At.is, c.new.ensures.items) (moved _ _ c.in-At.moment)
@@ -17,6 +17,8 @@ returns c =
       | in-Get+in_ok-shared-in-Get w ↦ rw (w.in-Get.is, w.step-is) (record { makes = λ notices. ap (λ k. calls.Get k now ∷ []) w.in_ok-shared-in-Get.ensures; stays = λ at. refl; says_nothing = λ settings. refl })
       | in-Has+in_ok-shared-in-Has w ↦ rw (w.in-Has.is, w.step-is) (record { makes = λ notices. ap (λ k. calls.ContainsKey k now ∷ []) w.in_ok-shared-in-Has.ensures; stays = λ at. refl; says_nothing = λ settings. refl })
       | in-Invalidate+in_ok-shared-in-Invalidate w ↦ rw (w.in-Invalidate.is, w.step-is) (record { makes = λ notices. ap (λ k. calls.Invalidate k now ∷ []) w.in_ok-shared-in-Invalidate.ensures; stays = λ at. refl; says_nothing = λ settings. refl })
+      | in-Remove+in_ok-shared-in-Remove w ↦ rw (w.in-Remove.is, w.step-is) (record { makes = λ notices. ap (λ k. calls.Remove k now ∷ []) w.in_ok-shared-in-Remove.ensures; stays = λ at. refl; says_nothing = λ settings. refl })
+      | in-InvalidateAll w ↦ rw (w.in-InvalidateAll.is, w.step-is) (record { makes = λ notices. refl; stays = λ at. refl; says_nothing = λ settings. refl })
       | in-Tasks w ↦ rw (w.in-Tasks.is, w.step-is) (record { makes = λ notices. refl; stays = λ at. refl; says_nothing = λ settings. refl })
       | in-Count w ↦ rw (w.in-Count.is, w.step-is) (record { makes = λ notices. refl; stays = λ at. refl; says_nothing = λ settings. refl })
       | in-Weight w ↦ rw (w.in-Weight.is, w.step-is) (record { makes = λ notices. refl; stays = λ at. refl; says_nothing = λ settings. refl })
