@@ -9,6 +9,8 @@ mod by_data;
 #[cfg(test)]
 mod calls;
 #[cfg(test)]
+mod hiding;
+#[cfg(test)]
 mod keys;
 #[cfg(test)]
 mod list_rows;

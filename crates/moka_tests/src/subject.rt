@@ -6,10 +6,14 @@
 //! - a call that was refused has left the numbers of keys and notices and the weight as they were, no expiry was asked,
 //!   and a write has handed back its key and its value.
 use crate::keys::{ByNumber, Collides, Key};
-use crate::values::{Counts, Given, Types, Value, Watch, heavy, plain};
+use crate::values::{Counts, EitherText, Given, Types, Value, Watch, heavy, plain};
+use moka::PredicateError;
 use moka::notification::RemovalCause;
 use moka::policy::{EvictionPolicy, Refused};
 use moka::state::{DueRows, InsertRefused, ListRows, Reply, RowStore, Settings, State, Step};
+use moka::sync::PredicateId;
+use rand_core::{Rng, SeedableRng};
+use rand_xoshiro::SplitMix64;
 use std::alloc::{AllocError, Global};
 use std::hash::{BuildHasher, BuildHasherDefault};
 use std::process::Abort;
@@ -60,6 +64,11 @@ pub(crate) enum Call {
     Invalidate(u64),
     Remove(u64),
     InvalidateAll,
+    /// It hides each value that has one of these two texts.
+    InvalidateIf(&'static str, &'static str),
+    /// So does this, which answers an id.
+    InvalidateById(&'static str, &'static str),
+    PredicateRoom,
     RunPendingTasks,
     EntryCount,
     WeightedSize,
@@ -67,6 +76,10 @@ pub(crate) enum Call {
     NoticeCount,
     /// How often the weigher, the expiry and the values' copies were asked so far.
     Asked,
+    /// How often predicates were asked so far.
+    Tested,
+    /// The next number of the generator that ids are drawn from.
+    Draw,
     /// From now on the copies of values are refused, or no more.
     RefuseCopies(bool),
 }
@@ -82,6 +95,10 @@ pub(crate) enum Answer {
     Noticed(u64, &'static str, RemovalCause),
     NoNotice,
     Refused(Refused),
+    /// A predicate was refused, for want of another thing than memory.
+    NotHidden(PredicateError),
+    /// The text of an id.
+    Id([u8; 36]),
     Asked(Counts),
     /// In a table: whatever it is, but no refusal.
     Accepted,
@@ -103,6 +120,8 @@ pub(crate) enum Way {
 struct Subject<K: Key, H: BuildHasher + Drop, R: RowStore<K, Value>> {
     cache: State<K, Value, Types<H>, R>,
     rules: Rules,
+    /// What ids are drawn from.
+    generator: SplitMix64,
     watch: Arc<Watch>,
     /// How many share the watch beside the values.
     watchers: usize,
@@ -176,6 +195,7 @@ impl<K: Key, H: BuildHasher + Default + Drop, R: RowStore<K, Value>> Subject<K, 
         Ok(Subject {
             cache,
             rules,
+            generator: SplitMix64::seed_from_u64(0),
             watchers: Arc::strong_count(&watch),
             watch,
             keys: room(alloc, rows.saturating_mul(2))?,
@@ -239,6 +259,25 @@ impl<K: Key, H: BuildHasher + Default + Drop, R: RowStore<K, Value>> Subject<K, 
                 self.cache.invalidate_all();
                 Answer::Done
             }
+            Call::InvalidateIf(one, other) => {
+                let predicate = shared(self.alloc, EitherText::new(one, other, &self.watch)?)?;
+                match self.cache.invalidate_entries_with_arc_fun(predicate) {
+                    Ok(()) => Answer::Done,
+                    Err(refused) => refused_predicate(refused),
+                }
+            }
+            Call::InvalidateById(one, other) => {
+                let predicate = EitherText::new(one, other, &self.watch)?;
+                let generator = &mut self.generator;
+                match self.cache.invalidate_entries_if(predicate, generator) {
+                    Ok(id) => id_of(&id),
+                    Err(refused) => refused_predicate(refused),
+                }
+            }
+            Call::PredicateRoom => match self.cache.predicate_room() {
+                Ok(()) => Answer::Done,
+                Err(refused) => refused_predicate(refused),
+            },
             Call::RunPendingTasks => {
                 self.cache.run_pending_tasks(now);
                 Answer::Done
@@ -253,6 +292,8 @@ impl<K: Key, H: BuildHasher + Default + Drop, R: RowStore<K, Value>> Subject<K, 
             },
             Call::NoticeCount => Answer::Counted(self.cache.notice_count() as u64),
             Call::Asked => Answer::Asked(self.watch.counts()),
+            Call::Tested => Answer::Counted(self.watch.tested()),
+            Call::Draw => Answer::Counted(self.generator.next_u64()),
             Call::RefuseCopies(refuses) => {
                 self.watch.refuse_copies(refuses);
                 Answer::Done
@@ -294,14 +335,25 @@ impl<K: Key, H: BuildHasher + Default + Drop, R: RowStore<K, Value>> Subject<K, 
                 let key = self.key(number)?;
                 Some(Step::Invalidate { key, now })
             }
+            Call::Remove(number) => {
+                let key = self.key(number)?;
+                Some(Step::Remove { key, now })
+            }
+            Call::InvalidateAll => Some(Step::InvalidateAll),
+            Call::InvalidateIf(one, other) => {
+                let predicate = shared(self.alloc, EitherText::new(one, other, &self.watch)?)?;
+                Some(Step::InvalidateIf { predicate })
+            }
             Call::RunPendingTasks => Some(Step::RunPendingTasks { now }),
             Call::EntryCount => Some(Step::EntryCount),
             Call::WeightedSize => Some(Step::WeightedSize),
             Call::TakeNotice => Some(Step::TakeNotice),
-            Call::Remove(_)
-            | Call::InvalidateAll
+            Call::InvalidateById(..)
+            | Call::PredicateRoom
             | Call::NoticeCount
             | Call::Asked
+            | Call::Tested
+            | Call::Draw
             | Call::RefuseCopies(_) => None,
         })
     }
@@ -462,12 +514,30 @@ impl<K: Key, H: BuildHasher + Default + Drop, R: RowStore<K, Value>> Subject<K, 
 fn is_step(call: Call) -> bool {
     !matches!(
         call,
-        Call::Remove(_)
-            | Call::InvalidateAll
+        Call::InvalidateById(..)
+            | Call::PredicateRoom
             | Call::NoticeCount
             | Call::Asked
+            | Call::Tested
+            | Call::Draw
             | Call::RefuseCopies(_)
     )
+}
+
+/// What a refused predicate answers. Want of memory is that of every call.
+fn refused_predicate(refused: PredicateError) -> Answer {
+    match refused {
+        PredicateError::OutOfMemory => Answer::Refused(Refused::OutOfMemory),
+        PredicateError::InvalidationClosuresDisabled => Answer::NotHidden(refused),
+    }
+}
+
+/// An id by its text, or its length where that is another one than an id's.
+fn id_of(id: &PredicateId) -> Answer {
+    match id.as_bytes().first_chunk() {
+        Some(text) if id.len() == 36 => Answer::Id(*text),
+        _ => Answer::Counted(id.len() as u64),
+    }
 }
 
 /// Asserts that an answer is the expected one.
@@ -515,6 +585,7 @@ fn said<K: Key>(reply: Reply<K, Value>) -> Answer {
         }
         Reply::Noticed(None) => Answer::NoNotice,
         Reply::Refused(refused) => Answer::Refused(refused),
+        Reply::PredicateRefused(refused) => refused_predicate(refused),
     }
 }
 

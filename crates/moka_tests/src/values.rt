@@ -1,9 +1,10 @@
 //! The values of the tests, and what weighs them and gives them lives of their own.
-ghost use Rattle.std.specs.Prelude.{◌≡◌, ◌-◌, ◌*◌, Some, option_map, false, refl, if◌then◌else◌};
+ghost use Rattle.std.specs.Prelude.{◌≡◌, ◌-◌, ◌*◌, ◌||◌, Some, option_map, refl, if◌then◌else◌};
 ghost use Rattle.std.specs.Option.{option_or};
+ghost use Rattle.std.specs.Str.{bytes_eq};
 
 use crate::keys::Key;
-use moka::policy::{CacheTypes, CountTable, Expiry, ManualClock, NoListener, NoPredicate, Weigher};
+use moka::policy::{CacheTypes, CountTable, Expiry, ManualClock, NoListener, Predicate, Weigher};
 use std::alloc::AllocError;
 use std::cell::Cell;
 use std::convert::Infallible;
@@ -57,6 +58,7 @@ pub(crate) struct Watch {
     updated: Cell<u64>,
     copied: Cell<u64>,
     refuses_copies: Cell<bool>,
+    tested: Cell<u64>,
 }
 
 /// How often a weigher was asked; an expiry after a creation, a look and an update; and a value for a copy.
@@ -71,6 +73,7 @@ impl Watch {
             updated: Cell::new(0),
             copied: Cell::new(0),
             refuses_copies: Cell::new(false),
+            tested: Cell::new(0),
         }
     }
 
@@ -82,6 +85,11 @@ impl Watch {
             self.updated.get(),
             self.copied.get(),
         ]
+    }
+
+    /// How often predicates were asked.
+    pub(crate) fn tested(&self) -> u64 {
+        self.tested.get()
     }
 
     /// Forgets what was counted since.
@@ -155,6 +163,37 @@ impl<K> Expiry<K, Value> for Watch {
     }
 }
 
+/// Holds of each value that has one of two texts. It shares the watch of its cache, so that none is kept alive.
+#[derive(Drop)]
+pub(crate) struct EitherText {
+    one: &'static str,
+    other: &'static str,
+    watch: Arc<Watch>,
+}
+
+impl EitherText {
+    pub(crate) fn new(
+        one: &'static str,
+        other: &'static str,
+        watch: &Arc<Watch>,
+    ) -> Result<EitherText, AllocError> {
+        Ok(EitherText {
+            one,
+            other,
+            watch: watch.clone()?,
+        })
+    }
+}
+
+impl<K> Predicate<K, Value> for EitherText {
+    ghost tests = { λ it test. test ≡ (λ _ value. bytes_eq value.given.text.now it.one.now || bytes_eq value.given.text.now it.other.now) };
+
+    fn holds(&self, _key: &K, value: &Value) -> bool {
+        count(&self.watch.tested);
+        value.given.text == self.one || value.given.text == self.other
+    }
+}
+
 /// A value. Each shares the watch of its cache, which therefore says how many of them there are.
 #[derive(Drop)]
 pub(crate) struct Value {
@@ -191,7 +230,7 @@ impl<K: Key, H: BuildHasher + Drop> CacheTypes<K, Value> for Types<H> {
 
     type Expiry = Watch;
 
-    type Predicate = NoPredicate;
+    type Predicate = EitherText;
 
     type Frequency = CountTable<6>;
 
@@ -211,7 +250,7 @@ impl<K: Key, H: BuildHasher + Drop> CacheTypes<K, Value> for Types<H> {
       updated = λ _ _ _ left. left;
     } };
 
-    ghost test = { λ _ _ _. false };
+    ghost test = { λ it _ value. bytes_eq value.given.text.now it.one.now || bytes_eq value.given.text.now it.other.now };
 
     ghost keeps = { λ _ _. Unit {0} };
 
