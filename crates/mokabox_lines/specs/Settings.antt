@@ -1,4 +1,5 @@
-use Rattle.std.specs.Prelude.{◌==◌, ◌^◌, ◌<◌, ℕ, true, false, List, [], ◌∷◌, ◌++◌, length, min, Option, Some, None, is_some, map, option_map}
+use Rattle.std.specs.Prelude.{◌==◌, ◌^◌, ◌<◌, ℕ, true, false, List, [], ◌∷◌, ◌++◌, length, min}
+use Rattle.std.specs.Prelude.{Option, Some, None, is_some, map, option_map}
 use Rattle.std.specs.Prelude.{option_and_then, codes, if◌then◌else◌}
 use Rattle.std.specs.Fmt.{decimal}
 use Rattle.std.specs.List.{join_with_byte}
