@@ -36,11 +36,12 @@ impl Numbers {
     }
 
     fn given(&mut self) -> Given {
+        let text = if self.below(2) == 0 { "any" } else { "odd" };
         Given {
             weight: u32::try_from(self.below(5)).unwrap_or(0),
             life: self.life(),
             life_after_look: self.life(),
-            ..plain("any")
+            ..plain(text)
         }
     }
 
@@ -61,6 +62,11 @@ impl Numbers {
                     Call::Get(key)
                 }
             }
+            12 => match self.below(10) {
+                0 => Call::InvalidateAll,
+                1 | 2 => Call::InvalidateIf("odd", ""),
+                _ => Call::Remove(key),
+            },
             _ => Call::InsertGiven(key, self.given()),
         }
     }
@@ -92,6 +98,7 @@ const ALL_RULES: [Rules; 6] = [
     UNLIMITED,
     Rules {
         time_to_idle: Some(60),
+        closures: true,
         is_weighed: true,
         may_expire: true,
         ..UNLIMITED
@@ -112,6 +119,7 @@ const ALL_RULES: [Rules; 6] = [
         is_tiny_lfu: true,
         time_to_live: Some(100),
         time_to_idle: Some(30),
+        closures: true,
         may_expire: true,
         first_number: 4_294_966_000,
         ..UNLIMITED
@@ -224,6 +232,7 @@ fn opens_with_all_settings(rt: HostRuntime) -> Result<(), Fail> {
                 is_tiny_lfu: numbers.below(2) == 0,
                 time_to_live: numbers.life(),
                 time_to_idle: Some(numbers.below(greatest)),
+                closures: numbers.below(2) == 0,
                 first_number: numbers.below(greatest),
                 is_weighed: numbers.below(2) == 0,
                 may_expire: numbers.below(2) == 0,
