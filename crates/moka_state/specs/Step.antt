@@ -7,8 +7,8 @@ use Rattle.moka_model.specs.Steps.{AcceptedStep}
 use Rattle.moka_model.specs.Calls.{Call, Answer, accepted, after, MayTakeMemory, IsOutOfNumbers}
 use Rattle.moka_model.specs.StandsFor.{IsAnswerOf}
 use Rattle.moka_state.specs.declared.step.Step.{Step}
-use Rattle.moka_state.specs.declared.step.Step.TheVariants.{Get, ContainsKey, Insert, Invalidate, RunPendingTasks, EntryCount, WeightedSize}
-use Rattle.moka_state.specs.declared.step.Step.TheVariants.{TakeNotice}
+use Rattle.moka_state.specs.declared.step.Step.TheVariants.{Get, ContainsKey, Insert, Invalidate, Remove, InvalidateAll, RunPendingTasks}
+use Rattle.moka_state.specs.declared.step.Step.TheVariants.{EntryCount, WeightedSize, TakeNotice}
 use Rattle.moka_state.specs.declared.step.Reply.{Reply}
 use Rattle.moka_state.specs.declared.step.Reply.TheVariants.{Found, Contains, Done, Counted, Noticed, Refused}
 use Rattle.moka_table.specs.Table.{removal_of}
@@ -19,6 +19,8 @@ call_of (Get key now) = Call.Get (arc_value key) now
 call_of (ContainsKey key now) = Call.ContainsKey (arc_value key) now
 call_of (Insert key value now) = Call.Insert (arc_value key) value now
 call_of (Invalidate key now) = Call.Invalidate (arc_value key) now
+call_of (Remove key now) = Call.Remove (arc_value key) now
+call_of InvalidateAll = Call.InvalidateAll
 call_of (RunPendingTasks now) = Call.RunPendingTasks now
 call_of EntryCount = Call.EntryCount
 call_of WeightedSize = Call.WeightedSize
@@ -70,5 +72,6 @@ StepKeeps keeps step = ⊤
 -- what a reader gets
 abbrev pub ReplyKeeps : {K V : Type 0} → (K → V → Type 0) → Step K V → Reply K V → Type 0
 ReplyKeeps keeps (Get key now) (Found (Some v)) = keeps (arc_value key) v
+ReplyKeeps keeps (Remove key now) (Found (Some v)) = keeps (arc_value key) v
 ReplyKeeps keeps step (Noticed (Some n)) = keeps (arc_value n.key) n.value
 ReplyKeeps keeps step reply = ⊤

@@ -26,6 +26,10 @@ pub enum Step<K, V> {
     Insert { key: Arc<K>, value: V, now: u64 },
     /// A removal.
     Invalidate { key: Arc<K>, now: u64 },
+    /// A removal that answers the live value.
+    Remove { key: Arc<K>, now: u64 },
+    /// A removal of all keys.
+    InvalidateAll,
     /// A maintenance.
     RunPendingTasks { now: u64 },
     /// A count of the stored keys.
@@ -39,7 +43,7 @@ pub enum Step<K, V> {
 /// The answer of a call.
 #[derive(Debug, Drop)]
 pub enum Reply<K, V> {
-    /// What `Get` found.
+    /// What `Get` found, or what `Remove` removed.
     Found(Option<V>),
     /// What `ContainsKey` found.
     Contains(bool),
@@ -77,6 +81,14 @@ impl<K: Hash + Drop, V: Clone, C: CacheTypes<K, V>, R: RowStore<K, V>> State<K, 
             },
             Step::Invalidate { key, now } => {
                 self.invalidate(&*key, now);
+                Reply::Done
+            }
+            Step::Remove { key, now } => match self.remove(&*key, now) {
+                Ok(removed) => Reply::Found(removed),
+                Err(refused) => Reply::Refused(refused),
+            },
+            Step::InvalidateAll => {
+                self.invalidate_all();
                 Reply::Done
             }
             Step::RunPendingTasks { now } => {

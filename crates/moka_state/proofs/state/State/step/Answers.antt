@@ -14,3 +14,9 @@ returns-in-RunPendingTasks-clause-stands g c given steps stands = rw c.in-RunPen
 
 pub returns-clause-stands : goal.returns-clause-stands
 returns-clause-stands g c given steps stands = rw c.in-TakeNotice.is (c.take_notice.ensures.stands given steps stands)
+
+pub returns-in-Ok-remove-clause-stands : goal.returns-in-Ok-remove-clause-stands
+returns-in-Ok-remove-clause-stands g c given steps stands = rw c.in-Remove.is (rw c.deref-in-Remove.ensures at (c.in-Ok-remove.ensures.stands given steps stands))
+
+pub returns-in-InvalidateAll-clause-stands : goal.returns-in-InvalidateAll-clause-stands
+returns-in-InvalidateAll-clause-stands g c given steps stands = rw c.in-InvalidateAll.is (c.invalidate_all.ensures given steps stands)
