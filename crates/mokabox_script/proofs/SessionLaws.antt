@@ -4,9 +4,8 @@ use Rattle.std.proofs.lemmas.List.{map-append}
 use Rattle.moka_model.specs.Calls as calls
 use Rattle.moka_model.specs.Calls.{Call}
 use Rattle.moka_model.specs.StandsFor.{StandsFor}
-use Rattle.moka_state.specs.declared.step.Step.{Step}
 use Rattle.moka_state.specs.declared.step.Reply.{Reply}
-use Rattle.moka_state.specs.Step.{call_of, IsReplyTo, after_reply}
+use Rattle.moka_state.specs.Step.{IsReplyTo, after_reply}
 use Rattle.mokabox_lines.specs.Answer.{answer_text}
 use Rattle.mokabox_lines.specs.declared.answer.Answer.{Answer}
 use Rattle.mokabox_lines.specs.Command.{PlainCommand}
@@ -29,19 +28,19 @@ pub policy_told : (cache : CacheData) (moment : ℕ) (lines : List (List ℕ)) �
 policy_told cache moment lines are settings before is =
     (before, ([], [], refl, (refl, refl), are ∙ ap (λ s. policy_line s ∷ []) is.stands.settings, sym is.now ∙ is.now), is)
 
--- A command is one call, that of a step.
-pub record IsOneCall (moment : ℕ) (command : PlainCommand) (step : Step ℕ Text) : Type 0 where
-  pub makes : (notices : ℕ) → Makes notices moment command (call_of step ∷ [])
+-- A command is one call.
+pub record IsOneCall (moment : ℕ) (command : PlainCommand) (call : Call ℕ Text) : Type 0 where
+  pub makes : (notices : ℕ) → Makes notices moment command (call ∷ [])
   pub stays : (at : ℕ) → moment_after command at ≡ at
   pub says_nothing : (settings : CacheSettings) → told settings command ≡ []
 
--- then its line is that of the reply to the step
-pub one_call : (old new : CacheData) (moment : ℕ) (command : PlainCommand) (step : Step ℕ Text) (reply : Reply ℕ Text) (answer : Answer) (items : List Answer) → IsOneCall moment command step → Goes old new (call_of step) reply → answer ≡ answer_of reply → items ≡ answer ∷ [] → Prints old moment command (map answer_text items) new moment
-one_call old new moment command step reply answer items is_one goes is_answer are settings before is =
-    let made : (notices : ℕ) → Makes notices before.moment command (call_of step ∷ []) = subst (λ at. (notices : ℕ) → Makes notices at command (call_of step ∷ [])) is.now is_one.makes in
+-- then its line is that of the reply to the call
+pub one_call : (old new : CacheData) (moment : ℕ) (command : PlainCommand) (call : Call ℕ Text) (reply : Reply ℕ Text) (answer : Answer) (items : List Answer) → IsOneCall moment command call → Goes old new call reply → answer ≡ answer_of reply → items ≡ answer ∷ [] → Prints old moment command (map answer_text items) new moment
+one_call old new moment command call reply answer items is_one goes is_answer are settings before is =
+    let made : (notices : ℕ) → Makes notices before.moment command (call ∷ []) = subst (λ at. (notices : ℕ) → Makes notices at command (call ∷ [])) is.now is_one.makes in
     let line : map answer_text items ≡ answer_text (answer_of reply) ∷ [] = ap (map answer_text) are ∙ ap (λ a. answer_text a ∷ []) is_answer in (
-      record { steps = after_reply nat_eq settings (call_of step) reply before.steps; moment = before.moment },
-      (call_of step ∷ [], map answer_text items, made _, (reply, [], goes.reply_is settings before.steps is.stands, line, (refl, refl)), ap (λ lines. lines ++ map answer_text items) (sym (is_one.says_nothing settings)), sym (is_one.stays before.moment)),
+      record { steps = after_reply nat_eq settings call reply before.steps; moment = before.moment },
+      (call ∷ [], map answer_text items, made _, (reply, [], goes.reply_is settings before.steps is.stands, line, (refl, refl)), ap (λ lines. lines ++ map answer_text items) (sym (is_one.says_nothing settings)), sym (is_one.stays before.moment)),
       record { stands = goes.stands settings before.steps is.stands; now = is.now },
     )
 

@@ -19,7 +19,8 @@ use Rattle.mokabox_lines.specs.Command.{PlainCommand, command_by_line}
 use Rattle.moka_sync.specs.Builder.{BuilderData}
 use Rattle.mokabox_lines.specs.Settings.{byte_weight}
 use Rattle.mokabox_lines.specs.declared.settings.Settings.{Settings}
-use Rattle.mokabox_script.specs.Script.{Text, CacheSettings, Course, CommandPrints, LinePrints, cache_settings, is_lru_by, lines_text}
+use Rattle.mokabox_script.specs.Script.{Text, is_among, CacheSettings, Course, CommandPrints, LinePrints, cache_settings, is_lru_by, lines_text}
+use Rattle.mokabox_script.specs.declared.one_of.OneOf.{OneOf}
 use Rattle.mokabox_script.specs.declared.session.Bytes.{Bytes}
 
 -- what makes the hashers of a script's cache
@@ -45,6 +46,10 @@ view = view_by cache_behaviour (estimates (noted 6) (estimated 6)) (none_noted 6
 -- what the builder of a script's cache was told
 abbrev pub Told : Type 0
 Told = BuilderData Bytes NoExpiry NoListener
+
+-- what a predicate of a script holds of: the texts that it is made of
+abbrev pub holds_of : OneOf → ℕ → Text → Bool
+holds_of it key text = is_among (string_bytes it.texts) text
 
 -- A builder was told what these settings say, and no more.
 pub record IsTold (given : Settings) (told : Told) : Type 0 where

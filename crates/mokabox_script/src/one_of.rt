@@ -1,7 +1,7 @@
 //! Which values a command hides.
 ghost use Rattle.std.specs.Prelude.{◌≡◌, IfOk};
 ghost use Rattle.std.specs.String.{string_bytes};
-ghost use Rattle.mokabox_script.specs.Script.{is_among};
+ghost use Rattle.mokabox_script.specs.Session.{holds_of};
 
 use moka::policy::Predicate;
 use mokabox_lines::fields::Fields;
@@ -25,7 +25,7 @@ impl OneOf {
 }
 
 impl Predicate<u64, String> for OneOf {
-    ghost tests = { λ it test. test ≡ (λ _ text. is_among (string_bytes it.texts) text) };
+    ghost tests = { λ it test. test ≡ holds_of it };
 
     fn holds(&self, _key: &u64, value: &String) -> bool {
         Fields::of(self.texts.as_str()).contains(value.as_str())

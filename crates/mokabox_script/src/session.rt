@@ -7,8 +7,8 @@ ghost use Rattle.moka_model.specs.Lives.{no_lifetimes};
 ghost use Rattle.moka_policy.specs.Policy.{is_lru};
 ghost use Rattle.mokabox_lines.specs.Answer.{answer_text};
 ghost use Rattle.mokabox_lines.specs.Command.{plain_command};
-ghost use Rattle.mokabox_script.specs.Script.{beginning, is_lru_by, cache_settings, lives_refused, answer_of, is_among};
-ghost use Rattle.mokabox_script.specs.Session.{IsAt, IsTold, Prints};
+ghost use Rattle.mokabox_script.specs.Script.{beginning, is_lru_by, cache_settings, lives_refused, answer_of};
+ghost use Rattle.mokabox_script.specs.Session.{IsAt, IsTold, Prints, holds_of};
 ghost use Rattle.mokabox_lines.specs.Settings.{byte_weight};
 ghost use Rattle.mokabox_lines.specs.declared.command.Command.TheVariants as commands;
 
@@ -57,7 +57,7 @@ impl CacheTypes<u64, String> for ScriptTypes {
 
     ghost lifetimes = { λ _. no_lifetimes };
 
-    ghost test = { λ it _ text. is_among (string_bytes it.texts) text };
+    ghost test = { holds_of };
 
     ghost keeps = { λ _ _. Unit {0} };
 
@@ -140,7 +140,7 @@ impl Session {
             },
             Command::InvalidateAll => Step::InvalidateAll,
             Command::InvalidateIf(texts) => Step::InvalidateIf {
-                predicate: Arc::new(self.alloc, OneOf::new(self.alloc, texts)?)?,
+                predicate: self.predicate(texts)?,
             },
             Command::Tasks => Step::RunPendingTasks { now },
             Command::Count => Step::EntryCount,
@@ -170,6 +170,14 @@ impl Session {
         ensures { IfOk result (λ shared. arc_value shared ≡ key) }
     {
         Ok(Arc::new(self.alloc, key)?)
+    }
+
+    // What holds of these texts, as a step takes it.
+    fn predicate(&self, texts: &str) -> Result<Arc<OneOf>, AllocError>
+        ensures { IfOk result (λ shared. string_bytes (arc_value shared).texts ≡ texts.now) }
+    {
+        let predicate = OneOf::new(self.alloc, texts)?;
+        Ok(Arc::new(self.alloc, predicate)?)
     }
 
     // Takes the notices, and then once more, when there is none.
