@@ -45,7 +45,7 @@ impl<K: Hash + Drop, V: Clone, C: CacheTypes<K, V>, R: RowStore<K, V>> State<K, 
         ensures undrawn { self.old.settings.supports_closures ≡ false →
             generator.new ≡ generator.old }
     {
-        self.predicate_room()?;
+        self.predicate_room()?; // Where it is refused nothing is drawn.
         let Ok(id) = new_predicate_id(self.alloc(), generator) else {
             return Err(PredicateError::OutOfMemory);
         };
