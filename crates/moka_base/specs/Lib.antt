@@ -11,6 +11,7 @@ pub use Rattle.moka_model.specs.Removals
 pub use Rattle.moka_model.specs.SizeLaws
 pub use Rattle.moka_model.specs.StandsFor
 pub use Rattle.moka_model.specs.Steps
+pub use Rattle.moka_conserved.specs.Conserved
 pub use Rattle.moka_policy.specs.Building
 pub use Rattle.moka_policy.specs.Frequency
 pub use Rattle.moka_policy.specs.NumberHash

@@ -3,7 +3,6 @@ pub mod Arrivals
 pub mod Callers
 pub mod CallSteps
 pub mod Conserved
-pub mod ConservedPairs
 pub mod Counters
 pub mod Deadlines
 pub mod Departures

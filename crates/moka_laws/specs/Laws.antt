@@ -1,12 +1,12 @@
 -- The words of the laws over lists of events and of accepted steps.
 use Rattle.std.specs.Prelude.{⊤, ◌≡◌, ◌⊎◌, ℕ, ◌+◌, ◌≤◌, ◌++◌, ◌&&◌, ◌||◌, max, Bool, true, false, if◌then◌else◌, Option, Some, None, List}
-use Rattle.std.specs.Prelude.{[], ◌∷◌, filter, is_some, option_to_list, slice_get}
+use Rattle.std.specs.Prelude.{[], ◌∷◌, filter, is_some}
 use Rattle.moka_model.specs.declared.notification.RemovalCause.{RemovalCause}
 use Rattle.moka_model.specs.declared.notification.RemovalCause.TheVariants.{Explicit, Expired}
 use Rattle.moka_model.specs.Lives.{Settings, OwnLife, Write, has_come, deadline, life_given, hidden_by}
-use Rattle.moka_model.specs.Events.{Event, Looked, Written, Invalidated, Hidden, Maintained, Drawn, Taken, latest}
+use Rattle.moka_model.specs.Events.{Event, Looked, Written, Invalidated, Hidden, Maintained, Drawn, latest}
 use Rattle.moka_model.specs.Orders.{is_evicted, standing, live}
-use Rattle.moka_model.specs.Removals.{Removal, notices_left}
+use Rattle.moka_model.specs.Removals.{Removal}
 use Rattle.moka_model.specs.Steps.{AcceptedStep}
 use Rattle.moka_model.specs.Calls.{Call, Get, ContainsKey, Insert, Invalidate, Remove, RunPendingTasks, EntryCount, WeightedSize}
 use Rattle.moka_model.specs.Calls.{Answer, accepted, answer_of}
@@ -209,13 +209,3 @@ removals_under eq k ls = filter (λ l. eq l.key k) ls
 abbrev pub value_standing : {K V : Type 0} → Option (Write K V) → List V
 value_standing None = []
 value_standing (Some w) = w.value ∷ []
-
--- what an event gives out, the events before it being h: a notice that is taken, where one is left
-abbrev pub given_by : {K V : Type 0} → (K → K → Bool) → Settings K V → Event K V → List (Event K V) → List (Removal K V)
-given_by eq settings Taken h = option_to_list (slice_get (notices_left eq settings h) 0)
-given_by eq settings e h = []
-
--- what was given out, in order
-abbrev pub given_out : {K V : Type 0} → (K → K → Bool) → Settings K V → List (Event K V) → List (Removal K V)
-given_out eq settings [] = []
-given_out eq settings (e ∷ h) = given_out eq settings h ++ given_by eq settings e h

@@ -11,7 +11,8 @@ ghost use Rattle.moka_model.specs.Removals.{Removal, removals_at, removals, take
 ghost use Rattle.moka_model.specs.Numbers.{next_number, stores_nothing, is_flush_due};
 ghost use Rattle.moka_model.specs.Steps.{AcceptedStep, events_in};
 ghost use Rattle.moka_model.specs.Calls.{Call, Get, ContainsKey, Insert, TakeNotice, Found, Contains, Noticed, flush, after, IsLegal};
-ghost use Rattle.moka_laws.specs.Laws.{answer, and_then, IsQuestion, ends, IsUnwritten, IsUntouched, LastWrite, FirstWrite, FirstEnd, NothingStands, up_to_write, IsAsWritten, hidden_since, IsRemovalOf, HasEnded, OwnHasEnded, draws, life_by_write, values_written, values_left, removals_under, value_standing, given_out};
+ghost use Rattle.moka_laws.specs.Laws.{answer, and_then, IsQuestion, ends, IsUnwritten, IsUntouched, LastWrite, FirstWrite, FirstEnd, NothingStands, up_to_write, IsAsWritten, hidden_since, IsRemovalOf, HasEnded, OwnHasEnded, draws, life_by_write, values_written, values_left, removals_under, value_standing};
+ghost use Rattle.moka_conserved.specs.Conserved.{given_out};
 ghost use Rattle.moka_policy.specs.NumberHash.{number_hash};
 ghost use Rattle.std.specs.Hash.{u64 as number_writes};
 

@@ -1,30 +1,35 @@
 -- Steps and replies as data, and what a run of steps answers.
-use Rattle.std.specs.Prelude.{⊤, Bool, List, [], ◌∷◌, Some, option_map}
+use Rattle.std.specs.Prelude.{⊤, ◌≡◌, Bool, List, [], ◌∷◌, Some, None, option_map}
 use Rattle.std.specs.Arc.{arc_value}
 use Rattle.moka_policy.specs.declared.policy.Refused.TheVariants.{OutOfMemory, NumbersUsedUp}
+use Rattle.moka_predicate_ids.specs.declared.predicate_error.PredicateError.TheVariants.{InvalidationClosuresDisabled}
+use Rattle.moka_predicate_ids.specs.declared.predicate_error.PredicateError.TheVariants as predicates
 use Rattle.moka_model.specs.Lives.{Settings}
 use Rattle.moka_model.specs.Steps.{AcceptedStep}
 use Rattle.moka_model.specs.Calls.{Call, Answer, accepted, after, MayTakeMemory, IsOutOfNumbers}
 use Rattle.moka_model.specs.StandsFor.{IsAnswerOf}
 use Rattle.moka_state.specs.declared.step.Step.{Step}
-use Rattle.moka_state.specs.declared.step.Step.TheVariants.{Get, ContainsKey, Insert, Invalidate, Remove, InvalidateAll, RunPendingTasks}
-use Rattle.moka_state.specs.declared.step.Step.TheVariants.{EntryCount, WeightedSize, TakeNotice}
+use Rattle.moka_state.specs.declared.step.Step.TheVariants.{Get, ContainsKey, Insert, Invalidate, Remove, InvalidateAll, InvalidateIf}
+use Rattle.moka_state.specs.declared.step.Step.TheVariants.{RunPendingTasks, EntryCount, WeightedSize, TakeNotice}
 use Rattle.moka_state.specs.declared.step.Reply.{Reply}
-use Rattle.moka_state.specs.declared.step.Reply.TheVariants.{Found, Contains, Done, Counted, Noticed, Refused}
+use Rattle.moka_state.specs.declared.step.Reply.TheVariants.{Found, Contains, Done, Counted, Noticed, Refused, PredicateRefused}
 use Rattle.moka_table.specs.Table.{removal_of}
 
--- The call that a step is.
-abbrev pub call_of : {K V : Type 0} → Step K V → Call K V
-call_of (Get key now) = Call.Get (arc_value key) now
-call_of (ContainsKey key now) = Call.ContainsKey (arc_value key) now
-call_of (Insert key value now) = Call.Insert (arc_value key) value now
-call_of (Invalidate key now) = Call.Invalidate (arc_value key) now
-call_of (Remove key now) = Call.Remove (arc_value key) now
-call_of InvalidateAll = Call.InvalidateAll
-call_of (RunPendingTasks now) = Call.RunPendingTasks now
-call_of EntryCount = Call.EntryCount
-call_of WeightedSize = Call.WeightedSize
-call_of TakeNotice = Call.TakeNotice
+-- Steps of a cache's own types: of its keys and values, its predicates P, and the others that it names.
+module _ {K V C H W X P F L T E S : Type 0} where
+  -- The call that a step is, by the test that each predicate answers.
+  abbrev pub call_of : (P → K → V → Bool) → Step K V C H W X P F L T E S → Call K V
+  call_of test (Get key now) = Call.Get (arc_value key) now
+  call_of test (ContainsKey key now) = Call.ContainsKey (arc_value key) now
+  call_of test (Insert key value now) = Call.Insert (arc_value key) value now
+  call_of test (Invalidate key now) = Call.Invalidate (arc_value key) now
+  call_of test (Remove key now) = Call.Remove (arc_value key) now
+  call_of test InvalidateAll = Call.InvalidateAll
+  call_of test (InvalidateIf predicate) = Call.InvalidateIf (test (arc_value predicate))
+  call_of test (RunPendingTasks now) = Call.RunPendingTasks now
+  call_of test EntryCount = Call.EntryCount
+  call_of test WeightedSize = Call.WeightedSize
+  call_of test TakeNotice = Call.TakeNotice
 
 module _ {K V E : Type 0} (eq : K → K → Bool) (is_clone : V → V → Type 0) (settings : Settings K V)
     (steps : List (AcceptedStep K V E)) where
@@ -34,7 +39,7 @@ module _ {K V E : Type 0} (eq : K → K → Bool) (is_clone : V → V → Type 0
 
   -- An accepted call answers what the definitions give, and one that draws a number is accepted only where one is left. A
   -- refused one says for want of what it was refused, and that is so: for want of memory only where it was not for want of
-  -- numbers.
+  -- numbers. A predicate is refused exactly where the call is refused by its name.
   abbrev pub IsReplyTo : Call K V → Reply K V → Type 0
   IsReplyTo call (Found v) = IsAccepted call (Answer.Found v)
   IsReplyTo call (Contains b) = IsAccepted call (Answer.Contains b)
@@ -43,35 +48,42 @@ module _ {K V E : Type 0} (eq : K → K → Bool) (is_clone : V → V → Type 0
   IsReplyTo call (Noticed n) = IsAccepted call (Answer.Noticed (option_map removal_of n))
   IsReplyTo call (Refused OutOfMemory) = MayTakeMemory eq settings steps call × ¬ (IsOutOfNumbers eq settings steps call)
   IsReplyTo call (Refused NumbersUsedUp) = IsOutOfNumbers eq settings steps call
+  IsReplyTo call (PredicateRefused InvalidationClosuresDisabled) = accepted eq settings steps call ≡ None
+  IsReplyTo call (PredicateRefused predicates.OutOfMemory) = ⊥
 
 module _ {K V E : Type 0} (eq : K → K → Bool) (settings : Settings K V) where
   -- The accepted steps after a reply to a call: a refused call leaves them as they are.
   abbrev pub after_reply : Call K V → Reply K V → List (AcceptedStep K V E) → List (AcceptedStep K V E)
   after_reply call (Refused cause) steps = steps
+  after_reply call (PredicateRefused cause) steps = steps
   after_reply call reply steps = after eq settings call steps
 
+module _ {K V C H W X P F L T E S : Type 0} (eq : K → K → Bool) (test : P → K → V → Bool) (settings : Settings K V) where
   -- those after a run, on those before it
-  abbrev pub after_all : List (Step K V) → List (Reply K V) → List (AcceptedStep K V E) → List (AcceptedStep K V E)
+  abbrev pub after_all : List (Step K V C H W X P F L T E S) → List (Reply K V) → List (AcceptedStep K V E) → List (AcceptedStep K V E)
   after_all [] replies steps = steps
-  after_all (call ∷ calls) [] steps = steps
-  after_all (call ∷ calls) (reply ∷ replies) steps = after_all calls replies (after_reply (call_of call) reply steps)
+  after_all (step ∷ rest) [] steps = steps
+  after_all (step ∷ rest) (reply ∷ replies) steps = after_all rest replies (after_reply eq settings (call_of test step) reply steps)
 
   -- Each reply is the step's, after the accepted steps before it, and there are as many replies as steps.
-  abbrev pub IsRun : (V → V → Type 0) → List (AcceptedStep K V E) → List (Step K V) → List (Reply K V) → Type 0
+  abbrev pub IsRun : (V → V → Type 0) → List (AcceptedStep K V E) → List (Step K V C H W X P F L T E S) → List (Reply K V) → Type 0
   IsRun is_clone steps [] [] = ⊤
-  IsRun is_clone steps (call ∷ calls) (reply ∷ replies) =
-      IsReplyTo eq is_clone settings steps (call_of call) reply × IsRun is_clone (after_reply (call_of call) reply steps) calls replies
+  IsRun is_clone steps (step ∷ rest) (reply ∷ replies) =
+      IsReplyTo eq is_clone settings steps (call_of test step) reply
+      × IsRun is_clone (after_reply eq settings (call_of test step) reply steps) rest replies
   IsRun is_clone steps [] (reply ∷ replies) = ⊥
-  IsRun is_clone steps (call ∷ calls) [] = ⊥
+  IsRun is_clone steps (step ∷ rest) [] = ⊥
 
--- what a writer owes
-abbrev pub StepKeeps : {K V : Type 0} → (K → V → Type 0) → Step K V → Type 0
-StepKeeps keeps (Insert key value now) = keeps (arc_value key) value
-StepKeeps keeps step = ⊤
+module _ {K V C H W X P F L T E S : Type 0} (keeps : K → V → Type 0) where
+  -- What a caller owes of a step: a writer that the pair keeps, and who hides by a predicate that it answers its test.
+  abbrev pub StepKeeps : (P → (K → V → Bool) → Type 0) → (P → K → V → Bool) → Step K V C H W X P F L T E S → Type 0
+  StepKeeps tests test (Insert key value now) = keeps (arc_value key) value
+  StepKeeps tests test (InvalidateIf predicate) = tests (arc_value predicate) (test (arc_value predicate))
+  StepKeeps tests test step = ⊤
 
--- what a reader gets
-abbrev pub ReplyKeeps : {K V : Type 0} → (K → V → Type 0) → Step K V → Reply K V → Type 0
-ReplyKeeps keeps (Get key now) (Found (Some v)) = keeps (arc_value key) v
-ReplyKeeps keeps (Remove key now) (Found (Some v)) = keeps (arc_value key) v
-ReplyKeeps keeps step (Noticed (Some n)) = keeps (arc_value n.key) n.value
-ReplyKeeps keeps step reply = ⊤
+  -- what a reader gets
+  abbrev pub ReplyKeeps : Step K V C H W X P F L T E S → Reply K V → Type 0
+  ReplyKeeps (Get key now) (Found (Some v)) = keeps (arc_value key) v
+  ReplyKeeps (Remove key now) (Found (Some v)) = keeps (arc_value key) v
+  ReplyKeeps step (Noticed (Some n)) = keeps (arc_value n.key) n.value
+  ReplyKeeps step reply = ⊤

@@ -9,15 +9,18 @@ ghost use Rattle.moka_state.specs.Step.{call_of, IsReplyTo, StepKeeps, ReplyKeep
 use crate::state::{InsertRefused, State};
 use moka_model::notification::Notice;
 use moka_policy::policy::{CacheTypes, Refused};
+use moka_predicate_ids::predicate_error::PredicateError;
 use moka_rows::rows::RowStore;
 use moka_ways::view::StateView;
 use std::collections::VecDeque;
+use std::fmt;
+use std::fmt::{Debug, Formatter};
 use std::hash::Hash;
 use std::sync::Arc;
 
 /// One call of a cache, with its arguments as values.
-#[derive(Debug, Drop)]
-pub enum Step<K, V> {
+#[derive(Drop)]
+pub enum Step<K: Eq, V: Clone, C: CacheTypes<K, V>> {
     /// A look that uses the value that it finds.
     Get { key: Arc<K>, now: u64 },
     /// A look that uses nothing.
@@ -30,6 +33,8 @@ pub enum Step<K, V> {
     Remove { key: Arc<K>, now: u64 },
     /// A removal of all keys.
     InvalidateAll,
+    /// A removal of each value of which a predicate holds.
+    InvalidateIf { predicate: Arc<C::Predicate> },
     /// A maintenance.
     RunPendingTasks { now: u64 },
     /// A count of the stored keys.
@@ -55,18 +60,45 @@ pub enum Reply<K, V> {
     Noticed(Option<Notice<K, V>>),
     /// The call was refused, and changed nothing.
     Refused(Refused),
+    /// `InvalidateIf` was refused, and changed nothing.
+    PredicateRefused(PredicateError),
+}
+
+/// A predicate is written as `..`, so none needs `Debug`.
+impl<K: Eq + Debug, V: Clone + Debug, C: CacheTypes<K, V>> Debug for Step<K, V, C> {
+    fn fmt<W: fmt::Write>(&self, f: &mut Formatter<W>) -> fmt::Result {
+        match self {
+            Step::Get { key, now } => write!(f, "Get {{ key: {key:?}, now: {now} }}"),
+            Step::ContainsKey { key, now } => {
+                write!(f, "ContainsKey {{ key: {key:?}, now: {now} }}")
+            }
+            Step::Insert { key, value, now } => {
+                write!(f, "Insert {{ key: {key:?}, value: {value:?}, now: {now} }}")
+            }
+            Step::Invalidate { key, now } => {
+                write!(f, "Invalidate {{ key: {key:?}, now: {now} }}")
+            }
+            Step::Remove { key, now } => write!(f, "Remove {{ key: {key:?}, now: {now} }}"),
+            Step::InvalidateAll => f.write_str("InvalidateAll"),
+            Step::InvalidateIf { .. } => f.write_str("InvalidateIf { predicate: .. }"),
+            Step::RunPendingTasks { now } => write!(f, "RunPendingTasks {{ now: {now} }}"),
+            Step::EntryCount => f.write_str("EntryCount"),
+            Step::WeightedSize => f.write_str("WeightedSize"),
+            Step::TakeNotice => f.write_str("TakeNotice"),
+        }
+    }
 }
 
 impl<K: Hash + Drop, V: Clone, C: CacheTypes<K, V>, R: RowStore<K, V>> State<K, V, C, R> {
     /// Does one step. A step and the call that it stands for answer the same. A refused step has
     /// changed nothing, and what it carried is dropped.
-    pub fn step(&mut self, step: Step<K, V>) -> Reply<K, V>
-        requires { StepKeeps C.keeps step }
+    pub fn step(&mut self, step: Step<K, V, C>) -> Reply<K, V>
+        requires { StepKeeps C.keeps C.Predicate.tests C.test step }
         ensures reply { ⟦<C as StateView<K, V>>⟧.at_each_history self.old (λ settings steps.
-            IsReplyTo K.eq V.is_clone settings steps (call_of step) result) }
+            IsReplyTo K.eq V.is_clone settings steps (call_of C.test step) result) }
         ensures stands { ⟦<C as StateView<K, V>>⟧.at_each_history self.old (λ settings steps.
             ⟦<C as StateView<K, V>>⟧.stands_for settings self.new
-            (after_reply K.eq settings (call_of step) result steps)) }
+            (after_reply K.eq settings (call_of C.test step) result steps)) }
         ensures kept { ReplyKeeps C.keeps step result }
     {
         match step {
@@ -91,6 +123,12 @@ impl<K: Hash + Drop, V: Clone, C: CacheTypes<K, V>, R: RowStore<K, V>> State<K, 
                 self.invalidate_all();
                 Reply::Done
             }
+            Step::InvalidateIf { predicate } => {
+                match self.invalidate_entries_with_arc_fun(predicate) {
+                    Ok(()) => Reply::Done,
+                    Err(refused) => Reply::PredicateRefused(refused),
+                }
+            }
             Step::RunPendingTasks { now } => {
                 self.run_pending_tasks(now);
                 Reply::Done
@@ -104,15 +142,15 @@ impl<K: Hash + Drop, V: Clone, C: CacheTypes<K, V>, R: RowStore<K, V>> State<K, 
     /// Does steps in order, and answers their replies. With a capacity, and where each value weighs
     /// 1, no more keys are stored then than it allows, and 64. Where the list of replies finds no
     /// room, no step was done.
-    pub fn run(&mut self, steps: Vec<Step<K, V>>) -> Result<Vec<Reply<K, V>>, Refused>
-        requires { AllByRecursion (StepKeeps C.keeps) steps.items }
+    pub fn run(&mut self, steps: Vec<Step<K, V, C>>) -> Result<Vec<Reply<K, V>>, Refused>
+        requires { AllByRecursion (StepKeeps C.keeps C.Predicate.tests C.test) steps.items }
         ensures replies { IfOk result (λ replies.
             ⟦<C as StateView<K, V>>⟧.at_each_history self.old (λ settings before.
-            IsRun K.eq settings V.is_clone before steps.items replies.items)) }
+            IsRun K.eq C.test settings V.is_clone before steps.items replies.items)) }
         ensures stands { IfOk result (λ replies.
             ⟦<C as StateView<K, V>>⟧.at_each_history self.old (λ settings before.
             ⟦<C as StateView<K, V>>⟧.stands_for settings self.new
-            (after_all K.eq settings steps.items replies.items before))) }
+            (after_all K.eq C.test settings steps.items replies.items before))) }
         ensures bounded { IfOk result (λ _.
             ⟦<C as StateView<K, V>>⟧.at_each_history self.old (λ settings before.
             WeighsOnes settings →

@@ -22,8 +22,8 @@ loop-step-preserved g c =
           let reply = c.step-reply.ensures.reply given _ was.3 in (
             was.0 ++ c.in-Some.step ∷ [],
             was.1 ∙ ap (λ l. was.0 ++ l) c.in-Some.ensures.items ∙ sym (append_assoc was.0 (c.in-Some.step ∷ []) c.pop_front.new.self.items),
-            rw c.push_reserved.ensures.items (IsRun-more g.K.PartialEq.eq g.V.Clone.is_clone given before was.0 c.loop-step.replies.items c.in-Some.step c.step-reply.result was.2 reply),
-            rw c.push_reserved.ensures.items (stands-more g.K.PartialEq.eq g.V.Clone.is_clone given _ before was.0 c.loop-step.replies.items c.in-Some.step c.step-reply.result was.2 (c.step-reply.ensures.stands given _ was.3)),
+            rw c.push_reserved.ensures.items (IsRun-more g.K.PartialEq.eq g.C.CacheTypes.test g.V.Clone.is_clone given before was.0 c.loop-step.replies.items c.in-Some.step c.step-reply.result was.2 reply),
+            rw c.push_reserved.ensures.items (stands-more g.K.PartialEq.eq g.C.CacheTypes.test g.V.Clone.is_clone given _ before was.0 c.loop-step.replies.items c.in-Some.step c.step-reply.result was.2 (c.step-reply.ensures.stands given _ was.3)),
           );
     }
 

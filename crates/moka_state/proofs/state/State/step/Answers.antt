@@ -20,3 +20,6 @@ returns-in-Ok-remove-clause-stands g c given steps stands = rw c.in-Remove.is (r
 
 pub returns-in-InvalidateAll-clause-stands : goal.returns-in-InvalidateAll-clause-stands
 returns-in-InvalidateAll-clause-stands g c given steps stands = rw c.in-InvalidateAll.is (c.invalidate_all.ensures given steps stands)
+
+pub returns-in-Ok-invalidate_entries_with_arc_fun-clause-stands : goal.returns-in-Ok-invalidate_entries_with_arc_fun-clause-stands
+returns-in-Ok-invalidate_entries_with_arc_fun-clause-stands g c given steps stands = rw c.in-InvalidateIf.is (c.in-Ok-invalidate_entries_with_arc_fun.ensures.stands given steps stands)

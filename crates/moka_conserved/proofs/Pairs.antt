@@ -14,7 +14,7 @@ use Rattle.moka_model.specs.MaintenanceLaws.{count, everything}
 use Rattle.moka_model.specs.Orders.{changed_where, moved_last, is_of, is_hit, used_where, opened_by, removed_in, hidden_in, evicted_at, orders, standing}
 use Rattle.moka_model.specs.Removals.{Removal, removal_of, removals_of, removals_at, removals}
 use Rattle.moka_model.proofs.Callers.{count-maintenance, held-orders, IsStoredUnder, stored_key}
-use Rattle.moka_laws.specs.HidingLaws.{SeesKeysAlike, count_written, count_standing, count_left}
+use Rattle.moka_conserved.specs.Conserved.{SeesKeysAlike, count_written, count_standing, count_left}
 
 module _ {A : Type 0} (t : A → Bool) where
   pub count-append : (xs ys : List A) → count t (xs ++ ys) ≡ count t xs + count t ys
