@@ -7,6 +7,7 @@
 //!   and a write has handed back its key and its value.
 use crate::keys::{ByNumber, Collides, Key};
 use crate::values::{Counts, Given, Types, Value, Watch, heavy, plain};
+use moka::PredicateError;
 use moka::notification::RemovalCause;
 use moka::policy::{EvictionPolicy, Refused};
 use moka::state::{DueRows, InsertRefused, ListRows, Reply, RowStore, Settings, State, Step};
@@ -84,6 +85,7 @@ pub(crate) enum Answer {
     Noticed(u64, &'static str, RemovalCause),
     NoNotice,
     Refused(Refused),
+    PredicateRefused(PredicateError),
     Asked(Counts),
     /// In a table: whatever it is, but no refusal.
     Accepted,
@@ -271,7 +273,11 @@ impl<K: Key, H: BuildHasher + Default + Drop, R: RowStore<K, Value>> Subject<K, 
     }
 
     /// The step that is this call, if there is one.
-    fn step_of(&mut self, call: Call, now: u64) -> Result<Option<Step<K, Value>>, AllocError> {
+    fn step_of(
+        &mut self,
+        call: Call,
+        now: u64,
+    ) -> Result<Option<Step<K, Value, Types<H>>>, AllocError> {
         let given = match call {
             Call::Insert(_, text) => plain(text),
             Call::InsertHeavy(_, weight) => heavy(weight),
@@ -297,15 +303,16 @@ impl<K: Key, H: BuildHasher + Default + Drop, R: RowStore<K, Value>> Subject<K, 
                 let key = self.key(number)?;
                 Some(Step::Invalidate { key, now })
             }
+            Call::Remove(number) => {
+                let key = self.key(number)?;
+                Some(Step::Remove { key, now })
+            }
+            Call::InvalidateAll => Some(Step::InvalidateAll),
             Call::RunPendingTasks => Some(Step::RunPendingTasks { now }),
             Call::EntryCount => Some(Step::EntryCount),
             Call::WeightedSize => Some(Step::WeightedSize),
             Call::TakeNotice => Some(Step::TakeNotice),
-            Call::Remove(_)
-            | Call::InvalidateAll
-            | Call::NoticeCount
-            | Call::Asked
-            | Call::RefuseCopies(_) => None,
+            Call::NoticeCount | Call::Asked | Call::RefuseCopies(_) => None,
         })
     }
 
@@ -352,7 +359,7 @@ impl<K: Key, H: BuildHasher + Default + Drop, R: RowStore<K, Value>> Subject<K, 
     }
 
     /// The steps of some rows.
-    fn steps(&mut self, rows: &[Row]) -> Result<Vec<Step<K, Value>>, AllocError> {
+    fn steps(&mut self, rows: &[Row]) -> Result<Vec<Step<K, Value, Types<H>>>, AllocError> {
         let mut steps = room(self.alloc, rows.len())?;
         for (call, now, _) in rows {
             if let Some(step) = self.step_of(*call, *now)? {
@@ -465,11 +472,7 @@ impl<K: Key, H: BuildHasher + Default + Drop, R: RowStore<K, Value>> Subject<K, 
 fn is_step(call: Call) -> bool {
     !matches!(
         call,
-        Call::Remove(_)
-            | Call::InvalidateAll
-            | Call::NoticeCount
-            | Call::Asked
-            | Call::RefuseCopies(_)
+        Call::NoticeCount | Call::Asked | Call::RefuseCopies(_)
     )
 }
 
@@ -518,6 +521,7 @@ fn said<K: Key>(reply: Reply<K, Value>) -> Answer {
         }
         Reply::Noticed(None) => Answer::NoNotice,
         Reply::Refused(refused) => Answer::Refused(refused),
+        Reply::PredicateRefused(refused) => Answer::PredicateRefused(refused),
     }
 }
 
