@@ -2,6 +2,7 @@
 pub use Rattle.moka_base.specs.Admission
 pub use Rattle.moka_base.specs.Building
 pub use Rattle.moka_base.specs.Calls
+pub use Rattle.moka_base.specs.Conserved
 pub use Rattle.moka_base.specs.Events
 pub use Rattle.moka_base.specs.Frequency
 pub use Rattle.moka_base.specs.Lives
@@ -16,6 +17,7 @@ pub use Rattle.moka_base.specs.Sketch
 pub use Rattle.moka_base.specs.StandsFor
 pub use Rattle.moka_base.specs.Steps
 pub use Rattle.moka_state.specs.Behaviour
+pub use Rattle.moka_state.specs.Noticed
 pub use Rattle.moka_state.specs.Rows
 pub use Rattle.moka_state.specs.State
 pub use Rattle.moka_state.specs.StateData

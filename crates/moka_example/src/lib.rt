@@ -102,7 +102,7 @@ fn settle(cache: &mut CacheState<u64, String, Names>, now: u64) -> u64 {
     cache.entry_count()
 }
 
-fn steps(alloc: Global, name: String) -> Result<Vec<Step<u64, String>>, AllocError> {
+fn steps(alloc: Global, name: String) -> Result<Vec<Step<u64, String, Names>>, AllocError> {
     let key: Arc<u64> = Arc::new(alloc, 97)?;
     let again = key.clone()?;
     let mut steps = Vec::new(alloc);
@@ -117,7 +117,7 @@ fn steps(alloc: Global, name: String) -> Result<Vec<Step<u64, String>>, AllocErr
 
 fn replay(
     cache: &mut CacheState<u64, String, Names>,
-    steps: Vec<Step<u64, String>>,
+    steps: Vec<Step<u64, String, Names>>,
 ) -> Result<Vec<Reply<u64, String>>, Refused> {
     cache.run(steps)
 }

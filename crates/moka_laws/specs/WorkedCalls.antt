@@ -1,6 +1,6 @@
 -- The calls and the events of the worked cases of calls in order, and of hiding, limits and looks that are turned down.
 use Rattle.std.specs.Prelude.{ℕ, ◌==◌, ◌||◌, zero, suc, Bool, Some, None, List, [], ◌∷◌}
-use Rattle.moka_model.specs.Events.{Event, TurnedDown, Written, Hidden, Maintained}
+use Rattle.moka_model.specs.Events.{Event, TurnedDown, Written, Invalidated, Hidden, Maintained, Taken}
 use Rattle.moka_model.specs.Steps.{AcceptedStep}
 use Rattle.moka_model.specs.Calls.{Call, Get, ContainsKey, Insert, Invalidate, Remove, InvalidateAll, InvalidateIf, RunPendingTasks}
 use Rattle.moka_model.specs.Calls.{EntryCount, WeightedSize, TakeNotice}
@@ -66,3 +66,7 @@ removals_of_both =
 -- a value is looked at after four seconds, and is turned down
 abbrev pub turned_down : List (Event ℕ ℕ)
 turned_down = TurnedDown 1 (seconds 4) ∷ Written 1 7 0 ∷ []
+
+-- a key is written, written over and removed, and one notice is taken
+abbrev pub one_taken : List (Event ℕ ℕ)
+one_taken = Taken ∷ Invalidated 1 2 ∷ Written 1 11 1 ∷ Written 1 10 0 ∷ []

@@ -2,11 +2,12 @@
 //! hiding, a maintenance within a limit, a look that is turned down, and a number that is drawn
 //! alone. Each computes, but for the flush.
 ghost use Rattle.std.specs.Prelude.{◌≡◌, ℕ, true, false, nat_eq, Some, None, [], ◌∷◌};
-ghost use Rattle.moka_model.specs.declared.notification.RemovalCause.TheVariants.{Explicit, Expired, Size};
+ghost use Rattle.moka_model.specs.declared.notification.RemovalCause.TheVariants.{Explicit, Expired, Replaced, Size};
 ghost use Rattle.moka_model.specs.Events.{Written, Invalidated, Maintained, Passed, Drawn, latest};
 ghost use Rattle.moka_model.specs.Admission.{notes, frequency};
 ghost use Rattle.moka_model.specs.Orders.{orders};
-ghost use Rattle.moka_model.specs.Removals.{removals_at, removals};
+ghost use Rattle.moka_model.specs.Removals.{removals_at, removals, notices_left};
+ghost use Rattle.moka_conserved.specs.Conserved.{count_written, count_standing, count_left, given_out};
 ghost use Rattle.moka_model.specs.Numbers.{next_number, entry_count};
 ghost use Rattle.moka_model.specs.Calls.{Get, ContainsKey};
 ghost use Rattle.moka_model.specs.OrderLaws.{keys};
@@ -14,7 +15,7 @@ ghost use Rattle.moka_laws.specs.Worked.{seconds, without_lives, ten_to_live, fi
 ghost use Rattle.moka_laws.specs.WorkedSize.{at_capacity};
 ghost use Rattle.moka_laws.specs.WorkedAdmission.{by_frequency};
 ghost use Rattle.moka_laws.specs.WorkedCalls.{session, behind_64, steps_come, two_and_two, one_leaves, another_leaves, two_hidden, turned_down};
-ghost use Rattle.moka_laws.specs.WorkedCalls.{all_hidden, some_hidden, removals_of_both};
+ghost use Rattle.moka_laws.specs.WorkedCalls.{all_hidden, some_hidden, removals_of_both, one_taken, has_value};
 
 /// A session at a capacity of two. The first of two keys is hit, so a third takes the place of the
 /// second.
@@ -93,4 +94,16 @@ pub fn a_number_and_a_moment()
     ensures stands { answer_after nat_eq without_lives (Get 1 0) (Drawn ∷ turned_down) ≡ found (Some 7) }
     ensures passed { answer_after nat_eq ten_to_live (Get 1 0) (Passed (seconds 10) ∷ turned_down) ≡ found None }
     ensures none_drawn { next_number without_lives (Passed (seconds 10) ∷ turned_down) ≡ 1 }
+{}
+
+/// A key is written, written over and removed, and one notice is taken. Of the two pairs none is
+/// stored: the first was given out, and the notice of the second waits.
+pub fn each_pair_is_at_one_place()
+    ensures written { count_written (λ k v. true) one_taken ≡ 2 }
+    ensures stored { count_standing (λ k v. true) (orders nat_eq without_lives one_taken) ≡ 0 }
+    ensures given { given_out nat_eq without_lives one_taken ≡ left_as 1 10 Replaced ∷ [] }
+    ensures waiting { notices_left nat_eq without_lives one_taken ≡ left_as 1 11 Explicit ∷ [] }
+    ensures by_value { count_written (has_value 11) one_taken ≡ 1 }
+    ensures given_by_value { count_left (has_value 11) (given_out nat_eq without_lives one_taken) ≡ 0 }
+    ensures waiting_by_value { count_left (has_value 11) (notices_left nat_eq without_lives one_taken) ≡ 1 }
 {}

@@ -1,4 +1,5 @@
 pub mod Becoming
+pub mod Conserved
 pub mod Counts
 pub mod Elements
 pub mod Finds

@@ -1,9 +1,12 @@
 //! Calls and their answers as data, and runs of them.
-ghost use Rattle.std.specs.Prelude.{◌≡◌, ◌+◌, ◌≤◌, length, IfOk, IfErr, IfSome, OnErr};
+ghost use Rattle.std.specs.Prelude.{◌≡◌, ◌+◌, ◌≤◌, ◌++◌, length, IfOk, IfErr, IfSome, OnErr};
 ghost use Rattle.std.specs.List.{AllByRecursion};
 ghost use Rattle.moka_model.specs.Numbers.{flush_point};
 ghost use Rattle.moka_model.specs.SizeLaws.{WeighsOnes};
+ghost use Rattle.moka_model.specs.Steps.{events_in};
+ghost use Rattle.moka_conserved.specs.Conserved.{given_out, IsConserved};
 ghost use Rattle.moka_state.specs.State.{all_writes};
+ghost use Rattle.moka_state.specs.Noticed.{noticed_in};
 ghost use Rattle.moka_state.specs.Step.{call_of, IsReplyTo, StepKeeps, ReplyKeeps, after_reply, IsRun, after_all};
 
 use crate::state::{InsertRefused, State};
@@ -151,6 +154,15 @@ impl<K: Hash + Drop, V: Clone, C: CacheTypes<K, V>, R: RowStore<K, V>> State<K, 
             ⟦<C as StateView<K, V>>⟧.at_each_history self.old (λ settings before.
             ⟦<C as StateView<K, V>>⟧.stands_for settings self.new
             (after_all K.eq C.test settings steps.items replies.items before))) }
+
+        // Nothing is lost or doubled: what was written is stored, or its notice waits, or it was given
+        // out, before the run or by its replies; of a new cache, by its replies alone.
+        ensures conserved { IfOk result (λ replies.
+            ⟦<C as StateView<K, V>>⟧.at_each_history self.old (λ settings before.
+            IsConserved K.eq settings
+            (events_in (after_all K.eq C.test settings steps.items replies.items before))
+            self.new.books
+            (given_out K.eq settings (events_in before) ++ noticed_in replies.items))) }
         ensures bounded { IfOk result (λ _.
             ⟦<C as StateView<K, V>>⟧.at_each_history self.old (λ settings before.
             WeighsOnes settings →

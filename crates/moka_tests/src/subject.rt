@@ -312,7 +312,11 @@ impl<K: Key, H: BuildHasher + Default + Drop, R: RowStore<K, Value>> Subject<K, 
     }
 
     /// The step that is this call, if there is one.
-    fn step_of(&mut self, call: Call, now: u64) -> Result<Option<Step<K, Value>>, AllocError> {
+    fn step_of(
+        &mut self,
+        call: Call,
+        now: u64,
+    ) -> Result<Option<Step<K, Value, Types<H>>>, AllocError> {
         let given = match call {
             Call::Insert(_, text) => plain(text),
             Call::InsertHeavy(_, weight) => heavy(weight),
@@ -404,7 +408,7 @@ impl<K: Key, H: BuildHasher + Default + Drop, R: RowStore<K, Value>> Subject<K, 
     }
 
     /// The steps of some rows.
-    fn steps(&mut self, rows: &[Row]) -> Result<Vec<Step<K, Value>>, AllocError> {
+    fn steps(&mut self, rows: &[Row]) -> Result<Vec<Step<K, Value, Types<H>>>, AllocError> {
         let mut steps = room(self.alloc, rows.len())?;
         for (call, now, _) in rows {
             if let Some(step) = self.step_of(*call, *now)? {

@@ -1,6 +1,7 @@
 use Rattle.std.proofs.Common.{[], ◌∷◌, ◌++◌, sym, ap, ◌∙◌, arith, append_assoc}
 use Rattle.std.proofs.lemmas.List.{append-nil}
 use Rattle.moka_state.proofs.Counts.{writes-bounded}
+use Rattle.moka_state.proofs.Conserved.{run-conserved}
 use Rattle.moka_state.proofs.Runs.{IsRun-more, stands-more, same_as_rest-empty}
 use Rattle.moka_state.proofs.state.State.run.Goals as goal
 
@@ -45,3 +46,10 @@ pub returns-clause-bounded : goal.returns-clause-bounded
 returns-clause-bounded g c given before stands ones =
     let was = c.loop-step.invariant.so_far given before stands in
     writes-bounded g.K.PartialEq.eq given _ _ was.3 ones
+
+pub returns-clause-conserved : goal.returns-clause-conserved
+returns-clause-conserved g c given before stands =
+    let was = c.loop-step.invariant.so_far given before stands in
+    let empty = same_as_rest-empty c.loop-step.left.items (c.in_default-pop_front.ensures.items ∙ c.in_default-pop_front.ensures.rest) in
+    let whole = was.1 ∙ ap (λ l. was.0 ++ l) empty ∙ append-nil was.0 in
+    rw whole (run-conserved g.K.PartialEq.eq g.C.CacheTypes.test g.V.Clone.is_clone given g.met.K.Eq.laws _ before was.0 c.loop-step.replies.items was.2 was.3)

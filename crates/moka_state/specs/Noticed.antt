@@ -1,0 +1,12 @@
+-- What a run gives out.
+use Rattle.std.specs.Prelude.{Some, List, [], ◌∷◌}
+use Rattle.moka_model.specs.Removals.{Removal}
+use Rattle.moka_table.specs.Table.{removal_of}
+use Rattle.moka_state.specs.declared.step.Reply.{Reply}
+use Rattle.moka_state.specs.declared.step.Reply.TheVariants.{Noticed}
+
+-- the notices in some replies, in order
+abbrev pub noticed_in : {K V : Type 0} → List (Reply K V) → List (Removal K V)
+noticed_in [] = []
+noticed_in (Noticed (Some notice) ∷ replies) = removal_of notice ∷ noticed_in replies
+noticed_in (reply ∷ replies) = noticed_in replies
