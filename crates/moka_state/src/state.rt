@@ -147,8 +147,9 @@ impl<K: Hash + Drop, V: Clone, C: CacheTypes<K, V>, R: RowStore<K, V>> State<K, 
         ensures cause { IfErr result (λ cause. cause ≡ Refused.OutOfMemory) }
     {
         let source = C::Frequency::opening(alloc)?;
-        let Ok(table) = Table::with_capacity(alloc, settings.initial_capacity) else {
-            return Err(Refused::OutOfMemory);
+        let table = match Table::with_capacity(alloc, settings.initial_capacity) {
+            Ok(table) => table,
+            Err(_) => return Err(Refused::OutOfMemory),
         };
         Ok(State {
             name: settings.name,
