@@ -2,4 +2,5 @@
 #![tactic(auto)]
 
 pub mod maintain;
+pub mod upkeep;
 pub mod visit_laws;

@@ -1,35 +1,16 @@
 //! The calls that remove by a caller's wish and more than [`State::invalidate`] does: one answers what it removes, and
 //! one removes all.
-ghost use Rattle.std.specs.Prelude.{◌≡◌, ◌||◌, true, None, Some, if◌then◌else◌, IsOk, IfOk, IfErr, IfSome, OnOk, OnErr};
-ghost use Rattle.moka_model.specs.Lives.{has_come};
+ghost use Rattle.std.specs.Prelude.{◌≡◌, None, IsOk, IfOk, IfErr, IfSome, OnOk, OnErr};
 ghost use Rattle.moka_model.specs.Steps.{events_in};
-ghost use Rattle.moka_model.specs.Calls.{Remove, InvalidateAll, Found, IsCopyOf, live_at};
+ghost use Rattle.moka_model.specs.Calls.{Remove, InvalidateAll, Found, live_at};
 
 use crate::state::State;
 use moka_model::notification::RemovalCause;
 use moka_policy::policy::{CacheTypes, Refused};
-use moka_rows::rows::{Row, RowStore};
+use moka_rows::rows::RowStore;
+use moka_ways::live_value::copy_of_live;
 use moka_ways::view::StateView;
 use std::hash::Hash;
-
-/// A copy of a row's value, where that is live at a moment.
-fn copy_of_live<K, V: Clone>(row: &Row<K, V>, now: u64) -> Result<Option<V>, Refused>
-    ensures copy { IfOk result (IsCopyOf V.is_clone
-        (if row.now.info.is_hidden || has_come row.now.info.deadline now then None
-        else Some row.now.value)) }
-    ensures dead { (row.now.info.is_hidden || has_come row.now.info.deadline now) ≡ true →
-        IsOk result }
-    ensures infallible { V.is_infallible row.now.value → IsOk result }
-    ensures cause { IfErr result (λ cause. cause ≡ Refused.OutOfMemory) }
-{
-    if row.info().is_dead(now) {
-        return Ok(None);
-    }
-    match row.value.clone() {
-        Ok(value) => Ok(Some(value)),
-        Err(_) => Err(Refused::OutOfMemory),
-    }
-}
 
 impl<K: Hash + Drop, V: Clone, C: CacheTypes<K, V>, R: RowStore<K, V>> State<K, V, C, R> {
     /// Removes a key, and answers its live value. What stood for the key, live or not, is noticed.

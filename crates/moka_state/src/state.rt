@@ -12,14 +12,12 @@ ghost use Rattle.moka_model.specs.Calls.{Get, ContainsKey, Insert, Invalidate, R
 ghost use Rattle.moka_model.specs.SizeLaws.{WeighsOnes};
 ghost use Rattle.moka_policy.specs.Policy.{is_lru};
 ghost use Rattle.moka_table.specs.Table.{entries, removal_of};
-ghost use Rattle.moka_ways.specs.Lives.{AreDated};
-ghost use Rattle.moka_maintain.specs.Maintain.{IsMaintained};
 ghost use Rattle.moka_ways.specs.Behaviour.{hash_by};
 ghost use Rattle.moka_state.specs.State.{StateData, settings_of, books_by, all_writes, IsSound};
 ghost use Rattle.moka_state.specs.Write.{WriteEnds};
 
 use moka_due::due_rows::DueRows;
-use moka_maintain::maintain::maintain;
+use moka_maintain::upkeep::Upkeep;
 use moka_model::notification::{Notice, RemovalCause};
 use moka_policy::policy::{CacheTypes, EvictionPolicy, FrequencySource, Policy, Refused};
 use moka_rows::rows::RowStore;
@@ -103,58 +101,6 @@ pub struct State<K: Hash + Drop, V: Clone, C: CacheTypes<K, V>, R: RowStore<K, V
     alloc: Global,
 }
 
-/// What a maintenance goes by, beside the rows and the policy.
-#[derive(Drop)]
-struct Upkeep<F: FrequencySource> {
-    lives: Lives,
-    max_capacity: Option<u64>,
-    // It has noted the hash of each key that `get` looked for.
-    source: F,
-}
-
-impl<F: FrequencySource> Upkeep<F> {
-    /// Runs a maintenance of a table.
-    fn maintain<K: Eq + Drop, V: Drop, R: RowStore<K, V>>(
-        &self,
-        table: &mut Table<K, V, R>,
-        policy: EvictionPolicy,
-        now: u64,
-    )
-        ensures maintained { AreDated self.now.lives (entries table.old) →
-            IsMaintained self.now.lives (is_lru policy) (F.count self.now.source)
-            self.now.max_capacity now table.old table.new }
-        ensures room { table.old.room ≤ table.new.room }
-    {
-        // Its clause `visited` bounds this count; nothing else asks for it.
-        let mut visits = 0;
-        maintain(
-            table,
-            self.max_capacity,
-            policy,
-            &self.source,
-            now,
-            &mut visits,
-        );
-    }
-}
-
-// A table without rows, with room for so many.
-fn empty_table<K: Eq + Drop, V: Drop, R: RowStore<K, V>>(
-    alloc: Global,
-    capacity: usize,
-) -> Result<Table<K, V, R>, Refused>
-    ensures rows { IfOk result (λ table. entries table ≡ []) }
-    ensures notices { IfOk result (λ table. table.notices ≡ []) }
-    ensures room { IfOk result (λ table. capacity ≤ table.room) }
-    ensures cause { IfErr result (λ cause. cause ≡ Refused.OutOfMemory) }
-{
-    let mut table = Table::new(alloc);
-    match table.reserve(capacity) {
-        Ok(()) => Ok(table),
-        Err(_) => Err(Refused::OutOfMemory),
-    }
-}
-
 /// A cache over rows in a slab, of which the first dead one is known without a walk.
 ///
 /// ```
@@ -201,9 +147,13 @@ impl<K: Hash + Drop, V: Clone, C: CacheTypes<K, V>, R: RowStore<K, V>> State<K, 
         ensures cause { IfErr result (λ cause. cause ≡ Refused.OutOfMemory) }
     {
         let source = C::Frequency::opening(alloc)?;
+        let table = match Table::with_capacity(alloc, settings.initial_capacity) {
+            Ok(table) => table,
+            Err(_) => return Err(Refused::OutOfMemory),
+        };
         Ok(State {
             name: settings.name,
-            table: empty_table(alloc, settings.initial_capacity)?,
+            table,
             upkeep: Upkeep {
                 lives: Lives {
                     time_to_live: settings.time_to_live,

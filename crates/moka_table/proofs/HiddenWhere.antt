@@ -5,7 +5,7 @@ use Rattle.std.proofs.lemmas.Bool.{eq-eqb}
 use Rattle.std.proofs.lemmas.List.{map-append}
 use Rattle.moka_rows.specs.declared.rows.Row.{Row}
 use Rattle.moka_rows.specs.Rows.{with_row, hidden, first_number, NumbersDiffer}
-use Rattle.moka_rows.proofs.Callers.{rows_from, rows_from-first, rows_from-at, with_row-append_right, with_row-here, with_row-absent, count_under-append}
+use Rattle.moka_rows.proofs.Callers.{rows_from, rows_from-first, rows_from-at, with_row-append_right, with_row-here, count_under-append}
 use Rattle.moka_table.specs.Table.{hidden_if, hidden_where}
 use Rattle.moka_table.proofs.Walks.{Walks, AtCursor}
 

@@ -96,6 +96,17 @@ impl<K: Eq + Drop, V: Drop, R: RowStore<K, V>> Table<K, V, R> {
         }
     }
 
+    /// A table without rows and notices, with room for so many rows. Refused for want of memory alone.
+    pub fn with_capacity(alloc: Global, capacity: usize) -> Result<Self, AllocError>
+        ensures rows { IfOk result (λ table. entries table ≡ []) }
+        ensures notices { IfOk result (λ table. table.notices ≡ []) }
+        ensures room { IfOk result (λ table. capacity ≤ table.room) }
+    {
+        let mut table = Table::new(alloc);
+        table.reserve(capacity)?;
+        Ok(table)
+    }
+
     /// How many notices have not been taken.
     pub fn notice_count(&self) -> usize
         ensures { result ≡ length self.now.notices }

@@ -2,5 +2,6 @@
 #![tactic(auto)]
 
 pub mod behaviour;
+pub mod live_value;
 pub mod lives;
 pub mod view;

@@ -1,4 +1,4 @@
-use Rattle.std.proofs.Common.{◌≡◌, Bool, not, cond, ◌||◌, max, Some, None, option_map, ◌∙◌, ap, sym, subst, refl, arith}
+use Rattle.std.proofs.Common.{not, ◌||◌, max, option_map, ◌∙◌, ap, sym, subst, refl, arith}
 use Rattle.std.specs.Arc.{arc_value}
 use Rattle.std.proofs.lemmas.Bool.{true≢false}
 use Rattle.moka_model.specs.declared.notification.RemovalCause.TheVariants.{Explicit}

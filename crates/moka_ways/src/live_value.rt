@@ -1,0 +1,27 @@
+//! The value of a row, where it is live.
+ghost use Rattle.std.specs.Prelude.{◌≡◌, ◌||◌, true, None, Some, if◌then◌else◌, IsOk, IfOk, IfErr};
+ghost use Rattle.moka_model.specs.Lives.{has_come};
+ghost use Rattle.moka_model.specs.Calls.{IsCopyOf};
+
+use moka_policy::policy::Refused;
+use moka_rows::rows::Row;
+
+/// A copy of a row's value, where that is live at a moment. Refused for want of memory for the copy
+/// alone; where the value is dead none is made.
+pub fn copy_of_live<K, V: Clone>(row: &Row<K, V>, now: u64) -> Result<Option<V>, Refused>
+    ensures copy { IfOk result (IsCopyOf V.is_clone
+        (if row.now.info.is_hidden || has_come row.now.info.deadline now then None
+        else Some row.now.value)) }
+    ensures dead { (row.now.info.is_hidden || has_come row.now.info.deadline now) ≡ true →
+        IsOk result }
+    ensures infallible { V.is_infallible row.now.value → IsOk result }
+    ensures cause { IfErr result (λ cause. cause ≡ Refused.OutOfMemory) }
+{
+    if row.info().is_dead(now) {
+        return Ok(None);
+    }
+    match row.value.clone() {
+        Ok(value) => Ok(Some(value)),
+        Err(_) => Err(Refused::OutOfMemory),
+    }
+}
