@@ -1,7 +1,7 @@
 //! A value that was just inserted is found, copy and all, until its ten seconds have passed, and not from then on: proved.
 #![tactic(auto)]
 
-ghost use Rattle.std.specs.Prelude.{◌≡◌, IfOk, Some, None, if◌then◌else◌, nat_lt, option_map};
+ghost use Rattle.std.specs.Prelude.{◌≡◌, IfOk, Some, None, if◌then◌else◌, nat_le, option_map};
 ghost use Rattle.std.specs.String.{string_bytes};
 
 use anyhow::Result;
@@ -14,7 +14,7 @@ use std::time::Duration;
 // Inserts a name at moment 0, and looks for it at this moment, in nanoseconds.
 fn look_up(alloc: Global, key: u64, name: String, now: u64) -> Result<Option<String>>
     ensures { IfOk result (λ found. option_map string_bytes found
-        ≡ (if nat_lt now 10_000_000_000 then Some (string_bytes name) else None)) }
+        ≡ (if nat_le 10_000_000_000 now then None else Some (string_bytes name))) }
 {
     let mut cache: CacheState<u64, String, Plain> = CacheBuilder::new(100)
         .time_to_live(Duration::from_secs(10))
