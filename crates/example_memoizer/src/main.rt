@@ -1,63 +1,32 @@
 //! A memoizer whose every answer is proved to be what its function computes, cached or not.
 #![tactic(auto)]
 
-ghost use Rattle.std.specs.Prelude.{◌≡◌, IfOk, false, refl};
+ghost use Rattle.std.specs.Prelude.{◌≡◌, IfOk};
 ghost use Rattle.std.proofs.Math.Path.{◌∙◌, ap};
 ghost use Rattle.std.proofs.lemmas.Bool.{eqb-true};
 ghost use Rattle.example_memoizer.specs.Triangle.{triangle};
-ghost use Rattle.moka.specs.Lives.{no_lifetimes};
 
 use moka::common::builder_utils::BuildError;
-use moka::policy::{
-    CacheTypes, CountTable, ManualClock, NoExpiry, NoListener, NoPredicate, NoWeigher, Refused,
-};
-use moka::ready::FoldState;
+use moka::policy::Refused;
+use moka::ready::{FoldState, Keeping, Keeps};
 use moka::state::CacheState;
 use moka::sync::CacheBuilder;
-use std::convert::Infallible;
 use std::io;
 use thiserror::Error;
 
 /// Caches in which each value is the triangular number of its key.
 struct Triangles;
 
-impl CacheTypes<u32, u64> for Triangles {
-    type Hasher = FoldState;
-
-    type Weigher = NoWeigher;
-
-    type Expiry = NoExpiry;
-
-    type Predicate = NoPredicate;
-
-    type Frequency = CountTable<10>;
-
-    type Listener = NoListener;
-
-    type Clock = ManualClock;
-
-    type Error = Infallible;
-
-    ghost weight = { λ _ _ _. 1 };
-
-    ghost equal_keys_weigh = { λ _ _ _ _ _. refl };
-
-    ghost lifetimes = { λ _. no_lifetimes };
-
-    // What the cache keeps of each key and value: whoever writes owes it, and whoever reads gets it.
-    ghost test = { λ _ _ _. false };
-
+impl Keeps<u32, u64> for Triangles {
     ghost keeps = { λ n value. value ≡ triangle n };
 
     ghost equal_keys_keep = { λ a b value same kept. kept ∙ ap triangle (eqb-true a b same) };
 
     ghost copies_keep = { λ n value copy is_copy kept. is_copy ∙ kept };
-
-    ghost copies_compose = { λ _ _ _ a b. b ∙ a };
 }
 
 /// The sum of the numbers from 1 to n: from the cache, or computed and cached.
-fn memoized(cache: &mut CacheState<u32, u64, Triangles>, n: u32) -> Result<u64, Refused>
+fn memoized(cache: &mut CacheState<u32, u64, Keeping<Triangles>>, n: u32) -> Result<u64, Refused>
     ensures { IfOk result (λ value. value ≡ triangle n) }
 {
     if let Some(value) = cache.get(&n, 0)? {
@@ -88,10 +57,7 @@ enum Failed {
 }
 
 fn main(rt: HostRuntime) -> Result<(), Failed> {
-    let mut cache: CacheState<u32, u64, Triangles> = CacheBuilder::new(1_000).build_state(
-        rt.alloc(),
-        FoldState::default(),
-    )?;
+    let mut cache = CacheBuilder::new(1_000).build_state(rt.alloc(), FoldState::default())?;
     for n in [10, 4, 10] {
         println!(rt; "{n}: {}", memoized(&mut cache, n)?)?;
     }

@@ -122,3 +122,66 @@ pub type WeighedExpiring<W, E, T = ManualClock> = ReadyTypes<FoldState, W, E, T>
 
 /// A cache whose mass invalidations ask a predicate.
 pub type Hiding<P, T = ManualClock> = ReadyTypes<FoldState, NoWeigher, NoExpiry, T, P>;
+
+/// A relation of keys and values that a cache keeps: whoever writes owes it, and whoever reads gets it.
+///
+/// ```
+/// impl Keeps<u32, u64> for Triangles {
+///     ghost keeps = { λ n value. value ≡ triangle n };
+/// ```
+pub trait Keeps<K: Eq, V: Clone> {
+    /// The relation.
+    ghost keeps: { K → V → Type 0 };
+
+    /// It does not tell equal keys apart.
+    ghost equal_keys_keep: { (a b : K) (v : V) → K.eq a b ≡ true → keeps a v → keeps b v };
+
+    /// Nor a value from its copies.
+    ghost copies_keep: { (k : K) (v w : V) → V.is_clone v w → keeps k v → keeps k w };
+}
+
+/// The types of a cache that keeps the relation of an `R`, without a weigher or an expiry, of keys that nobody picks to
+/// collide.
+pub struct Keeping<R, S = FoldState> {
+    types: PhantomData<(R, S)>,
+}
+
+impl<K, V, R, S> CacheTypes<K, V> for Keeping<R, S>
+where
+    K: Eq + Drop,
+    V: CopiesCompose,
+    R: Keeps<K, V>,
+    S: BuildHasher + Drop,
+{
+    type Hasher = S;
+
+    type Weigher = NoWeigher;
+
+    type Expiry = NoExpiry;
+
+    type Predicate = NoPredicate;
+
+    type Frequency = FrequencySketch<16>;
+
+    type Listener = NoListener;
+
+    type Clock = ManualClock;
+
+    type Error = Infallible;
+
+    ghost weight = { λ _ _ _. 1 };
+
+    ghost equal_keys_weigh = { λ _ _ _ _ _. refl };
+
+    ghost lifetimes = { λ _. no_lifetimes };
+
+    ghost test = { λ _ _ _. false };
+
+    ghost keeps = { R.keeps };
+
+    ghost equal_keys_keep = { R.equal_keys_keep };
+
+    ghost copies_keep = { R.copies_keep };
+
+    ghost copies_compose = { V.copies_compose };
+}

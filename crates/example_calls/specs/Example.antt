@@ -1,4 +1,4 @@
--- What the weigher and the expiry of the example answer.
+-- What the weigher and the expiry answer.
 use Rattle.std.specs.Prelude.{ℕ, min, length, Some, String}
 use Rattle.std.specs.String.{string_bytes}
 use Rattle.std.specs.declared.alloc.Global.{Global}
