@@ -31,6 +31,7 @@ trait Shared: Drop {
 
 /// What is there once more for another thread.
 trait Again: Shared + Send + 'static {
+    /// The same map, for another thread.
     fn again(&self) -> Result<Self, AllocError>;
 }
 
