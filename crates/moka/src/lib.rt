@@ -5,12 +5,14 @@
 
 pub use moka_base::policy::{Expiry, Policy};
 pub use moka_base::{common, notification, policy};
+pub use moka_state::predicate_error::PredicateError;
 
 /// Ready-made types of caches.
 pub use moka_ready::{copies, ready};
 
 /// Caches that threads share, and what builds caches.
 pub mod sync {
+    pub use moka_state::predicate_id::PredicateId;
     pub use moka_sync::builder;
     pub use moka_sync::builder::CacheBuilder;
     pub use moka_sync::cache::Cache;

@@ -94,6 +94,7 @@ impl<H: BuildHasher + Default + Drop, F: FrequencySource> Ours<H, F> {
             eviction_policy,
             weigher: None,
             expiry,
+            closures: false,
             first_number: 0,
             hasher: Arc::new(alloc, H::default())?,
         };

@@ -1,4 +1,4 @@
--- What is answered of a row that is removed, and what the hiding of all rows makes of the view of a state.
+-- What is answered of a row that is removed, and what the hiding of rows makes of the view of a state.
 use Rattle.std.proofs.Common.{◌≡◌, ℕ, Bool, true, false, not, cond, ◌||◌, Option, Some, None, List, [], ◌∷◌, ◌++◌, map, option_map, refl, sym, ap, subst, ◌∙◌}
 use Rattle.std.specs.Arc.{arc_value}
 use Rattle.std.specs.Option.{IfSome}
@@ -8,10 +8,9 @@ use Rattle.moka_model.specs.Lives.{Settings, Write, hidden_by}
 use Rattle.moka_model.specs.Events.{Hidden}
 use Rattle.moka_model.specs.Calls.{IsCopyOf}
 use Rattle.moka_rows.specs.declared.rows.Row.{Row}
-use Rattle.moka_rows.specs.Rows.{hidden}
 use Rattle.moka_ways.specs.declared.lives.Lives.{Lives}
 use Rattle.moka_ways.specs.Lives.{IsDated}
-use Rattle.moka_table.specs.Table.{Contents, entries, stored_write, stored_writes, removal_of, all_hidden}
+use Rattle.moka_table.specs.Table.{Contents, entries, stored_write, stored_writes, removal_of, hidden_if, hidden_where}
 use Rattle.moka_state.specs.State.{IsSound}
 use Rattle.moka_state.proofs.Orders.{same-orders}
 use Rattle.moka_state.proofs.Views.{view_with, Becomes}
@@ -38,29 +37,23 @@ if-copied is_clone P d v None each copy = tt
 if-copied is_clone P true v (Some w) each copy = absurd copy
 if-copied is_clone P false v (Some w) each copy = each w copy
 
-or-true : (b : Bool) → (b || true) ≡ true
-or-true true = refl
-or-true false = refl
-
-module _ {K V : Type 0} where
-  -- what holds of each row, hidden or not, holds of them once all are hidden
-  each-hidden : (P : Row K V → Type 0) → ((r : Row K V) → P r → P (hidden r)) → (ps : List (ℕ × Row K V)) → AllByRecursion (λ (p : ℕ × Row K V). P p.1) ps → AllByRecursion (λ (p : ℕ × Row K V). P p.1) (all_hidden ps)
+module _ {K V : Type 0} (test : K → V → Bool) where
+  -- what holds of each row, hidden or not, holds of them once some are hidden
+  each-hidden : (P : Row K V → Type 0) → ((r : Row K V) → P r → P (hidden_if test r)) → (ps : List (ℕ × Row K V)) → AllByRecursion (λ (p : ℕ × Row K V). P p.1) ps → AllByRecursion (λ (p : ℕ × Row K V). P p.1) (hidden_where test ps)
   each-hidden P keeps [] all = tt
   each-hidden P keeps (p ∷ ps) all = (keeps p.1 all.0, each-hidden P keeps ps all.1)
 
   -- the writes that hidden rows store
-  stored-hidden : (ps : List (ℕ × Row K V)) → stored_writes (all_hidden ps) ≡ map (hidden_by (λ k v. true)) (stored_writes ps)
+  stored-hidden : (ps : List (ℕ × Row K V)) → stored_writes (hidden_where test ps) ≡ map (hidden_by test) (stored_writes ps)
   stored-hidden [] = refl
-  stored-hidden (p ∷ ps) =
-      ap (λ (h : Bool). let w : Write K V = record (stored_write p.1) { is_hidden = h } in w ∷ stored_writes (all_hidden ps)) (sym (or-true p.1.info.is_hidden))
-      ∙ ap (λ l. hidden_by (λ k v. true) (stored_write p.1) ∷ l) (stored-hidden ps)
+  stored-hidden (p ∷ ps) = ap (λ l. hidden_by test (stored_write p.1) ∷ l) (stored-hidden ps)
 
-  module _ (old new : Contents K V) (admitted : new.admitted ≡ all_hidden old.admitted) (waiting : new.waiting ≡ all_hidden old.waiting) (notices : new.notices ≡ old.notices) where
-    each-entry : (P : Row K V → Type 0) → ((r : Row K V) → P r → P (hidden r)) → AllByRecursion (λ (p : ℕ × Row K V). P p.1) (entries old) → AllByRecursion (λ (p : ℕ × Row K V). P p.1) (entries new)
+  module _ (old new : Contents K V) (admitted : new.admitted ≡ hidden_where test old.admitted) (waiting : new.waiting ≡ hidden_where test old.waiting) (notices : new.notices ≡ old.notices) where
+    each-entry : (P : Row K V → Type 0) → ((r : Row K V) → P r → P (hidden_if test r)) → AllByRecursion (λ (p : ℕ × Row K V). P p.1) (entries old) → AllByRecursion (λ (p : ℕ × Row K V). P p.1) (entries new)
     each-entry P keeps all =
-        rw (admitted, waiting) (subst (AllByRecursion (λ (p : ℕ × Row K V). P p.1)) (map-append (λ (p : ℕ × Row K V). (p.0, hidden p.1)) old.admitted old.waiting) (each-hidden P keeps (entries old) all))
+        rw (admitted, waiting) (subst (AllByRecursion (λ (p : ℕ × Row K V). P p.1)) (map-append (λ (p : ℕ × Row K V). (p.0, hidden_if test p.1)) old.admitted old.waiting) (each-hidden P keeps (entries old) all))
 
-    -- a state stays sound where all its rows are hidden,
+    -- a state stays sound where some of its rows are hidden,
     pub IsSound-hidden : (keeps : K → V → Type 0) (hash_of : K → ℕ) (lives : Lives) → IsSound keeps hash_of lives old → IsSound keeps hash_of lives new
     IsSound-hidden keeps hash_of lives sound = record {
       dated = each-entry (λ r. IsDated lives r.info) (λ r is. is) sound.dated;
@@ -69,9 +62,9 @@ module _ {K V : Type 0} where
       notices_kept = rw notices sound.notices_kept;
     }
 
-    -- and its view becomes that after all was hidden
+    -- and its view becomes that after all was hidden of which the test holds
     pub becomes-hidden : (eq : K → K → Bool) (settings : Settings K V) (frequency : List ℕ → ℕ → ℕ) (latest number : ℕ)
-        → Becomes eq (view_with settings old frequency latest number) (Hidden (λ k v. true)) (view_with settings new frequency latest number)
+        → Becomes eq (view_with settings old frequency latest number) (Hidden test) (view_with settings new frequency latest number)
     becomes-hidden eq settings frequency latest number = record {
       settings = refl;
       orders = same-orders _ _ (ap stored_writes admitted ∙ stored-hidden old.admitted) (ap stored_writes waiting ∙ stored-hidden old.waiting);

@@ -1,14 +1,14 @@
 -- What a view becomes by an event, and what a state so comes to stand for.
-use Rattle.std.proofs.Common.{◌≡◌, ℕ, max, nat_le, Bool, Option, Some, None, List, [], ◌∷◌, length, refl, sym, ap, ◌∙◌, subst}
+use Rattle.std.proofs.Common.{◌≡◌, ℕ, max, nat_le, Bool, true, cond, Option, Some, None, List, [], ◌∷◌, length, refl, sym, ap, ◌∙◌, subst}
 use Rattle.std.specs.Option.{option_to_list}
 use Rattle.std.specs.Cmp.{IsEquivalence}
 use Rattle.moka_model.specs.Lives.{Settings, Write, live_one}
-use Rattle.moka_model.specs.Events.{Event, latest}
+use Rattle.moka_model.specs.Events.{Event, Hidden, latest}
 use Rattle.moka_model.specs.Orders.{standing}
 use Rattle.moka_model.specs.OrderLaws.{held, HasOneEach}
 use Rattle.moka_model.specs.Numbers.{flush_point, is_flush_due}
 use Rattle.moka_model.specs.Steps.{AcceptedStep, events_in}
-use Rattle.moka_model.specs.Calls.{Call, live_at, after}
+use Rattle.moka_model.specs.Calls.{Call, InvalidateIf, Done, without_move, with_step, live_at, after}
 use Rattle.moka_model.specs.StandsFor.{Books, View, StandsFor, Follows}
 use Rattle.moka_model.proofs.Callers.{books_after, IsViewOf, frequency_after, view-event, view-of, held-stands, stands-after, stands-question}
 use Rattle.moka_table.specs.Table.{Contents}
@@ -64,6 +64,15 @@ module _ {K V : Type 0} (eq : K → K → Bool) where
         stands-after eq given old steps stands call new
         (subst (IsViewOf eq given new) (sym (events given steps))
         (view-becomes given old new (events_in steps) e (view-of eq given old steps stands) (becomes (one-each given old steps stands))))
+
+    -- a call that hides by a test, where that is supported
+    pub follows-hidden : {E : Type 0} (old new : View K V) (test : K → V → Bool) → old.settings.supports_closures ≡ true → Becomes old (Hidden test) new → Follows E eq old (InvalidateIf test) new
+    follows-hidden {E} old new test supported becomes given steps stands =
+        let it : given.supports_closures ≡ true = ap (λ (s : Settings K V). s.supports_closures) (sym stands.settings) ∙ supported in
+        let hides : events_in (after eq given (InvalidateIf test) steps) ≡ Hidden test ∷ events_in steps =
+        ap (λ b. events_in (with_step (cond b (Some (without_move {E = E} Done (Hidden test ∷ []))) None) steps)) it in
+        stands-after eq given old steps stands (InvalidateIf test) new
+        (subst (IsViewOf eq given new) (sym hides) (view-becomes given old new (events_in steps) (Hidden test) (view-of eq given old steps stands) becomes))
 
     -- the live write of a key, by what is held of it
     pub live-held : {E : Type 0} (given : Settings K V) (view : View K V) (steps : List (AcceptedStep K V E)) → StandsFor eq given view steps → (k : K) (at : ℕ) (o : Option (Write K V)) → held eq k view.books.orders ≡ option_to_list o

@@ -1,5 +1,5 @@
 -- What a state keeps, by its fields.
-use Rattle.std.specs.Prelude.{◌≡◌, ℕ, List, ◌++◌, map, option_map, Option, String}
+use Rattle.std.specs.Prelude.{◌≡◌, ℕ, Bool, List, ◌++◌, map, option_map, Option, String}
 use Rattle.std.specs.Arc.{arc_value}
 use Rattle.std.specs.List.{AllByRecursion}
 use Rattle.std.specs.Duration.{as_nanos}
@@ -16,14 +16,15 @@ use Rattle.moka_ways.specs.Lives.{AreDated}
 pub use Rattle.moka_ways.specs.StateData.{SettingsData, StateData}
 
 -- the settings of a state that is built with these
-abbrev pub settings_of : {H W X : Type 0} → Option (String Global) → Option Duration → Option Duration → Option ℕ → ℕ →
+abbrev pub settings_of : {H W X : Type 0} → Option (String Global) → Option Duration → Option Duration → Option ℕ → ℕ → Bool →
     BehaviourData H W X → SettingsData H W X
-settings_of name time_to_live time_to_idle max_capacity first_number behaviour = record {
+settings_of name time_to_live time_to_idle max_capacity first_number closures behaviour = record {
   name = option_map string_bytes name;
   time_to_live = option_map as_nanos time_to_live;
   time_to_idle = option_map as_nanos time_to_idle;
   max_capacity = max_capacity;
   first_number = first_number;
+  supports_closures = closures;
   behaviour = behaviour;
 }
 

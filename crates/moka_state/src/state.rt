@@ -57,6 +57,8 @@ pub struct Settings<K: Eq, V: Clone, C: CacheTypes<K, V>> {
     /// Gives values lives of their own, beside the two lives above: the earliest end counts.
     /// Without one no value has one.
     pub expiry: Option<Arc<C::Expiry>>,
+    /// Whether its values may be hidden by predicates.
+    pub closures: bool,
     /// The number that the first write draws.
     pub first_number: u64,
     /// Makes the hashers of keys.
@@ -94,6 +96,7 @@ pub struct State<K: Hash + Drop, V: Clone, C: CacheTypes<K, V>, R: RowStore<K, V
     pub(crate) table: Table<K, V, R>,
     upkeep: Upkeep<C::Frequency>,
     pub(crate) latest: u64,
+    pub(crate) closures: bool,
     first_number: u64,
     next_number: u64,
     pub(crate) behaviour: Behaviour<K, V, C>,
@@ -164,7 +167,8 @@ impl<K: Hash + Drop, V: Clone, C: CacheTypes<K, V>, R: RowStore<K, V>> Model for
 
     ghost view = { λ state. record {
       settings = settings_of state.name state.upkeep.lives.time_to_live
-          state.upkeep.lives.time_to_idle state.upkeep.max_capacity state.first_number state.behaviour;
+          state.upkeep.lives.time_to_idle state.upkeep.max_capacity state.first_number
+          state.closures state.behaviour;
       books = books_by state.table state.latest state.next_number;
       source = state.upkeep.source;
     } };
@@ -186,7 +190,7 @@ impl<K: Hash + Drop, V: Clone, C: CacheTypes<K, V>, R: RowStore<K, V>> State<K, 
             C.Expiry.gives (arc_value expiry) (C.lifetimes (arc_value expiry))) }
         ensures settings { IfOk result (λ state. state.settings ≡ settings_of settings.name
             settings.time_to_live settings.time_to_idle settings.max_capacity
-            settings.first_number (record {
+            settings.first_number settings.closures (record {
               is_lru = is_lru settings.eviction_policy;
               hasher = arc_value settings.hasher;
               weigher = option_map arc_value settings.weigher;
@@ -209,6 +213,7 @@ impl<K: Hash + Drop, V: Clone, C: CacheTypes<K, V>, R: RowStore<K, V>> State<K, 
                 source,
             },
             latest: 0,
+            closures: settings.closures,
             first_number: settings.first_number,
             next_number: settings.first_number,
             behaviour: Behaviour::new(

@@ -17,6 +17,7 @@ pub record BuilderData (W X L : Type 0) : Type 0 where
   pub weigher : Option W
   pub expiry : Option X
   pub listener : Option L
+  pub closures : Bool
   pub first_number : ℕ
   pub num_segments : ℕ
 
@@ -32,6 +33,7 @@ nothing_said = record {
   weigher = None;
   expiry = None;
   listener = None;
+  closures = false;
   first_number = 0;
   num_segments = 1;
 }
@@ -49,5 +51,6 @@ settings_built told hasher = record {
   time_to_idle = option_map as_nanos told.time_to_idle;
   max_capacity = told.max_capacity;
   first_number = told.first_number;
+  supports_closures = told.closures;
   behaviour = record { is_lru = told.is_lru; hasher = hasher; weigher = told.weigher; expiry = told.expiry };
 }

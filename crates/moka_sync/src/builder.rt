@@ -1,5 +1,5 @@
 //! Builds caches.
-ghost use Rattle.std.specs.Prelude.{◌≡◌, Some, None, [], option_map, unwrap_or, IfSome, IfOk, IfErr, OnOk};
+ghost use Rattle.std.specs.Prelude.{◌≡◌, true, Some, None, [], option_map, unwrap_or, IfSome, IfOk, IfErr, OnOk};
 ghost use Rattle.std.specs.Arc.{arc_value};
 ghost use Rattle.std.specs.Duration.{as_nanos};
 ghost use Rattle.std.specs.String.{string_bytes};
@@ -50,6 +50,7 @@ pub struct CacheBuilder<K: Hash + Drop, V: Clone, C: CacheTypes<K, V>, T> {
     weigher: Option<C::Weigher>,
     expiry: Option<C::Expiry>,
     listener: Option<C::Listener>,
+    closures: bool,
     first_number: u64,
     num_segments: usize,
     built: PhantomData<(K, V, T)>,
@@ -68,6 +69,7 @@ impl<K: Hash + Drop, V: Clone, C: CacheTypes<K, V>, T> Model for CacheBuilder<K,
       weigher = builder.weigher;
       expiry = builder.expiry;
       listener = builder.listener;
+      closures = builder.closures;
       first_number = builder.first_number;
       num_segments = builder.num_segments;
     } };
@@ -94,6 +96,7 @@ impl<K: Hash + Drop, V: Clone, C: CacheTypes<K, V>> Default for CacheBuilder<K, 
             weigher: None,
             expiry: None,
             listener: None,
+            closures: false,
             first_number: 0,
             num_segments: 1,
             built: PhantomData,
@@ -205,6 +208,16 @@ impl<K: Hash + Drop, V: Clone, C: CacheTypes<K, V>, T> CacheBuilder<K, V, C, T> 
         }
     }
 
+    /// The cache's values may be hidden by predicates, which is refused without this setting.
+    pub fn support_invalidation_closures(self) -> Self
+        ensures { result ≡ record self { closures = true } }
+    {
+        CacheBuilder {
+            closures: true,
+            ..self
+        }
+    }
+
     /// The number that the first write draws, 0 without this setting. Writes are refused when all numbers to 2^64 - 2
     /// are drawn.
     pub fn first_number(self, number: u64) -> Self
@@ -252,6 +265,7 @@ impl<K: Hash + Drop, V: Clone, C: CacheTypes<K, V>> CacheBuilder<K, V, C, Single
             weigher: single.weigher,
             expiry: single.expiry,
             listener: single.listener,
+            closures: single.closures,
             first_number: single.first_number,
             num_segments,
             built: PhantomData,
@@ -341,6 +355,7 @@ impl<K: Hash + Drop, V: Clone, C: CacheTypes<K, V>> CacheBuilder<K, V, C, Single
             time_to_idle: self.time_to_idle,
             weigher: shared(alloc, self.weigher)?,
             expiry: shared(alloc, self.expiry)?,
+            closures: self.closures,
             first_number: self.first_number,
             hasher: share(alloc, hasher)?,
         };

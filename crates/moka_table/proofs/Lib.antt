@@ -3,5 +3,5 @@ pub mod Each
 pub mod Finds
 pub mod Lengths
 pub mod Weights
-pub mod AllHidden
+pub mod HiddenWhere
 pub mod Walks

@@ -1,6 +1,6 @@
 -- What a table holds: the rows in their two orders, the notices not taken, whether a row may be hidden, and for how many
 -- more rows it has room.
-use Rattle.std.specs.Prelude.{Bool, false, ◌≡◌, ℕ, ◌+◌, ◌<◌, ◌≤◌, ◌^◌, List, [], ◌∷◌, ◌++◌, length, map, MatchOption}
+use Rattle.std.specs.Prelude.{Bool, true, false, ◌||◌, ◌≡◌, ℕ, ◌+◌, ◌<◌, ◌≤◌, ◌^◌, List, [], ◌∷◌, ◌++◌, length, map, MatchOption}
 use Rattle.std.specs.Arc.{arc_value}
 use Rattle.std.specs.List.{AllByRecursion}
 use Rattle.moka_model.specs.declared.notification.Notice.{Notice}
@@ -13,7 +13,7 @@ use Rattle.moka_rows.specs.declared.rows.Order.{Order}
 use Rattle.moka_rows.specs.declared.rows.Order.TheVariants.{Admitted, Waiting}
 use Rattle.moka_table.specs.declared.table.Weights.{Weights}
 use Rattle.moka_ways.specs.Lives.{own_of}
-use Rattle.moka_rows.specs.Rows.{with_row, without_row, row_under, hidden}
+use Rattle.moka_rows.specs.Rows.{with_row, without_row, row_under}
 
 pub record Contents (K V : Type 0) : Type 0 where
   pub admitted : List (ℕ × Row K V)
@@ -62,9 +62,18 @@ module _ {K V : Type 0} where
   abbrev pub AreShown : List (ℕ × Row K V) → Type 0
   AreShown rows = AllByRecursion (λ p. p.1.info.is_hidden ≡ false) rows
 
-  -- the same rows, each hidden
+  -- the row, hidden where it was, or where a test holds of its key and value
+  abbrev pub hidden_if : (K → V → Bool) → Row K V → Row K V
+  hidden_if test row =
+      record row { info = record row.info { is_hidden = row.info.is_hidden || test (arc_value row.key) row.value } }
+
+  -- the same rows, each hidden where it was, or where a test holds of its key and value
+  abbrev pub hidden_where : (K → V → Bool) → List (ℕ × Row K V) → List (ℕ × Row K V)
+  hidden_where test rows = map (λ p. (p.0, hidden_if test p.1)) rows
+
+  -- the same rows, each hidden: by a test that holds of everything
   abbrev pub all_hidden : List (ℕ × Row K V) → List (ℕ × Row K V)
-  all_hidden rows = map (λ p. (p.0, hidden p.1)) rows
+  all_hidden rows = hidden_where (λ k v. true) rows
 
   -- the rows, the notices and their orders are the same
   abbrev pub SameRows : Contents K V → Contents K V → Type 0

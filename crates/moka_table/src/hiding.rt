@@ -1,9 +1,23 @@
-//! All rows of a table are hidden, by a walk.
-ghost use Rattle.std.specs.Prelude.{◌≡◌, ◌+◌, ◌≤◌, length};
-ghost use Rattle.moka_table.specs.Table.{entries, all_hidden};
+//! Rows of a table are hidden where a predicate holds of them, by a walk.
+ghost use Rattle.std.specs.Prelude.{◌≡◌, ◌+◌, ◌≤◌, Bool, true, if◌then◌else◌, length, IsSome, IfSome};
+ghost use Rattle.std.specs.Arc.{arc_value};
+ghost use Rattle.moka_rows.specs.Rows.{row_under, with_row, hidden};
+ghost use Rattle.moka_table.specs.Table.{entries, hidden_where, all_hidden};
 
 use crate::table::Table;
+use moka_policy::policy::Predicate;
 use moka_rows::rows::RowStore;
+
+/// Holds of each key and value.
+struct Always;
+
+impl<K, V> Predicate<K, V> for Always {
+    ghost tests = { λ _ test. test ≡ (λ _ _. true) };
+
+    fn holds(&self, _key: &K, _value: &V) -> bool {
+        true
+    }
+}
 
 impl<K: Eq + Drop, V: Drop, R: RowStore<K, V>> Table<K, V, R> {
     /// Hides each row, in its place. It visits each, and takes no memory, and none of the room.
@@ -14,17 +28,36 @@ impl<K: Eq + Drop, V: Drop, R: RowStore<K, V>> Table<K, V, R> {
         ensures room { self.old.room ≤ self.new.room }
         ensures visited { visits.new ≤ visits.old + length (entries self.old) }
     {
-        hide_admitted(self, visits);
-        hide_waiting(self, visits);
+        self.hide_where(&Always, visits);
+    }
+
+    /// Hides each row of whose key and value a predicate holds, in its place; one that is hidden
+    /// already stays so. It asks the predicate once of each row, visits each, and takes no memory,
+    /// and none of the room.
+    pub fn hide_where<P: Predicate<K, V>>(&mut self, predicate: &P, visits: &mut u128)
+        requires tests { (test : K → V → Bool) × P.tests predicate.now test }
+        ensures admitted { (test : K → V → Bool) → P.tests predicate.now test →
+            self.new.admitted ≡ hidden_where test self.old.admitted }
+        ensures waiting { (test : K → V → Bool) → P.tests predicate.now test →
+            self.new.waiting ≡ hidden_where test self.old.waiting }
+        ensures notices { self.new.notices ≡ self.old.notices }
+        ensures room { self.old.room ≤ self.new.room }
+        ensures visited { visits.new ≤ visits.old + length (entries self.old) }
+    {
+        hide_admitted(self, predicate, visits);
+        hide_waiting(self, predicate, visits);
     }
 }
 
-/// Hides each admitted row.
-fn hide_admitted<K: Eq + Drop, V: Drop, R: RowStore<K, V>>(
+/// Hides each admitted row of which a predicate holds.
+fn hide_admitted<K: Eq + Drop, V: Drop, R: RowStore<K, V>, P: Predicate<K, V>>(
     table: &mut Table<K, V, R>,
+    predicate: &P,
     visits: &mut u128,
 )
-    ensures admitted { table.new.admitted ≡ all_hidden table.old.admitted }
+    requires tests { (test : K → V → Bool) × P.tests predicate.now test }
+    ensures admitted { (test : K → V → Bool) → P.tests predicate.now test →
+        table.new.admitted ≡ hidden_where test table.old.admitted }
     ensures waiting { table.new.waiting ≡ table.old.waiting }
     ensures notices { table.new.notices ≡ table.old.notices }
     ensures room { table.old.room ≤ table.new.room }
@@ -33,17 +66,20 @@ fn hide_admitted<K: Eq + Drop, V: Drop, R: RowStore<K, V>>(
     let mut cursor = table.first_admitted();
     while let Some(number) = cursor {
         cursor = table.next(number, visits);
-        table.hide(number);
+        hide_if(table, number, predicate);
     }
 }
 
-/// Hides each row that waits.
-fn hide_waiting<K: Eq + Drop, V: Drop, R: RowStore<K, V>>(
+/// Hides each row that waits and of which a predicate holds.
+fn hide_waiting<K: Eq + Drop, V: Drop, R: RowStore<K, V>, P: Predicate<K, V>>(
     table: &mut Table<K, V, R>,
+    predicate: &P,
     visits: &mut u128,
 )
+    requires tests { (test : K → V → Bool) × P.tests predicate.now test }
     ensures admitted { table.new.admitted ≡ table.old.admitted }
-    ensures waiting { table.new.waiting ≡ all_hidden table.old.waiting }
+    ensures waiting { (test : K → V → Bool) → P.tests predicate.now test →
+        table.new.waiting ≡ hidden_where test table.old.waiting }
     ensures notices { table.new.notices ≡ table.old.notices }
     ensures room { table.old.room ≤ table.new.room }
     ensures visited { visits.new ≤ visits.old + length table.old.waiting }
@@ -51,6 +87,31 @@ fn hide_waiting<K: Eq + Drop, V: Drop, R: RowStore<K, V>>(
     let mut cursor = table.first_waiting();
     while let Some(number) = cursor {
         cursor = table.next(number, visits);
+        hide_if(table, number, predicate);
+    }
+}
+
+/// Hides a row where a predicate holds of it.
+fn hide_if<K: Eq + Drop, V: Drop, R: RowStore<K, V>, P: Predicate<K, V>>(
+    table: &mut Table<K, V, R>,
+    number: usize,
+    predicate: &P,
+)
+    requires stored { IsSome (row_under number (entries table.old)) }
+    requires tests { (test : K → V → Bool) × P.tests predicate.now test }
+    ensures admitted { (test : K → V → Bool) → P.tests predicate.now test →
+        IfSome (row_under number (entries table.old)) (λ row. table.new.admitted
+        ≡ (if test (arc_value row.key) row.value then with_row number hidden table.old.admitted
+        else table.old.admitted)) }
+    ensures waiting { (test : K → V → Bool) → P.tests predicate.now test →
+        IfSome (row_under number (entries table.old)) (λ row. table.new.waiting
+        ≡ (if test (arc_value row.key) row.value then with_row number hidden table.old.waiting
+        else table.old.waiting)) }
+    ensures notices { table.new.notices ≡ table.old.notices }
+    ensures room { table.old.room ≤ table.new.room }
+{
+    let row = table.row(number);
+    if predicate.holds(&row.key, &row.value) {
         table.hide(number);
     }
 }

@@ -20,8 +20,8 @@ use std::time::Duration;
 /// The store in which the caches keep their rows.
 pub(crate) type CacheRows<K, V> = DueRows<K, V>;
 
-/// How a cache is built: its capacities and its policy, its lives in seconds, its first number, and whether values are
-/// weighed and have lives of their own.
+/// How a cache is built: its capacities and its policy, its lives in seconds, its first number, and whether values may
+/// be hidden by predicates, are weighed and have lives of their own.
 #[derive(Clone, Copy)]
 pub(crate) struct Rules {
     pub max_capacity: Option<u64>,
@@ -29,6 +29,7 @@ pub(crate) struct Rules {
     pub is_tiny_lfu: bool,
     pub time_to_live: Option<u64>,
     pub time_to_idle: Option<u64>,
+    pub closures: bool,
     pub first_number: u64,
     pub is_weighed: bool,
     pub may_expire: bool,
@@ -41,6 +42,7 @@ pub(crate) const UNLIMITED: Rules = Rules {
     is_tiny_lfu: false,
     time_to_live: None,
     time_to_idle: None,
+    closures: false,
     first_number: 0,
     is_weighed: false,
     may_expire: false,
@@ -158,6 +160,7 @@ fn settings<K: Key, H: BuildHasher + Default + Drop>(
         },
         time_to_live: rules.time_to_live.map(Duration::from_secs),
         time_to_idle: rules.time_to_idle.map(Duration::from_secs),
+        closures: rules.closures,
         first_number: rules.first_number,
         hasher: shared(alloc, H::default())?,
     })

@@ -1,5 +1,5 @@
 -- What a state keeps, and what this means.
-use Rattle.std.specs.Prelude.{ℕ, Bool, false, List, Option}
+use Rattle.std.specs.Prelude.{ℕ, Bool, List, Option}
 use Rattle.moka_policy.specs.Frequency.{after_notes}
 use Rattle.moka_model.specs.Lives.{Behaviour, Settings}
 use Rattle.moka_model.specs.Steps.{AcceptedStep}
@@ -18,6 +18,7 @@ pub record SettingsData (H W X : Type 0) : Type 0 where
   pub time_to_idle : Option ℕ
   pub max_capacity : Option ℕ
   pub first_number : ℕ
+  pub supports_closures : Bool
   pub behaviour : BehaviourData H W X
 
 -- What a state keeps, as data: its settings, its books, and its source of frequencies. What the types of the cache mean
@@ -35,7 +36,7 @@ module _ {K V H W X : Type 0} (behaviour_in : BehaviourData H W X → Behaviour 
     time_to_idle = kept.time_to_idle;
     max_capacity = kept.max_capacity;
     first_number = kept.first_number;
-    supports_closures = false;  -- no cache hides by tests yet
+    supports_closures = kept.supports_closures;
     behaviour = behaviour_in kept.behaviour;
     frequency = frequency;
   }

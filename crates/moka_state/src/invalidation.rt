@@ -1,0 +1,101 @@
+//! The calls that hide what a predicate holds of.
+ghost use Rattle.std.specs.Prelude.{◌≡◌, ◌↔◌, true, false, if◌then◌else◌, IsOk, IfOk, IfErr, OnOk, OnErr};
+ghost use Rattle.std.specs.Arc.{arc_value};
+ghost use Rattle.std.specs.String.{string_bytes};
+ghost use Rattle.moka_model.specs.Calls.{InvalidateIf};
+ghost use Rattle.moka_predicate_ids.specs.PredicateId.{id_by, stream_after_id};
+
+use crate::state::State;
+use moka_policy::policy::CacheTypes;
+use moka_predicate_ids::predicate_error::PredicateError;
+use moka_predicate_ids::predicate_id::{PredicateId, new_predicate_id};
+use moka_rows::rows::RowStore;
+use moka_ways::view::StateView;
+use rand_core::Rng;
+use std::hash::Hash;
+use std::sync::Arc;
+
+impl<K: Hash + Drop, V: Clone, C: CacheTypes<K, V>, R: RowStore<K, V>> State<K, V, C, R> {
+    /// Hides each value of which a predicate holds, under the key that it is stored under. From then
+    /// on it is not found, and it is noticed once it leaves, at a maintenance or where its key is
+    /// written or removed. What is written later is not hidden. The call has no moment. It answers a
+    /// new id, made of what the generator draws.
+    ///
+    /// Refused with `InvalidationClosuresDisabled` exactly where the cache was built without support
+    /// for closures, and then the generator draws nothing; else with `OutOfMemory` alone, where
+    /// memory for the id's text is refused. A refused call hides nothing. Asks the predicate once of
+    /// each stored value, and visits each.
+    pub fn invalidate_entries_if<G: Rng>(
+        &mut self,
+        predicate: C::Predicate,
+        generator: &mut G,
+    ) -> Result<PredicateId, PredicateError>
+        requires tests { C.Predicate.tests predicate (C.test predicate) }
+        ensures stands { OnOk result (⟦<C as StateView<K, V>>⟧.follows
+            self.old (InvalidateIf (C.test predicate)) self.new) }
+        ensures id { IfOk result (λ id. string_bytes id ≡ id_by (G.stream generator.old)) }
+        ensures drawn { self.old.settings.supports_closures ≡ true →
+            G.stream generator.new ≡ stream_after_id (G.stream generator.old) }
+
+        // It is refused by its name exactly where closures aren't supported, and nothing changes.
+        ensures accepted { OnOk result (self.old.settings.supports_closures ≡ true) }
+        ensures cause { IfErr result (λ cause. cause ≡ (if self.old.settings.supports_closures
+            then PredicateError.OutOfMemory else PredicateError.InvalidationClosuresDisabled)) }
+        ensures refused { OnErr result (self.new ≡ self.old) }
+        ensures undrawn { self.old.settings.supports_closures ≡ false →
+            generator.new ≡ generator.old }
+    {
+        self.predicate_room()?; // Where it is refused nothing is drawn.
+        let Ok(id) = new_predicate_id(self.alloc(), generator) else {
+            return Err(PredicateError::OutOfMemory);
+        };
+        self.hide_where(&predicate);
+        Ok(id)
+    }
+
+    /// As [`State::invalidate_entries_if`] for a predicate that is shared already, without an id. It
+    /// takes no memory, so it is refused with `InvalidationClosuresDisabled` alone.
+    pub fn invalidate_entries_with_arc_fun(
+        &mut self,
+        predicate: Arc<C::Predicate>,
+    ) -> Result<(), PredicateError>
+        requires tests { C.Predicate.tests (arc_value predicate) (C.test (arc_value predicate)) }
+        ensures stands { OnOk result (⟦<C as StateView<K, V>>⟧.follows
+            self.old (InvalidateIf (C.test (arc_value predicate))) self.new) }
+        ensures accepted { IsOk result ↔ (self.old.settings.supports_closures ≡ true) }
+        ensures cause { IfErr result
+            (λ cause. cause ≡ PredicateError.InvalidationClosuresDisabled) }
+        ensures refused { OnErr result (self.new ≡ self.old) }
+    {
+        self.predicate_room()?;
+        self.hide_where(&predicate);
+        Ok(())
+    }
+
+    /// Whether a predicate would be accepted: refused with `InvalidationClosuresDisabled` exactly
+    /// where the cache was built without support for closures. A predicate takes no room of the
+    /// cache, so none is made, and nothing changes. It is no step.
+    pub fn predicate_room(&mut self) -> Result<(), PredicateError>
+        ensures accepted { IsOk result ↔ (self.old.settings.supports_closures ≡ true) }
+        ensures cause { IfErr result
+            (λ cause. cause ≡ PredicateError.InvalidationClosuresDisabled) }
+        ensures same { self.new ≡ self.old }
+    {
+        if self.closures {
+            Ok(())
+        } else {
+            Err(PredicateError::InvalidationClosuresDisabled)
+        }
+    }
+
+    // Hides what a predicate holds of, where closures are supported.
+    fn hide_where(&mut self, predicate: &C::Predicate)
+        requires tests { C.Predicate.tests predicate.now (C.test predicate.now) }
+        requires supported { self.old.settings.supports_closures ≡ true }
+        ensures { ⟦<C as StateView<K, V>>⟧.follows
+            self.old (InvalidateIf (C.test predicate.now)) self.new }
+    {
+        let mut visits = 0;
+        self.table.hide_where(predicate, &mut visits);
+    }
+}
