@@ -5,6 +5,7 @@ mod load;
 mod measure;
 mod numbers;
 mod own_lives;
+mod shared;
 mod subject;
 mod table;
 
@@ -12,5 +13,11 @@ use std::{env, io};
 
 fn main(rt: HostRuntime) -> io::Result<()> {
     let arguments: Vec<String> = env::args(&rt)?.skip(1).collect(rt.alloc())?;
+    if let [word, number] = arguments.as_slice()
+        && word.as_str() == "threads"
+        && let Ok(rounds) = number.parse::<usize>()
+    {
+        return shared::run(rt, rt.alloc(), rounds);
+    }
     table::run(&rt, rt.alloc(), &arguments)
 }

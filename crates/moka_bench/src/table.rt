@@ -46,7 +46,7 @@ pub(crate) fn run<R: Runtime + Wait + Copy>(
 }
 
 fn print_usage(rt: &impl io::Print) -> io::Result<()> {
-    println!(rt; "usage: moka_bench [times ROUNDS | lives ROUNDS | memory NUMBER]")
+    println!(rt; "usage: moka_bench [times ROUNDS | lives ROUNDS | threads ROUNDS | memory NUMBER]")
 }
 
 /// Prints how many looks of a small load each cache finds.
@@ -164,12 +164,12 @@ fn print_life<R: Runtime + Wait + Copy>(
 }
 
 /// So many parts of a number by another.
-fn share(number: u64, parts: u64, by: u64) -> u64 {
+pub(crate) fn share(number: u64, parts: u64, by: u64) -> u64 {
     number.wrapping_mul(parts).checked_div(by).unwrap_or(0)
 }
 
 /// The number in the middle.
-fn median(mut numbers: Vec<u64>) -> u64 {
+pub(crate) fn median(mut numbers: Vec<u64>) -> u64 {
     numbers.sort_unstable();
     numbers.get(numbers.len() / 2).copied().unwrap_or(0)
 }
