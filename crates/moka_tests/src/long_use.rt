@@ -236,6 +236,7 @@ fn opens_with_all_settings(rt: HostRuntime) -> Result<(), Fail> {
                 first_number: numbers.below(greatest),
                 is_weighed: numbers.below(2) == 0,
                 may_expire: numbers.below(2) == 0,
+                closures: numbers.below(2) == 0,
             };
             answers(&rt, rt.alloc(), rules, &FEW_CALLS)?;
         }
