@@ -1,5 +1,5 @@
 -- What a look finds of the first name of a cache of ten seconds.
-use Rattle.std.proofs.Common.{◌≡◌, ℕ, max, Bool, true, false, if◌then◌else◌, Option, Some, None, [], ◌∷◌, ◌++◌, refl, sym, ap, ◌∙◌, subst, nat_le, arith}
+use Rattle.std.proofs.Common.{◌≡◌, ℕ, max, Bool, true, false, if◌then◌else◌, Option, Some, None, [], ◌∷◌, ◌++◌, sym, ap, ◌∙◌, subst, nat_le, arith}
 use Rattle.std.specs.Cmp.{IsEquivalence}
 use Rattle.moka.specs.Lives.{Settings, no_lifetimes, earlier, ends_at, has_come}
 use Rattle.moka.specs.Events.{Passed, Written, latest}

@@ -1,10 +1,10 @@
 -- By what a caller concludes of a write and a look behind it.
-use Rattle.std.proofs.Common.{◌≡◌, ℕ, Bool, true, false, if◌then◌else◌, Option, Some, None, String, refl, ap, ◌∙◌, nat_le, option_map}
+use Rattle.std.proofs.Common.{◌≡◌, Bool, true, false, if◌then◌else◌, Option, Some, None, String, refl, ap, ◌∙◌, option_map}
 use Rattle.std.specs.String.{string_bytes}
 use Rattle.std.specs.Duration.{as_nanos}
 use Rattle.std.specs.Cmp.{nat_eq_equiv}
 use Rattle.std.specs.declared.alloc.Global.{Global}
-use Rattle.moka.specs.Lives.{Lifetimes, no_lifetimes}
+use Rattle.moka.specs.Lives.{no_lifetimes}
 use Rattle.moka.specs.Behaviour.{lifetimes_by}
 use Rattle.moka.specs.Calls.{IsCopyOf}
 use Rattle.moka.specs.StateData.{SettingsData}
