@@ -19,7 +19,8 @@ use Rattle.mokabox_lines.specs.Command.{PlainCommand, command_by_line}
 use Rattle.moka_sync.specs.Builder.{BuilderData}
 use Rattle.mokabox_lines.specs.Settings.{byte_weight}
 use Rattle.mokabox_lines.specs.declared.settings.Settings.{Settings}
-use Rattle.mokabox_script.specs.Script.{Text, is_among, CacheSettings, Course, CommandPrints, LinePrints, cache_settings, is_lru_by, lines_text}
+use Rattle.mokabox_script.specs.Script.{Text, is_among, CacheSettings, Course, CommandPrints, LinePrints, cache_settings}
+use Rattle.mokabox_script.specs.Script.{is_lru_by, lines_text}
 use Rattle.mokabox_script.specs.declared.one_of.OneOf.{OneOf}
 use Rattle.mokabox_script.specs.declared.session.Bytes.{Bytes}
 
