@@ -13,6 +13,15 @@ use std::time::Duration;
 ///
 /// What most caches want where they have no rule of their own: `None` after a creation, and `rest` after the other two,
 /// which leaves the value's own life as it was. [`NoExpiry`] answers so.
+///
+/// ```
+/// impl Expiry<u64, String> for OneMinute {
+///     ghost gives = { λ _ lives. lives ≡ a_minute };
+///
+///     fn expire_after_create(&self, _key: &u64, _name: &String, _at: u64) -> Option<Duration> {
+///         Some(Duration::from_secs(60))
+///     }
+/// ```
 pub trait Expiry<K, V> {
     /// What it is to answer these lives.
     ghost gives: { Self → Lifetimes K V → Type 0 };

@@ -3,6 +3,16 @@ ghost use Rattle.std.specs.Prelude.{◌≡◌, ℕ};
 ghost use Rattle.moka_policy.specs.Policy.{IsWeighing};
 
 /// Weighs the values of a cache, under their keys.
+///
+/// ```
+/// impl Weigher<u64, String> for ByLength {
+///     ghost weighs = { λ _ weight. weight ≡ length_of };
+///
+///     fn weigh(&self, _key: &u64, name: &String) -> u32 {
+///         u32::try_from(name.len()).unwrap_or(u32::MAX)
+///     }
+/// }
+/// ```
 pub trait Weigher<K, V> {
     /// What it is to answer a weight for each key and value.
     ghost weighs: { Self → (K → V → ℕ) → Type 0 };
@@ -14,6 +24,10 @@ pub trait Weigher<K, V> {
 }
 
 /// Weighs by a closure.
+///
+/// ```
+/// WeighBy::new(|_key: &u64, name: &String| u32::try_from(name.len()).unwrap_or(u32::MAX)),
+/// ```
 #[derive(Clone, Copy, Debug)]
 pub struct WeighBy<F> {
     weigh: F,

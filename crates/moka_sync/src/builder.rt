@@ -143,6 +143,10 @@ impl<K: Hash + Drop, V: Clone, C: CacheTypes<K, V>, T> CacheBuilder<K, V, C, T> 
     }
 
     /// Which keys leave where the cache has passed its capacity, and which new ones are admitted; without it TinyLFU.
+    ///
+    /// ```
+    /// let builder = CacheBuilder::new(2).eviction_policy(EvictionPolicy::lru());
+    /// ```
     pub fn eviction_policy(self, policy: EvictionPolicy) -> Self
         ensures { result ≡ record self { is_lru = is_lru policy } }
     {
@@ -153,6 +157,10 @@ impl<K: Hash + Drop, V: Clone, C: CacheTypes<K, V>, T> CacheBuilder<K, V, C, T> 
     }
 
     /// Weighs each value when it is written, as the cache's types say; without one each weighs 1.
+    ///
+    /// ```
+    /// let builder = CacheBuilder::new(8).weigher(weigher).expire_after(expiry);
+    /// ```
     pub fn weigher(self, weigher: C::Weigher) -> Self
         requires { C.Weigher.weighs weigher (C.weight weigher) }
         ensures { result ≡ record self { weigher = Some weigher } }
