@@ -292,12 +292,12 @@ impl<K: Eq + Drop, V: Drop, R: RowStore<K, V>> Table<K, V, R> {
         let before = self.rows.overwrite(number, value, info);
         let (was, weight) = (before.info, info.policy_weight);
         self.weights = self.weights.with(before.order, was.policy_weight, weight);
-        let notice = Notice {
+        let replaced = Notice {
             key,
             value: before.value,
             cause: was.cause(info.last_modified, RemovalCause::Replaced),
         };
-        match self.notices.push_back(notice) {
+        match self.notices.push_back(replaced) {
             Ok(()) => {}
             Err(_) => unreachable!(),
         }
