@@ -124,7 +124,10 @@ where
 }
 
 // A write of a name, and a look at it.
-fn steps(alloc: Global, name: String) -> Result<Vec<Step<u64, String>>, AllocError> {
+fn steps<C: CacheTypes<u64, String>>(
+    alloc: Global,
+    name: String,
+) -> Result<Vec<Step<u64, String, C>>, AllocError> {
     let key: Arc<u64> = Arc::new(alloc, 97)?;
     let again = key.clone()?;
     let mut steps = Vec::new(alloc);

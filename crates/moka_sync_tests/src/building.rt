@@ -44,6 +44,18 @@ fn a_life_of_1000_years_is_the_longest(rt: HostRuntime) {
 }
 
 #[test]
+fn more_rows_than_memory_are_refused(rt: HostRuntime) -> Result<(), Fail> {
+    for rows in [1 << 40, usize::MAX / 64, usize::MAX] {
+        let builder: Builder = CacheBuilder::new(400);
+        let built = builder
+            .initial_capacity(rows)
+            .build_state(rt.alloc(), hasher());
+        assert_eq!(rt; built.err(), Some(BuildError::OutOfMemory));
+    }
+    Ok(())
+}
+
+#[test]
 fn a_state_is_built_by_the_settings(rt: HostRuntime) -> Result<(), Fail> {
     let builder: Builder = CacheBuilder::new(400);
     let mut state = builder

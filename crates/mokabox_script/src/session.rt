@@ -15,8 +15,7 @@ ghost use Rattle.mokabox_lines.specs.declared.command.Command.TheVariants as com
 use crate::one_of::OneOf;
 use moka::common::builder_utils::BuildError;
 use moka::policy::{
-    CacheTypes, CountTable, EvictionPolicy, ManualClock, NoExpiry, NoListener, NumberHash,
-    Weigher,
+    CacheTypes, CountTable, EvictionPolicy, ManualClock, NoExpiry, NoListener, NumberHash, Weigher,
 };
 use moka::state::{CacheState, Reply, Step};
 use moka::sync::CacheBuilder;

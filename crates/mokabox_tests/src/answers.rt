@@ -1,7 +1,7 @@
 //! The line of each answer, and the code of each status.
+use moka::PredicateError;
 use moka::common::builder_utils::BuildError;
 use moka::notification::RemovalCause;
-use moka::PredicateError;
 use moka::policy::Refused;
 use mokabox_lines::answer::{Answer, Measure, write_answer};
 use mokabox_script::script::Status;
@@ -45,10 +45,7 @@ fn answers_have_their_lines(rt: HostRuntime) -> Result<(), Fail> {
             Answer::NotHidden(PredicateError::InvalidationClosuresDisabled),
             "error 1\n",
         ),
-        (
-            Answer::NotHidden(PredicateError::OutOfMemory),
-            "error 2\n",
-        ),
+        (Answer::NotHidden(PredicateError::OutOfMemory), "error 2\n"),
         (
             Answer::Policy(Measure(Some(100)), Measure(None), Measure(Some(0)), 8),
             "policy capacity 100 ttl none tti 0 segments 8\n",

@@ -20,7 +20,11 @@ const BY_VALUE: [Row; 8] = [
         Status::Done,
     ),
     // Without the setting nothing is hidden.
-    ("new ttl=10\ninvalidate-if a\n", "ok\nerror 1\n", Status::Done),
+    (
+        "new ttl=10\ninvalidate-if a\n",
+        "ok\nerror 1\n",
+        Status::Done,
+    ),
     (
         "new\ninsert 0 alice\ninvalidate-if alice alex\nget 0\ntasks\nnotices\ncount\n",
         "ok\nok\nerror 1\nsome alice\nok\nend\n1\n",

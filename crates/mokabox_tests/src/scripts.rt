@@ -125,7 +125,7 @@ fn the_first_line_says_how_the_cache_is_built(rt: HostRuntime) -> Result<(), Fai
     prints(&rt, rt.alloc(), &FIRST_LINES)
 }
 
-const BUILT: [Row; 10] = [
+const BUILT: [Row; 11] = [
     (
         "new capacity=100 ttl=2700 tti=900\npolicy\n",
         "ok\npolicy capacity 100 ttl 2700 tti 900 segments 1\n",
@@ -163,6 +163,12 @@ const BUILT: [Row; 10] = [
         Status::Done,
     ),
     ("new initial=1 initial=1\n", "bad line\n", Status::Bad),
+    // More rows than there can be memory for.
+    (
+        "new initial=18446744073709551615\n",
+        "refused build 5\n",
+        Status::Bad,
+    ),
     (
         "new ttl=10\npolicy\nat 5\npolicy x\n",
         "ok\npolicy capacity none ttl 10 tti none segments 1\nbad line\n",
