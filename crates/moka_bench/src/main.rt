@@ -5,6 +5,7 @@ mod load;
 mod measure;
 mod numbers;
 mod own_lives;
+mod removals;
 mod shared;
 mod subject;
 mod table;

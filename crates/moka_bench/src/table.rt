@@ -1,6 +1,7 @@
 //! What is printed.
 use crate::load::{LOADS, Load, SIZES, SMALL, with_lives};
 use crate::measure::{Hashing, Outcome, Which, measured, slowest};
+use crate::removals;
 use std::alloc::Global;
 use std::rt::Runtime;
 use std::sync::Wait;
@@ -38,6 +39,7 @@ pub(crate) fn run<R: Runtime + Wait + Copy>(
         [word, number] => match (word.as_str(), number.parse::<usize>()) {
             ("times", Ok(rounds)) => print_times(rt, alloc, rounds),
             ("lives", Ok(rounds)) => print_lives(rt, alloc, rounds),
+            ("removals", Ok(rounds)) => removals::run(rt, alloc, rounds),
             ("memory", Ok(number)) => print_memory(rt, alloc, number),
             _ => print_usage(rt),
         },
@@ -46,7 +48,9 @@ pub(crate) fn run<R: Runtime + Wait + Copy>(
 }
 
 fn print_usage(rt: &impl io::Print) -> io::Result<()> {
-    println!(rt; "usage: moka_bench [times ROUNDS | lives ROUNDS | threads ROUNDS | memory NUMBER]")
+    println!(rt;
+        "usage: moka_bench [times ROUNDS | lives ROUNDS | removals ROUNDS | threads ROUNDS | memory NUMBER]"
+    )
 }
 
 /// Prints how many looks of a small load each cache finds.

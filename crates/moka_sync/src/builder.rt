@@ -111,13 +111,13 @@ impl<K: Hash + Drop, V: Clone, C: CacheTypes<K, V>, T> CacheBuilder<K, V, C, T> 
         ensures told { IfOk result (λ builder. builder ≡ record self { name = Some name.now }) }
         ensures cause { IfErr result (λ cause. cause ≡ BuildError.OutOfMemory) }
     {
-        match String::from_str(alloc, name) {
-            Ok(name) => Ok(CacheBuilder {
-                name: Some(name),
-                ..self
-            }),
-            Err(_) => Err(BuildError::OutOfMemory),
-        }
+        let Ok(name) = String::from_str(alloc, name) else {
+            return Err(BuildError::OutOfMemory);
+        };
+        Ok(CacheBuilder {
+            name: Some(name),
+            ..self
+        })
     }
 
     /// How much may stay stored, by the weights of the values; without a weigher, how many keys. Up to 64 more keys may
@@ -416,10 +416,7 @@ fn share<T: Drop>(alloc: Global, value: T) -> Result<Arc<T>, BuildError>
     ensures shared { IfOk result (λ shared. arc_value shared ≡ value) }
     ensures cause { IfErr result (λ cause. cause ≡ BuildError.OutOfMemory) }
 {
-    match Arc::new(alloc, value) {
-        Ok(value) => Ok(value),
-        Err(_) => Err(BuildError::OutOfMemory),
-    }
+    Arc::new(alloc, value).map_err(|_| BuildError::OutOfMemory)
 }
 
 // Copies a name, where there is one.
