@@ -8,6 +8,7 @@ pub mod Deadlines
 pub mod Departures
 pub mod Flushes
 pub mod FoundAgain
+pub mod FoundInTime
 pub mod HeldOnes
 pub mod Hiding
 pub mod InOrder

@@ -9,7 +9,8 @@ use Rattle.moka.specs.Behaviour.{lifetimes_by}
 use Rattle.moka.specs.Calls.{IsCopyOf}
 use Rattle.moka.specs.StateData.{SettingsData}
 use Rattle.moka.specs.Builder.{BuilderData}
-use Rattle.example_found.proofs.Found.{found-in_time}
+use Rattle.moka.specs.Numbers.{stores_nothing}
+use Rattle.moka.proofs.Callers.{found-in_time}
 use Rattle.example_found.proofs.look_up.Goals as goal
 
 -- a copy has the same bytes
@@ -31,5 +32,5 @@ returns c =
     let idle = ap (λ (s : SettingsData _ _ _). s.time_to_idle) kept ∙ ap (λ (told : BuilderData _ _ _). option_map as_nanos told.time_to_idle) c.time_to_live.ensures ∙ ap (λ (told : BuilderData _ _ _). option_map as_nanos told.time_to_idle) c.new.ensures in
     let room = ap (λ (s : SettingsData _ _ _). s.max_capacity) kept ∙ ap (λ (told : BuilderData _ _ _). told.max_capacity) c.time_to_live.ensures ∙ ap (λ (told : BuilderData _ _ _). told.max_capacity) c.new.ensures in
     by-copy _ c.args.name c.in_ok-get.field-0
-    (found-in_time _ _ nat_eq_equiv _ (no_lives c.in_ok-cache.cache.settings.behaviour.expiry) live idle room _ _ c.args.key c.args.name c.args.now c.in_ok-get.field-0
-    c.in_ok-cache.ensures.empty c.in_ok-insert.ensures.stands c.in_ok-get.ensures.reply _ refl)
+    (found-in_time _ _ nat_eq_equiv _ (no_lives c.in_ok-cache.cache.settings.behaviour.expiry) _ live idle (ap stores_nothing room) _ _ c.args.key c.args.key c.args.name c.args.now
+    c.in_ok-get.field-0 c.in_ok-cache.ensures.empty c.in_ok-insert.ensures.stands c.in_ok-get.ensures.reply (nat_eq_equiv.refl c.args.key) _ refl)
