@@ -11,7 +11,9 @@ use std::sync::Arc;
 use std::test::Fail;
 use std::time::Duration;
 
-type Builder = CacheBuilder<u64, String, Plain, Single>;
+type Clock = Arc<ManualClock>;
+
+type Builder = CacheBuilder<u64, Arc<u64>, Plain<Clock>, Single>;
 
 fn hasher() -> FoldState {
     BuildHasherDefault::default()
@@ -77,13 +79,10 @@ fn a_state_is_built_by_the_settings(rt: HostRuntime) -> Result<(), Fail> {
     );
     assert_eq!(rt; state.policy(), policy);
     let InsertRefused { key, value, cause } = state
-        .insert(1, String::from_str(rt.alloc(), "a")?, 0)
+        .insert(1, Arc::new(rt.alloc(), 7)?, 0)
         .err()
         .ok_or("a refusal")?;
-    assert_eq!(rt;
-        (key, value.as_str(), cause),
-        (1, "a", Refused::NumbersUsedUp)
-    );
+    assert_eq!(rt; (key, *value, cause), (1, 7, Refused::NumbersUsedUp));
     Ok(())
 }
 
@@ -126,14 +125,12 @@ fn refusals_say_what_was_refused(rt: HostRuntime) -> Result<(), Fail> {
     Ok(())
 }
 
-type Clock = Arc<ManualClock>;
-
 type Shared<W> = Cache<u64, Arc<u64>, Plain<Clock>, W>;
 
 type State = CacheState<u64, Arc<u64>, Plain<Clock>>;
 
 // A builder to which all is told that takes memory: then, or when it builds.
-fn told(alloc: Global) -> Result<CacheBuilder<u64, Arc<u64>, Plain<Clock>, Single>, BuildError> {
+fn told(alloc: Global) -> Result<Builder, BuildError> {
     CacheBuilder::new(400)
         .initial_capacity(100)
         .weigher(NoWeigher)

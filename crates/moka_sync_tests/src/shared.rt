@@ -34,7 +34,7 @@ fn clock(alloc: Global) -> Result<Clock, AllocError> {
 #[test]
 fn a_new_cache_stores_values(rt: HostRuntime) -> Result<(), Fail> {
     let keys = RandomState::new(&rt)?;
-    let cache: Cache<u64, String, PlainRandom<Clock>, HostRuntime> = Cache::new(
+    let cache: Cache<u64, Arc<u64>, PlainRandom<Clock>, HostRuntime> = Cache::new(
         rt.alloc(),
         100,
         keys,
@@ -43,9 +43,9 @@ fn a_new_cache_stores_values(rt: HostRuntime) -> Result<(), Fail> {
     )?;
     assert_eq!(rt; cache.policy(), Policy::new(Some(100), 1, None, None));
     assert_eq!(rt; cache.name(), None);
-    cache.insert(97, String::from_str(rt.alloc(), "Alice")?)?;
+    cache.insert(97, Arc::new(rt.alloc(), 7)?)?;
     let found = cache.get(&97)?.ok_or("a value")?;
-    assert_eq!(rt; found.as_str(), "Alice");
+    assert_eq!(rt; *found, 7);
     Ok(())
 }
 
