@@ -108,11 +108,14 @@ fn timed<S: Subject>(
     prepare(&mut subject, load, before)?;
     let begun = Instant::now(clock)?;
     let hits = hits_of(&mut subject, load.kind, measured, before.len())?;
-    let took = begun.elapsed(clock)?;
-    Ok(Outcome {
-        nanos: u64::try_from(took.as_nanos()).unwrap_or(u64::MAX),
-        hits,
-    })
+    let nanos = nanos_since(clock, begun)?;
+    Ok(Outcome { nanos, hits })
+}
+
+/// The nanoseconds since a moment.
+pub(crate) fn nanos_since(clock: &impl Clock, begun: Instant) -> io::Result<u64> {
+    let took = begun.elapsed(clock)?.as_nanos();
+    Ok(u64::try_from(took).unwrap_or(u64::MAX))
 }
 
 /// Brings a cache to where it stays: writes the keys of the loads that look for what is there, and runs the first half.
@@ -169,8 +172,7 @@ pub(crate) fn slowest<R: Clock>(
             &[*key],
             before.len().wrapping_add(place),
         )?;
-        let took = begun.elapsed(rt)?.as_nanos();
-        longest = u64::try_from(took).unwrap_or(u64::MAX).max(longest);
+        longest = nanos_since(rt, begun)?.max(longest);
     }
     Ok(longest)
 }

@@ -1,6 +1,7 @@
 //! What removals take: of keys, one by one, and of all rows at once.
 ghost use Rattle.std.specs.Prelude.{◌≡◌, refl, true};
 
+use crate::measure::nanos_since;
 use crate::table::{median, share};
 use moka::policy::{EvictionPolicy, Predicate};
 use moka::ready::{Hiding, SteadyPredicate};
@@ -90,13 +91,12 @@ fn time_of(
         let predicate = Arc::new(alloc, Everything)?;
         let begun = Instant::now(clock)?;
         remove_all(&mut state, removal, rows, predicate)?;
-        let took = u64::try_from(begun.elapsed(clock)?.as_nanos()).unwrap_or(u64::MAX);
-        times.push(share(took, 1, u64::from(rows)))?;
+        times.push(share(nanos_since(clock, begun)?, 1, u64::from(rows)))?;
     }
     Ok(median(times))
 }
 
-/// A cache of so many rows, least recently used, whose writes are all admitted, and their notices taken.
+/// A cache of so many rows, least recently used, all admitted: nothing waits, and nothing has left.
 fn filled(alloc: Global, rows: u32) -> Result<State, AllocError> {
     let builder = CacheBuilder::new(u64::from(rows))
         .eviction_policy(EvictionPolicy::lru())

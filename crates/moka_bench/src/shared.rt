@@ -1,5 +1,6 @@
 //! What threads share: the shared cache beside the state alone, and beside other maps under one lock.
 use crate::load::{Kind, LOADS, Load};
+use crate::measure::nanos_since;
 use crate::table::{median, share};
 use lru::LruCache;
 use moka::policy::{EvictionPolicy, ManualClock};
@@ -267,11 +268,6 @@ fn by_threads<S: Again, R: Runtime + Wait + Threads + Copy>(
         running.join(&rt)?;
     }
     nanos_since(&rt, begun)
-}
-
-fn nanos_since(rt: &impl Clock, begun: Instant) -> io::Result<u64> {
-    let took = begun.elapsed(rt)?.as_nanos();
-    Ok(u64::try_from(took).unwrap_or(u64::MAX))
 }
 
 fn prepare<S: Shared>(shared: &mut S, load: &Load, before: &[u64]) -> Result<(), AllocError> {

@@ -15,10 +15,14 @@ module _ {K V E : Type 0} (eq : K → K → Bool) (is_clone : V → V → Type 0
   abbrev moment : ℕ
   moment = moment_of_write {E = E} eq is_clone laws settings k v 0 []
 
+  -- the same, where it is said whether anything is stored
+  abbrev moment_if : Bool → ℕ
+  moment_if t = latest ((if t then Passed 0 ∷ [] else Written k v 0 ∷ flush eq settings 0 []) ++ [])
+
   -- of what is written at moment 0 the end has come once the life has passed
   come : has_come (end_of_lives eq settings plain moment) (max moment now) ≡ nat_le life now
   come =
-      ap (λ (t : Bool). has_come (end_of_lives eq settings plain (latest ((if t then Passed 0 ∷ [] else Written k v 0 ∷ flush eq settings 0 []) ++ []))) (max (latest ((if t then Passed 0 ∷ [] else Written k v 0 ∷ flush eq settings 0 []) ++ [])) now)) stores
+      ap (λ t. has_come (end_of_lives eq settings plain (moment_if t)) (max (moment_if t) now)) stores
       ∙ ap (λ (l : Option ℕ). has_come (earlier (ends_at l 0) (ends_at settings.time_to_idle 0)) (max 0 now)) live
       ∙ ap (λ (i : Option ℕ). has_come (earlier (Some (0 + life)) (ends_at i 0)) (max 0 now)) idle
       ∙ ap (λ (end : ℕ). nat_le end (max 0 now)) (omega (arith))
