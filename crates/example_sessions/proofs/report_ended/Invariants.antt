@@ -1,6 +1,0 @@
--- Each notice that is taken leaves one fewer.
-use Rattle.std.proofs.Common.{length}
-use Rattle.example_sessions.proofs.report_ended.Given as goal
-
-abbrev pub decreases-loop-notice : goal.decreases-loop-notice
-decreases-loop-notice l = length l.sessions.books.notices

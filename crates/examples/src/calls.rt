@@ -1,0 +1,179 @@
+//! Names that weigh as much as they are long and live a minute, by types and by closures, in a cache whose calls are data.
+
+ghost use Rattle.std.specs.Prelude.{◌≡◌, false, refl};
+ghost use Rattle.std.proofs.Math.Path.{◌∙◌};
+ghost use Rattle.examples.specs.Calls.{length_of, a_minute};
+
+use anyhow::Result;
+use moka::policy::{
+    CacheTypes, CountTable, ExpireBy, Expiry, ManualClock, NoListener, NoPredicate, WeighBy,
+    Weigher,
+};
+use moka::ready::FoldState;
+use moka::state::{CacheState, Step};
+use moka::sync::CacheBuilder;
+use std::alloc::{AllocError, Global};
+use std::convert::Infallible;
+use std::marker::PhantomData;
+use std::sync::Arc;
+use std::time::Duration;
+
+/// Weighs a name by its length.
+#[derive(Drop)]
+struct ByLength;
+
+impl Weigher<u64, String> for ByLength {
+    ghost weighs = { λ _ weight. weight ≡ length_of };
+
+    fn weigh(&self, _key: &u64, name: &String) -> u32 {
+        u32::try_from(name.len()).unwrap_or(u32::MAX)
+    }
+}
+
+/// Gives each name a minute after each write.
+#[derive(Drop)]
+struct OneMinute;
+
+impl Expiry<u64, String> for OneMinute {
+    ghost gives = { λ _ lives. lives ≡ a_minute };
+
+    fn expire_after_create(&self, _key: &u64, _name: &String, _at: u64) -> Option<Duration> {
+        Some(Duration::from_secs(60))
+    }
+
+    fn expire_after_read(
+        &self,
+        _key: &u64,
+        _name: &String,
+        _at: u64,
+        rest: Option<Duration>,
+        _written_at: u64,
+    ) -> Option<Duration> {
+        rest
+    }
+
+    fn expire_after_update(
+        &self,
+        _key: &u64,
+        _name: &String,
+        _at: u64,
+        _rest: Option<Duration>,
+    ) -> Option<Duration> {
+        Some(Duration::from_secs(60))
+    }
+}
+
+/// The types of a cache of names that a weigher of this type weighs, and to which an expiry of this type gives lives.
+struct WeighedNames<W, E> {
+    types: PhantomData<(W, E)>,
+}
+
+impl<W, E> CacheTypes<u64, String> for WeighedNames<W, E>
+where
+    W: Weigher<u64, String> + Drop,
+    E: Expiry<u64, String> + Drop,
+{
+    type Hasher = FoldState;
+
+    type Weigher = W;
+
+    type Expiry = E;
+
+    type Predicate = NoPredicate;
+
+    type Frequency = CountTable<10>;
+
+    type Listener = NoListener;
+
+    type Clock = ManualClock;
+
+    type Error = Infallible;
+
+    ghost weight = { λ _. length_of };
+
+    ghost equal_keys_weigh = { λ _ _ _ _ _. refl };
+
+    ghost lifetimes = { λ _. a_minute };
+
+    ghost test = { λ _ _ _. false };
+
+    ghost keeps = { λ _ _. Unit {0} };
+
+    ghost equal_keys_keep = { λ _ _ _ _ _. tt };
+
+    ghost copies_keep = { λ _ _ _ _ _. tt };
+
+    ghost copies_compose = { λ _ _ _ a b. b ∙ a };
+}
+
+// A cache of names that weigh eight bytes together.
+fn opened<W, E>(
+    alloc: Global,
+    weigher: W,
+    expiry: E,
+) -> Result<CacheState<u64, String, WeighedNames<W, E>>>
+where
+    W: Weigher<u64, String> + Drop,
+    E: Expiry<u64, String> + Drop,
+    requires weighs { W.weighs weigher length_of }
+    requires gives { E.gives expiry a_minute }
+{
+    let builder = CacheBuilder::new(8).weigher(weigher).expire_after(expiry);
+    Ok(builder.build_state(alloc, FoldState::default())?)
+}
+
+// A write of a name, and a look at it.
+fn steps<C: CacheTypes<u64, String>>(
+    alloc: Global,
+    name: String,
+) -> Result<Vec<Step<u64, String, C>>, AllocError> {
+    let key: Arc<u64> = Arc::new(alloc, 97)?;
+    let again = key.clone()?;
+    let mut steps = Vec::new(alloc);
+    steps.push(Step::Insert {
+        key,
+        value: name,
+        now: 0,
+    })?;
+    steps.push(Step::Get { key: again, now: 5 })?;
+    Ok(steps)
+}
+
+// What a cache weighs after a name was written, and a minute later.
+fn weights<W, E>(alloc: Global, weigher: W, expiry: E, name: String) -> Result<(u64, u64)>
+where
+    W: Weigher<u64, String> + Drop,
+    E: Expiry<u64, String> + Drop,
+    requires weighs { W.weighs weigher length_of }
+    requires gives { E.gives expiry a_minute }
+{
+    let mut cache = opened(alloc, weigher, expiry)?;
+    cache.run(steps(alloc, name)?)?;
+    let weight = cache.weighted_size();
+    cache.run_pending_tasks(60_000_000_000);
+    Ok((weight, cache.weighted_size()))
+}
+
+fn by_closures(alloc: Global, name: String) -> Result<(u64, u64)> {
+    weights(
+        alloc,
+        WeighBy::new(|_key: &u64, name: &String| u32::try_from(name.len()).unwrap_or(u32::MAX)),
+        ExpireBy::new(
+            |_key: &u64, _name: &String, _at: u64| Some(Duration::from_secs(60)),
+            |_key: &u64, _name: &String, _at: u64, rest: Option<Duration>, _written_at: u64| rest,
+            |_key: &u64, _name: &String, _at: u64, _rest: Option<Duration>| {
+                Some(Duration::from_secs(60))
+            },
+        ),
+        name,
+    )
+}
+
+/// Runs the example.
+pub fn main(rt: HostRuntime) -> Result<()> {
+    let name = String::from_str(rt.alloc(), "Alice")?;
+    println!(rt; "{:?}", weights(rt.alloc(), ByLength, OneMinute, name)?)?;
+    let name = String::from_str(rt.alloc(), "Bob")?;
+    println!(rt; "{:?}", by_closures(rt.alloc(), name)?)?;
+    Ok(())
+}

@@ -1,0 +1,104 @@
+//! The examples, each a module: `examples NAME ..` runs those that are named, in that order.
+#![tactic(auto)]
+
+mod calls;
+mod first;
+mod found;
+mod lines;
+mod memoizer;
+mod sessions;
+mod temp_files;
+mod threads;
+
+use anyhow::Result;
+use std::process::ExitCode;
+use std::{env, io};
+
+/// An example, named as its module is.
+#[derive(Clone, Copy)]
+enum Example {
+    Calls,
+    First,
+    Found,
+    Threads,
+    Memoizer,
+    Sessions,
+    Lines,
+    TempFiles,
+}
+
+impl Example {
+    const ALL: [Example; 8] = [
+        Example::Calls,
+        Example::First,
+        Example::Found,
+        Example::Threads,
+        Example::Memoizer,
+        Example::Sessions,
+        Example::Lines,
+        Example::TempFiles,
+    ];
+
+    fn name(self) -> &'static str {
+        match self {
+            Example::Calls => "calls",
+            Example::First => "first",
+            Example::Found => "found",
+            Example::Threads => "threads",
+            Example::Memoizer => "memoizer",
+            Example::Sessions => "sessions",
+            Example::Lines => "lines",
+            Example::TempFiles => "temp_files",
+        }
+    }
+
+    fn named(name: &str) -> Option<Example> {
+        Example::ALL
+            .into_iter()
+            .find(|example| example.name() == name)
+    }
+}
+
+// The examples that the arguments name, or none where one of them names no example.
+fn asked_for(rt: &HostRuntime) -> io::Result<Option<Vec<Example>>> {
+    let mut examples = Vec::new(rt.alloc());
+    for name in env::args(rt)?.skip(1) {
+        match Example::named(&name) {
+            Some(example) => examples.push(example)?,
+            None => return Ok(None),
+        }
+    }
+    Ok(Some(examples))
+}
+
+fn print_usage(rt: &HostRuntime) -> io::Result<()> {
+    eprint!(rt; "usage: examples NAME .., each NAME one of:")?;
+    for example in Example::ALL {
+        eprint!(rt; " {}", example.name())?;
+    }
+    eprintln!(rt; "")
+}
+
+fn main(rt: HostRuntime) -> Result<ExitCode> {
+    let examples = match asked_for(&rt)? {
+        Some(examples) if !examples.is_empty() => examples,
+        _ => {
+            print_usage(&rt)?;
+            return Ok(ExitCode::from(2));
+        }
+    };
+    for example in examples {
+        println!(rt; "{}:", example.name())?;
+        match example {
+            Example::Calls => calls::main(rt)?,
+            Example::First => first::main(rt)?,
+            Example::Found => found::main(rt)?,
+            Example::Threads => threads::main(rt)?,
+            Example::Memoizer => memoizer::main(rt)?,
+            Example::Sessions => sessions::main(rt)?,
+            Example::Lines => lines::main(rt)?,
+            Example::TempFiles => temp_files::main(rt)?,
+        }
+    }
+    Ok(ExitCode::SUCCESS)
+}

@@ -1,0 +1,54 @@
+//! Temporary files of which those that were used last are kept: a file is deleted when the cache let its name go.
+
+use anyhow::Result;
+use moka::policy::EvictionPolicy;
+use moka::ready::{FoldState, Plain};
+use moka::state::CacheState;
+use moka::sync::CacheBuilder;
+use std::alloc::Global;
+use std::fs;
+
+/// The names of the files, by the numbers of the pages that they hold. No two files have the same name.
+type Pages = CacheState<u64, String, Plain>;
+
+fn opened(alloc: Global) -> Result<Pages> {
+    let builder = CacheBuilder::new(2).eviction_policy(EvictionPolicy::lru());
+    Ok(builder.build_state(alloc, FoldState::default())?)
+}
+
+// Writes a page into a file. Where the cache refuses its name the file is deleted at once.
+fn save(rt: &HostRuntime, pages: &mut Pages, number: u64, name: String) -> Result<()> {
+    fs::write(rt, &name, "a page")?;
+    match pages.insert(number, name, 0) {
+        Ok(()) => delete_those_that_left(rt, pages),
+        Err(refused) => {
+            fs::remove_file(rt, &refused.value)?;
+            Err(refused.cause.into())
+        }
+    }
+}
+
+// Deletes each file whose name has left the cache, for whatever cause.
+fn delete_those_that_left(rt: &HostRuntime, pages: &mut Pages) -> Result<()> {
+    pages.run_pending_tasks(0);
+    while let Some(notice) = pages.take_notice() {
+        fs::remove_file(rt, &notice.value)?;
+        println!(rt; "deleted {}: {:?}", notice.value, notice.cause)?;
+    }
+    Ok(())
+}
+
+fn run(rt: &HostRuntime, pages: &mut Pages) -> Result<()> {
+    for (number, name) in [(1, "a.tmp"), (2, "b.tmp"), (1, "c.tmp"), (3, "d.tmp")] {
+        save(rt, pages, number, String::from_str(rt.alloc(), name)?)?;
+    }
+    for number in 1..4 {
+        pages.invalidate(&number, 0);
+    }
+    delete_those_that_left(rt, pages)
+}
+
+/// Runs the example.
+pub fn main(rt: HostRuntime) -> Result<()> {
+    run(&rt, &mut opened(rt.alloc())?)
+}

@@ -1,0 +1,42 @@
+//! Two threads that share a cache: what either wrote both find.
+
+use anyhow::Result;
+use moka::policy::ManualClock;
+use moka::ready::{FoldState, Plain};
+use moka::sync::{Cache, CacheBuilder};
+use std::rt::Runtime;
+use std::sync::{Arc, Wait};
+use std::thread;
+use std::thread::Threads;
+
+/// Squares by their roots.
+type Squares<W> = Cache<u64, u64, Plain<Arc<ManualClock>>, W>;
+
+// Writes the squares of sixteen numbers, from this one on.
+fn fill<W: Wait + Drop>(squares: &Squares<W>, first: u64) -> Result<()> {
+    for root in first..first.saturating_add(16) {
+        squares.insert(root, root.wrapping_mul(root))?;
+    }
+    Ok(())
+}
+
+/// Runs the example. A program's own `main` alone has a runtime that may wait and start threads, and hands it in.
+pub fn main<R: Runtime + AllocGlobal + Wait + Threads + Copy + Send + 'static>(
+    rt: R,
+) -> Result<()> {
+    let clock = Arc::new(rt.alloc(), ManualClock::new(0))?;
+    let squares = CacheBuilder::new(100).build_with_hasher(
+        rt.alloc(),
+        FoldState::default(),
+        clock,
+        rt,
+    )?;
+    let theirs = squares.clone()?;
+    let child = thread::spawn(&rt, move || fill(&theirs, 16))?;
+    fill(&squares, 0)?;
+    child.join(&rt)?;
+    for root in [3, 20, 40] {
+        println!(rt; "{root}: {:?}", squares.get(&root)?)?;
+    }
+    Ok(())
+}
