@@ -1,9 +1,9 @@
 //! One cache on one load.
 use crate::load::{Kind, Load};
-use crate::subject::{Ours, Subject, Theirs};
+use crate::subject::{Fold, NoFrequencies, Ours, Subject, Theirs};
 use moka::policy::{CountTable, EvictionPolicy, FrequencySketch, FrequencySource};
 use std::alloc::{AllocError, Global};
-use std::hash::{BuildHasher, BuildHasherDefault, DefaultHasher, FoldHasher};
+use std::hash::{BuildHasher, BuildHasherDefault, DefaultHasher};
 use std::io;
 use std::sync::Wait;
 use std::time::{Clock, Instant};
@@ -46,7 +46,7 @@ pub(crate) fn measured<R: Wait + Clock + Copy>(
 ) -> io::Result<Outcome> {
     match hashing {
         Hashing::Sip => by::<BuildHasherDefault<DefaultHasher>, R>(rt, alloc, which, load, keys),
-        Hashing::Fold => by::<BuildHasherDefault<FoldHasher>, R>(rt, alloc, which, load, keys),
+        Hashing::Fold => by::<Fold, R>(rt, alloc, which, load, keys),
     }
 }
 
@@ -59,7 +59,7 @@ fn by<H: BuildHasher + Default + Drop, R: Wait + Clock + Copy>(
 ) -> io::Result<Outcome> {
     match which {
         Which::Theirs => timed(rt, Theirs::<H, R>::new(alloc, load, *rt)?, load, keys),
-        Which::Lru => ours::<H, CountTable<0>, R>(rt, alloc, EvictionPolicy::lru(), load, keys),
+        Which::Lru => ours::<H, NoFrequencies, R>(rt, alloc, EvictionPolicy::lru(), load, keys),
         Which::Table => ours::<H, CountTable<20>, R>(
             rt,
             alloc,
@@ -98,7 +98,7 @@ fn ours<H: BuildHasher + Default + Drop, F: FrequencySource, R: Clock>(
 }
 
 /// Runs a load, and takes the time of its second half: the first half brings the cache to where it stays.
-fn timed<S: Subject>(
+pub(crate) fn timed<S: Subject>(
     clock: &impl Clock,
     mut subject: S,
     load: &Load,
@@ -119,7 +119,11 @@ pub(crate) fn nanos_since(clock: &impl Clock, begun: Instant) -> io::Result<u64>
 }
 
 /// Brings a cache to where it stays: writes the keys of the loads that look for what is there, and runs the first half.
-fn prepare<S: Subject>(subject: &mut S, load: &Load, before: &[u64]) -> Result<(), AllocError> {
+pub(crate) fn prepare<S: Subject>(
+    subject: &mut S,
+    load: &Load,
+    before: &[u64],
+) -> Result<(), AllocError> {
     if matches!(load.kind, Kind::Hit | Kind::Overwrite) {
         for key in 0..load.capacity {
             subject.insert(u64::from(key), 0)?;
@@ -131,7 +135,7 @@ fn prepare<S: Subject>(subject: &mut S, load: &Load, before: &[u64]) -> Result<(
 }
 
 /// Runs keys of a load, each at its own moment, from a moment on. Answers how many of the looks found their key.
-fn hits_of<S: Subject>(
+pub(crate) fn hits_of<S: Subject>(
     subject: &mut S,
     kind: Kind,
     keys: &[u64],
@@ -158,9 +162,7 @@ pub(crate) fn slowest<R: Clock>(
     keys: &[u64],
 ) -> io::Result<u64> {
     let policy = EvictionPolicy::lru();
-    let mut subject = Ours::<BuildHasherDefault<FoldHasher>, CountTable<0>>::new(
-        alloc, load, policy,
-    )?;
+    let mut subject = Ours::<Fold, NoFrequencies>::new(alloc, load, policy)?;
     let (before, measured) = keys.split_at(keys.len() / 2);
     prepare(&mut subject, load, before)?;
     let mut longest = 0;

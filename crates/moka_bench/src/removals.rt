@@ -1,36 +1,19 @@
 //! What removals take: of keys, one by one, and of all rows at once.
-ghost use Rattle.std.specs.Prelude.{◌≡◌, refl, true};
-
-use crate::measure::nanos_since;
+use crate::load::{Kind, Load, SMALL};
+use crate::measure::{nanos_since, prepare};
+use crate::subject::{Everything, Fold, NoFrequencies, Ours, Types};
 use crate::table::{median, share};
-use moka::policy::{EvictionPolicy, Predicate};
-use moka::ready::{Hiding, SteadyPredicate};
+use moka::policy::EvictionPolicy;
 use moka::state::CacheState;
-use moka::sync::CacheBuilder;
 use std::alloc::{AllocError, Global};
-use std::hash::BuildHasherDefault;
 use std::io;
 use std::rt::Runtime;
 use std::sync::Arc;
 use std::time::{Clock, Instant};
 
-/// Holds of each value.
-#[derive(Drop)]
-struct Everything;
+type Filled = Ours<Fold, NoFrequencies>;
 
-impl Predicate<u64, u64> for Everything {
-    ghost tests = { λ _ test. test ≡ (λ _ _. true) };
-
-    fn holds(&self, _key: &u64, _value: &u64) -> bool {
-        true
-    }
-}
-
-impl SteadyPredicate<u64, u64> for Everything {
-    ghost test = { λ _ _ _. true };
-}
-
-type State = CacheState<u64, u64, Hiding<Everything>>;
+type State = CacheState<u64, u64, Types<Fold, NoFrequencies>>;
 
 /// What is measured, each on a cache of its own that was filled and has nothing left to be done.
 #[derive(Clone, Copy)]
@@ -84,33 +67,29 @@ fn time_of(
 ) -> io::Result<u64> {
     let mut times = Vec::with_capacity(alloc, rounds)?;
     for _ in 0..rounds {
-        let mut state = filled(alloc, rows)?;
+        let mut filled = filled(alloc, rows)?;
+        let state = &mut filled.cache;
         if matches!(removal, Removal::Sweep) {
             state.invalidate_all();
         }
         let predicate = Arc::new(alloc, Everything)?;
         let begun = Instant::now(clock)?;
-        remove_all(&mut state, removal, rows, predicate)?;
+        remove_all(state, removal, rows, predicate)?;
         times.push(share(nanos_since(clock, begun)?, 1, u64::from(rows)))?;
     }
     Ok(median(times))
 }
 
 /// A cache of so many rows, least recently used, all admitted: nothing waits, and nothing has left.
-fn filled(alloc: Global, rows: u32) -> Result<State, AllocError> {
-    let builder = CacheBuilder::new(u64::from(rows))
-        .eviction_policy(EvictionPolicy::lru())
-        .support_invalidation_closures();
-    let Ok(mut state) = builder.build_state(alloc, BuildHasherDefault::default()) else {
-        return Err(AllocError);
+fn filled(alloc: Global, rows: u32) -> Result<Filled, AllocError> {
+    let load = Load {
+        kind: Kind::Hit,
+        capacity: rows,
+        ..SMALL
     };
-    for key in 0..u64::from(rows) {
-        if state.insert(key, key, 0).is_err() {
-            return Err(AllocError);
-        }
-    }
-    state.run_pending_tasks(0);
-    Ok(state)
+    let mut filled = Ours::new(alloc, &load, EvictionPolicy::lru())?;
+    prepare(&mut filled, &load, &[])?;
+    Ok(filled)
 }
 
 fn remove_all(

@@ -1,196 +1,16 @@
 //! What threads share: the shared cache beside the state alone, and beside other maps under one lock.
-use crate::load::{Kind, LOADS, Load};
-use crate::measure::nanos_since;
+use crate::load::{LOADS, Load};
+use crate::measure::{hits_of, nanos_since, prepare, timed};
+use crate::subject::{Again, Fold, NoFrequencies, Ours, Theirs, Together, Unbounded};
 use crate::table::{median, share};
-use lru::LruCache;
-use moka::policy::{EvictionPolicy, ManualClock};
-use moka::ready::{FoldState, Plain};
-use moka::state::CacheState;
-use moka::sync::builder::Single;
-use moka::sync::{Cache, CacheBuilder};
+use moka::policy::EvictionPolicy;
 use std::alloc::{AllocError, Global};
-use std::collections::HashMap;
 use std::io::Print;
-use std::num::NonZeroUsize;
 use std::rt::Runtime;
-use std::sync::{Arc, Mutex, Wait};
+use std::sync::{Arc, Wait};
 use std::thread::Threads;
-use std::time::{Clock, Instant};
+use std::time::Instant;
 use std::{io, thread};
-
-/// Both caches of this library have these types.
-type Types = Plain<Arc<ManualClock>>;
-
-/// Keys and values that threads share, or that one alone has.
-trait Shared: Drop {
-    /// Whether a key is found.
-    fn look(&mut self, key: u64) -> Result<bool, AllocError>;
-
-    /// Writes a key.
-    fn insert(&mut self, key: u64) -> Result<(), AllocError>;
-}
-
-/// What is there once more for another thread.
-trait Again: Shared + Send + 'static {
-    /// The same map, for another thread.
-    fn again(&self) -> Result<Self, AllocError>;
-}
-
-/// A state of this library, which one thread alone has.
-#[derive(Drop)]
-struct Alone {
-    state: CacheState<u64, u64, Types>,
-}
-
-impl Shared for Alone {
-    fn look(&mut self, key: u64) -> Result<bool, AllocError> {
-        match self.state.get(&key, 0) {
-            Ok(found) => Ok(found.is_some()),
-            Err(_) => Err(AllocError),
-        }
-    }
-
-    fn insert(&mut self, key: u64) -> Result<(), AllocError> {
-        if self.state.insert(key, key, 0).is_err() {
-            return Err(AllocError);
-        }
-        for _ in 0..self.state.notice_count() {
-            self.state.take_notice();
-        }
-        Ok(())
-    }
-}
-
-/// The shared cache of this library.
-#[derive(Drop)]
-struct Together<R: Drop> {
-    cache: Cache<u64, u64, Types, R>,
-}
-
-impl<R: Wait + Drop> Shared for Together<R> {
-    fn look(&mut self, key: u64) -> Result<bool, AllocError> {
-        match self.cache.get(&key) {
-            Ok(found) => Ok(found.is_some()),
-            Err(_) => Err(AllocError),
-        }
-    }
-
-    fn insert(&mut self, key: u64) -> Result<(), AllocError> {
-        match self.cache.insert(key, key) {
-            Ok(()) => Ok(()),
-            Err(_) => Err(AllocError),
-        }
-    }
-}
-
-impl<R: Wait + Copy + Send + Drop + 'static> Again for Together<R> {
-    fn again(&self) -> Result<Self, AllocError> {
-        Ok(Together {
-            cache: self.cache.clone()?,
-        })
-    }
-}
-
-/// A map without a bound, under one lock.
-#[derive(Drop)]
-struct Unbounded<R: Drop> {
-    map: Arc<Mutex<HashMap<u64, u64, FoldState>>>,
-    waits: R,
-}
-
-impl<R: Wait + Drop> Shared for Unbounded<R> {
-    fn look(&mut self, key: u64) -> Result<bool, AllocError> {
-        Ok(self.map.lock(&self.waits).get(&key).is_some())
-    }
-
-    fn insert(&mut self, key: u64) -> Result<(), AllocError> {
-        match self.map.lock(&self.waits).insert(key, key) {
-            Ok(_) => Ok(()),
-            Err(_) => Err(AllocError),
-        }
-    }
-}
-
-impl<R: Wait + Copy + Send + Drop + 'static> Again for Unbounded<R> {
-    fn again(&self) -> Result<Self, AllocError> {
-        Ok(Unbounded {
-            map: self.map.clone()?,
-            waits: self.waits,
-        })
-    }
-}
-
-/// The kit's `lru` under one lock.
-#[derive(Drop)]
-struct Theirs<R: Drop> {
-    cache: Arc<Mutex<LruCache<u64, u64, FoldState>>>,
-    waits: R,
-}
-
-impl<R: Wait + Drop> Shared for Theirs<R> {
-    fn look(&mut self, key: u64) -> Result<bool, AllocError> {
-        Ok(self.cache.lock(&self.waits).get(&key).is_some())
-    }
-
-    fn insert(&mut self, key: u64) -> Result<(), AllocError> {
-        self.cache.lock(&self.waits).put(key, key)?;
-        Ok(())
-    }
-}
-
-impl<R: Wait + Copy + Send + Drop + 'static> Again for Theirs<R> {
-    fn again(&self) -> Result<Self, AllocError> {
-        Ok(Theirs {
-            cache: self.cache.clone()?,
-            waits: self.waits,
-        })
-    }
-}
-
-impl Alone {
-    fn new(alloc: Global, load: &Load) -> io::Result<Self> {
-        match builder(load).build_state(alloc, FoldState::default()) {
-            Ok(state) => Ok(Alone { state }),
-            Err(_) => Err(AllocError.into()),
-        }
-    }
-}
-
-impl<R: Drop> Together<R> {
-    fn new(alloc: Global, waits: R, load: &Load) -> io::Result<Self> {
-        let clock = Arc::new(alloc, ManualClock::new(0))?;
-        match builder(load).build_with_hasher(alloc, FoldState::default(), clock, waits) {
-            Ok(cache) => Ok(Together { cache }),
-            Err(_) => Err(AllocError.into()),
-        }
-    }
-}
-
-// Least recently used, so that no frequencies are counted.
-fn builder(load: &Load) -> CacheBuilder<u64, u64, Types, Single> {
-    CacheBuilder::new(u64::from(load.capacity)).eviction_policy(EvictionPolicy::lru())
-}
-
-impl<R: Drop> Unbounded<R> {
-    fn new(alloc: Global, waits: R) -> io::Result<Self> {
-        let map = HashMap::with_hasher(alloc, FoldState::default());
-        Ok(Unbounded {
-            map: Arc::new(alloc, Mutex::new(map))?,
-            waits,
-        })
-    }
-}
-
-impl<R: Drop> Theirs<R> {
-    fn new(alloc: Global, waits: R, load: &Load) -> io::Result<Self> {
-        let capacity = NonZeroUsize::new(load.capacity as usize).ok_or(AllocError)?;
-        let cache = LruCache::with_hasher(alloc, capacity, FoldState::default())?;
-        Ok(Theirs {
-            cache: Arc::new(alloc, Mutex::new(cache))?,
-            waits,
-        })
-    }
-}
 
 /// How many threads share a map.
 const THREADS: usize = 4;
@@ -224,24 +44,22 @@ fn round<R: Runtime + Wait + Threads + Copy + Send + 'static>(
     load: &Load,
     keys: &Arc<Vec<u64>>,
 ) -> io::Result<[u64; 5]> {
-    let alone = timed(&rt, Alone::new(alloc, load)?, load, keys)?;
-    let one = timed(&rt, Together::new(alloc, rt, load)?, load, keys)?;
+    let state = Ours::<Fold, NoFrequencies>::new(alloc, load, EvictionPolicy::lru())?;
+    let alone = timed(&rt, state, load, keys)?.nanos;
+    let one = timed(&rt, Together::new(alloc, load, rt)?, load, keys)?.nanos;
     let map = by_threads(rt, alloc, Unbounded::new(alloc, rt)?, load, keys)?;
-    let lru = by_threads(rt, alloc, Theirs::new(alloc, rt, load)?, load, keys)?;
-    let four = by_threads(rt, alloc, Together::new(alloc, rt, load)?, load, keys)?;
+    let lru = by_threads(
+        rt,
+        alloc,
+        Theirs::<Fold, R>::new(alloc, load, rt)?,
+        load,
+        keys,
+    )?;
+    let four = by_threads(rt, alloc, Together::new(alloc, load, rt)?, load, keys)?;
     Ok([alone, one, map, lru, four])
 }
 
-/// The nanoseconds of the second half of a load at one thread. The first half brings the map to where it stays.
-fn timed<S: Shared>(rt: &impl Clock, mut shared: S, load: &Load, keys: &[u64]) -> io::Result<u64> {
-    let (before, measured) = keys.split_at(keys.len() / 2);
-    prepare(&mut shared, load, before)?;
-    let begun = Instant::now(rt)?;
-    run_keys(&mut shared, load.kind, measured)?;
-    nanos_since(rt, begun)
-}
-
-/// The same, where each of the threads runs a part of the second half.
+/// The nanoseconds of the second half of a load, of which each of the threads runs a part.
 fn by_threads<S: Again, R: Runtime + Wait + Threads + Copy>(
     rt: R,
     alloc: Global,
@@ -259,8 +77,8 @@ fn by_threads<S: Again, R: Runtime + Wait + Threads + Copy>(
         let first = before.len().wrapping_add(number.wrapping_mul(part));
         let last = first.wrapping_add(part);
         let work = move || match keys.get(first..last) {
-            Some(own_keys) => run_keys(&mut own, kind, own_keys),
-            None => Ok(()),
+            Some(own_keys) => hits_of(&mut own, kind, own_keys, first),
+            None => Ok(0),
         };
         threads.push(thread::spawn(&rt, work).map_err(|_| AllocError)?)?;
     }
@@ -268,25 +86,6 @@ fn by_threads<S: Again, R: Runtime + Wait + Threads + Copy>(
         running.join(&rt)?;
     }
     nanos_since(&rt, begun)
-}
-
-fn prepare<S: Shared>(shared: &mut S, load: &Load, before: &[u64]) -> Result<(), AllocError> {
-    if load.kind == Kind::Hit {
-        for key in 0..load.capacity {
-            shared.insert(u64::from(key))?;
-        }
-    }
-    run_keys(shared, load.kind, before)
-}
-
-fn run_keys<S: Shared>(shared: &mut S, kind: Kind, keys: &[u64]) -> Result<(), AllocError> {
-    for key in keys {
-        let found = kind != Kind::Insert && shared.look(*key)?;
-        if !found && kind != Kind::Hit {
-            shared.insert(*key)?;
-        }
-    }
-    Ok(())
 }
 
 /// The medians of the rounds.
