@@ -88,7 +88,7 @@ pub fn a_capacity_of_0_stores_nothing<K: Eq, V, E>()
 /// By either policy the dead leave first in a maintenance, as removed where they were hidden and
 /// else as expired, the admitted before those that wait; and all that leaves behind them leaves for
 /// size.
-pub fn the_dead_leave_as_expired<K: Eq, V>()
+pub fn the_dead_leave_as_removed_or_expired<K: Eq, V>()
     ensures dead_first { (settings : Settings K V) (h : List (Event K V)) (at : ℕ)
         → gone K.eq settings at h ≡ dead K.eq settings at h ++ gone_behind K.eq settings at h }
     ensures causes { (settings : Settings K V) (h : List (Event K V)) (at : ℕ)

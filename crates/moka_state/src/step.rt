@@ -93,7 +93,8 @@ impl<K: Eq + Debug, V: Clone + Debug, C: CacheTypes<K, V>> Debug for Step<K, V, 
 
 impl<K: Hash + Drop, V: Clone, C: CacheTypes<K, V>, R: RowStore<K, V>> State<K, V, C, R> {
     /// Does one step. A step and the call that it stands for answer the same. A refused step has
-    /// changed nothing, and what it carried is dropped.
+    /// changed nothing, and what it carried is dropped. Memory is refused to writes, and to looks
+    /// that find a live value whose copy can fail; to no other step.
     pub fn step(&mut self, step: Step<K, V, C>) -> Reply<K, V>
         requires { StepKeeps C.keeps C.Predicate.tests C.test step }
         ensures reply { ⟦<C as StateView<K, V>>⟧.at_each_history self.old (λ settings steps.
