@@ -1,5 +1,5 @@
 -- A run loses and doubles nothing: it gives out the notices of its replies.
-use Rattle.std.proofs.Common.{◌≡◌, Bool, Some, None, List, [], ◌∷◌, ◌++◌, option_map, refl, sym, ap, ◌∙◌, subst, append-nil, append_assoc}
+use Rattle.std.proofs.Common.{◌≡◌, Bool, Some, None, List, [], ◌∷◌, ◌++◌, refl, sym, ap, ◌∙◌, subst, append-nil, append_assoc}
 use Rattle.std.specs.Cmp.{IsEquivalence}
 use Rattle.moka_model.specs.Lives.{Settings}
 use Rattle.moka_model.specs.Removals.{Removal}
