@@ -18,6 +18,7 @@ pub mod MaintenanceJudged
 pub mod MaintenanceLimits
 pub mod MaintenanceResumed
 pub mod MaintenanceShortest
+pub mod Memory
 pub mod Moves
 pub mod Noted
 pub mod Notices

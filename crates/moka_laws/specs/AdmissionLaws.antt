@@ -37,7 +37,7 @@ module _ {K V : Type 0} (eq : K → K → Bool) (settings : Settings K V) (h : L
   abbrev pub admitted_weight : ℕ
   admitted_weight = total (λ u. u.policy_weight) (orders eq settings h).admitted
 
--- how often the hashes of some writes were noted, together
+-- the frequencies of some writes together: what the source estimates of their hashes
 abbrev pub frequencies : {K V : Type 0} → Settings K V → List (Event K V) → List (Write K V) → ℕ
 frequencies settings h ws = total (λ u. frequency settings h u.hash) ws
 

@@ -49,9 +49,11 @@ pub fn least_recently_used_admits_each<K: Eq, V>()
         → (gone K.eq settings at h ≡ victims K.eq settings h capacity w) × (orders K.eq settings (Maintained None at ∷ h) ≡ two_queues (others K.eq settings h capacity w ++ w ∷ []) []) }
 {}
 
-/// Under TinyLFU a key that waits alone is admitted exactly where there is room, or where it was
-/// looked for more often than all together that would have to leave for it. Then those leave; and
-/// else it leaves itself, also where it was looked for just as often.
+/// Under TinyLFU a key that waits alone, beside others that live within the capacity, is admitted
+/// exactly where there is room, or where it is no heavier than the capacity and its frequency is
+/// greater than those of all together that would have to leave for it. Then those leave; and else it
+/// leaves itself, also where the frequencies are equal. A frequency is what the cache's source
+/// estimates of a key's hash.
 pub fn greater_frequency_is_admitted<K: Eq, V>()
     ensures exactly { (settings : Settings K V) (h : List (Event K V)) (at capacity : ℕ) (w : Write K V) → WaitsAlone K.eq settings at h capacity w
         → settings.behaviour.is_lru ≡ false

@@ -1,13 +1,13 @@
 //! The laws of calls, over every list of accepted steps: what each records and draws, and that all
 //! lists which calls give are legal.
-ghost use Rattle.std.specs.Prelude.{◌≡◌, ◌⊎◌, ◌↔◌, ℕ, max, false, Option, Some, List, [], ◌∷◌};
+ghost use Rattle.std.specs.Prelude.{◌≡◌, ◌⊎◌, ◌↔◌, ◌≢◌, ℕ, max, false, Option, Some, List, [], ◌∷◌};
 ghost use Rattle.std.specs.List.{AllByRecursion};
 ghost use Rattle.moka_model.specs.Lives.{Settings};
 ghost use Rattle.moka_model.specs.Events.{recorded, latest};
 ghost use Rattle.moka_model.specs.Numbers.{next_number, greatest_number, stores_nothing};
 ghost use Rattle.moka_model.specs.Steps.{AcceptedStep, events_in};
-ghost use Rattle.moka_model.specs.Calls.{Call, Insert, Accepted, accepted, after, IsLegal, IsOutOfNumbers};
-ghost use Rattle.moka_laws.specs.Laws.{moment_of, IsWrite};
+ghost use Rattle.moka_model.specs.Calls.{Call, Insert, Found, Accepted, accepted, after, IsLegal, IsOutOfNumbers, MayTakeMemory};
+ghost use Rattle.moka_laws.specs.Laws.{answer, moment_of, IsWrite};
 
 /// Before any call there are no steps, which is legal, and each call leaves a legal list legal.
 pub fn calls_give_legal_lists<K: Eq, V, E>()
@@ -38,4 +38,13 @@ pub fn writes_alone_run_out_of_numbers<K: Eq, V, E>()
         → IsOutOfNumbers K.eq settings steps (Insert k v at) ↔ ((stores_nothing settings.max_capacity ≡ false) × (next_number settings (events_in steps) ≡ greatest_number)) }
     ensures others { (settings : Settings K V) (steps : List (AcceptedStep K V E)) (call : Call K V)
         → IsOutOfNumbers K.eq settings steps call → IsWrite call }
+{}
+
+/// A write may be refused memory exactly where the capacity is not 0, and any other call exactly
+/// where it answers a value whose copy can fail.
+pub fn writes_and_copies_alone_take_memory<K: Eq, V: Clone, E>()
+    ensures write { (settings : Settings K V) (steps : List (AcceptedStep K V E)) (k : K) (v : V) (at : ℕ)
+        → MayTakeMemory K.eq V.is_infallible settings steps (Insert k v at) ↔ (settings.max_capacity ≢ Some 0) }
+    ensures others { (settings : Settings K V) (steps : List (AcceptedStep K V E)) (call : Call K V) → ¬ (IsWrite call)
+        → MayTakeMemory K.eq V.is_infallible settings steps call ↔ ((v : V) × (answer K.eq settings call steps ≡ Some (Found (Some v))) × ¬ (V.is_infallible v)) }
 {}

@@ -103,8 +103,9 @@ pub fn standing_is_the_last_write<K: Eq, V>()
         → (a.later ≡ b.later) × (up_to_write a ≡ up_to_write b) }
 {}
 
-/// A look answers the value of the last write until that is hidden or its deadline has come, and
-/// where nothing stands it answers none. It uses the greater of its moment and the latest one.
+/// A look answers the value of the last write, where nothing later removed the key, until that is
+/// hidden or its deadline has come; and where nothing stands it answers none. It uses the greater of
+/// its moment and the latest one.
 pub fn looks_answer_the_last_write<K: Eq, V, E>()
     ensures found { (settings : Settings K V) (steps : List (AcceptedStep K V E)) (k : K) (at : ℕ) (last : LastWrite K.eq settings k (events_in steps))
         → (w : Write K V) × IsAsWritten last w

@@ -15,17 +15,12 @@ ghost use Rattle.moka_model.specs.SizeLaws.{WeighsOnes, lives, dead, living, gon
 ghost use Rattle.moka_model.specs.Maintenance.{total};
 ghost use Rattle.moka_laws.specs.Laws.{answer};
 
-use moka_policy::policy::{CacheTypes, NoWeigher, Weigher};
+use moka_policy::policy::CacheTypes;
 
 /// Equal keys weigh alike with each value: it does not matter under which of them a value is
 /// written.
 pub fn equal_keys_weigh_alike<K: Eq, V: Clone, C: CacheTypes<K, V>>()
     ensures { (weigher : C.Weigher) (a b : K) (v : V) → K.eq a b ≡ true → C.weight weigher a v ≡ C.weight weigher b v }
-{}
-
-/// Without a weigher each key weighs one with each value.
-pub fn without_a_weigher_each_weighs_one<K, V>()
-    ensures { (settings : Settings K V) (weigher : _) → ⟦<NoWeigher as Weigher<K, V>>⟧.weighs weigher settings.behaviour.weight → WeighsOnes settings }
 {}
 
 /// After a maintenance nothing waits, all that stands is live at its moment, and its weight is
@@ -93,7 +88,7 @@ pub fn a_capacity_of_0_stores_nothing<K: Eq, V, E>()
 /// By either policy the dead leave first in a maintenance, as removed where they were hidden and
 /// else as expired, the admitted before those that wait; and all that leaves behind them leaves for
 /// size.
-pub fn the_dead_leave_as_expired<K: Eq, V>()
+pub fn the_dead_leave_as_removed_or_expired<K: Eq, V>()
     ensures dead_first { (settings : Settings K V) (h : List (Event K V)) (at : ℕ)
         → gone K.eq settings at h ≡ dead K.eq settings at h ++ gone_behind K.eq settings at h }
     ensures causes { (settings : Settings K V) (h : List (Event K V)) (at : ℕ)

@@ -1,6 +1,6 @@
 -- Calls: what each answers after a list of accepted steps, which accepted step it is, and when it may be refused.
-use Rattle.std.specs.Prelude.{⊤, ◌≡◌, ◌<◌, ℕ, max, min, Bool, true, false, if◌then◌else◌, Option, Some, None, IsSome, List, [], ◌∷◌}
-use Rattle.std.specs.Prelude.{option_map}
+use Rattle.std.specs.Prelude.{⊤, ◌≡◌, ◌<◌, ℕ, max, min, Bool, true, false, if◌then◌else◌, Option, Some, None, List, [], ◌∷◌}
+use Rattle.std.specs.Prelude.{option_map, IsSomeAnd}
 use Rattle.std.specs.Prelude.{is_some, slice_get}
 use Rattle.moka_model.specs.Lives.{Settings, Write}
 use Rattle.moka_model.specs.Events.{Event, Looked, Written, Invalidated, Hidden, Maintained, Passed, Taken, latest}
@@ -89,16 +89,22 @@ module _ {K V E : Type 0} (eq : K → K → Bool) (settings : Settings K V) wher
   IsLegal (step ∷ steps) =
       ((call : Call K V) × (it : Accepted K V E) × (accepted eq settings steps call ≡ Some it) × (it.step ≡ step)) × IsLegal steps
 
-  abbrev pub MayTakeMemory : List (AcceptedStep K V E) → Call K V → Type 0  -- It copies a value or grows: no other call is refused memory.
-  MayTakeMemory steps (Get k at) = IsSome (live_at eq settings k at (events_in steps))
-  MayTakeMemory steps (Insert k v at) = stores_nothing settings.max_capacity ≡ false
-  MayTakeMemory steps (Remove k at) = IsSome (live_at eq settings k at (events_in steps))
-  MayTakeMemory steps (InvalidateIf test) = settings.supports_closures ≡ true
-  MayTakeMemory steps call = ⊥
-
   -- A call is refused for want of numbers exactly where it would draw one and none is left.
   abbrev pub IsOutOfNumbers : List (AcceptedStep K V E) → Call K V → Type 0
   IsOutOfNumbers steps call = (0 < drawn_by (accepted eq settings steps call)) × (next_number settings (events_in steps) ≡ greatest_number)
+
+module _ {K V E : Type 0} (eq : K → K → Bool) (is_infallible : V → Type 0) (settings : Settings K V)
+    (steps : List (AcceptedStep K V E)) where
+  -- A look copies what it finds: there is a live value, and its copy can fail, as the type of the values says.
+  abbrev pub CopyMayFail : K → ℕ → Type 0
+  CopyMayFail k at = IsSomeAnd (live_at eq settings k at (events_in steps)) (λ w. ¬ (is_infallible w.value))
+
+  -- A look may be refused memory where its copy may fail, and a write where something is stored. No other call may.
+  abbrev pub MayTakeMemory : Call K V → Type 0
+  MayTakeMemory (Get k at) = CopyMayFail k at
+  MayTakeMemory (Insert k v at) = stores_nothing settings.max_capacity ≡ false
+  MayTakeMemory (Remove k at) = CopyMayFail k at
+  MayTakeMemory call = ⊥
 
 module _ {V : Type 0} (is_clone : V → V → Type 0) where
   abbrev pub IsCopyOf : Option V → Option V → Type 0  -- One value is there where the other is, and is a copy of it.

@@ -1,8 +1,23 @@
--- The id that a generator gives.
-use Rattle.std.specs.Prelude.{ℕ, ◌+◌, List, [], ◌∷◌, replicate}
+-- The form of an id, and the id that a generator gives.
+use Rattle.std.specs.Prelude.{ℕ, ◌+◌, List, [], ◌∷◌, ◌++◌, replicate, codes, Contains}
+use Rattle.std.specs.List.{AllZip}
 use Rattle.rand_core.specs.Stream.{Call, u32_call, u64_call, bytes_call, Stream, fill_bytes}
 use Rattle.uuid.specs.Parts.{v4_of_fill}
 use Rattle.uuid.specs.Text.{hyphenated_text, lower}
+
+abbrev pub digits : List ℕ  -- the lower-case hexadecimal digits
+digits = codes "0123456789abcdef"
+
+-- What may stand at each place of an id: groups of 8, 4, 4, 4 and 12 digits, with hyphens between them. The third group
+-- begins with the version, the fourth with the variant.
+abbrev pub places : List (List ℕ)
+places =
+    replicate 8 digits ++ codes "-" ∷ replicate 4 digits ++ codes "-" ∷ codes "4" ∷ replicate 3 digits ++ codes "-" ∷ codes "89ab"
+    ∷ replicate 3 digits ++ codes "-" ∷ replicate 12 digits
+
+-- A text has the form of an id: as many characters as places, and each may stand at its place.
+abbrev pub IsIdText : List ℕ → Type 0
+IsIdText text = AllZip Contains places text
 
 -- the text of the version 4 UUID of a generator's next sixteen bytes
 abbrev pub id_by : Stream → List ℕ

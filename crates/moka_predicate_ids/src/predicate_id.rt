@@ -1,7 +1,7 @@
 //! The id of a mass invalidation by a predicate.
 ghost use Rattle.std.specs.Prelude.{◌≡◌, IfOk};
 ghost use Rattle.std.specs.String.{string_bytes};
-ghost use Rattle.moka_predicate_ids.specs.PredicateId.{id_by, stream_after_id};
+ghost use Rattle.moka_predicate_ids.specs.PredicateId.{id_by, stream_after_id, IsIdText};
 
 use rand_core::Rng;
 use std::alloc::{AllocError, Global};
@@ -17,8 +17,10 @@ pub type PredicateId = String;
 
 /// An id from a generator's next sixteen bytes. Refused where memory for its text is; the bytes are
 /// drawn then too.
+#[tactic(auto, using(crate::proofs::Form::is_id_text))]
 pub fn new_predicate_id<R: Rng>(alloc: Global, generator: &mut R) -> Result<PredicateId, AllocError>
     ensures id { IfOk result (λ id. string_bytes id ≡ id_by (R.stream generator.old)) }
+    ensures form { IfOk result (λ id. IsIdText (string_bytes id)) }
     ensures drawn { R.stream generator.new ≡ stream_after_id (R.stream generator.old) }
 {
     let mut buffer = Uuid::encode_buffer();

@@ -1,7 +1,7 @@
-//! Worked cases of ids, at generators that repeat one byte: each computes.
+//! Worked cases of ids, at generators that repeat one byte, and of texts that are no ids.
 ghost use Rattle.std.specs.Prelude.{◌≡◌, length, codes};
 ghost use Rattle.rand_core.specs.Stream.{next_u64};
-ghost use Rattle.moka_predicate_ids.specs.PredicateId.{id_by, stream_after_id, counts_bytes, repeats};
+ghost use Rattle.moka_predicate_ids.specs.PredicateId.{id_by, stream_after_id, IsIdText, counts_bytes, repeats};
 
 /// Of bytes that are all ones only the digits that say the version and the variant are not `f`, and
 /// of zeros not `0`; each other digit is the byte's own, the upper half first.
@@ -18,4 +18,16 @@ pub fn an_id_draws_sixteen_bytes()
     ensures before { (next_u64 counts_bytes).0 ≡ 0 }
     ensures after { (next_u64 (stream_after_id counts_bytes)).0 ≡ 16 }
     ensures twice { (next_u64 (stream_after_id (stream_after_id counts_bytes))).0 ≡ 32 }
+{}
+
+/// No other text has the form of an id: not one of another version or another variant, nor one with
+/// an upper-case letter, with a hyphen elsewhere, or with a character less or more.
+pub fn what_is_no_id()
+    ensures version { ¬ (IsIdText (codes "1a1a1a1a-1a1a-5a1a-9a1a-1a1a1a1a1a1a")) }
+    ensures variant { ¬ (IsIdText (codes "1a1a1a1a-1a1a-4a1a-ca1a-1a1a1a1a1a1a")) }
+    ensures upper_case { ¬ (IsIdText (codes "1A1a1a1a-1a1a-4a1a-9a1a-1a1a1a1a1a1a")) }
+    ensures hyphen { ¬ (IsIdText (codes "1a1a1a1-a1a1a-4a1a-9a1a-1a1a1a1a1a1a")) }
+    ensures no_hyphen { ¬ (IsIdText (codes "1a1a1a1a-1a1a-4a1a-9a1a11a1a1a1a1a1a")) }
+    ensures shorter { ¬ (IsIdText (codes "1a1a1a1a-1a1a-4a1a-9a1a-1a1a1a1a1a1")) }
+    ensures longer { ¬ (IsIdText (codes "1a1a1a1a-1a1a-4a1a-9a1a-1a1a1a1a1a1a1")) }
 {}

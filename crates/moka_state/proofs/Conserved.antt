@@ -1,5 +1,5 @@
 -- A run loses and doubles nothing: it gives out the notices of its replies.
-use Rattle.std.proofs.Common.{◌≡◌, Bool, Some, None, List, [], ◌∷◌, ◌++◌, option_map, refl, sym, ap, ◌∙◌, subst, append-nil, append_assoc}
+use Rattle.std.proofs.Common.{◌≡◌, Bool, Some, None, List, [], ◌∷◌, ◌++◌, refl, sym, ap, ◌∙◌, subst, append-nil, append_assoc}
 use Rattle.std.specs.Cmp.{IsEquivalence}
 use Rattle.moka_model.specs.Lives.{Settings}
 use Rattle.moka_model.specs.Removals.{Removal}
@@ -26,9 +26,9 @@ noticed_in-cons (Noticed (Some n)) replies = refl
 noticed_in-cons (Refused cause) replies = refl
 noticed_in-cons (PredicateRefused cause) replies = refl
 
-module _ {K V E : Type 0} (eq : K → K → Bool) (is_clone : V → V → Type 0) (settings : Settings K V) where
+module _ {K V E : Type 0} (eq : K → K → Bool) (is_clone : V → V → Type 0) (is_infallible : V → Type 0) (settings : Settings K V) where
   -- a call gives out the notice of its reply
-  given-reply : (steps : List (AcceptedStep K V E)) (call : Call K V) (reply : Reply K V) → IsReplyTo eq is_clone settings steps call reply
+  given-reply : (steps : List (AcceptedStep K V E)) (call : Call K V) (reply : Reply K V) → IsReplyTo eq is_clone is_infallible settings steps call reply
       → given_out eq settings (events_in (after_reply eq settings call reply steps)) ≡ given_out eq settings (events_in steps) ++ noticed_in (reply ∷ [])
   given-reply steps call (Found v) is = given-by_answer is_clone eq settings steps call (Answer.Found v) is.0
   given-reply steps call (Contains b) is = given-by_answer is_clone eq settings steps call (Answer.Contains b) is.0
@@ -39,9 +39,9 @@ module _ {K V E : Type 0} (eq : K → K → Bool) (is_clone : V → V → Type 0
   given-reply steps call (Refused cause) is = sym (append-nil (given_out eq settings (events_in steps)))
   given-reply steps call (PredicateRefused cause) is = sym (append-nil (given_out eq settings (events_in steps)))
 
-module _ {K V C H W X P F L T E S : Type 0} (eq : K → K → Bool) (test : P → K → V → Bool) (is_clone : V → V → Type 0) (settings : Settings K V) where
+module _ {K V C H W X P F L T E S : Type 0} (eq : K → K → Bool) (test : P → K → V → Bool) (is_clone : V → V → Type 0) (is_infallible : V → Type 0) (settings : Settings K V) where
   -- a run gives out the notices of its replies
-  given-run : (before : List (AcceptedStep K V E)) (calls : List (Step K V C H W X P F L T E S)) (replies : List (Reply K V)) → IsRun eq test settings is_clone before calls replies
+  given-run : (before : List (AcceptedStep K V E)) (calls : List (Step K V C H W X P F L T E S)) (replies : List (Reply K V)) → IsRun eq test settings is_clone is_infallible before calls replies
       → given_out eq settings (events_in (after_all eq test settings calls replies before)) ≡ given_out eq settings (events_in before) ++ noticed_in replies
   given-run before [] [] run = sym (append-nil (given_out eq settings (events_in before)))
   given-run before [] (r ∷ rs) run = absurd run
@@ -49,12 +49,12 @@ module _ {K V C H W X P F L T E S : Type 0} (eq : K → K → Bool) (test : P �
   given-run before (s ∷ ss) (r ∷ rs) run =
       let given : List (Removal K V) = given_out eq settings (events_in before) in
       given-run (after_reply eq settings (call_of test s) r before) ss rs run.1
-      ∙ ap (λ l. l ++ noticed_in rs) (given-reply eq is_clone settings before (call_of test s) r run.0)
+      ∙ ap (λ l. l ++ noticed_in rs) (given-reply eq is_clone is_infallible settings before (call_of test s) r run.0)
       ∙ append_assoc given (noticed_in (r ∷ [])) (noticed_in rs)
       ∙ ap (λ l. given ++ l) (noticed_in-cons r rs)
 
   -- so nothing is lost or doubled by it
-  pub run-conserved : IsEquivalence eq → (view : View K V) (before : List (AcceptedStep K V E)) (calls : List (Step K V C H W X P F L T E S)) (replies : List (Reply K V)) → IsRun eq test settings is_clone before calls replies
+  pub run-conserved : IsEquivalence eq → (view : View K V) (before : List (AcceptedStep K V E)) (calls : List (Step K V C H W X P F L T E S)) (replies : List (Reply K V)) → IsRun eq test settings is_clone is_infallible before calls replies
       → StandsFor eq settings view (after_all eq test settings calls replies before) → IsConserved eq settings (events_in (after_all eq test settings calls replies before)) view.books (given_out eq settings (events_in before) ++ noticed_in replies)
   run-conserved laws view before calls replies run stands =
       let all = events_in (after_all eq test settings calls replies before) in

@@ -1,5 +1,5 @@
 -- How many writes a state may store, and what they weigh.
-use Rattle.std.proofs.Common.{◌≡◌, ℕ, ◌+◌, ◌≤◌, Bool, List, ◌++◌, length, Option, Some, None, refl, sym, ap, ◌∙◌, arith, length-append}
+use Rattle.std.proofs.Common.{◌≡◌, ℕ, ◌+◌, ◌≤◌, Bool, List, ◌++◌, length, Option, Some, None, refl, sym, ap, ◌∙◌, subst, arith, length-append}
 use Rattle.std.specs.Option.{IfSome}
 use Rattle.std.proofs.lemmas.List.{length-map, map-append}
 use Rattle.moka_model.specs.Lives.{Settings, Write}
@@ -11,8 +11,13 @@ use Rattle.moka_model.specs.Calls.{RunPendingTasks, after}
 use Rattle.moka_model.specs.StandsFor.{Books, View, StandsFor}
 use Rattle.moka_model.proofs.Callers.{entry_count-le, maintained-entry_count-le}
 use Rattle.moka_rows.specs.declared.rows.Row.{Row}
+use Rattle.moka_ways.specs.Behaviour.{weight_by}
 use Rattle.moka_table.specs.Table.{Contents, entries, weight_of, stored_write, stored_writes}
 use Rattle.moka_state.proofs.Maintained.{total-stored}
+
+-- without a weigher a value weighs one
+pub weighs_one : {K V W : Type 0} (weight : W → K → V → ℕ) (weigher : Option W) → weigher ≡ None → (k : K) (v : V) → weight_by weight weigher k v ≡ 1
+weighs_one weight weigher none k v = ap (λ it. weight_by weight it k v) none
 
 -- the writes of a view
 abbrev pub writes_in : {K V : Type 0} → View K V → List (Write K V)
@@ -28,24 +33,24 @@ module _ {K V E : Type 0} (eq : K → K → Bool) (settings : Settings K V) (vie
   writes-weighed = ap (λ (b : Books K V). total (λ (w : Write K V). w.policy_weight) (b.orders.admitted ++ b.orders.waiting)) stands.books
 
   -- where each weighs one, with a capacity, there are as many at most as it says and the flush point together
-  pub writes-bounded : WeighsOnes settings → IfSome view.settings.max_capacity (λ capacity. length (writes_in view) ≤ capacity + flush_point)
+  pub writes-bounded : WeighsOnes view.settings → IfSome view.settings.max_capacity (λ capacity. length (writes_in view) ≤ capacity + flush_point)
   writes-bounded ones = go view.settings.max_capacity refl
     where
       go : (o : Option ℕ) → view.settings.max_capacity ≡ o → IfSome o (λ capacity. length (writes_in view) ≤ capacity + flush_point)
       go None none = tt
       go (Some capacity) some =
-          let few = entry_count-le eq settings ones steps capacity (sym (ap (λ (s : Settings K V). s.max_capacity) stands.settings) ∙ some) stands.legal in
+          let few = entry_count-le eq settings (subst WeighsOnes stands.settings ones) steps capacity (sym (ap (λ (s : Settings K V). s.max_capacity) stands.settings) ∙ some) stands.legal in
           omega (arith, writes-counted)
 
 -- where each weighs one, with a capacity, no more after a maintenance than it says
-pub writes-within : {K V E : Type 0} (eq : K → K → Bool) (settings : Settings K V) (view : View K V) (at : ℕ) (steps : List (AcceptedStep K V E)) → WeighsOnes settings → StandsFor eq settings view (after eq settings (RunPendingTasks at) steps)
+pub writes-within : {K V E : Type 0} (eq : K → K → Bool) (settings : Settings K V) (view : View K V) (at : ℕ) (steps : List (AcceptedStep K V E)) → WeighsOnes view.settings → StandsFor eq settings view (after eq settings (RunPendingTasks at) steps)
     → IfSome view.settings.max_capacity (λ capacity. length (writes_in view) ≤ capacity)
 writes-within eq settings view at steps ones stands = go view.settings.max_capacity refl
   where
     go : (o : Option ℕ) → view.settings.max_capacity ≡ o → IfSome o (λ capacity. length (writes_in view) ≤ capacity)
     go None none = tt
     go (Some capacity) some =
-        let few = maintained-entry_count-le eq settings ones (events_in steps) at capacity (sym (ap (λ (s : Settings _ _). s.max_capacity) stands.settings) ∙ some) in
+        let few = maintained-entry_count-le eq settings (subst WeighsOnes stands.settings ones) (events_in steps) at capacity (sym (ap (λ (s : Settings _ _). s.max_capacity) stands.settings) ∙ some) in
         let counted = writes-counted eq settings view (after eq settings (RunPendingTasks at) steps) stands in
         omega arith
 

@@ -31,7 +31,8 @@ module _ {K V C H W X P F L T E S : Type 0} where
   call_of test WeightedSize = Call.WeightedSize
   call_of test TakeNotice = Call.TakeNotice
 
-module _ {K V E : Type 0} (eq : K → K → Bool) (is_clone : V → V → Type 0) (settings : Settings K V)
+-- The values' type says what a copy is, and of which values copies never fail.
+module _ {K V E : Type 0} (eq : K → K → Bool) (is_clone : V → V → Type 0) (is_infallible : V → Type 0) (settings : Settings K V)
     (steps : List (AcceptedStep K V E)) where
   -- a call is accepted with this answer, and it is not out of numbers
   abbrev pub IsAccepted : Call K V → Answer K V E → Type 0
@@ -46,7 +47,7 @@ module _ {K V E : Type 0} (eq : K → K → Bool) (is_clone : V → V → Type 0
   IsReplyTo call Done = IsAccepted call Answer.Done
   IsReplyTo call (Counted n) = IsAccepted call (Answer.Counted n)
   IsReplyTo call (Noticed n) = IsAccepted call (Answer.Noticed (option_map removal_of n))
-  IsReplyTo call (Refused OutOfMemory) = MayTakeMemory eq settings steps call × ¬ (IsOutOfNumbers eq settings steps call)
+  IsReplyTo call (Refused OutOfMemory) = MayTakeMemory eq is_infallible settings steps call × ¬ (IsOutOfNumbers eq settings steps call)
   IsReplyTo call (Refused NumbersUsedUp) = IsOutOfNumbers eq settings steps call
   IsReplyTo call (PredicateRefused InvalidationClosuresDisabled) = accepted eq settings steps call ≡ None
   IsReplyTo call (PredicateRefused predicates.OutOfMemory) = ⊥
@@ -66,13 +67,14 @@ module _ {K V C H W X P F L T E S : Type 0} (eq : K → K → Bool) (test : P �
   after_all (step ∷ rest) (reply ∷ replies) steps = after_all rest replies (after_reply eq settings (call_of test step) reply steps)
 
   -- Each reply is the step's, after the accepted steps before it, and there are as many replies as steps.
-  abbrev pub IsRun : (V → V → Type 0) → List (AcceptedStep K V E) → List (Step K V C H W X P F L T E S) → List (Reply K V) → Type 0
-  IsRun is_clone steps [] [] = ⊤
-  IsRun is_clone steps (step ∷ rest) (reply ∷ replies) =
-      IsReplyTo eq is_clone settings steps (call_of test step) reply
-      × IsRun is_clone (after_reply eq settings (call_of test step) reply steps) rest replies
-  IsRun is_clone steps [] (reply ∷ replies) = ⊥
-  IsRun is_clone steps (step ∷ rest) [] = ⊥
+  abbrev pub IsRun : (V → V → Type 0) → (V → Type 0) → List (AcceptedStep K V E) → List (Step K V C H W X P F L T E S) →
+      List (Reply K V) → Type 0
+  IsRun is_clone is_infallible steps [] [] = ⊤
+  IsRun is_clone is_infallible steps (step ∷ rest) (reply ∷ replies) =
+      IsReplyTo eq is_clone is_infallible settings steps (call_of test step) reply
+      × IsRun is_clone is_infallible (after_reply eq settings (call_of test step) reply steps) rest replies
+  IsRun is_clone is_infallible steps [] (reply ∷ replies) = ⊥
+  IsRun is_clone is_infallible steps (step ∷ rest) [] = ⊥
 
 module _ {K V C H W X P F L T E S : Type 0} (keeps : K → V → Type 0) where
   -- What a caller owes of a step: a writer that the pair keeps, and who hides by a predicate that it answers its test.

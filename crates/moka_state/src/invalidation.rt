@@ -3,7 +3,7 @@ ghost use Rattle.std.specs.Prelude.{◌≡◌, ◌↔◌, true, false, if◌then
 ghost use Rattle.std.specs.Arc.{arc_value};
 ghost use Rattle.std.specs.String.{string_bytes};
 ghost use Rattle.moka_model.specs.Calls.{InvalidateIf};
-ghost use Rattle.moka_predicate_ids.specs.PredicateId.{id_by, stream_after_id};
+ghost use Rattle.moka_predicate_ids.specs.PredicateId.{id_by, stream_after_id, IsIdText};
 
 use crate::state::State;
 use moka_policy::policy::CacheTypes;
@@ -34,6 +34,7 @@ impl<K: Hash + Drop, V: Clone, C: CacheTypes<K, V>, R: RowStore<K, V>> State<K, 
         ensures stands { OnOk result (⟦<C as StateView<K, V>>⟧.follows
             self.old (InvalidateIf (C.test predicate)) self.new) }
         ensures id { IfOk result (λ id. string_bytes id ≡ id_by (G.stream generator.old)) }
+        ensures form { IfOk result (λ id. IsIdText (string_bytes id)) }
         ensures drawn { self.old.settings.supports_closures ≡ true →
             G.stream generator.new ≡ stream_after_id (G.stream generator.old) }
 

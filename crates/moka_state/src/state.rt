@@ -9,7 +9,6 @@ ghost use Rattle.moka_model.specs.Maintenance.{total};
 ghost use Rattle.moka_model.specs.Numbers.{greatest_number, flush_point, stores_nothing};
 ghost use Rattle.moka_model.specs.Steps.{events_in};
 ghost use Rattle.moka_model.specs.Calls.{Get, ContainsKey, Insert, Invalidate, RunPendingTasks, EntryCount, WeightedSize, TakeNotice, Found, Contains, Counted, Noticed, live_at};
-ghost use Rattle.moka_model.specs.SizeLaws.{WeighsOnes};
 ghost use Rattle.moka_policy.specs.Policy.{is_lru};
 ghost use Rattle.moka_table.specs.Table.{entries, removal_of};
 ghost use Rattle.moka_ways.specs.Behaviour.{hash_by};
@@ -407,8 +406,8 @@ impl<K: Hash + Drop, V: Clone, C: CacheTypes<K, V>, R: RowStore<K, V>> State<K, 
     pub fn run_pending_tasks(&mut self, now: u64)
         ensures stands { ⟦<C as StateView<K, V>>⟧.follows self.old (RunPendingTasks now) self.new }
 
-        // Nothing waits then, what is stored is live, and it is within the capacity, by its weight
-        // and so by its number where each value weighs 1.
+        // Nothing waits then, what is stored is live, and it is within the capacity, by its weight,
+        // and so by its number where there is no weigher.
         ensures none_waits { self.new.books.orders.waiting ≡ [] }
         ensures all_live { ⟦<C as StateView<K, V>>⟧.at_each_history self.old (λ settings steps.
             AllByRecursion
@@ -416,8 +415,9 @@ impl<K: Hash + Drop, V: Clone, C: CacheTypes<K, V>, R: RowStore<K, V>> State<K, 
             (all_writes self.new)) }
         ensures within { IfSome self.new.settings.max_capacity (λ capacity.
             total (λ w. w.policy_weight) (all_writes self.new) ≤ capacity) }
-        ensures count { ⟦<C as StateView<K, V>>⟧.at_each_history self.old (λ settings steps.
-            WeighsOnes settings → IfSome self.new.settings.max_capacity (λ capacity.
+        ensures count { ⟦<C as StateView<K, V>>⟧.at_each_history self.old (λ _ _.
+            self.new.settings.behaviour.weigher ≡ None →
+            IfSome self.new.settings.max_capacity (λ capacity.
             length (all_writes self.new) ≤ capacity)) }
     {
         let now = self.latest.max(now);
@@ -427,13 +427,14 @@ impl<K: Hash + Drop, V: Clone, C: CacheTypes<K, V>, R: RowStore<K, V>> State<K, 
     }
 
     /// How many keys are stored, with those that wait and those whose values are expired. With a
-    /// capacity, and where each value weighs 1, it is at most the capacity and 64 more.
+    /// capacity and without a weigher it is at most the capacity and 64 more.
     pub fn entry_count(&self) -> u64
         ensures counted { result ≡ length (all_writes self.now) }
         ensures reply { ⟦<C as StateView<K, V>>⟧.answers self.now EntryCount (Counted result) }
         ensures stands { ⟦<C as StateView<K, V>>⟧.follows self.now EntryCount self.now }
-        ensures bounded { ⟦<C as StateView<K, V>>⟧.at_each_history self.now (λ settings steps.
-            WeighsOnes settings → IfSome self.now.settings.max_capacity (λ capacity.
+        ensures bounded { ⟦<C as StateView<K, V>>⟧.at_each_history self.now (λ _ _.
+            self.now.settings.behaviour.weigher ≡ None →
+            IfSome self.now.settings.max_capacity (λ capacity.
             result ≤ capacity + flush_point)) }
     {
         self.table.len() as u64

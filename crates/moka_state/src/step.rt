@@ -1,8 +1,7 @@
 //! Calls and their answers as data, and runs of them.
-ghost use Rattle.std.specs.Prelude.{◌≡◌, ◌+◌, ◌≤◌, ◌++◌, length, IfOk, IfErr, IfSome, OnErr};
+ghost use Rattle.std.specs.Prelude.{◌≡◌, ◌+◌, ◌≤◌, ◌++◌, length, None, IfOk, IfErr, IfSome, OnErr};
 ghost use Rattle.std.specs.List.{AllByRecursion};
 ghost use Rattle.moka_model.specs.Numbers.{flush_point};
-ghost use Rattle.moka_model.specs.SizeLaws.{WeighsOnes};
 ghost use Rattle.moka_model.specs.Steps.{events_in};
 ghost use Rattle.moka_conserved.specs.Conserved.{given_out, IsConserved};
 ghost use Rattle.moka_state.specs.State.{all_writes};
@@ -94,11 +93,13 @@ impl<K: Eq + Debug, V: Clone + Debug, C: CacheTypes<K, V>> Debug for Step<K, V, 
 
 impl<K: Hash + Drop, V: Clone, C: CacheTypes<K, V>, R: RowStore<K, V>> State<K, V, C, R> {
     /// Does one step. A step and the call that it stands for answer the same. A refused step has
-    /// changed nothing, and what it carried is dropped.
+    /// changed nothing, and what it carried is dropped. Memory is refused to writes, and to looks
+    /// that find a live value whose copy can fail; to no other step.
     pub fn step(&mut self, step: Step<K, V, C>) -> Reply<K, V>
         requires { StepKeeps C.keeps C.Predicate.tests C.test step }
         ensures reply { ⟦<C as StateView<K, V>>⟧.at_each_history self.old (λ settings steps.
-            IsReplyTo K.eq V.is_clone settings steps (call_of C.test step) result) }
+            IsReplyTo K.eq V.is_clone V.is_infallible settings steps
+            (call_of C.test step) result) }
         ensures stands { ⟦<C as StateView<K, V>>⟧.at_each_history self.old (λ settings steps.
             ⟦<C as StateView<K, V>>⟧.stands_for settings self.new
             (after_reply K.eq settings (call_of C.test step) result steps)) }
@@ -142,14 +143,15 @@ impl<K: Hash + Drop, V: Clone, C: CacheTypes<K, V>, R: RowStore<K, V>> State<K, 
         }
     }
 
-    /// Does steps in order, and answers their replies. With a capacity, and where each value weighs
-    /// 1, no more keys are stored then than it allows, and 64. Where the list of replies finds no
-    /// room, no step was done.
+    /// Does steps in order, and answers their replies. With a capacity and without a weigher no more
+    /// keys are stored then than it allows, and 64. Where the list of replies finds no room, no step
+    /// was done.
     pub fn run(&mut self, steps: Vec<Step<K, V, C>>) -> Result<Vec<Reply<K, V>>, Refused>
         requires { AllByRecursion (StepKeeps C.keeps C.Predicate.tests C.test) steps.items }
         ensures replies { IfOk result (λ replies.
             ⟦<C as StateView<K, V>>⟧.at_each_history self.old (λ settings before.
-            IsRun K.eq C.test settings V.is_clone before steps.items replies.items)) }
+            IsRun K.eq C.test settings V.is_clone V.is_infallible before
+            steps.items replies.items)) }
         ensures stands { IfOk result (λ replies.
             ⟦<C as StateView<K, V>>⟧.at_each_history self.old (λ settings before.
             ⟦<C as StateView<K, V>>⟧.stands_for settings self.new
@@ -164,8 +166,8 @@ impl<K: Hash + Drop, V: Clone, C: CacheTypes<K, V>, R: RowStore<K, V>> State<K, 
             self.new.books
             (given_out K.eq settings (events_in before) ++ noticed_in replies.items))) }
         ensures bounded { IfOk result (λ _.
-            ⟦<C as StateView<K, V>>⟧.at_each_history self.old (λ settings before.
-            WeighsOnes settings →
+            ⟦<C as StateView<K, V>>⟧.at_each_history self.old (λ _ _.
+            self.new.settings.behaviour.weigher ≡ None →
             IfSome self.new.settings.max_capacity (λ capacity.
             length (all_writes self.new) ≤ capacity + flush_point))) }
         ensures refused { OnErr result (self.new ≡ self.old) }

@@ -1,4 +1,8 @@
 //! What the data means that a cache keeps.
+ghost use Rattle.std.specs.Prelude.{◌≡◌, None};
+ghost use Rattle.moka_model.specs.SizeLaws.{WeighsOnes};
+ghost use Rattle.moka_ways.specs.StateData.{SettingsData};
+
 use moka_policy::policy::{CacheTypes, FrequencySource};
 use std::hash::Hash;
 
@@ -100,3 +104,9 @@ impl<K: Hash, V: Clone, C: CacheTypes<K, V>> StateView<K, V> for C {
         ⟦<C as BehaviourView<K, V>>⟧.frequency
         C.Frequency.opened) };
 }
+
+/// A cache that was built without a weigher weighs each value one, under each key.
+pub fn without_a_weigher_each_weighs_one<K: Hash, V: Clone, C: CacheTypes<K, V>>()
+    ensures { (settings : SettingsData C.Hasher C.Weigher C.Expiry) → settings.behaviour.weigher ≡ None
+        → WeighsOnes (⟦<C as StateView<K, V>>⟧.settings settings) }
+{}

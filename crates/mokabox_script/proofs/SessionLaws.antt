@@ -10,12 +10,12 @@ use Rattle.mokabox_lines.specs.Answer.{answer_text}
 use Rattle.mokabox_lines.specs.declared.answer.Answer.{Answer}
 use Rattle.mokabox_lines.specs.Command.{PlainCommand}
 use Rattle.mokabox_lines.specs.declared.command.Command.TheVariants as commands
-use Rattle.mokabox_script.specs.Script.{Text, is_copy, CacheSettings, CacheStep, Makes, moment_after, answer_of, CallsPrint, policy_line, told}
+use Rattle.mokabox_script.specs.Script.{Text, is_copy, is_surely_copied, CacheSettings, CacheStep, Makes, moment_after, answer_of, CallsPrint, policy_line, told}
 use Rattle.mokabox_script.specs.Session.{CacheData, view, Prints}
 
 -- The cache goes from one state to another by a call with this reply.
 pub record Goes (old new : CacheData) (call : Call ℕ Text) (reply : Reply ℕ Text) : Type 0 where
-  pub reply_is : (settings : CacheSettings) (steps : List CacheStep) → StandsFor nat_eq settings (view old) steps → IsReplyTo nat_eq is_copy settings steps call reply
+  pub reply_is : (settings : CacheSettings) (steps : List CacheStep) → StandsFor nat_eq settings (view old) steps → IsReplyTo nat_eq is_copy is_surely_copied settings steps call reply
   pub stands : (settings : CacheSettings) (steps : List CacheStep) → StandsFor nat_eq settings (view old) steps → StandsFor nat_eq settings (view new) (after_reply nat_eq settings call reply steps)
 
 -- the moment of what follows
@@ -53,10 +53,10 @@ pub record HasTaken (cache : CacheData) (settings : CacheSettings) (steps : List
 pub none_taken : (cache : CacheData) (settings : CacheSettings) (steps : List CacheStep) → StandsFor nat_eq settings (view cache) steps → HasTaken cache settings steps 0 []
 none_taken cache settings steps stands = record { after = steps; prints = (refl, refl); stands = stands }
 
-prints-more : (settings : CacheSettings) (count : ℕ) (steps after : List CacheStep) (printed : List (List ℕ)) (reply : Reply ℕ Text) → CallsPrint settings steps (replicate count calls.TakeNotice) printed after → IsReplyTo nat_eq is_copy settings after calls.TakeNotice reply
+prints-more : (settings : CacheSettings) (count : ℕ) (steps after : List CacheStep) (printed : List (List ℕ)) (reply : Reply ℕ Text) → CallsPrint settings steps (replicate count calls.TakeNotice) printed after → IsReplyTo nat_eq is_copy is_surely_copied settings after calls.TakeNotice reply
     → CallsPrint settings steps (replicate (suc count) calls.TakeNotice) (printed ++ answer_text (answer_of reply) ∷ []) (after_reply nat_eq settings calls.TakeNotice reply after)
 prints-more settings zero steps after printed reply prints is =
-    let here : IsReplyTo nat_eq is_copy settings steps calls.TakeNotice reply = subst (λ s. IsReplyTo nat_eq is_copy settings s calls.TakeNotice reply) prints.1 is in
+    let here : IsReplyTo nat_eq is_copy is_surely_copied settings steps calls.TakeNotice reply = subst (λ s. IsReplyTo nat_eq is_copy is_surely_copied settings s calls.TakeNotice reply) prints.1 is in
     (reply, [], here, ap (λ lines. lines ++ answer_text (answer_of reply) ∷ []) prints.0, (refl, ap (after_reply nat_eq settings calls.TakeNotice reply) prints.1))
 prints-more settings (suc count) steps after printed reply prints is =
     let first = prints.0 in

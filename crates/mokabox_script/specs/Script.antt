@@ -42,6 +42,10 @@ Text = String Global
 abbrev pub is_copy : Text → Text → Type 0
 is_copy text copy = string_bytes copy ≡ string_bytes text
 
+-- the texts whose copies never fail: none
+abbrev pub is_surely_copied : Text → Type 0
+is_surely_copied text = ⊥
+
 -- what the script's cache is built with
 abbrev pub CacheSettings : Type 0
 CacheSettings = lives.Settings ℕ Text
@@ -97,7 +101,7 @@ answer_of (replies.PredicateRefused cause) = answers.NotHidden cause
 abbrev pub CallsPrint : CacheSettings → List CacheStep → List (Call ℕ Text) → List (List ℕ) → List CacheStep → Type 0
 CallsPrint settings steps [] printed after = (printed ≡ []) × (after ≡ steps)
 CallsPrint settings steps (call ∷ more) printed after =
-    (reply : Reply ℕ Text) × (rest : List (List ℕ)) × IsReplyTo nat_eq is_copy settings steps call reply
+    (reply : Reply ℕ Text) × (rest : List (List ℕ)) × IsReplyTo nat_eq is_copy is_surely_copied settings steps call reply
     × (printed ≡ answer_text (answer_of reply) ∷ rest) × CallsPrint settings (after_reply nat_eq settings call reply steps) more rest after
 
 -- a moment in whole seconds

@@ -1,7 +1,7 @@
 use Rattle.std.proofs.Common.{None, refl}
 use Rattle.moka_model.specs.Events.{Maintained}
 use Rattle.moka_model.specs.Calls.{RunPendingTasks}
-use Rattle.moka_state.proofs.Counts.{writes-within}
+use Rattle.moka_state.proofs.Counts.{weighs_one, writes-within}
 use Rattle.moka_state.proofs.Maintained.{becomes-maintained, live-after, stored-within}
 use Rattle.moka_state.proofs.Sound.{IsSound-maintained}
 use Rattle.moka_state.proofs.Views.{follows-event}
@@ -30,4 +30,6 @@ returns-clause-within g c =
     stored-within s.upkeep.lives s.upkeep.max_capacity c.max-now.result s.table c.maintain.new.table (c.maintain.ensures.maintained c.self.invariant.dated)
 
 pub returns-clause-count : goal.returns-clause-count
-returns-clause-count g c given steps stands ones = writes-within g.K.PartialEq.eq given _ c.args.now steps ones (returns-clause-stands g c given steps stands)
+returns-clause-count g c given steps stands without =
+    let ones = weighs_one g.C.CacheTypes.weight _ without in
+    writes-within g.K.PartialEq.eq given _ c.args.now steps ones (returns-clause-stands g c given steps stands)

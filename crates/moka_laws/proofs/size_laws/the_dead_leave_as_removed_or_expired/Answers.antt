@@ -1,5 +1,5 @@
 use Rattle.moka_laws.proofs.Departures.{gone-dead_first, removals_at-dead_first}
-use Rattle.moka_laws.proofs.size_laws.the_dead_leave_as_expired.Goals as goal
+use Rattle.moka_laws.proofs.size_laws.the_dead_leave_as_removed_or_expired.Goals as goal
 
 pub returns-clause-dead_first : goal.returns-clause-dead_first
 returns-clause-dead_first g c settings h at = gone-dead_first g.K.PartialEq.eq settings at h
