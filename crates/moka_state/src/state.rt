@@ -103,6 +103,9 @@ pub struct State<K: Hash + Drop, V: Clone, C: CacheTypes<K, V>, R: RowStore<K, V
 
 /// A cache over rows in a slab, of which the first dead one is known without a walk.
 ///
+/// A look-up reads at most as many rows as have the key's hash. `DueRows::find` is proved to (its
+/// clause `few`), and no call looks a key up but by it.
+///
 /// ```
 /// type Sessions = CacheState<u64, String, Plain>;
 /// ```
