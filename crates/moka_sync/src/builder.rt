@@ -1,5 +1,5 @@
 //! Builds caches.
-ghost use Rattle.std.specs.Prelude.{◌≡◌, true, Some, None, [], option_map, unwrap_or, IfSome, IfOk, IfErr, OnOk};
+ghost use Rattle.std.specs.Prelude.{◌≡◌, ◌≤◌, true, Some, None, [], option_map, unwrap_or, IfSome, IfOk, IfErr, OnOk};
 ghost use Rattle.std.specs.Arc.{arc_value};
 ghost use Rattle.std.specs.Duration.{as_nanos};
 ghost use Rattle.std.specs.String.{string_bytes};
@@ -293,6 +293,7 @@ impl<K: Hash + Drop, V: Clone, C: CacheTypes<K, V>> CacheBuilder<K, V, C, Single
         ensures settings { IfOk result (λ state. state.settings ≡ settings_built self hasher) }
         ensures empty { IfOk result (λ state. ⟦<C as StateView<K, V>>⟧.stands_for
             (⟦<C as StateView<K, V>>⟧.settings state.settings) state []) }
+        ensures room { IfOk result (λ state. self.initial_capacity ≤ state.initial_room) }
         ensures accepted { OnOk result (too_long_of (option_map as_nanos self.time_to_live)
             (option_map as_nanos self.time_to_idle) ≡ None) }
         ensures refused { IfErr result (λ cause. cause ≡ unwrap_or (too_long_of
@@ -317,6 +318,7 @@ impl<K: Hash + Drop, V: Clone, C: CacheTypes<K, V>> CacheBuilder<K, V, C, Single
         ensures built { IfOk result (IsBuilt self hasher clock) }
         ensures empty { IfOk result (λ cache. ⟦<C as StateView<K, V>>⟧.stands_for
             (⟦<C as StateView<K, V>>⟧.settings cache.opening.settings) cache.opening []) }
+        ensures room { IfOk result (λ cache. self.initial_capacity ≤ cache.opening.initial_room) }
         ensures accepted { OnOk result (too_long_of (option_map as_nanos self.time_to_live)
             (option_map as_nanos self.time_to_idle) ≡ None) }
         ensures refused { IfErr result (λ cause. cause ≡ unwrap_or (too_long_of
@@ -346,6 +348,7 @@ impl<K: Hash + Drop, V: Clone, C: CacheTypes<K, V>> CacheBuilder<K, V, C, Single
             opened.0.settings ≡ settings_built self hasher) }
         ensures empty { IfOk result (λ opened. ⟦<C as StateView<K, V>>⟧.stands_for
             (⟦<C as StateView<K, V>>⟧.settings opened.0.settings) opened.0 []) }
+        ensures room { IfOk result (λ opened. self.initial_capacity ≤ opened.0.initial_room) }
         ensures listener { IfOk result (λ opened. opened.1 ≡ self.listener) }
         ensures hears { IfOk result (λ opened. IfSome opened.1 (λ listener.
             (key : K) (value : V) → C.keeps key value → C.Listener.hears listener key value)) }
@@ -395,6 +398,7 @@ where
         ensures built { IfOk result (IsBuilt self hasher clock) }
         ensures empty { IfOk result (λ cache. ⟦<C as StateView<K, V>>⟧.stands_for
             (⟦<C as StateView<K, V>>⟧.settings cache.opening.settings) cache.opening []) }
+        ensures room { IfOk result (λ cache. self.initial_capacity ≤ cache.opening.initial_room) }
         ensures accepted { OnOk result (too_long_of (option_map as_nanos self.time_to_live)
             (option_map as_nanos self.time_to_idle) ≡ None) }
         ensures refused { IfErr result (λ cause. cause ≡ unwrap_or (too_long_of
