@@ -1,6 +1,7 @@
 //! A store of rows beside the deadlines of its admitted ones, in the order of use.
-ghost use Rattle.std.specs.Prelude.{◌≡◌, suc, true, ◌+◌, ◌<◌, ◌≤◌, [], ◌∷◌, ◌++◌, None, if◌then◌else◌};
-ghost use Rattle.moka_rows.specs.Rows.{row_under, without_row, first_number, expired_at};
+ghost use Rattle.std.specs.Prelude.{◌≡◌, suc, true, ◌+◌, ◌<◌, ◌≤◌, ◌==◌, [], ◌∷◌, ◌++◌, length, filter, None, if◌then◌else◌};
+ghost use Rattle.std.specs.Prelude.{IsSome, IfSome, IfNone, OnSome};
+ghost use Rattle.moka_rows.specs.Rows.{row_under, without_row, first_number, expired_at, IsRowOf, NoneIsRowOf};
 ghost use Rattle.moka_deadlines.specs.Deadlines.{order_of};
 ghost use Rattle.moka_slab.specs.Store.{admitted_in, waiting_in, room_of};
 ghost use Rattle.moka_due.specs.Due.{deadline_in, deadlines_in, without_deadline, is_of_admitted};
@@ -132,7 +133,20 @@ impl<K: Eq + Drop, V: Drop> RowStore<K, V> for DueRows<K, V> {
         self.rows.len()
     }
 
-    fn find(&self, key: &K, hash: u64, reads: &mut u64) -> Option<usize> {
+    /// Reads no row of another hash.
+    fn find(&self, key: &K, hash: u64, reads: &mut u64) -> Option<usize>
+        requires { reads.old ≡ 0 }
+        ensures found { IfSome result (λ number.
+            IfSome (row_under number (admitted_in self.now.rows ++ waiting_in self.now.rows)) (IsRowOf K.eq key.now hash)) }
+        ensures stored { IfSome result
+            (λ number. IsSome (row_under number (admitted_in self.now.rows ++ waiting_in self.now.rows))) }
+        ensures absent { IfNone result
+            (NoneIsRowOf K.eq key.now hash (admitted_in self.now.rows ++ waiting_in self.now.rows)) }
+        ensures counted { reads.new ≤ length (admitted_in self.now.rows ++ waiting_in self.now.rows) }
+        ensures read { OnSome result (0 < reads.new) }
+        ensures few { reads.new
+            ≤ length (filter (λ p. p.1.hash == hash) (admitted_in self.now.rows ++ waiting_in self.now.rows)) }
+    {
         self.rows.find(key, hash, reads)
     }
 

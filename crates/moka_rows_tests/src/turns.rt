@@ -112,7 +112,7 @@ fn a_slab_reads_the_rows_of_one_hash(rt: HostRuntime) -> Result<(), Fail> {
         (Hashes::Three, (4, 4)),
         (Hashes::Own, (1, 0)),
     ] {
-        assert_eq!(rt; most_reads::<SlabRows<u64, u64>>(rt.alloc(), hashes)?, most);
+        assert_eq!(rt; most_reads::<DueSlab>(rt.alloc(), hashes)?, most);
         assert_eq!(rt;
             most_reads::<ListRows<u64, u64>>(rt.alloc(), hashes)?,
             (10, 10)

@@ -28,6 +28,7 @@ use moka_ways::view::StateView;
 use std::alloc::Global;
 use std::hash::Hash;
 use std::marker::Model;
+use std::snapshot::Snapshot;
 use std::sync::Arc;
 use std::time::Duration;
 use thiserror::Error;
@@ -98,9 +99,14 @@ pub struct State<K: Hash + Drop, V: Clone, C: CacheTypes<K, V>, R: RowStore<K, V
     next_number: u64,
     pub(crate) behaviour: Behaviour<K, V, C>,
     alloc: Global,
+    // The table as it was at the start, for contracts alone.
+    opening: Snapshot<Table<K, V, R>>,
 }
 
 /// A cache over rows in a slab, of which the first dead one is known without a walk.
+///
+/// A look-up reads at most as many rows as have the key's hash. `DueRows::find` is proved to (its
+/// clause `few`), and no call looks a key up but by it.
 ///
 /// ```
 /// type Sessions = CacheState<u64, String, Plain>;
@@ -116,6 +122,7 @@ impl<K: Hash + Drop, V: Clone, C: CacheTypes<K, V>, R: RowStore<K, V>> Model for
           state.closures state.behaviour;
       books = books_by state.table state.latest state.next_number;
       source = state.upkeep.source;
+      initial_room = state.opening.value.room;
     } };
 
     ghost invariant = { λ state. IsSound C.keeps
@@ -143,6 +150,7 @@ impl<K: Hash + Drop, V: Clone, C: CacheTypes<K, V>, R: RowStore<K, V>> State<K, 
             })) }
         ensures empty { IfOk result (λ state. ⟦<C as StateView<K, V>>⟧.stands_for
             (⟦<C as StateView<K, V>>⟧.settings state.settings) state []) }
+        ensures room { IfOk result (λ state. settings.initial_capacity ≤ state.initial_room) }
         ensures cause { IfErr result (λ cause. cause ≡ Refused.OutOfMemory) }
     {
         let source = C::Frequency::opening(alloc)?;
@@ -151,6 +159,7 @@ impl<K: Hash + Drop, V: Clone, C: CacheTypes<K, V>, R: RowStore<K, V>> State<K, 
             Err(_) => return Err(Refused::OutOfMemory),
         };
         Ok(State {
+            opening: Snapshot::of(&table),
             name: settings.name,
             table,
             upkeep: Upkeep {
