@@ -17,7 +17,3 @@ module _ {K V : Type 0} where
   -- a row has had a deadline, or there is none yet
   abbrev pub WantsRoom : DueRows K V → Type 0
   WantsRoom store = (store.has_deadlines ≡ true) ⊎ (length (rows_in store) ≡ 0)
-
-  -- Where there is room for the deadlines of all rows, there is still, and an order that was whole stays whole.
-  abbrev pub StaysWhole : DueRows K V → DueRows K V → Type 0
-  StaysWhole old new = IsReady 0 old → IsReady 0 new × (old.is_whole ≡ true → new.is_whole ≡ true)

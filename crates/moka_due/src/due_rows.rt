@@ -131,7 +131,7 @@ fn is_of_admitted(order: Order) -> bool
 }
 
 impl<K: Eq + Drop, V: Drop> RowStore<K, V> for DueRows<K, V> {
-    ghost use Rattle.moka_due.specs.Ready.{WantsRoom, IsReady, StaysWhole};
+    ghost use Rattle.moka_due.specs.Ready.{WantsRoom, IsReady};
 
     ghost waiting = { λ s. waiting_in s.rows };
 
