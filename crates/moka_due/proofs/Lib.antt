@@ -1,3 +1,2 @@
 pub mod DueLemmas
 pub mod Listing
-pub mod Noted

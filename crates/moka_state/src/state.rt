@@ -28,7 +28,6 @@ use moka_ways::view::StateView;
 use std::alloc::Global;
 use std::hash::Hash;
 use std::marker::Model;
-use std::snapshot::Snapshot;
 use std::sync::Arc;
 use std::time::Duration;
 use thiserror::Error;
@@ -99,8 +98,6 @@ pub struct State<K: Hash + Drop, V: Clone, C: CacheTypes<K, V>, R: RowStore<K, V
     next_number: u64,
     pub(crate) behaviour: Behaviour<K, V, C>,
     alloc: Global,
-    // The table as it was at the start, for contracts alone.
-    opening: Snapshot<Table<K, V, R>>,
 }
 
 /// A cache over rows in a slab, of which the first dead one is known without a walk.
@@ -122,7 +119,6 @@ impl<K: Hash + Drop, V: Clone, C: CacheTypes<K, V>, R: RowStore<K, V>> Model for
           state.closures state.behaviour;
       books = books_by state.table state.latest state.next_number;
       source = state.upkeep.source;
-      initial_room = state.opening.value.room;
     } };
 
     ghost invariant = { λ state. IsSound C.keeps
@@ -150,7 +146,6 @@ impl<K: Hash + Drop, V: Clone, C: CacheTypes<K, V>, R: RowStore<K, V>> State<K, 
             })) }
         ensures empty { IfOk result (λ state. ⟦<C as StateView<K, V>>⟧.stands_for
             (⟦<C as StateView<K, V>>⟧.settings state.settings) state []) }
-        ensures room { IfOk result (λ state. settings.initial_capacity ≤ state.initial_room) }
         ensures cause { IfErr result (λ cause. cause ≡ Refused.OutOfMemory) }
     {
         let source = C::Frequency::opening(alloc)?;
@@ -159,7 +154,6 @@ impl<K: Hash + Drop, V: Clone, C: CacheTypes<K, V>, R: RowStore<K, V>> State<K, 
             Err(_) => return Err(Refused::OutOfMemory),
         };
         Ok(State {
-            opening: Snapshot::of(&table),
             name: settings.name,
             table,
             upkeep: Upkeep {

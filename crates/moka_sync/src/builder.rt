@@ -1,15 +1,14 @@
 //! Builds caches.
-ghost use Rattle.std.specs.Prelude.{◌≡◌, ◌≤◌, true, Some, None, [], option_map, unwrap_or, IfSome, IfOk, IfErr, OnOk};
+ghost use Rattle.std.specs.Prelude.{◌≡◌, true, Some, None, [], option_map, unwrap_or, IfSome, IfOk, IfErr, OnOk};
 ghost use Rattle.std.specs.Arc.{arc_value};
 ghost use Rattle.std.specs.Duration.{as_nanos};
 ghost use Rattle.std.specs.String.{string_bytes};
 ghost use Rattle.moka_policy.specs.Building.{too_long_of};
 ghost use Rattle.moka_policy.specs.Policy.{is_lru};
 ghost use Rattle.moka_sync.specs.Builder.{BuilderData, nothing_said, segments_refused, settings_built};
-ghost use Rattle.moka_sync.specs.Cache.{IsBuilt};
+ghost use Rattle.moka_sync.specs.Cache.{shown};
 
 use crate::cache::{Cache, Inside, Locked};
-use crate::opened::Opened;
 use moka_policy::builder_utils::{BuildError, ensure_expirations};
 use moka_policy::policy::{CacheTypes, EvictionPolicy, Expiry, Listener, Weigher};
 use moka_state::state::{CacheState, Settings};
@@ -17,7 +16,7 @@ use moka_state::view::StateView;
 use std::alloc::Global;
 use std::hash::{Hash, RandomState};
 use std::marker::{Model, PhantomData};
-use std::sync::Arc;
+use std::sync::{Arc, Mutex};
 use std::time::Duration;
 
 // A cache's segment is named by some of the 64 bits of a hash.
@@ -293,7 +292,6 @@ impl<K: Hash + Drop, V: Clone, C: CacheTypes<K, V>> CacheBuilder<K, V, C, Single
         ensures settings { IfOk result (λ state. state.settings ≡ settings_built self hasher) }
         ensures empty { IfOk result (λ state. ⟦<C as StateView<K, V>>⟧.stands_for
             (⟦<C as StateView<K, V>>⟧.settings state.settings) state []) }
-        ensures room { IfOk result (λ state. self.initial_capacity ≤ state.initial_room) }
         ensures accepted { OnOk result (too_long_of (option_map as_nanos self.time_to_live)
             (option_map as_nanos self.time_to_idle) ≡ None) }
         ensures refused { IfErr result (λ cause. cause ≡ unwrap_or (too_long_of
@@ -315,10 +313,7 @@ impl<K: Hash + Drop, V: Clone, C: CacheTypes<K, V>> CacheBuilder<K, V, C, Single
         clock: C::Clock,
         waits: W,
     ) -> Result<Cache<K, V, C, W>, BuildError>
-        ensures built { IfOk result (IsBuilt self hasher clock) }
-        ensures empty { IfOk result (λ cache. ⟦<C as StateView<K, V>>⟧.stands_for
-            (⟦<C as StateView<K, V>>⟧.settings cache.opening.settings) cache.opening []) }
-        ensures room { IfOk result (λ cache. self.initial_capacity ≤ cache.opening.initial_room) }
+        ensures built { IfOk result (λ cache. cache ≡ shown (settings_built self hasher)) }
         ensures accepted { OnOk result (too_long_of (option_map as_nanos self.time_to_live)
             (option_map as_nanos self.time_to_idle) ≡ None) }
         ensures refused { IfErr result (λ cause. cause ≡ unwrap_or (too_long_of
@@ -329,7 +324,7 @@ impl<K: Hash + Drop, V: Clone, C: CacheTypes<K, V>> CacheBuilder<K, V, C, Single
         let inside = Inside {
             name: copied(alloc, state.name())?,
             policy: state.policy(),
-            locked: Opened::new(Locked { state, clock }),
+            locked: Mutex::new(Locked { state, clock }),
             listener,
         };
         Ok(Cache {
@@ -348,7 +343,6 @@ impl<K: Hash + Drop, V: Clone, C: CacheTypes<K, V>> CacheBuilder<K, V, C, Single
             opened.0.settings ≡ settings_built self hasher) }
         ensures empty { IfOk result (λ opened. ⟦<C as StateView<K, V>>⟧.stands_for
             (⟦<C as StateView<K, V>>⟧.settings opened.0.settings) opened.0 []) }
-        ensures room { IfOk result (λ opened. self.initial_capacity ≤ opened.0.initial_room) }
         ensures listener { IfOk result (λ opened. opened.1 ≡ self.listener) }
         ensures hears { IfOk result (λ opened. IfSome opened.1 (λ listener.
             (key : K) (value : V) → C.keeps key value → C.Listener.hears listener key value)) }
@@ -395,10 +389,7 @@ where
         clock: C::Clock,
         waits: W,
     ) -> Result<Cache<K, V, C, W>, BuildError>
-        ensures built { IfOk result (IsBuilt self hasher clock) }
-        ensures empty { IfOk result (λ cache. ⟦<C as StateView<K, V>>⟧.stands_for
-            (⟦<C as StateView<K, V>>⟧.settings cache.opening.settings) cache.opening []) }
-        ensures room { IfOk result (λ cache. self.initial_capacity ≤ cache.opening.initial_room) }
+        ensures built { IfOk result (λ cache. cache ≡ shown (settings_built self hasher)) }
         ensures accepted { OnOk result (too_long_of (option_map as_nanos self.time_to_live)
             (option_map as_nanos self.time_to_idle) ≡ None) }
         ensures refused { IfErr result (λ cause. cause ≡ unwrap_or (too_long_of

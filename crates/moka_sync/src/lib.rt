@@ -3,4 +3,3 @@
 
 pub mod builder;
 pub mod cache;
-mod opened;

@@ -2,7 +2,7 @@
 use Rattle.std.proofs.Common.{◌≡◌, ℕ, ◌+◌, List, [], ◌∷◌, ◌++◌, length, Option, Some, None, MatchOption, refl, sym, ◌∙◌, arith, length-append}
 use Rattle.std.specs.Option.{IsSome, IfSome}
 use Rattle.moka_rows.specs.Rows.{row_under, with_row, without_row}
-use Rattle.moka_rows.proofs.RowLemmas.{row_under-append_right, length-with_row, length-without_row}
+use Rattle.moka_rows.proofs.Callers.{row_under-append_right, length-with_row, length-without_row}
 
 module _ {R : Type 0} where
   -- a use of a row keeps how many rows there are in both orders together
