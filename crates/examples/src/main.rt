@@ -4,11 +4,13 @@
 mod calls;
 mod first;
 mod found;
+mod limits;
 mod lines;
 mod memoizer;
 mod sessions;
 mod temp_files;
 mod threads;
+mod walks;
 
 use anyhow::Result;
 use std::process::ExitCode;
@@ -25,10 +27,12 @@ enum Example {
     Sessions,
     Lines,
     TempFiles,
+    Walks,
+    Limits,
 }
 
 impl Example {
-    const ALL: [Example; 8] = [
+    const ALL: [Example; 10] = [
         Example::Calls,
         Example::First,
         Example::Found,
@@ -37,6 +41,8 @@ impl Example {
         Example::Sessions,
         Example::Lines,
         Example::TempFiles,
+        Example::Walks,
+        Example::Limits,
     ];
 
     fn name(self) -> &'static str {
@@ -49,6 +55,8 @@ impl Example {
             Example::Sessions => "sessions",
             Example::Lines => "lines",
             Example::TempFiles => "temp_files",
+            Example::Walks => "walks",
+            Example::Limits => "limits",
         }
     }
 
@@ -98,6 +106,8 @@ fn main(rt: HostRuntime) -> Result<ExitCode> {
             Example::Sessions => sessions::main(rt)?,
             Example::Lines => lines::main(rt)?,
             Example::TempFiles => temp_files::main(rt)?,
+            Example::Walks => walks::main(rt)?,
+            Example::Limits => limits::main(rt)?,
         }
     }
     Ok(ExitCode::SUCCESS)

@@ -24,5 +24,11 @@ pub use Rattle.moka_state.specs.StateData
 pub use Rattle.moka_state.specs.Step
 pub use Rattle.moka_state.specs.Table
 pub use Rattle.moka_state.specs.Write
+pub use Rattle.moka_cursor.specs.States
 pub use Rattle.moka_sync.specs.Builder
 pub use Rattle.moka_sync.specs.Cache
+pub use Rattle.moka_walks.specs.Cursors
+pub use Rattle.moka_walks.specs.Histories
+pub use Rattle.moka_walks.specs.Iters
+pub use Rattle.moka_walks.specs.WalkLaws
+pub use Rattle.moka_walks.specs.Walks

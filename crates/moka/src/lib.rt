@@ -4,8 +4,22 @@
 #![tactic(auto)]
 
 pub use moka_base::policy::{Expiry, Policy};
-pub use moka_base::{common, notification, policy};
+pub use moka_base::{notification, policy};
 pub use moka_state::predicate_error::PredicateError;
+
+/// What the modules have in common.
+pub mod common {
+    pub use moka_base::common::builder_utils;
+
+    /// Walks over caches.
+    pub mod iter {
+        pub use moka_cursor::cursor::WalkCursor;
+        pub use moka_walks::iter::{Iter, ScanningGet};
+    }
+}
+
+/// The laws of walks.
+pub use moka_walks::walk_laws;
 
 /// Ready-made types of caches.
 pub use moka_ready::{copies, ready};
@@ -16,6 +30,7 @@ pub mod sync {
     pub use moka_sync::builder;
     pub use moka_sync::builder::CacheBuilder;
     pub use moka_sync::cache::Cache;
+    pub use moka_walks::iter::Iter;
 }
 
 /// Calls and their answers as data.

@@ -1,4 +1,6 @@
 //! What the caches are measured on.
+ghost use Rattle.std.specs.Prelude.{◌≢◌, Some};
+
 use crate::numbers::Numbers;
 use std::alloc::{AllocError, Global};
 
@@ -25,6 +27,10 @@ pub(crate) enum Kind {
     Hit,
     /// The key is written. All keys were written before.
     Overwrite,
+    /// The key is written, a new one, where the cache is full.
+    Replace,
+    /// Each pair comes once. All keys were written before.
+    Walk,
 }
 
 /// A load: the capacity of the caches, the keys, and what is done with each.
@@ -38,6 +44,8 @@ pub(crate) struct Load {
     /// How many calls are measured, behind as many that are not.
     pub calls: u32,
     pub life: Life,
+    /// How many values leave before a write at most.
+    pub flush_limit: Option<u64>,
 }
 
 /// 100,000 of about a million keys.
@@ -48,6 +56,7 @@ const LOOKS: Load = Load {
     octaves: 20,
     calls: 1_000_000,
     life: Life::Endless,
+    flush_limit: None,
 };
 
 const HITS: Load = Load {
@@ -100,12 +109,9 @@ pub(crate) const LOADS: [Load; 8] = [
 pub(crate) fn with_lives(capacity: u32, octaves: u32) -> [Load; 6] {
     let calls = u64::from(capacity);
     let looks = Load {
-        name: "looks",
-        kind: Kind::Look,
         capacity,
         octaves,
-        calls: 1_000_000,
-        life: Life::Endless,
+        ..LOOKS
     };
     let overwrites = Load {
         name: "overwrites",
@@ -138,7 +144,57 @@ pub(crate) fn with_lives(capacity: u32, octaves: u32) -> [Load; 6] {
     ]
 }
 
-/// The capacities at which that is measured, each with the octaves of its keys.
+/// A walk over a million pairs.
+pub(crate) const WALKS: [Load; 1] = [Load {
+    name: "a walk",
+    kind: Kind::Walk,
+    capacity: 1_000_000,
+    ..LOOKS
+}];
+
+/// Inserts into a full cache, with and without a flush limit.
+const FULL: Load = Load {
+    name: "full",
+    kind: Kind::Replace,
+    capacity: 1_000_000,
+    calls: 1_000,
+    ..LOOKS
+};
+
+/// The same where, once it is measured, all rows of the cache have expired.
+const EXPIRED: Load = Load {
+    name: "expired",
+    life: Life::ToLive(1_000),
+    ..FULL
+};
+
+/// The loads on which flush limits are measured.
+pub(crate) const LIMITS: [Load; 6] = [
+    FULL,
+    Load {
+        name: "full, flush limit 8",
+        flush_limit: Some(8),
+        ..FULL
+    },
+    Load {
+        name: "full, flush limit 1",
+        flush_limit: Some(1),
+        ..FULL
+    },
+    EXPIRED,
+    Load {
+        name: "expired, flush limit 8",
+        flush_limit: Some(8),
+        ..EXPIRED
+    },
+    Load {
+        name: "expired, flush limit 1",
+        flush_limit: Some(1),
+        ..EXPIRED
+    },
+];
+
+/// The capacities at which lives are measured, each with the octaves of its keys.
 pub(crate) const SIZES: [(u32, u32); 3] = [(10_000, 17), (100_000, 20), (1_000_000, 24)];
 
 /// A load of few calls, for the run without arguments.
@@ -150,6 +206,16 @@ pub(crate) const SMALL: Load = Load {
 };
 
 impl Load {
+    /// Its flush limit, if it has one.
+    pub(crate) fn checked_flush_limit(&self) -> Option<u64>
+        ensures { result ≢ Some 0 }
+    {
+        match self.flush_limit {
+            Some(limit) if limit > 0 => Some(limit),
+            _ => None,
+        }
+    }
+
     /// The keys of its calls, in order: those before it is measured, and as many that are.
     pub(crate) fn keys(&self, alloc: Global) -> Result<Vec<u64>, AllocError> {
         let mut numbers = Numbers::new(20_261_123);
@@ -158,7 +224,8 @@ impl Load {
         for call in 0..calls {
             keys.push(match self.kind {
                 Kind::Look => u64::from(numbers.skewed(self.octaves)),
-                Kind::Insert => u64::from(call),
+                Kind::Insert | Kind::Walk => u64::from(call),
+                Kind::Replace => u64::from(self.capacity).wrapping_add(u64::from(call)),
                 Kind::Hit | Kind::Overwrite => u64::from(numbers.below(self.capacity)),
             })?;
         }

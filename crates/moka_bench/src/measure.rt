@@ -1,7 +1,7 @@
 //! One cache on one load.
 use crate::load::{Kind, Load};
-use crate::subject::{Fold, NoFrequencies, Ours, Subject, Theirs};
-use moka::policy::{CountTable, EvictionPolicy, FrequencySketch, FrequencySource};
+use crate::subject::{Fold, Made, NoFrequencies, Ours, Subject, Theirs, Unbounded};
+use moka::policy::{CountTable, EvictionPolicy, FrequencySketch};
 use std::alloc::{AllocError, Global};
 use std::hash::{BuildHasher, BuildHasherDefault, DefaultHasher};
 use std::io;
@@ -9,12 +9,16 @@ use std::sync::Wait;
 use std::time::{Clock, Instant};
 
 /// Which cache is measured.
-#[derive(Clone, Copy, PartialEq)]
+#[derive(Clone, Copy)]
 pub(crate) enum Which {
     /// The kit's.
     Theirs,
+    /// A map without a bound, with the quick hasher.
+    Map,
     /// Ours, least recently used.
     Lru,
+    /// The same, of which the longest call is measured.
+    Slowest,
     /// Ours, TinyLFU with a table of `2^20` counters.
     Table,
     /// Ours, TinyLFU with a sketch of about twice as many counters in a row as the capacity.
@@ -22,7 +26,7 @@ pub(crate) enum Which {
 }
 
 /// Which hasher it has: SipHash with fixed keys, or the kit's quick one.
-#[derive(Clone, Copy, PartialEq)]
+#[derive(Clone, Copy)]
 pub(crate) enum Hashing {
     Sip,
     Fold,
@@ -57,16 +61,13 @@ fn by<H: BuildHasher + Default + Drop, R: Wait + Clock + Copy>(
     load: &Load,
     keys: &[u64],
 ) -> io::Result<Outcome> {
+    let (lru, tiny_lfu) = (EvictionPolicy::lru(), EvictionPolicy::tiny_lfu());
     match which {
-        Which::Theirs => timed(rt, Theirs::<H, R>::new(alloc, load, *rt)?, load, keys),
-        Which::Lru => ours::<H, NoFrequencies, R>(rt, alloc, EvictionPolicy::lru(), load, keys),
-        Which::Table => ours::<H, CountTable<20>, R>(
-            rt,
-            alloc,
-            EvictionPolicy::tiny_lfu(),
-            load,
-            keys,
-        ),
+        Which::Theirs => timed::<Theirs<H, R>, R>(rt, alloc, lru, load, keys),
+        Which::Map => timed::<Unbounded<R>, R>(rt, alloc, lru, load, keys),
+        Which::Lru => timed::<Ours<H, NoFrequencies>, R>(rt, alloc, lru, load, keys),
+        Which::Slowest => slowest::<Ours<H, NoFrequencies>, R>(rt, alloc, lru, load, keys),
+        Which::Table => timed::<Ours<H, CountTable<20>>, R>(rt, alloc, tiny_lfu, load, keys),
         Which::Sketch => sketched::<H, R>(rt, alloc, load, keys),
     }
 }
@@ -80,35 +81,49 @@ fn sketched<H: BuildHasher + Default + Drop, R: Wait + Clock + Copy>(
 ) -> io::Result<Outcome> {
     let policy = EvictionPolicy::tiny_lfu();
     match load.capacity {
-        0..=1_000 => ours::<H, FrequencySketch<11>, R>(rt, alloc, policy, load, keys),
-        1_001..=10_000 => ours::<H, FrequencySketch<14>, R>(rt, alloc, policy, load, keys),
-        10_001..=100_000 => ours::<H, FrequencySketch<18>, R>(rt, alloc, policy, load, keys),
-        _ => ours::<H, FrequencySketch<20>, R>(rt, alloc, policy, load, keys),
+        0..=1_000 => timed::<Ours<H, FrequencySketch<11>>, R>(rt, alloc, policy, load, keys),
+        1_001..=10_000 => timed::<Ours<H, FrequencySketch<14>>, R>(rt, alloc, policy, load, keys),
+        10_001..=100_000 => timed::<Ours<H, FrequencySketch<18>>, R>(rt, alloc, policy, load, keys),
+        _ => timed::<Ours<H, FrequencySketch<20>>, R>(rt, alloc, policy, load, keys),
     }
 }
 
-fn ours<H: BuildHasher + Default + Drop, F: FrequencySource, R: Clock>(
+/// Makes a cache, runs a load on it, and takes the time of its second half: the first half brings the cache to where it
+/// stays.
+pub(crate) fn timed<S: Made<R>, R: Clock + Copy>(
     rt: &R,
     alloc: Global,
     policy: EvictionPolicy,
     load: &Load,
     keys: &[u64],
 ) -> io::Result<Outcome> {
-    timed(rt, Ours::<H, F>::new(alloc, load, policy)?, load, keys)
+    let (before, measured) = keys.split_at(keys.len() / 2);
+    let mut subject = S::made(alloc, load, policy, *rt)?;
+    prepare(&mut subject, load, before)?;
+    let begun = Instant::now(rt)?;
+    let hits = hits_of(&mut subject, load.kind, measured, before.len())?;
+    let nanos = nanos_since(rt, begun)?;
+    Ok(Outcome { nanos, hits })
 }
 
-/// Runs a load, and takes the time of its second half: the first half brings the cache to where it stays.
-pub(crate) fn timed<S: Subject>(
-    clock: &impl Clock,
-    mut subject: S,
+/// The same, but takes the time of the longest call of the second half. The clock is asked before and behind each.
+fn slowest<S: Made<R>, R: Clock + Copy>(
+    rt: &R,
+    alloc: Global,
+    policy: EvictionPolicy,
     load: &Load,
     keys: &[u64],
 ) -> io::Result<Outcome> {
     let (before, measured) = keys.split_at(keys.len() / 2);
+    let mut subject = S::made(alloc, load, policy, *rt)?;
     prepare(&mut subject, load, before)?;
-    let begun = Instant::now(clock)?;
-    let hits = hits_of(&mut subject, load.kind, measured, before.len())?;
-    let nanos = nanos_since(clock, begun)?;
+    let (mut nanos, mut hits) = (0, 0_u64);
+    for (place, key) in measured.iter().enumerate() {
+        let now = before.len().wrapping_add(place);
+        let begun = Instant::now(rt)?;
+        hits = hits.wrapping_add(hits_of(&mut subject, load.kind, &[*key], now)?);
+        nanos = nanos_since(rt, begun)?.max(nanos);
+    }
     Ok(Outcome { nanos, hits })
 }
 
@@ -124,7 +139,7 @@ pub(crate) fn prepare<S: Subject>(
     load: &Load,
     before: &[u64],
 ) -> Result<(), AllocError> {
-    if matches!(load.kind, Kind::Hit | Kind::Overwrite) {
+    if !matches!(load.kind, Kind::Look | Kind::Insert) {
         for key in 0..load.capacity {
             subject.insert(u64::from(key), 0)?;
         }
@@ -141,6 +156,9 @@ pub(crate) fn hits_of<S: Subject>(
     keys: &[u64],
     first: usize,
 ) -> Result<u64, AllocError> {
+    if kind == Kind::Walk {
+        return subject.walk(keys.len(), first as u64);
+    }
     let mut hits = 0_u64;
     for (place, key) in keys.iter().enumerate() {
         let now = first.wrapping_add(place) as u64;
@@ -151,30 +169,4 @@ pub(crate) fn hits_of<S: Subject>(
         }
     }
     Ok(hits)
-}
-
-/// Makes a cache of ours, least recently used, runs a load on it, and answers the longest that a single call of the second
-/// half took, in nanoseconds. The clock is asked before and behind each.
-pub(crate) fn slowest<R: Clock>(
-    rt: &R,
-    alloc: Global,
-    load: &Load,
-    keys: &[u64],
-) -> io::Result<u64> {
-    let policy = EvictionPolicy::lru();
-    let mut subject = Ours::<Fold, NoFrequencies>::new(alloc, load, policy)?;
-    let (before, measured) = keys.split_at(keys.len() / 2);
-    prepare(&mut subject, load, before)?;
-    let mut longest = 0;
-    for (place, key) in measured.iter().enumerate() {
-        let begun = Instant::now(rt)?;
-        hits_of(
-            &mut subject,
-            load.kind,
-            &[*key],
-            before.len().wrapping_add(place),
-        )?;
-        longest = nanos_since(rt, begun)?.max(longest);
-    }
-    Ok(longest)
 }

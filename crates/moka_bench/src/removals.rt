@@ -1,23 +1,18 @@
 //! What removals take: of keys, one by one, and of all rows at once.
-use crate::load::{Kind, Load, SMALL};
+use crate::load::{Kind, Life, Load, SMALL};
 use crate::measure::{nanos_since, prepare};
-use crate::subject::{Everything, Fold, NoFrequencies, Ours, Types};
+use crate::subject::{Emptied, Everything, Fold, Made, NoFrequencies, Ours};
 use crate::table::{median, share};
 use moka::policy::EvictionPolicy;
-use moka::state::CacheState;
 use std::alloc::{AllocError, Global};
 use std::io;
 use std::rt::Runtime;
 use std::sync::Arc;
 use std::time::{Clock, Instant};
 
-type Filled = Ours<Fold, NoFrequencies>;
-
-type State = CacheState<u64, u64, Types<Fold, NoFrequencies>>;
-
 /// What is measured, each on a cache of its own that was filled and has nothing left to be done.
 #[derive(Clone, Copy)]
-enum Removal {
+pub(crate) enum Removal {
     /// Each key by `invalidate`, and its notice.
     Invalidate,
     /// Each key by `remove`, and its notice.
@@ -28,38 +23,56 @@ enum Removal {
     InvalidateIf,
     /// The maintenance behind `invalidate_all`, which notices each row.
     Sweep,
+    /// The maintenance once all rows have expired.
+    Expired,
+    /// The same in slices, in each of which a hundred leave at most.
+    Slices,
 }
 
-const REMOVALS: [Removal; 5] = [
-    Removal::Invalidate,
-    Removal::Remove,
-    Removal::InvalidateAll,
-    Removal::InvalidateIf,
-    Removal::Sweep,
+/// Removals side by side, each with its name.
+pub(crate) const REMOVALS: [(Removal, &str); 5] = [
+    (Removal::Invalidate, "`invalidate`"),
+    (Removal::Remove, "`remove`"),
+    (Removal::InvalidateAll, "`invalidate_all`"),
+    (Removal::InvalidateIf, "by a predicate"),
+    (Removal::Sweep, "the sweep behind"),
+];
+
+/// A sweep beside the same in slices.
+pub(crate) const SWEEPS: [(Removal, &str); 2] = [
+    (Removal::Expired, "a sweep of expired rows"),
+    (Removal::Slices, "in slices of 100"),
 ];
 
 /// How many rows the caches have.
 const ROWS: [u32; 4] = [1_000, 10_000, 100_000, 1_000_000];
 
-/// Prints what each removal takes at each size: the median of so many rounds, in nanoseconds a row.
-pub(crate) fn run<R: Runtime>(rt: &R, alloc: Global, rounds: usize) -> io::Result<()> {
-    println!(rt;
-        "| rows | `invalidate` | `remove` | `invalidate_all` | by a predicate | the sweep behind |"
-    )?;
-    println!(rt; "|---|---|---|---|---|---|")?;
-    for rows in ROWS {
-        let mut times = [0; 5];
-        for (removal, time) in REMOVALS.iter().zip(times.iter_mut()) {
-            *time = time_of(rt, alloc, *removal, rows, rounds)?;
-        }
-        let [one, taken, all, tested, swept] = times;
-        println!(rt; "| {rows} | {one} | {taken} | {all} | {tested} | {swept} |")?;
+/// Prints what each of these removals takes at each size: the median of so many rounds, in nanoseconds a row.
+pub(crate) fn run<R: Runtime + Copy>(
+    rt: &R,
+    alloc: Global,
+    rounds: usize,
+    removals: &[(Removal, &str)],
+) -> io::Result<()> {
+    print!(rt; "| rows |")?;
+    for (_, name) in removals {
+        print!(rt; " {name} |")?;
     }
-    Ok(())
+    print!(rt; "\n|---|")?;
+    for _ in removals {
+        print!(rt; "---|")?;
+    }
+    for rows in ROWS {
+        print!(rt; "\n| {rows} |")?;
+        for (removal, _) in removals {
+            print!(rt; " {} |", time_of(rt, alloc, *removal, rows, rounds)?)?;
+        }
+    }
+    println!(rt; "")
 }
 
-fn time_of(
-    clock: &impl Clock,
+fn time_of<R: Clock + Copy>(
+    rt: &R,
     alloc: Global,
     removal: Removal,
     rows: u32,
@@ -67,63 +80,75 @@ fn time_of(
 ) -> io::Result<u64> {
     let mut times = Vec::with_capacity(alloc, rounds)?;
     for _ in 0..rounds {
-        let mut filled = filled(alloc, rows)?;
-        let state = &mut filled.cache;
-        if matches!(removal, Removal::Sweep) {
-            state.invalidate_all();
-        }
-        let predicate = Arc::new(alloc, Everything)?;
-        let begun = Instant::now(clock)?;
-        remove_all(state, removal, rows, predicate)?;
-        times.push(share(nanos_since(clock, begun)?, 1, u64::from(rows)))?;
+        let nanos = timed::<Ours<Fold, NoFrequencies>, R>(rt, alloc, removal, rows)?;
+        times.push(share(nanos, 1, u64::from(rows)))?;
     }
     Ok(median(times))
 }
 
-/// A cache of so many rows, least recently used, all admitted: nothing waits, and nothing has left.
-fn filled(alloc: Global, rows: u32) -> Result<Filled, AllocError> {
+/// Makes a cache of so many rows, least recently used, all admitted, so that nothing waits and nothing has left, and takes
+/// the time of a removal. Rows that are to expire have at moment 1.
+fn timed<S: Emptied + Made<R>, R: Clock + Copy>(
+    rt: &R,
+    alloc: Global,
+    removal: Removal,
+    rows: u32,
+) -> io::Result<u64> {
+    let life = match removal {
+        Removal::Expired | Removal::Slices => Life::ToLive(1),
+        _ => Life::Endless,
+    };
     let load = Load {
         kind: Kind::Hit,
         capacity: rows,
+        life,
         ..SMALL
     };
-    let mut filled = Ours::new(alloc, &load, EvictionPolicy::lru())?;
+    let mut filled = S::made(alloc, &load, EvictionPolicy::lru(), *rt)?;
     prepare(&mut filled, &load, &[])?;
-    Ok(filled)
+    if matches!(removal, Removal::Sweep) {
+        filled.invalidate_all();
+    }
+    let predicate = Arc::new(alloc, Everything)?;
+    let begun = Instant::now(rt)?;
+    remove_all(&mut filled, removal, rows, predicate)?;
+    nanos_since(rt, begun)
 }
 
-fn remove_all(
-    state: &mut State,
+fn remove_all<S: Emptied>(
+    filled: &mut S,
     removal: Removal,
     rows: u32,
     predicate: Arc<Everything>,
 ) -> Result<(), AllocError> {
     match removal {
-        Removal::Invalidate | Removal::Remove => remove_each(state, removal, u64::from(rows)),
-        Removal::InvalidateAll => {
-            state.invalidate_all();
-            Ok(())
-        }
-        Removal::InvalidateIf => state
-            .invalidate_entries_with_arc_fun(predicate)
-            .map_err(|_| AllocError),
-        Removal::Sweep => {
-            state.run_pending_tasks(0);
-            Ok(())
+        Removal::Invalidate | Removal::Remove => remove_each(filled, removal, u64::from(rows))?,
+        Removal::InvalidateAll => filled.invalidate_all(),
+        Removal::InvalidateIf => filled.invalidate_if(predicate)?,
+        Removal::Sweep | Removal::Expired => filled.settle(1),
+        Removal::Slices => sweep_in_slices(filled, rows),
+    }
+    Ok(())
+}
+
+/// Runs the maintenance of moment 1 in slices, of which no more are needed than rows.
+fn sweep_in_slices<S: Emptied>(filled: &mut S, rows: u32) {
+    for _ in 0..rows {
+        if !filled.settle_up_to(100, 1) {
+            break;
         }
     }
 }
 
 /// Removes each key, in an order that jumps about: the factor shares no divisor with a power of ten.
-fn remove_each(state: &mut State, removal: Removal, rows: u64) -> Result<(), AllocError> {
+fn remove_each<S: Emptied>(filled: &mut S, removal: Removal, rows: u64) -> Result<(), AllocError> {
     for place in 0..rows {
         let key = place.wrapping_mul(7_368_787).checked_rem(rows).unwrap_or(0);
         if matches!(removal, Removal::Invalidate) {
-            state.invalidate(&key, 0);
-        } else if state.remove(&key, 0).is_err() {
-            return Err(AllocError);
+            filled.invalidate(key);
+        } else {
+            filled.remove(key)?;
         }
-        state.take_notice();
     }
     Ok(())
 }

@@ -1,8 +1,8 @@
 //! What threads share: the shared cache beside the state alone, and beside other maps under one lock.
 use crate::load::{LOADS, Load};
-use crate::measure::{hits_of, nanos_since, prepare, timed};
-use crate::subject::{Again, Fold, NoFrequencies, Ours, Theirs, Together, Unbounded};
-use crate::table::{median, share};
+use crate::measure::{Outcome, hits_of, nanos_since, prepare, timed};
+use crate::subject::{Again, Fold, Made, NoFrequencies, Ours, Theirs, Together, Unbounded};
+use crate::table::{NO_ROUND, Round, median_ratio, median_time, share};
 use moka::policy::EvictionPolicy;
 use std::alloc::{AllocError, Global};
 use std::io::Print;
@@ -28,7 +28,7 @@ pub(crate) fn run<R: Runtime + Wait + Threads + Copy + Send + 'static>(
     println!(rt; "|---|---|---|---|---|---|---|---|")?;
     for load in LOADS.iter().take(3) {
         let keys: Arc<Vec<u64>> = Arc::new(alloc, load.keys(alloc)?)?;
-        let mut all: Vec<[u64; 5]> = Vec::with_capacity(alloc, rounds)?;
+        let mut all = Vec::with_capacity(alloc, rounds)?;
         for _ in 0..rounds {
             all.push(round(rt, alloc, load, &keys)?)?;
         }
@@ -37,37 +37,32 @@ pub(crate) fn run<R: Runtime + Wait + Threads + Copy + Send + 'static>(
     Ok(())
 }
 
-/// One run of each, one after another: the nanoseconds that each took.
+/// One run of each, one after another.
 fn round<R: Runtime + Wait + Threads + Copy + Send + 'static>(
     rt: R,
     alloc: Global,
     load: &Load,
     keys: &Arc<Vec<u64>>,
-) -> io::Result<[u64; 5]> {
-    let state = Ours::<Fold, NoFrequencies>::new(alloc, load, EvictionPolicy::lru())?;
-    let alone = timed(&rt, state, load, keys)?.nanos;
-    let one = timed(&rt, Together::new(alloc, load, rt)?, load, keys)?.nanos;
-    let map = by_threads(rt, alloc, Unbounded::new(alloc, rt)?, load, keys)?;
-    let lru = by_threads(
-        rt,
-        alloc,
-        Theirs::<Fold, R>::new(alloc, load, rt)?,
-        load,
-        keys,
-    )?;
-    let four = by_threads(rt, alloc, Together::new(alloc, load, rt)?, load, keys)?;
-    Ok([alone, one, map, lru, four])
+) -> io::Result<Round> {
+    let lru = EvictionPolicy::lru();
+    let mut round = NO_ROUND;
+    round[0] = timed::<Ours<Fold, NoFrequencies>, R>(&rt, alloc, lru, load, keys)?;
+    round[1] = timed::<Together<R>, R>(&rt, alloc, lru, load, keys)?;
+    round[2] = by_threads::<Unbounded<R>, R>(rt, alloc, load, keys)?;
+    round[3] = by_threads::<Theirs<Fold, R>, R>(rt, alloc, load, keys)?;
+    round[4] = by_threads::<Together<R>, R>(rt, alloc, load, keys)?;
+    Ok(round)
 }
 
-/// The nanoseconds of the second half of a load, of which each of the threads runs a part.
-fn by_threads<S: Again, R: Runtime + Wait + Threads + Copy>(
+/// The time of the second half of a load, of which each of the threads runs a part. What they find is not counted.
+fn by_threads<S: Again + Made<R>, R: Runtime + Wait + Threads + Copy>(
     rt: R,
     alloc: Global,
-    mut shared: S,
     load: &Load,
     keys: &Arc<Vec<u64>>,
-) -> io::Result<u64> {
+) -> io::Result<Outcome> {
     let (before, measured) = keys.split_at(keys.len() / 2);
+    let mut shared = S::made(alloc, load, EvictionPolicy::lru(), rt)?;
     prepare(&mut shared, load, before)?;
     let (kind, part) = (load.kind, measured.len() / THREADS);
     let mut threads = Vec::with_capacity(alloc, THREADS)?;
@@ -85,30 +80,24 @@ fn by_threads<S: Again, R: Runtime + Wait + Threads + Copy>(
     for running in threads {
         running.join(&rt)?;
     }
-    nanos_since(&rt, begun)
+    let nanos = nanos_since(&rt, begun)?;
+    Ok(Outcome { nanos, hits: 0 })
 }
 
-/// The medians of the rounds.
+/// Prints the medians of the rounds.
 fn print_row(
     rt: impl Print + Drop,
     alloc: Global,
     load: &Load,
-    rounds: &[[u64; 5]],
+    rounds: &[Round],
 ) -> io::Result<()> {
-    let calls = u64::from(load.calls);
     let mut times = [0; 5];
     for (place, time) in times.iter_mut().enumerate() {
-        *time = share(
-            median_of(alloc, rounds, |round| {
-                round.get(place).copied().unwrap_or(0)
-            })?,
-            1,
-            calls,
-        );
+        *time = share(median_time(alloc, rounds, place)?, 1, u64::from(load.calls));
     }
     let [alone, one, map, lru, four] = times;
-    let by_state = median_of(alloc, rounds, |round| share(round[1], 100, round[0]))?;
-    let by_map = median_of(alloc, rounds, |round| share(round[4], 100, round[2]))?;
+    let by_state = median_ratio(alloc, rounds, 1, 0)?;
+    let by_map = median_ratio(alloc, rounds, 4, 2)?;
     println!(rt;
         "| {} | {alone} | {one} | {}.{:02} | {map} | {lru} | {four} | {}.{:02} |",
         load.name,
@@ -117,19 +106,4 @@ fn print_row(
         by_map / 100,
         by_map % 100
     )
-}
-
-// The median of what is said of each round.
-fn median_of<What: Fn(&[u64; 5]) -> u64 + Drop>(
-    alloc: Global,
-    rounds: &[[u64; 5]],
-    what: What,
-) -> Result<u64, AllocError>
-    requires { What.IsAlwaysCallable what }
-{
-    let mut numbers = Vec::with_capacity(alloc, rounds.len())?;
-    for round in rounds {
-        numbers.push(what(round))?;
-    }
-    Ok(median(numbers))
 }

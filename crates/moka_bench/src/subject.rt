@@ -30,6 +30,40 @@ pub(crate) trait Subject: Drop {
 
     /// Gets done what the writes so far left to be done.
     fn settle(&mut self, now: u64);
+
+    /// Walks over so many pairs at most, and answers how many came: none where a cache has no walks.
+    fn walk(&mut self, _pairs: usize, _now: u64) -> Result<u64, AllocError> {
+        Ok(0)
+    }
+}
+
+/// What a measure makes anew. What waits for a lock is handed in.
+pub(crate) trait Made<W>: Subject {
+    /// An empty one of the capacity of a load. Where it has a policy it is this one.
+    fn made(
+        alloc: Global,
+        load: &Load,
+        policy: EvictionPolicy,
+        waits: W,
+    ) -> Result<Self, AllocError>;
+}
+
+/// What can be emptied.
+pub(crate) trait Emptied: Subject {
+    /// Removes a key by `invalidate`, and takes its notice.
+    fn invalidate(&mut self, key: u64);
+
+    /// Removes a key by `remove`, and takes its notice.
+    fn remove(&mut self, key: u64) -> Result<(), AllocError>;
+
+    /// Hides all rows.
+    fn invalidate_all(&mut self);
+
+    /// Hides all rows by a predicate, which holds of each.
+    fn invalidate_if(&mut self, predicate: Arc<Everything>) -> Result<(), AllocError>;
+
+    /// Runs a maintenance in which so many leave at most, and answers whether it left something undone.
+    fn settle_up_to(&mut self, limit: u64, now: u64) -> bool;
 }
 
 /// What threads can share.
@@ -96,14 +130,15 @@ impl<H: BuildHasher + Drop, F: FrequencySource> CacheTypes<u64, u64> for Types<H
 /// A cache of this library.
 #[derive(Drop)]
 pub(crate) struct Ours<H: BuildHasher + Drop, F: FrequencySource> {
-    pub cache: CacheState<u64, u64, Types<H, F>>,
+    cache: CacheState<u64, u64, Types<H, F>>,
 }
 
-impl<H: BuildHasher + Default + Drop, F: FrequencySource> Ours<H, F> {
-    pub(crate) fn new(
+impl<H: BuildHasher + Default + Drop, F: FrequencySource, W: Drop> Made<W> for Ours<H, F> {
+    fn made(
         alloc: Global,
         load: &Load,
         eviction_policy: EvictionPolicy,
+        _waits: W,
     ) -> Result<Self, AllocError> {
         let (mut time_to_live, mut time_to_idle, mut expiry) = (None, None, None);
         match load.life {
@@ -122,6 +157,7 @@ impl<H: BuildHasher + Default + Drop, F: FrequencySource> Ours<H, F> {
             weigher: None,
             expiry,
             closures: true,
+            flush_limit: load.checked_flush_limit(),
             first_number: 0,
             hasher: Arc::new(alloc, H::default())?,
         };
@@ -153,6 +189,51 @@ impl<H: BuildHasher + Default + Drop, F: FrequencySource> Subject for Ours<H, F>
     fn settle(&mut self, now: u64) {
         self.cache.run_pending_tasks(now);
     }
+
+    fn walk(&mut self, pairs: usize, now: u64) -> Result<u64, AllocError> {
+        let Ok(keys) = self.cache.scan_keys() else {
+            return Err(AllocError);
+        };
+        let mut yielded = 0_u64;
+        for key in keys.iter().take(pairs) {
+            match self.cache.scan_get(&**key, now) {
+                Ok(Some(_)) => yielded = yielded.wrapping_add(1),
+                Ok(None) => {}
+                Err(_) => return Err(AllocError),
+            }
+        }
+        Ok(yielded)
+    }
+}
+
+impl<H: BuildHasher + Default + Drop, F: FrequencySource> Emptied for Ours<H, F> {
+    fn invalidate(&mut self, key: u64) {
+        self.cache.invalidate(&key, 0);
+        self.cache.take_notice();
+    }
+
+    fn remove(&mut self, key: u64) -> Result<(), AllocError> {
+        if self.cache.remove(&key, 0).is_err() {
+            return Err(AllocError);
+        }
+        self.cache.take_notice();
+        Ok(())
+    }
+
+    fn invalidate_all(&mut self) {
+        self.cache.invalidate_all();
+    }
+
+    fn invalidate_if(&mut self, predicate: Arc<Everything>) -> Result<(), AllocError> {
+        match self.cache.invalidate_entries_with_arc_fun(predicate) {
+            Ok(()) => Ok(()),
+            Err(_) => Err(AllocError),
+        }
+    }
+
+    fn settle_up_to(&mut self, limit: u64, now: u64) -> bool {
+        self.cache.run_pending_tasks_up_to(limit, now)
+    }
 }
 
 /// The shared cache of this library, least recently used.
@@ -161,11 +242,14 @@ pub(crate) struct Together<W: Drop> {
     cache: Cache<u64, u64, Types<Fold, NoFrequencies>, W>,
 }
 
-impl<W: Drop> Together<W> {
-    pub(crate) fn new(alloc: Global, load: &Load, waits: W) -> Result<Self, AllocError> {
-        let builder = CacheBuilder::new(u64::from(load.capacity)).eviction_policy(
-            EvictionPolicy::lru(),
-        );
+impl<W: Wait + Drop> Made<W> for Together<W> {
+    fn made(
+        alloc: Global,
+        load: &Load,
+        policy: EvictionPolicy,
+        waits: W,
+    ) -> Result<Self, AllocError> {
+        let builder = CacheBuilder::new(u64::from(load.capacity)).eviction_policy(policy);
         match builder.build_with_hasher(alloc, Fold::default(), ManualClock::new(0), waits) {
             Ok(cache) => Ok(Together { cache }),
             Err(_) => Err(AllocError),
@@ -207,8 +291,13 @@ pub(crate) struct Theirs<H: BuildHasher + Drop, W: Drop> {
     waits: W,
 }
 
-impl<H: BuildHasher + Default + Drop, W: Drop> Theirs<H, W> {
-    pub(crate) fn new(alloc: Global, load: &Load, waits: W) -> Result<Self, AllocError> {
+impl<H: BuildHasher + Default + Drop, W: Wait + Drop> Made<W> for Theirs<H, W> {
+    fn made(
+        alloc: Global,
+        load: &Load,
+        _policy: EvictionPolicy,
+        waits: W,
+    ) -> Result<Self, AllocError> {
         let capacity = NonZeroUsize::new(load.capacity as usize).ok_or(AllocError)?;
         let cache = LruCache::with_hasher(alloc, capacity, H::default())?;
         Ok(Theirs {
@@ -243,14 +332,21 @@ impl<W: Wait + Copy + Send + Drop + 'static> Again for Theirs<Fold, W> {
 /// A map without a bound, under one lock.
 #[derive(Drop)]
 pub(crate) struct Unbounded<W: Drop> {
+    alloc: Global,
     map: Arc<Mutex<HashMap<u64, u64, Fold>>>,
     waits: W,
 }
 
-impl<W: Drop> Unbounded<W> {
-    pub(crate) fn new(alloc: Global, waits: W) -> Result<Self, AllocError> {
+impl<W: Wait + Drop> Made<W> for Unbounded<W> {
+    fn made(
+        alloc: Global,
+        _load: &Load,
+        _policy: EvictionPolicy,
+        waits: W,
+    ) -> Result<Self, AllocError> {
         let map = HashMap::with_hasher(alloc, Fold::default());
         Ok(Unbounded {
+            alloc,
             map: Arc::new(alloc, Mutex::new(map))?,
             waits,
         })
@@ -270,11 +366,28 @@ impl<W: Wait + Drop> Subject for Unbounded<W> {
     }
 
     fn settle(&mut self, _now: u64) {}
+
+    fn walk(&mut self, _pairs: usize, now: u64) -> Result<u64, AllocError> {
+        let keys: Vec<u64> = self
+            .map
+            .lock(&self.waits)
+            .keys()
+            .copied()
+            .collect(self.alloc)?;
+        let mut found = 0_u64;
+        for key in keys {
+            if self.look(key, now)? {
+                found = found.wrapping_add(1);
+            }
+        }
+        Ok(found)
+    }
 }
 
 impl<W: Wait + Copy + Send + Drop + 'static> Again for Unbounded<W> {
     fn again(&self) -> Result<Self, AllocError> {
         Ok(Unbounded {
+            alloc: self.alloc,
             map: self.map.clone()?,
             waits: self.waits,
         })

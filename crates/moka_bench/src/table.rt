@@ -1,15 +1,19 @@
 //! What is printed.
-use crate::load::{LOADS, Load, SIZES, SMALL, with_lives};
-use crate::measure::{Hashing, Outcome, Which, measured, slowest};
+use crate::load::{LIMITS, LOADS, Load, SIZES, SMALL, WALKS, with_lives};
+use crate::measure::{Hashing, Outcome, Which, measured};
 use crate::removals;
-use std::alloc::Global;
+use crate::removals::{REMOVALS, SWEEPS};
+use std::alloc::{AllocError, Global};
 use std::rt::Runtime;
 use std::sync::Wait;
 use std::time::Clock;
 use std::{fs, io};
 
+/// What is measured, and its name.
+type Named = (Which, Hashing, &'static str);
+
 /// The caches that are measured. The others are compared with the first.
-const CACHES: [(Which, Hashing, &str); 8] = [
+const CACHES: [Named; 8] = [
     (Which::Theirs, Hashing::Sip, "the kit's lru, SipHash"),
     (Which::Lru, Hashing::Sip, "least recently used, SipHash"),
     (Which::Table, Hashing::Sip, "TinyLFU by a table, SipHash"),
@@ -28,6 +32,24 @@ const CACHES: [(Which, Hashing, &str); 8] = [
     ),
 ];
 
+/// What is walked over.
+const WALKED: [Named; 2] = [
+    (Which::Map, Hashing::Fold, "a map under a lock"),
+    (Which::Lru, Hashing::Fold, "a state, key by key"),
+];
+
+/// What runs the loads with lives and with limits: all calls, and the longest of them.
+const SLOWEST: [Named; 2] = [
+    (Which::Lru, Hashing::Fold, "all calls"),
+    (Which::Slowest, Hashing::Fold, "the longest call"),
+];
+
+/// What eight caches at most came to in one round, in their order.
+pub(crate) type Round = [Outcome; 8];
+
+/// One in which none was run.
+pub(crate) const NO_ROUND: Round = [Outcome { nanos: 0, hits: 0 }; 8];
+
 /// Does what the arguments ask for.
 pub(crate) fn run<R: Runtime + Wait + Copy>(
     rt: &R,
@@ -37,9 +59,11 @@ pub(crate) fn run<R: Runtime + Wait + Copy>(
     match arguments {
         [] => print_hits(rt, alloc),
         [word, number] => match (word.as_str(), number.parse::<usize>()) {
-            ("times", Ok(rounds)) => print_times(rt, alloc, rounds),
+            ("times", Ok(rounds)) => print_times(rt, alloc, rounds, &LOADS, &CACHES),
             ("lives", Ok(rounds)) => print_lives(rt, alloc, rounds),
-            ("removals", Ok(rounds)) => removals::run(rt, alloc, rounds),
+            ("limits", Ok(rounds)) => print_limits(rt, alloc, rounds),
+            ("removals", Ok(rounds)) => removals::run(rt, alloc, rounds, &REMOVALS),
+            ("walks", Ok(rounds)) => print_times(rt, alloc, rounds, &WALKS, &WALKED),
             ("memory", Ok(number)) => print_memory(rt, alloc, number),
             _ => print_usage(rt),
         },
@@ -49,7 +73,7 @@ pub(crate) fn run<R: Runtime + Wait + Copy>(
 
 fn print_usage(rt: &impl io::Print) -> io::Result<()> {
     println!(rt;
-        "usage: moka_bench [times ROUNDS | lives ROUNDS | removals ROUNDS | threads ROUNDS | memory NUMBER]"
+        "usage: moka_bench [(times | lives | limits | removals | threads | walks) ROUNDS | memory NUMBER]"
     )
 }
 
@@ -63,25 +87,42 @@ fn print_hits<R: Runtime + Wait + Copy>(rt: &R, alloc: Global) -> io::Result<()>
     Ok(())
 }
 
-/// Prints a table for each load, from so many rounds. In each round the caches run one after another, so that what else
-/// the machine does meets all of them.
-fn print_times<R: Runtime + Wait + Copy>(rt: &R, alloc: Global, rounds: usize) -> io::Result<()> {
-    for load in &LOADS {
-        let keys = load.keys(alloc)?;
-        let mut all: Vec<Vec<Outcome>> = Vec::with_capacity(alloc, rounds)?;
-        for _ in 0..rounds {
-            all.push(round(rt, alloc, load, keys.as_slice())?)?;
-        }
+/// Prints a table for each load, from so many rounds.
+fn print_times<R: Runtime + Wait + Copy>(
+    rt: &R,
+    alloc: Global,
+    rounds: usize,
+    loads: &[Load],
+    caches: &[Named],
+) -> io::Result<()> {
+    for load in loads {
+        let all = rounds_of(rt, alloc, rounds, load, caches)?;
         println!(rt;
             "\n{}: {} calls, capacity {}",
             load.name, load.calls, load.capacity
         )?;
         println!(rt; "| cache | time | ns a call | hits |\n|---|---|---|---|")?;
-        for (place, (_, _, name)) in CACHES.iter().enumerate() {
-            print_row(rt, alloc, load, name, all.as_slice(), place)?;
+        for (place, (_, _, name)) in caches.iter().enumerate() {
+            print_row(rt, alloc, load, name, &all, place)?;
         }
     }
     Ok(())
+}
+
+/// Runs so many rounds. In each the caches run one after another, so that what else the machine does meets all of them.
+fn rounds_of<R: Wait + Clock + Copy>(
+    rt: &R,
+    alloc: Global,
+    rounds: usize,
+    load: &Load,
+    caches: &[Named],
+) -> io::Result<Vec<Round>> {
+    let keys = load.keys(alloc)?;
+    let mut all = Vec::with_capacity(alloc, rounds)?;
+    for _ in 0..rounds {
+        all.push(round(rt, alloc, load, &keys, caches)?)?;
+    }
+    Ok(all)
 }
 
 /// One run of each cache.
@@ -90,12 +131,13 @@ fn round<R: Wait + Clock + Copy>(
     alloc: Global,
     load: &Load,
     keys: &[u64],
-) -> io::Result<Vec<Outcome>> {
-    let mut outcomes = Vec::with_capacity(alloc, CACHES.len())?;
-    for (which, hashing, _) in CACHES {
-        outcomes.push(measured(rt, alloc, which, hashing, load, keys)?)?;
+    caches: &[Named],
+) -> io::Result<Round> {
+    let mut round = NO_ROUND;
+    for ((which, hashing, _), outcome) in caches.iter().zip(round.iter_mut()) {
+        *outcome = measured(rt, alloc, *which, *hashing, load, keys)?;
     }
-    Ok(outcomes)
+    Ok(round)
 }
 
 /// Prints the medians of a cache: its time by that of the first cache in the same round, and the time of a call; and how
@@ -105,63 +147,107 @@ fn print_row(
     alloc: Global,
     load: &Load,
     name: &str,
-    rounds: &[Vec<Outcome>],
+    rounds: &[Round],
     place: usize,
 ) -> io::Result<()> {
-    let mut ratios = Vec::with_capacity(alloc, rounds.len())?;
-    let mut times = Vec::with_capacity(alloc, rounds.len())?;
-    let mut hits = 0;
-    for outcomes in rounds {
-        if let (Some(first), Some(own)) = (outcomes.first(), outcomes.get(place)) {
-            ratios.push(share(own.nanos, 100, first.nanos))?;
-            times.push(share(own.nanos, 1, u64::from(load.calls)))?;
-            hits = share(own.hits, 1_000, u64::from(load.calls));
-        }
-    }
-    let (ratio, time) = (median(ratios), median(times));
+    let ratio = median_ratio(alloc, rounds, place, 0)?;
+    let time = median_time(alloc, rounds, place)?;
+    let hits = hits_at(load, rounds, place);
     println!(rt;
-        "| {name} | {}.{:02} | {time} | {}.{:03} |",
+        "| {name} | {}.{:02} | {} | {}.{:03} |",
         ratio / 100,
         ratio % 100,
+        share(time, 1, u64::from(load.calls)),
         hits / 1_000,
         hits % 1_000
     )
 }
 
-/// Prints what a call of a cache, least recently used, takes with and without lives, at each size: the median of so many
-/// rounds, in nanoseconds; and the longest that a single call took.
+/// The median of the nanoseconds at a place of each round.
+pub(crate) fn median_time(
+    alloc: Global,
+    rounds: &[Round],
+    place: usize,
+) -> Result<u64, AllocError> {
+    let mut times = Vec::with_capacity(alloc, rounds.len())?;
+    for round in rounds {
+        times.push(outcome_at(round, place).nanos)?;
+    }
+    Ok(median(times))
+}
+
+/// The median of the hundredths that the time at a place takes of that at another place in the same round.
+pub(crate) fn median_ratio(
+    alloc: Global,
+    rounds: &[Round],
+    place: usize,
+    by: usize,
+) -> Result<u64, AllocError> {
+    let mut ratios = Vec::with_capacity(alloc, rounds.len())?;
+    for round in rounds {
+        let (own, other) = (outcome_at(round, place), outcome_at(round, by));
+        ratios.push(share(own.nanos, 100, other.nanos))?;
+    }
+    Ok(median(ratios))
+}
+
+/// What came out at a place of a round.
+fn outcome_at(round: &Round, place: usize) -> Outcome {
+    match round.get(place) {
+        Some(outcome) => *outcome,
+        None => Outcome { nanos: 0, hits: 0 },
+    }
+}
+
+/// How many of a thousand looks were found, which is the same in each round.
+fn hits_at(load: &Load, rounds: &[Round], place: usize) -> u64 {
+    match rounds.first() {
+        Some(round) => share(outcome_at(round, place).hits, 1_000, u64::from(load.calls)),
+        None => 0,
+    }
+}
+
+/// The head of a table of loads on a cache, least recently used.
+const LOAD_HEAD: &str =
+    "| load | capacity | ns a call | hits | slowest call, ns |\n|---|---|---|---|---|";
+
+/// Prints what lives cost at each size.
 fn print_lives<R: Runtime + Wait + Copy>(rt: &R, alloc: Global, rounds: usize) -> io::Result<()> {
-    println!(rt;
-        "| load | capacity | ns a call | hits | slowest call, ns |\n|---|---|---|---|---|"
-    )?;
+    println!(rt; "{LOAD_HEAD}")?;
     for (capacity, octaves) in SIZES {
         for load in with_lives(capacity, octaves) {
-            let keys = load.keys(alloc)?;
-            print_life(rt, alloc, rounds, &load, keys.as_slice())?;
+            print_load(rt, alloc, rounds, &load)?;
         }
     }
     Ok(())
 }
 
-fn print_life<R: Runtime + Wait + Copy>(
+/// Prints what flush limits do for the slowest insert, and what a sweep costs in slices.
+fn print_limits<R: Runtime + Wait + Copy>(rt: &R, alloc: Global, rounds: usize) -> io::Result<()> {
+    println!(rt; "{LOAD_HEAD}")?;
+    for load in &LIMITS {
+        print_load(rt, alloc, rounds, load)?;
+    }
+    println!(rt; "")?;
+    removals::run(rt, alloc, rounds, &SWEEPS)
+}
+
+/// Prints what a call of a load takes, in nanoseconds, and the longest call: the medians of so many rounds.
+fn print_load<R: Runtime + Wait + Copy>(
     rt: &R,
     alloc: Global,
     rounds: usize,
     load: &Load,
-    keys: &[u64],
 ) -> io::Result<()> {
-    let mut times = Vec::with_capacity(alloc, rounds)?;
-    let mut hits = 0;
-    for _ in 0..rounds {
-        let outcome = measured(rt, alloc, Which::Lru, Hashing::Fold, load, keys)?;
-        times.push(share(outcome.nanos, 1, u64::from(load.calls)))?;
-        hits = share(outcome.hits, 1_000, u64::from(load.calls));
-    }
-    let (time, longest) = (median(times), slowest(rt, alloc, load, keys)?);
+    let all = rounds_of(rt, alloc, rounds, load, &SLOWEST)?;
+    let time = median_time(alloc, &all, 0)?;
+    let longest = median_time(alloc, &all, 1)?;
+    let hits = hits_at(load, &all, 0);
     println!(rt;
-        "| {} | {} | {time} | {}.{:03} | {longest} |",
+        "| {} | {} | {} | {}.{:03} | {longest} |",
         load.name,
         load.capacity,
+        share(time, 1, u64::from(load.calls)),
         hits / 1_000,
         hits % 1_000
     )

@@ -9,7 +9,7 @@ use Rattle.moka_model.specs.Numbers.{stores_nothing, is_flush_due}
 use Rattle.moka_model.specs.Orders.{orders}
 use Rattle.moka_model.specs.Removals.{Removal, removals_at, removals, taken, notices_left}
 use Rattle.moka_model.specs.Steps.{AcceptedStep, events_in}
-use Rattle.moka_model.specs.Calls.{Call, Get, ContainsKey, Insert, Invalidate, Remove, InvalidateAll, InvalidateIf, RunPendingTasks, EntryCount, WeightedSize, TakeNotice, Answer, Found, Contains, Done, Counted, Noticed, Accepted, without_move, accepted, with_step, IsAnswer}
+use Rattle.moka_model.specs.Calls.{Call, Get, ContainsKey, Insert, Invalidate, Remove, InvalidateAll, InvalidateIf, RunPendingTasks, RunPendingTasksUpTo, EntryCount, WeightedSize, TakeNotice, Answer, Found, Contains, Done, Counted, Left, Noticed, Accepted, without_move, accepted, with_step, IsAnswer}
 use Rattle.moka_model.specs.StandsFor.{IsAnswerOf, books_of}
 use Rattle.moka_model.proofs.Callers.{taken-le}
 use Rattle.moka_conserved.specs.Conserved.{SeesKeysAlike, count_left, count_standing, given_out, IsConserved}
@@ -83,10 +83,12 @@ module _ {K V E : Type 0} where
     noticed-same (Found v) (Contains b) is = ap noticed_by is
     noticed-same (Found v) Done is = ap noticed_by is
     noticed-same (Found v) (Counted n) is = ap noticed_by is
+    noticed-same (Found v) (Left b) is = ap noticed_by is
     noticed-same (Found v) (Noticed o) is = ap noticed_by is
     noticed-same (Contains b) answer is = ap noticed_by is
     noticed-same Done answer is = ap noticed_by is
     noticed-same (Counted n) answer is = ap noticed_by is
+    noticed-same (Left b) answer is = ap noticed_by is
     noticed-same (Noticed o) answer is = ap noticed_by is
 
     module _ (eq : K → K → Bool) (settings : Settings K V) (steps : List (AcceptedStep K V E)) where
@@ -103,7 +105,7 @@ module _ {K V E : Type 0} where
       gives (ContainsKey k at) = sym (append-nil (given_out eq settings h))
       gives (Insert k v at) = go (stores_nothing settings.max_capacity) (is_flush_due eq settings h)
         where
-          go : (none due : Bool) → given_out eq settings (cond none (Passed at ∷ []) (Written k v at ∷ cond due (Maintained None at ∷ []) []) ++ h) ≡ given_out eq settings h ++ []
+          go : (none due : Bool) → given_out eq settings (cond none (Passed at ∷ []) (Written k v at ∷ cond due (Maintained settings.flush_limit at ∷ []) []) ++ h) ≡ given_out eq settings h ++ []
           go true due = refl
           go false true = append-nil (given_out eq settings h ++ [])
           go false false = refl
@@ -116,6 +118,7 @@ module _ {K V E : Type 0} where
           go true = refl
           go false = tt
       gives (RunPendingTasks at) = refl
+      gives (RunPendingTasksUpTo limit at) = refl
       gives EntryCount = sym (append-nil (given_out eq settings h))
       gives WeightedSize = sym (append-nil (given_out eq settings h))
       gives TakeNotice = go (slice_get (notices_left eq settings h) 0)

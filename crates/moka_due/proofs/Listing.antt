@@ -1,10 +1,15 @@
 -- All admitted rows are listed anew, one after the other.
-use Rattle.std.proofs.Common.{◌≡◌, ℕ, suc, Bool, true, IsSome, Option, Some, None, MatchOption, List, [], ◌∷◌, ◌++◌, length, refl, sym, ap, subst, ◌∙◌, append_assoc}
-use Rattle.std.proofs.lemmas.List.{append-nil}
+use Rattle.std.proofs.Common.{◌≡◌, ℕ, suc, ◌+◌, ◌<◌, ◌≤◌, ◌==◌, Bool, true, false, IsSome, Option, Some, None, MatchOption, List, [], ◌∷◌, ◌++◌, length, refl, sym, ap, subst, ◌∙◌, append_assoc, arith}
+use Rattle.std.specs.List.{AllByRecursion}
+use Rattle.std.proofs.lemmas.Bool.{eqb-false, ne_eqb}
+use Rattle.std.proofs.lemmas.List.{append-nil, length-append}
 use Rattle.moka_rows.specs.declared.rows.Row.{Row}
 use Rattle.moka_rows.specs.Rows.{row_under, first_number, number_after, NumbersDiffer}
 use Rattle.moka_rows.proofs.Callers.{row_under-append_left, rows_from, rows_from-first, rows_from-at, begins-with, absent-before, stored-at, row_under-at, number_after-at, differ-front}
-use Rattle.moka_due.specs.Due.{deadline_in, deadlines_in}
+use Rattle.moka_rows.proofs.Callers.{all-back}
+use Rattle.moka_deadlines.specs.declared.deadlines.Deadlines.{Deadlines}
+use Rattle.moka_deadlines.specs.Deadlines.{order_of, known_of, room_of, KeepsRoom}
+use Rattle.moka_due.specs.Due.{deadline_in, deadlines_in, CanStand}
 use Rattle.moka_due.proofs.DueLemmas.{deadlines-push}
 
 module _ {K V : Type 0} (admitted waiting : List (ℕ × Row K V)) where
@@ -63,3 +68,51 @@ module _ {K V : Type 0} (admitted waiting : List (ℕ × Row K V)) where
           },
           ap length begins.2,
         )
+
+-- the room for deadlines is that of the start, and where it is enough for all rows the order is whole so far
+pub record FitsIn {K V : Type 0} (admitted : List (ℕ × Row K V)) (start now : Deadlines) (is_whole : Bool) : Type 0 where
+  pub kept : KeepsRoom start now
+  pub whole : AllByRecursion (λ p. suc p.0 < known_of start) admitted → length admitted ≤ room_of start → is_whole ≡ true
+
+-- there is no more deadline than rows, and none under another number
+length-listed : {K V : Type 0} (rows : List (ℕ × Row K V)) → length (deadlines_in rows) ≤ length rows
+length-listed [] = omega arith
+length-listed (p ∷ ps) = go p.1.info.deadline (length-listed ps)
+  where
+    go : (o : Option ℕ) → length (deadlines_in ps) ≤ length ps → length (deadline_in p.0 o ++ deadlines_in ps) ≤ suc (length ps)
+    go None few = omega (arith, few)
+    go (Some d) few = omega (arith, few)
+
+absent-listed : {K V : Type 0} (n : ℕ) (rows : List (ℕ × Row K V)) → row_under n rows ≡ None → row_under (suc n) (deadlines_in rows) ≡ None
+absent-listed n [] absent = refl
+absent-listed n (p ∷ ps) absent = go (p.0 == n) refl p.1.info.deadline (λ later. absent-listed n ps later)
+  where
+    go : (b : Bool) → (p.0 == n) ≡ b → (o : Option ℕ) → (row_under n ps ≡ None → row_under (suc n) (deadlines_in ps) ≡ None) → row_under (suc n) (deadline_in p.0 o ++ deadlines_in ps) ≡ None
+    go true same o rest = let there : Some p.1 ≡ None = rw same at absent in cc
+    go false other None rest = rest (rw other at absent)
+    go false other (Some d) rest = rw (ne_eqb (suc p.0) (suc n) (λ same. eqb-false p.0 n other (omega (arith, same)))) (rest (rw other at absent))
+
+module _ {K V : Type 0} (admitted waiting : List (ℕ × Row K V)) (n : ℕ) (is_whole : Bool) (start now : Deadlines) (passed rest : List (ℕ × Row K V)) (lists : Lists admitted waiting (Some n) is_whole (order_of now) passed rest)
+    (fits : FitsIn admitted start now is_whole) (apart : NumbersDiffer (admitted ++ waiting)) where
+  -- the next row can stand behind those that are listed, where there is room for all
+  pub fits-next : (o : Option ℕ) → AllByRecursion (λ p. suc p.0 < known_of start) admitted → length admitted ≤ room_of start → CanStand n o (known_of now) (room_of now) (order_of now)
+  fits-next None known room = tt
+  fits-next (Some d) known room =
+      let begins = begins-with rest n lists.at in
+      let split : admitted ≡ passed ++ (n, begins.0) ∷ begins.1 = lists.whole ∙ ap (λ l. passed ++ l) begins.2 in
+      let apart_there : NumbersDiffer (passed ++ (n, begins.0) ∷ begins.1) = subst (λ (l : List (ℕ × Row K V)). NumbersDiffer l) split (differ-front admitted waiting apart) in
+      let order_is = lists.listed (fits.whole known room) in
+      let place : suc n < known_of start = (all-back (λ p. suc p.0 < known_of start) passed ((n, begins.0) ∷ begins.1) (subst (AllByRecursion (λ p. suc p.0 < known_of start)) split known)).0 in
+      let many : length admitted ≡ length passed + suc (length begins.1) = ap length split ∙ length-append passed ((n, begins.0) ∷ begins.1) in (
+        omega (arith, place, fits.kept.known),
+        rw order_is (omega (arith, length-listed passed, many, room, fits.kept.room)),
+        rw order_is (absent-listed n passed (absent-before n begins.0 passed begins.1 apart_there)),
+      )
+
+  -- and it is whole still once it was listed, if it was put there where it could be
+  pub fits-on : (o : Option ℕ) (after : Deadlines) (is_whole' : Bool) → KeepsRoom now after
+      → (is_whole ≡ true → CanStand n o (known_of now) (room_of now) (order_of now) → is_whole' ≡ true) → FitsIn admitted start after is_whole'
+  fits-on o after is_whole' kept put = record {
+    kept = record { known = omega (arith, fits.kept.known, kept.known); room = omega (arith, fits.kept.room, kept.room) };
+    whole = λ known room. put (fits.whole known room) (fits-next o known room);
+  }

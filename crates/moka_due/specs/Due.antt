@@ -1,7 +1,7 @@
 -- The deadlines of rows, in the order of the rows. The row under a number stands under the next one there, where 0 is no number.
-use Rattle.std.specs.Prelude.{ℕ, suc, Bool, true, false, Option, Some, None, List, [], ◌∷◌, ◌++◌}
+use Rattle.std.specs.Prelude.{◌≡◌, ℕ, suc, ◌-◌, ◌^◌, ◌<◌, ◌≤◌, min, Bool, true, false, Option, Some, None, List, [], ◌∷◌, ◌++◌, length}
 use Rattle.moka_rows.specs.declared.rows.Row.{Row}
-use Rattle.moka_rows.specs.Rows.{without_row}
+use Rattle.moka_rows.specs.Rows.{row_under, without_row}
 use Rattle.moka_rows.specs.declared.rows.Order.{Order}
 use Rattle.moka_rows.specs.declared.rows.Order.TheVariants.{Admitted, Waiting}
 
@@ -19,6 +19,22 @@ deadlines_in (p ∷ ps) = deadline_in p.0 p.1.info.deadline ++ deadlines_in ps
 abbrev pub without_deadline : ℕ → Option ℕ → List (ℕ × ℕ) → List (ℕ × ℕ)
 without_deadline n None deadlines = deadlines
 without_deadline n (Some deadline) deadlines = without_row (suc n) deadlines
+
+-- A deadline can stand behind those of an order: its number has a place, does not stand there yet, and there is room. A
+-- row without one needs nothing.
+abbrev pub CanStand : ℕ → Option ℕ → ℕ → ℕ → List (ℕ × ℕ) → Type 0
+CanStand n None known room order = Unit {0}
+CanStand n (Some deadline) known room order = (suc n < known) × (length order < room) × (row_under (suc n) order ≡ None)
+
+-- a deadline that stands has a place
+abbrev pub HasPlace : ℕ → Option ℕ → ℕ → Type 0
+HasPlace n None known = Unit {0}
+HasPlace n (Some deadline) known = suc n < known
+
+-- What is noted of a row: where no row has had a deadline, it has none; and its number is below the top, where numbers go
+-- on behind it.
+abbrev pub IsNoted : {K V : Type 0} → Bool → ℕ → ℕ × Row K V → Type 0
+IsNoted has_deadlines top p = (has_deadlines ≡ false → p.1.info.deadline ≡ None) × (min (suc p.0) (2 ^ 64 - 1) ≤ top)
 
 -- an order is that of the admitted rows
 abbrev pub is_of_admitted : Order → Bool

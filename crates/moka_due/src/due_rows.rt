@@ -1,10 +1,12 @@
 //! A store of rows beside the deadlines of its admitted ones, in the order of use.
-ghost use Rattle.std.specs.Prelude.{◌≡◌, suc, true, ◌+◌, ◌<◌, ◌≤◌, ◌==◌, [], ◌∷◌, ◌++◌, length, filter, None, if◌then◌else◌};
-ghost use Rattle.std.specs.Prelude.{IsSome, IfSome, IfNone, OnSome};
+ghost use Rattle.std.specs.Prelude.{◌≡◌, suc, true, false, ◌+◌, ◌<◌, ◌≤◌, ◌==◌, [], ◌∷◌, ◌++◌, length, filter, None, if◌then◌else◌};
+ghost use Rattle.std.specs.Prelude.{IsSome, IfSome, IfNone, OnSome, OnOk};
+ghost use Rattle.std.specs.List.{AllByRecursion};
+ghost use Rattle.std.proofs.Props.{props};
 ghost use Rattle.moka_rows.specs.Rows.{row_under, without_row, first_number, expired_at, IsRowOf, NoneIsRowOf};
-ghost use Rattle.moka_deadlines.specs.Deadlines.{order_of};
+ghost use Rattle.moka_deadlines.specs.Deadlines.{order_of, known_of, room_of as deadlines_room, KeepsRoom};
 ghost use Rattle.moka_slab.specs.Store.{admitted_in, waiting_in, room_of};
-ghost use Rattle.moka_due.specs.Due.{deadline_in, deadlines_in, without_deadline, is_of_admitted};
+ghost use Rattle.moka_due.specs.Due.{deadline_in, deadlines_in, without_deadline, CanStand, HasPlace, IsNoted, is_of_admitted};
 
 use moka_deadlines::deadlines::Deadlines;
 use moka_rows::rows::{Before, EntryInfo, Order, Row, RowStore, Touch};
@@ -29,13 +31,19 @@ pub struct DueRows<K, V> {
     // All numbers that were given out are below.
     top: usize,
     ghost listed: { is_whole ≡ true → order_of deadlines ≡ deadlines_in (admitted_in rows) },
+    ghost noted: { AllByRecursion (IsNoted has_deadlines top) (admitted_in rows ++ waiting_in rows) } by { Prim.hlevel props },
+    ghost whole: { has_deadlines ≡ false → is_whole ≡ true },
 }
 
 /// Puts the deadline of a row behind all others, if the row has one, and answers whether the order
 /// is whole still.
 fn enlist(deadlines: &mut Deadlines, is_whole: bool, number: usize, deadline: Option<u64>) -> bool
-    ensures { result ≡ true → (is_whole ≡ true)
+    ensures listed { result ≡ true → (is_whole ≡ true)
         × (order_of deadlines.new ≡ order_of deadlines.old ++ deadline_in number deadline) }
+    ensures whole { is_whole ≡ true
+        → CanStand number deadline (known_of deadlines.old) (deadlines_room deadlines.old) (order_of deadlines.old)
+        → result ≡ true }
+    ensures kept { KeepsRoom deadlines.old deadlines.new }
 {
     match (deadline, number.checked_add(1)) {
         (None, _) => is_whole,
@@ -47,8 +55,10 @@ fn enlist(deadlines: &mut Deadlines, is_whole: bool, number: usize, deadline: Op
 /// Takes the deadline of a row out, if the row has one, and answers whether the order is whole
 /// still.
 fn delist(deadlines: &mut Deadlines, is_whole: bool, number: usize, deadline: Option<u64>) -> bool
-    ensures { result ≡ true → (is_whole ≡ true)
+    ensures listed { result ≡ true → (is_whole ≡ true)
         × (order_of deadlines.new ≡ without_deadline number deadline (order_of deadlines.old)) }
+    ensures whole { is_whole ≡ true → HasPlace number deadline (known_of deadlines.old) → result ≡ true }
+    ensures kept { KeepsRoom deadlines.old deadlines.new }
 {
     match (deadline, number.checked_add(1)) {
         (None, _) => is_whole,
@@ -69,9 +79,14 @@ fn relist(
     before: Option<u64>,
     after: Option<u64>,
 ) -> bool
-    ensures { result ≡ true → (is_whole ≡ true)
+    ensures listed { result ≡ true → (is_whole ≡ true)
         × (order_of deadlines.new
         ≡ without_deadline number before (order_of deadlines.old) ++ deadline_in number after) }
+    ensures whole { is_whole ≡ true → HasPlace number before (known_of deadlines.old)
+        → CanStand number after (known_of deadlines.old) (deadlines_room deadlines.old)
+        (without_deadline number before (order_of deadlines.old))
+        → result ≡ true }
+    ensures kept { KeepsRoom deadlines.old deadlines.new }
 {
     let is_whole = delist(deadlines, is_whole, number, before);
     enlist(deadlines, is_whole, number, after)
@@ -80,7 +95,10 @@ fn relist(
 /// Lists the deadlines of all admitted rows anew, and answers whether there was room for them.
 /// Visits each admitted row.
 fn list_all<K: Eq + Drop, V: Drop, R: RowStore<K, V>>(rows: &R, deadlines: &mut Deadlines) -> bool
-    ensures { result ≡ true → order_of deadlines.new ≡ deadlines_in (R.admitted rows.now) }
+    ensures listed { result ≡ true → order_of deadlines.new ≡ deadlines_in (R.admitted rows.now) }
+    ensures whole { AllByRecursion (λ p. suc p.0 < known_of deadlines.old) (R.admitted rows.now)
+        → length (R.admitted rows.now) ≤ deadlines_room deadlines.old → result ≡ true }
+    ensures kept { KeepsRoom deadlines.old deadlines.new }
 {
     deadlines.clear();
     let mut is_whole = true;
@@ -113,6 +131,8 @@ fn is_of_admitted(order: Order) -> bool
 }
 
 impl<K: Eq + Drop, V: Drop> RowStore<K, V> for DueRows<K, V> {
+    ghost use Rattle.moka_due.specs.Ready.{WantsRoom, IsReady};
+
     ghost waiting = { λ s. waiting_in s.rows };
 
     ghost admitted = { λ s. admitted_in s.rows };
@@ -168,7 +188,14 @@ impl<K: Eq + Drop, V: Drop> RowStore<K, V> for DueRows<K, V> {
 
     /// Where a row has had a deadline, and for the first rows, it makes room for the deadlines of
     /// all. Where there was none for one before, it lists them anew.
-    fn reserve(&mut self, more: usize) -> Result<(), AllocError> {
+    fn reserve(&mut self, more: usize) -> Result<(), AllocError>
+        ensures room { OnOk result (more ≤ room_of self.new.rows) }
+        ensures more { OnOk result (room_of self.old.rows ≤ room_of self.new.rows) }
+        ensures waiting { waiting_in self.new.rows ≡ waiting_in self.old.rows }
+        ensures admitted { admitted_in self.new.rows ≡ admitted_in self.old.rows }
+        ensures whole { OnOk result (self.new.is_whole ≡ true) }
+        ensures ready { OnOk result (WantsRoom self.new → IsReady more self.new) }
+    {
         self.rows.reserve(more)?;
         let count = self.rows.len();
         if self.has_deadlines || count == 0 {

@@ -6,7 +6,7 @@ use Rattle.moka_model.specs.Lives.{Settings}
 use Rattle.moka_model.specs.Events.{Event, Written, Hidden, Maintained, Passed, recorded, latest}
 use Rattle.moka_model.specs.Numbers.{stores_nothing, is_flush_due}
 use Rattle.moka_model.specs.Steps.{AcceptedStep, events_in}
-use Rattle.moka_model.specs.Calls.{Call, Get, ContainsKey, Insert, Invalidate, Remove, InvalidateAll, InvalidateIf, RunPendingTasks, EntryCount, WeightedSize, TakeNotice, Done, Accepted, without_move, drawn_by, with_step, accepted, flush, write_events, after, IsOutOfNumbers}
+use Rattle.moka_model.specs.Calls.{Call, Get, ContainsKey, Insert, Invalidate, Remove, InvalidateAll, InvalidateIf, RunPendingTasks, RunPendingTasksUpTo, EntryCount, WeightedSize, TakeNotice, Done, Accepted, without_move, drawn_by, with_step, accepted, flush, write_events, after, IsOutOfNumbers}
 use Rattle.moka_laws.specs.Laws.{moment_of, IsWrite}
 
 max-zero : (n : ℕ) → n ≡ max n 0
@@ -17,11 +17,11 @@ max-twice n at = omega arith
 
 module _ {K V E : Type 0} (eq : K → K → Bool) (settings : Settings K V) (steps : List (AcceptedStep K V E)) where
   -- what the events of a write are in each case
-  by_write : (P : List (Event K V) → Type 0) (k : K) (v : V) (at : ℕ) → P (Passed at ∷ []) → P (Written k v at ∷ []) → P (Written k v at ∷ Maintained None at ∷ []) → P (write_events eq settings k v at (events_in steps))
+  by_write : (P : List (Event K V) → Type 0) (k : K) (v : V) (at : ℕ) → P (Passed at ∷ []) → P (Written k v at ∷ []) → P (Written k v at ∷ Maintained settings.flush_limit at ∷ []) → P (write_events eq settings k v at (events_in steps))
   by_write P k v at passed written flushed =
       cond_both (stores_nothing settings.max_capacity) (Passed at ∷ []) (Written k v at ∷ flush eq settings at (events_in steps)) P
       (λ _. passed)
-      (λ _. cond_both (is_flush_due eq settings (events_in steps)) (Maintained None at ∷ []) [] (λ events. P (Written k v at ∷ events)) (λ _. flushed) (λ _. written))
+      (λ _. cond_both (is_flush_due eq settings (events_in steps)) (Maintained settings.flush_limit at ∷ []) [] (λ events. P (Written k v at ∷ events)) (λ _. flushed) (λ _. written))
 
   -- what an accepted call is, where one hides by a test, and where that is refused by its name
   by_test : (P : Option (Accepted K V E) → Type 0) (test : K → V → Bool) → P (Some (without_move Done (Hidden test ∷ []))) → P None → P (accepted eq settings steps (InvalidateIf test))
@@ -36,6 +36,7 @@ module _ {K V E : Type 0} (eq : K → K → Bool) (settings : Settings K V) (ste
   latest-after InvalidateAll = refl
   latest-after (InvalidateIf test) = by_test (λ it. latest (events_in (with_step it steps)) ≡ max (latest (events_in steps)) 0) test refl (max-zero (latest (events_in steps)))
   latest-after (RunPendingTasks at) = refl
+  latest-after (RunPendingTasksUpTo limit at) = refl
   latest-after EntryCount = max-zero (latest (events_in steps))
   latest-after WeightedSize = max-zero (latest (events_in steps))
   latest-after TakeNotice = refl
@@ -57,6 +58,7 @@ module _ {K V E : Type 0} (eq : K → K → Bool) (settings : Settings K V) (ste
   accepted-at InvalidateAll = (inr refl, tt)
   accepted-at (InvalidateIf test) = by_test (IsAt (InvalidateIf test)) test (inr refl, tt) tt
   accepted-at (RunPendingTasks at) = (inl refl, tt)
+  accepted-at (RunPendingTasksUpTo limit at) = (inl refl, tt)
   accepted-at EntryCount = tt
   accepted-at WeightedSize = tt
   accepted-at TakeNotice = (inr refl, tt)
@@ -73,6 +75,7 @@ module _ {K V E : Type 0} (eq : K → K → Bool) (settings : Settings K V) (ste
   none_drawn InvalidateAll out = let some = out.0 in absurd (omega arith)
   none_drawn (InvalidateIf test) out = absurd (by_test (λ it. ¬ (0 < drawn_by it)) test (λ some. omega arith) (λ some. omega arith) out.0)
   none_drawn (RunPendingTasks at) out = let some = out.0 in absurd (omega arith)
+  none_drawn (RunPendingTasksUpTo limit at) out = let some = out.0 in absurd (omega arith)
   none_drawn EntryCount out = let some = out.0 in absurd (omega arith)
   none_drawn WeightedSize out = let some = out.0 in absurd (omega arith)
   none_drawn TakeNotice out = let some = out.0 in absurd (omega arith)

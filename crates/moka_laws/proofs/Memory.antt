@@ -6,7 +6,7 @@ use Rattle.moka_model.specs.Lives.{Settings, Write}
 use Rattle.moka_model.specs.Events.{Hidden}
 use Rattle.moka_model.specs.Numbers.{stores_nothing}
 use Rattle.moka_model.specs.Steps.{AcceptedStep, events_in}
-use Rattle.moka_model.specs.Calls.{Call, Get, ContainsKey, Insert, Invalidate, Remove, InvalidateAll, InvalidateIf, RunPendingTasks, EntryCount, WeightedSize, TakeNotice, Answer, Found, Done, without_move, answer_of, live_at, MayTakeMemory}
+use Rattle.moka_model.specs.Calls.{Call, Get, ContainsKey, Insert, Invalidate, Remove, InvalidateAll, InvalidateIf, RunPendingTasks, RunPendingTasksUpTo, EntryCount, WeightedSize, TakeNotice, Answer, Found, Done, without_move, answer_of, live_at, MayTakeMemory}
 use Rattle.moka_laws.specs.Laws.{answer, IsWrite}
 
 -- something is stored just where the capacity is not 0
@@ -34,6 +34,7 @@ module _ {K V E : Type 0} (eq : K → K → Bool) (is_infallible : V → Type 0)
   takes_memory (InvalidateIf test) other =
       (λ may. absurd may, cond_both settings.supports_closures (Some (without_move {E = E} Done (Hidden test ∷ []))) None (λ a. ¬ (MayFail (answer_of a))) (λ _ it. let is = it.1 in cc) (λ _ it. let is = it.1 in cc))
   takes_memory (RunPendingTasks at) other = (λ may. absurd may, λ it. let is = it.1 in cc)
+  takes_memory (RunPendingTasksUpTo limit at) other = (λ may. absurd may, λ it. let is = it.1 in cc)
   takes_memory EntryCount other = (λ may. absurd may, λ it. let is = it.1 in cc)
   takes_memory WeightedSize other = (λ may. absurd may, λ it. let is = it.1 in cc)
   takes_memory TakeNotice other = (λ may. absurd may, λ it. let is = it.1 in cc)

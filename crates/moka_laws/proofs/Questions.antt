@@ -4,7 +4,8 @@ use Rattle.moka_model.specs.Lives.{Settings, Write}
 use Rattle.moka_model.specs.Removals.{notices_left}
 use Rattle.moka_model.specs.Numbers.{entry_count, weighted_size, greatest_number}
 use Rattle.moka_model.specs.Steps.{AcceptedStep, events_in}
-use Rattle.moka_model.specs.Calls.{Call, Get, ContainsKey, Insert, Invalidate, Remove, InvalidateAll, InvalidateIf, RunPendingTasks, EntryCount, WeightedSize, TakeNotice, Found, Contains, Counted, Noticed, live_at, after}
+use Rattle.moka_model.specs.Orders.{is_left_at}
+use Rattle.moka_model.specs.Calls.{Call, Get, ContainsKey, Insert, Invalidate, Remove, InvalidateAll, InvalidateIf, RunPendingTasks, RunPendingTasksUpTo, Left, EntryCount, WeightedSize, TakeNotice, Found, Contains, Counted, Noticed, live_at, after}
 use Rattle.moka_model.proofs.Callers.{events_in-append}
 use Rattle.moka_laws.specs.Laws.{answer, and_then, IsQuestion}
 
@@ -23,6 +24,7 @@ module _ {K V E : Type 0} (eq : K → K → Bool) (settings : Settings K V) wher
   question-step steps InvalidateAll asks = absurd asks
   question-step steps (InvalidateIf test) asks = absurd asks
   question-step steps (RunPendingTasks at) asks = absurd asks
+  question-step steps (RunPendingTasksUpTo limit at) asks = absurd asks
   question-step steps EntryCount asks = refl
   question-step steps WeightedSize asks = refl
   question-step steps TakeNotice asks = absurd asks
@@ -37,6 +39,7 @@ module _ {K V E : Type 0} (eq : K → K → Bool) (settings : Settings K V) wher
   answer-events a b same InvalidateAll = refl
   answer-events a b same (InvalidateIf test) = refl
   answer-events a b same (RunPendingTasks at) = refl
+  answer-events a b same (RunPendingTasksUpTo limit at) = ap (λ h. Some (Left (is_left_at eq settings (Some limit) at h))) same
   answer-events a b same EntryCount = ap (λ h. Some (Counted (min (entry_count eq settings h) greatest_number))) same
   answer-events a b same WeightedSize = ap (λ h. Some (Counted (min (weighted_size eq settings h) greatest_number))) same
   answer-events a b same TakeNotice = ap (λ h. Some (Noticed (slice_get (notices_left eq settings h) 0))) same

@@ -4,7 +4,7 @@ use Rattle.moka_model.specs.Lives.{Settings}
 use Rattle.moka_model.specs.Events.{Written, Hidden, Passed}
 use Rattle.moka_model.specs.Numbers.{next_number, stores_nothing}
 use Rattle.moka_model.specs.Steps.{AcceptedStep, events_in}
-use Rattle.moka_model.specs.Calls.{Call, Get, ContainsKey, Insert, Invalidate, Remove, InvalidateAll, InvalidateIf, RunPendingTasks, EntryCount, WeightedSize, TakeNotice, Done, without_move, with_step, flush, after, IsLegal}
+use Rattle.moka_model.specs.Calls.{Call, Get, ContainsKey, Insert, Invalidate, Remove, InvalidateAll, InvalidateIf, RunPendingTasks, RunPendingTasksUpTo, EntryCount, WeightedSize, TakeNotice, Done, without_move, with_step, flush, after, IsLegal}
 use Rattle.std.proofs.lemmas.Bool.{cond_both}
 use Rattle.moka_model.proofs.Callers.{legal-by_calls}
 
@@ -24,6 +24,7 @@ next_number-empty {K} {V} {E} eq settings none = legal-by_calls eq settings (λ 
         (λ _. omega (arith, same))
         (λ _. same)
     more (RunPendingTasks at) steps legal same = omega (arith, same)
+    more (RunPendingTasksUpTo limit at) steps legal same = omega (arith, same)
     more EntryCount steps legal same = same
     more WeightedSize steps legal same = same
     more TakeNotice steps legal same = omega (arith, same)

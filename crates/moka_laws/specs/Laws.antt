@@ -8,7 +8,8 @@ use Rattle.moka_model.specs.Events.{Event, Looked, Written, Invalidated, Hidden,
 use Rattle.moka_model.specs.Orders.{is_evicted, standing, live}
 use Rattle.moka_model.specs.Removals.{Removal}
 use Rattle.moka_model.specs.Steps.{AcceptedStep}
-use Rattle.moka_model.specs.Calls.{Call, Get, ContainsKey, Insert, Invalidate, Remove, RunPendingTasks, EntryCount, WeightedSize}
+use Rattle.moka_model.specs.Calls.{Call, Get, ContainsKey, Insert, Invalidate, Remove, EntryCount, WeightedSize}
+use Rattle.moka_model.specs.Calls.{RunPendingTasks, RunPendingTasksUpTo}
 use Rattle.moka_model.specs.Calls.{Answer, accepted, answer_of}
 
 -- what a call is answered after some accepted steps
@@ -26,6 +27,7 @@ moment_of (Insert k v at) = at
 moment_of (Invalidate k at) = at
 moment_of (Remove k at) = at
 moment_of (RunPendingTasks at) = at
+moment_of (RunPendingTasksUpTo limit at) = at
 moment_of call = 0
 
 -- a call that writes

@@ -26,6 +26,7 @@ without_lives =
       max_capacity = None;
       first_number = 0;
       supports_closures = true;
+      flush_limit = None;
       behaviour = plain_behaviour;
       frequency = estimate_after 6;
     }

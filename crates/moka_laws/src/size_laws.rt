@@ -5,13 +5,13 @@ ghost use Rattle.std.specs.List.{AllByRecursion};
 ghost use Rattle.moka_model.specs.declared.notification.RemovalCause.TheVariants.{Size};
 ghost use Rattle.moka_model.specs.Lives.{Settings, Write, is_live};
 ghost use Rattle.moka_model.specs.Events.{Event, Maintained, latest};
-ghost use Rattle.moka_model.specs.Orders.{orders, standing};
+ghost use Rattle.moka_model.specs.Orders.{is_left_at, orders, standing};
 ghost use Rattle.moka_model.specs.Removals.{removals_at, removals};
 ghost use Rattle.moka_model.specs.Numbers.{next_number, entry_count, weighted_size, stores_nothing, flush_point};
 ghost use Rattle.moka_model.specs.Steps.{AcceptedStep, events_in};
 ghost use Rattle.moka_model.specs.Calls.{Get, ContainsKey, Found, Contains, IsLegal};
 ghost use Rattle.moka_model.specs.MaintenanceLaws.{AreAmong};
-ghost use Rattle.moka_model.specs.SizeLaws.{WeighsOnes, lives, dead, living, gone, gone_behind, excess, overweight, removal_as, dead_removal};
+ghost use Rattle.moka_model.specs.SizeLaws.{WeighsOnes, LimitsSome, lives, dead, living, gone, gone_behind, excess, overweight, removal_as, dead_removal};
 ghost use Rattle.moka_model.specs.Maintenance.{total};
 ghost use Rattle.moka_laws.specs.Laws.{answer};
 
@@ -36,25 +36,31 @@ pub fn after_a_maintenance<K: Eq, V>()
 {}
 
 /// Where each key weighs one the size stays bounded between maintenances too: no more are admitted
-/// than the capacity allows, whatever happens. No more wait than the flush point says, and so no
-/// more stand than both together.
+/// than the capacity allows, whatever happens, and no more stand than it allows and the flush point
+/// says together, within whatever limit of a flush, but 0. Without such a limit no more wait than
+/// the flush point says.
 pub fn the_size_stays_bounded<K: Eq, V, E>()
     ensures admitted { (settings : Settings K V) (h : List (Event K V)) (capacity : ℕ) → WeighsOnes settings → settings.max_capacity ≡ Some capacity
         → length (orders K.eq settings h).admitted ≤ capacity }
-    ensures waiting { (settings : Settings K V) (steps : List (AcceptedStep K V E)) → IsLegal K.eq settings steps
+    ensures waiting { (settings : Settings K V) (steps : List (AcceptedStep K V E)) → settings.flush_limit ≡ None → IsLegal K.eq settings steps
         → length (orders K.eq settings (events_in steps)).waiting ≤ flush_point }
-    ensures all { (settings : Settings K V) (steps : List (AcceptedStep K V E)) (capacity : ℕ) → WeighsOnes settings → settings.max_capacity ≡ Some capacity → IsLegal K.eq settings steps
+    ensures all { (settings : Settings K V) (steps : List (AcceptedStep K V E)) (capacity : ℕ) → WeighsOnes settings → LimitsSome settings.flush_limit → settings.max_capacity ≡ Some capacity → IsLegal K.eq settings steps
         → entry_count K.eq settings (events_in steps) ≤ capacity + flush_point }
 {}
 
 /// A maintenance within any limit lets no key that waits wait anew, and where the admitted were
-/// within the capacity they stay so.
+/// within the capacity they stay so. No more leave than the limit says. Where it leaves no part
+/// undone, it does what a whole one does.
 pub fn within_any_limit<K: Eq, V>()
     ensures waiting { (settings : Settings K V) (h : List (Event K V)) (limit : Option ℕ) (at : ℕ)
         → length (orders K.eq settings (Maintained limit at ∷ h)).waiting ≤ length (orders K.eq settings h).waiting }
     ensures admitted { (settings : Settings K V) (h : List (Event K V)) (limit : Option ℕ) (at capacity : ℕ) → settings.max_capacity ≡ Some capacity
         → total (λ w. w.policy_weight) (orders K.eq settings h).admitted ≤ capacity
         → total (λ w. w.policy_weight) (orders K.eq settings (Maintained limit at ∷ h)).admitted ≤ capacity }
+    ensures left { (settings : Settings K V) (h : List (Event K V)) (limit at : ℕ) → length (removals_at K.eq settings (Maintained (Some limit) at) h) ≤ limit }
+    ensures whole { (settings : Settings K V) (h : List (Event K V)) (limit : Option ℕ) (at : ℕ) → is_left_at K.eq settings limit at h ≡ false
+        → (orders K.eq settings (Maintained limit at ∷ h) ≡ orders K.eq settings (Maintained None at ∷ h))
+        × (removals_at K.eq settings (Maintained limit at) h ≡ removals_at K.eq settings (Maintained None at) h) }
 {}
 
 /// Without a capacity nothing ever leaves for size, and in a maintenance just the dead leave.

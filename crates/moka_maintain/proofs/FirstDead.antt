@@ -1,5 +1,5 @@
 -- The rows that are dead at a moment and those that live, and the leaving of the first that is dead.
-use Rattle.std.proofs.Common.{◌≡◌, ℕ, suc, ◌+◌, ◌<◌, ◌≤◌, ◌==◌, ◌^◌, Bool, true, false, not, ◌||◌, cond, Some, None, List, [], ◌∷◌, length, refl, sym, ap, ◌∙◌, arith}
+use Rattle.std.proofs.Common.{◌≡◌, ℕ, suc, ◌+◌, ◌<◌, ◌≤◌, ◌==◌, ◌^◌, Bool, true, false, not, ◌||◌, cond, Some, None, List, [], ◌∷◌, length, ◌++◌, append_assoc, subst, refl, sym, ap, ◌∙◌, arith}
 use Rattle.std.proofs.lemmas.Bool.{eq-eqb}
 use Rattle.moka_model.specs.Lives.{has_come}
 use Rattle.moka_rows.specs.declared.rows.Row.{Row}
@@ -11,7 +11,21 @@ use Rattle.moka_ways.specs.declared.lives.Lives.{Lives}
 use Rattle.moka_ways.specs.Lives.{IsDated, AreDated}
 use Rattle.moka_ways.proofs.Callers.{alive-kept}
 use Rattle.moka_table.specs.Table.{AreShown}
+use Rattle.moka_model.specs.Maintenance.{dead_admitted, Part}
+use Rattle.moka_model.specs.MaintenanceLaws.{queues}
 use Rattle.moka_maintain.specs.Maintain.{is_alive, living, dead}
+
+module _ {K V : Type 0} (at : ℕ) (waiting : List (ℕ × Row K V)) where
+  -- the parts of a sweep of the admitted, given those kept and the rest
+  abbrev pub admitted_parts : List (ℕ × Row K V) → List (ℕ × Row K V) → List (Part (ℕ × Row K V))
+  admitted_parts kept rest = dead_admitted (λ p. not (is_dead at p)) kept rest waiting
+
+  pub sweep-dead : (kept back : List (ℕ × Row K V)) (p : ℕ × Row K V) → is_dead at p ≡ true
+      → admitted_parts kept (p ∷ back) ≡ record { evicted = p ∷ []; after = queues (kept ++ back) waiting } ∷ admitted_parts kept back
+  sweep-dead kept back p gone = rw gone refl
+
+  pub sweep-alive : (kept back : List (ℕ × Row K V)) (p : ℕ × Row K V) → is_dead at p ≡ false → admitted_parts kept (p ∷ back) ≡ admitted_parts (kept ++ p ∷ []) back
+  sweep-alive kept back p lives = rw lives refl
 
 twice : (b : Bool) → b ≡ not (not b)
 twice true = refl
@@ -28,7 +42,7 @@ cause-dead info at = go info.is_hidden (has_come info.deadline at)
 
 module _ {K V : Type 0} where
   -- A row that keeps its deadline under these lives lives where these say so.
-  alive-dated : (lives : Lives) (at : ℕ) → at < 2 ^ 64 → (p : ℕ × Row K V) → IsDated lives p.1.info → not (is_dead at p) ≡ is_alive lives at p
+  pub alive-dated : (lives : Lives) (at : ℕ) → at < 2 ^ 64 → (p : ℕ × Row K V) → IsDated lives p.1.info → not (is_dead at p) ≡ is_alive lives at p
   alive-dated lives at is_moment p dated = sym (alive-kept lives p.1.info dated at is_moment)
 
   -- So do all of them, and they are dead where these say so.
@@ -72,6 +86,9 @@ module _ {K V : Type 0} (at : ℕ) where
     pub alive : living_at at (without_row n rows) ≡ living_at at rows
     pub first : dead_at at rows ≡ (n, row) ∷ dead_at at (without_row n rows)
     pub shorter : length rows ≡ suc (length (without_row n rows))
+    pub gone : is_dead at (n, row) ≡ true
+    pub parts : (kept waiting : List (ℕ × Row K V)) → admitted_parts at waiting kept rows
+        ≡ record { evicted = (n, row) ∷ []; after = queues (kept ++ without_row n rows) waiting } ∷ admitted_parts at waiting kept (without_row n rows)
 
   pub first-dead : (rows : List (ℕ × Row K V)) (n : ℕ) → count_under n rows ≤ 1 → Some n ≡ first_number (dead_at at rows) → IsFirstDead rows n
   first-dead [] n once is = cc
@@ -84,6 +101,8 @@ module _ {K V : Type 0} (at : ℕ) where
         alive = rw eq (sym (living-dead p ps come));
         first = rw eq (dead-dead p ps come ∙ ap (λ m. (m, p.1) ∷ dead_at at ps) same);
         shorter = rw eq refl;
+        gone = subst (λ m. is_dead at (m, p.1) ≡ true) same come;
+        parts = λ kept waiting. rw eq (sweep-dead at waiting kept ps p come ∙ ap (λ m. record { evicted = (m, p.1) ∷ []; after = queues (kept ++ ps) waiting } ∷ admitted_parts at waiting kept ps) same);
       }
 
       later : is_dead at p ≡ false → IsFirstDead ps n → (b : Bool) → (p.0 == n) ≡ b → IsFirstDead (p ∷ ps) n
@@ -97,6 +116,11 @@ module _ {K V : Type 0} (at : ℕ) where
         alive = rw eq (living-alive p (without_row n ps) alive ∙ ap (λ l. p ∷ l) there.alive ∙ sym (living-alive p ps alive));
         first = rw eq (dead-alive p ps alive ∙ there.first ∙ ap (λ l. (n, there.row) ∷ l) (sym (dead-alive p (without_row n ps) alive)));
         shorter = rw eq (ap suc there.shorter);
+        gone = there.gone;
+        parts = λ kept waiting. rw eq
+            (sweep-alive at waiting kept ps p alive ∙ there.parts (kept ++ p ∷ []) waiting
+            ∙ ap (λ l. record { evicted = (n, there.row) ∷ []; after = queues l waiting } ∷ admitted_parts at waiting (kept ++ p ∷ []) (without_row n ps)) (append_assoc kept (p ∷ []) (without_row n ps))
+            ∙ ap (λ l. record { evicted = (n, there.row) ∷ []; after = queues (kept ++ p ∷ without_row n ps) waiting } ∷ l) (sym (sweep-alive at waiting kept (without_row n ps) p alive)));
       }
 
       by_life : (b : Bool) → is_dead at p ≡ b → (count_under n ps ≤ 1 → Some n ≡ first_number (dead_at at ps) → IsFirstDead ps n) → IsFirstDead (p ∷ ps) n
@@ -123,6 +147,15 @@ module _ {K V : Type 0} (at : ℕ) where
       by_life false alive behind =
           let rest = behind (is ∙ ap first_number (dead-alive p ps alive)) in
           (dead-alive p ps alive ∙ rest.0, living-alive p ps alive ∙ ap (λ l. p ∷ l) rest.1)
+
+  -- so there is nothing to sweep
+  pub none-swept : (rows : List (ℕ × Row K V)) → None ≡ first_number (dead_at at rows) → (kept waiting : List (ℕ × Row K V)) → admitted_parts at waiting kept rows ≡ []
+  none-swept [] is kept waiting = refl
+  none-swept (p ∷ ps) is kept waiting = by_life (is_dead at p) refl (λ first. none-swept ps first (kept ++ p ∷ []) waiting)
+    where
+      by_life : (b : Bool) → is_dead at p ≡ b → (None ≡ first_number (dead_at at ps) → admitted_parts at waiting (kept ++ p ∷ []) ps ≡ []) → admitted_parts at waiting kept (p ∷ ps) ≡ []
+      by_life true come behind = let no_first : None ≡ Some p.0 = is ∙ ap first_number (dead-dead p ps come) in cc
+      by_life false alive behind = sweep-alive at waiting kept ps p alive ∙ behind (is ∙ ap first_number (dead-alive p ps alive))
 
   -- where none is hidden, the first that is expired is the first dead one
   pub first-expired : (rows : List (ℕ × Row K V)) (n : ℕ) → AreShown rows → count_under n rows ≤ 1 → Some n ≡ first_number (expired_at at rows) → IsFirstDead rows n

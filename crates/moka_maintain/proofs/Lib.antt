@@ -1,9 +1,13 @@
+pub mod Callers
 pub mod FirstDead
 pub mod Judging
 pub mod Maintaining
 pub mod Phases
+pub mod Resuming
+pub mod Shrinking
 pub mod Sweeping
 pub mod Verdicts
 pub mod VisitLaws
 pub mod Visits
 pub mod Shown
+pub mod Whole

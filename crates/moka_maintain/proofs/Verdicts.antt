@@ -1,16 +1,18 @@
 -- The judgement of the first row that waits, and of all, as what is left to do.
-use Rattle.std.proofs.Common.{◌≡◌, ℕ, ◌==◌, ◌||◌, ◌+◌, Bool, true, false, cond, Option, Some, None, List, [], ◌∷◌, ◌++◌, take, drop, refl, sym, ap, subst, ◌∙◌}
+use Rattle.std.proofs.Common.{◌≡◌, ℕ, ◌==◌, ◌||◌, ◌+◌, Bool, true, false, cond, Option, Some, None, List, [], ◌∷◌, ◌++◌, length, take, drop, refl, sym, ap, subst, ◌∙◌}
 use Rattle.std.specs.Option.{IfSome, IsSome}
 use Rattle.std.proofs.lemmas.Bool.{cond-true, cond-false}
+use Rattle.std.proofs.lemmas.List.{length-take-le}
 use Rattle.moka_model.specs.declared.notification.RemovalCause.TheVariants.{Size}
-use Rattle.moka_model.specs.Maintenance.{Part, fits, front, judge, judged, evicted_in, after_parts}
-use Rattle.moka_model.proofs.Callers.{admitting, dropping}
+use Rattle.moka_model.specs.Maintenance.{Queues, Part, fits, front, judge, judged}
+use Rattle.moka_model.proofs.Callers.{admitting, dropping, front-le, judge_both}
 use Rattle.moka_rows.specs.declared.rows.Row.{Row}
 use Rattle.moka_rows.specs.Rows.{row_under, without_row, first_number, NumbersDiffer}
-use Rattle.moka_table.specs.Table.{Contents, entries, weight_of, TakesRow}
-use Rattle.moka_maintain.specs.Maintain.{notice_for, notices_for, is_within, hash_wins, row_wins, JudgesFirst}
+use Rattle.moka_table.specs.Table.{Contents, entries, weight_of}
+use Rattle.moka_maintain.specs.Maintain.{notice_for, notices_for, is_within, hash_wins, row_wins, rows_of, lets_leave, limit_less, judgements, DoesParts, JudgesFirst}
 use Rattle.moka_rows.proofs.Callers.{row_under-append_right, begins-with, absent-before, stored-at, row_under-at, without_row-at}
-use Rattle.moka_maintain.proofs.Maintaining.{left-waiting}
+use Rattle.moka_maintain.proofs.Resuming.{Resumes, resumes-behind, resumes-within, does-after, does-one, does-not}
+use Rattle.moka_maintain.proofs.Sweeping.{queues-are}
 use Rattle.moka_maintain.proofs.Judging.{fits-within}
 
 module _ {K V : Type 0} where
@@ -38,6 +40,13 @@ module _ {K V : Type 0} where
     -- what the code asks of a row
     abbrev pub count_of : List (ℕ × Row K V) → Row K V → ℕ
     count_of admitted row = front weight_of capacity row.info.policy_weight admitted
+
+    -- so many are its victims
+    pub victims-many : (admitted : List (ℕ × Row K V)) (row : Row K V) → length (take (count_of admitted row) admitted) ≡ count_of admitted row
+    victims-many admitted row = length-take-le (count_of admitted row) admitted (front-le weight_of capacity row.info.policy_weight admitted)
+
+    abbrev JudgesHere : Contents K V → ℕ × Row K V → List (ℕ × Row K V) → Type 0
+    JudgesHere old first rest = old.waiting ≡ first ∷ rest
 
     module _ (admitted : List (ℕ × Row K V)) (n : ℕ) (row : Row K V) (rest : List (ℕ × Row K V)) where
       abbrev fits_alone : Bool
@@ -86,56 +95,65 @@ module _ {K V : Type 0} where
             let here : (count_of admitted row == 0) ≡ false = ap (λ k. k == 0) (sym count_is) ∙ some in
             by-wins drops (cond-false wins_here admits drops (ap (λ b. b || wins (n, row) (take (count_of admitted row) admitted)) here ∙ won-is won is ∙ lost))
 
-    module _ (old new : Contents K V) (n : ℕ) (row : Row K V) (apart : NumbersDiffer (entries old)) (first_is : Some n ≡ first_number old.waiting) (there : row_under n (entries old) ≡ Some row) where
-      -- The first row was judged: it is let go,
-      pub judges-drop : ((rest : List (ℕ × Row K V)) → judge weight_of capacity wins old.admitted (n, row) rest ≡ dropping old.admitted (n, row) rest) → TakesRow n old new
-          → IfSome (row_under n (entries old)) (λ r. new.notices ≡ old.notices ++ notice_for Size (n, r) ∷ [])
-          → (first : ℕ × Row K V) × (rest : List (ℕ × Row K V)) × JudgesFirst is_lru frequency_of capacity first rest old new
-      judges-drop verdict takes noticed =
-          let begins = first-waits old n row apart first_is there in
-          let waits : row_under n old.waiting ≡ Some row = ap (row_under n) begins.1 ∙ row_under-at n row [] begins.0 refl in
-          let gone = left-waiting n row Size old new takes noticed begins.2 waits in
-          let is : judge weight_of capacity wins old.admitted (n, row) begins.0 ≡ dropping old.admitted (n, row) begins.0 = verdict begins.0 in (
+    module _ (old new : Contents K V) (n : ℕ) (row : Row K V) (limit less : Option ℕ) (is_cut : Bool) (apart : NumbersDiffer (entries old)) (first_is : Some n ≡ first_number old.waiting) (there : row_under n (entries old) ≡ Some row) where
+      -- the first row was judged, where what was done is what the verdict says
+      pub judges-by : (part : List (ℕ × Row K V) → Part (ℕ × Row K V)) → ((rest : List (ℕ × Row K V)) → judge weight_of capacity wins old.admitted (n, row) rest ≡ part rest)
+          → ((rest : List (ℕ × Row K V)) → old.waiting ≡ (n, row) ∷ rest → DoesParts (notice_for Size) limit (part rest ∷ []) old new less is_cut)
+          → (first : ℕ × Row K V) × (rest : List (ℕ × Row K V)) × JudgesFirst is_lru frequency_of capacity limit first rest old new less is_cut
+      judges-by part verdict did =
+          let begins = first-waits old n row apart first_is there in (
             (n, row),
             begins.0,
             record {
               waited = begins.1;
-              waiting = gone.1 ∙ ap (without_row n) begins.1 ∙ without_row-at n row [] begins.0 refl;
-              admitted = gone.0 ∙ sym (ap (λ (p : Part (ℕ × Row K V)). p.after.admitted) is);
-              notices = gone.2 ∙ sym (ap (λ (p : Part (ℕ × Row K V)). old.notices ++ notices_for Size p.evicted) is);
+              does = subst (λ (p : Part (ℕ × Row K V)). DoesParts (notice_for Size) limit (p ∷ []) old new less is_cut) (sym (verdict begins.0)) (did begins.0 begins.1);
             },
           )
 
-      -- or after its victims have left it is admitted
-      pub judges-admit : ((rest : List (ℕ × Row K V)) → judge weight_of capacity wins old.admitted (n, row) rest ≡ admitting (count_of old.admitted row) old.admitted (n, row) rest)
-          → (between : Contents K V) → between.admitted ≡ drop (count_of old.admitted row) old.admitted → between.waiting ≡ old.waiting
+      -- what an admission leaves, after its victims have left
+      pub admits-does : (rest : List (ℕ × Row K V)) → old.waiting ≡ (n, row) ∷ rest → (between : Contents K V) → between.admitted ≡ drop (count_of old.admitted row) old.admitted → between.waiting ≡ old.waiting
           → between.notices ≡ old.notices ++ notices_for Size (take (count_of old.admitted row) old.admitted)
           → new.waiting ≡ without_row n between.waiting → IfSome (row_under n between.waiting) (λ r. new.admitted ≡ between.admitted ++ (n, r) ∷ []) → new.notices ≡ between.notices
-          → (first : ℕ × Row K V) × (rest : List (ℕ × Row K V)) × JudgesFirst is_lru frequency_of capacity first rest old new
-      judges-admit verdict between kept same gone without behind noticed =
-          let begins = first-waits old n row apart first_is there in
-          let waiting : between.waiting ≡ (n, row) ∷ begins.0 = same ∙ begins.1 in
-          let waits : row_under n between.waiting ≡ Some row = ap (row_under n) waiting ∙ row_under-at n row [] begins.0 refl in
-          let is : judge weight_of capacity wins old.admitted (n, row) begins.0 ≡ admitting (count_of old.admitted row) old.admitted (n, row) begins.0 = verdict begins.0 in
-          let last : new.admitted ≡ between.admitted ++ (n, row) ∷ [] = rw waits at behind in (
-            (n, row),
-            begins.0,
-            record {
-              waited = begins.1;
-              waiting = without ∙ ap (without_row n) waiting ∙ without_row-at n row [] begins.0 refl;
-              admitted = last ∙ ap (λ l. l ++ (n, row) ∷ []) kept ∙ sym (ap (λ (p : Part (ℕ × Row K V)). p.after.admitted) is);
-              notices = noticed ∙ gone ∙ sym (ap (λ (p : Part (ℕ × Row K V)). old.notices ++ notices_for Size p.evicted) is);
-            },
-          )
+          → lets_leave limit (count_of old.admitted row) ≡ true → less ≡ limit_less limit (count_of old.admitted row)
+          → DoesParts (notice_for Size) limit (admitting (count_of old.admitted row) old.admitted (n, row) rest ∷ []) old new less false
+      admits-does rest waited between kept same gone without behind noticed lets is =
+          let waiting : between.waiting ≡ (n, row) ∷ rest = same ∙ waited in
+          let waits : row_under n between.waiting ≡ Some row = ap (row_under n) waiting ∙ row_under-at n row [] rest refl in
+          let last : new.admitted ≡ between.admitted ++ (n, row) ∷ [] = rw waits at behind in
+          let many = victims-many old.admitted row in
+          does-one (notice_for Size) limit (admitting (count_of old.admitted row) old.admitted (n, row) rest) old less (ap (lets_leave limit) many ∙ lets) (is ∙ ap (limit_less limit) (sym many)) new
+          (queues-are new (drop (count_of old.admitted row) old.admitted ++ (n, row) ∷ []) rest (last ∙ ap (λ l. l ++ (n, row) ∷ []) kept) (without ∙ ap (without_row n) waiting ∙ without_row-at n row [] rest refl)) (noticed ∙ gone)
 
-    -- how the admitted stand after these that wait were judged, and what leaves
-    abbrev ends : List (ℕ × Row K V) → List (ℕ × Row K V) → List (ℕ × Row K V)
-    ends admitted waiting = (after_parts (record { admitted = admitted; waiting = waiting }) (judged weight_of capacity wins admitted waiting)).admitted
+      -- where the limit does not let so many leave
+      pub admits-not : (rest : List (ℕ × Row K V)) → lets_leave limit (count_of old.admitted row) ≡ false → less ≡ limit
+          → DoesParts (notice_for Size) limit (admitting (count_of old.admitted row) old.admitted (n, row) rest ∷ []) old old less true
+      admits-not rest stops is = does-not (notice_for Size) limit (admitting (count_of old.admitted row) old.admitted (n, row) rest) old less (ap (lets_leave limit) (victims-many old.admitted row) ∙ stops) is
 
-    abbrev leaves : List (ℕ × Row K V) → List (ℕ × Row K V) → List (ℕ × Row K V)
-    leaves admitted waiting = evicted_in (judged weight_of capacity wins admitted waiting)
+    -- the judgements that are left behind the first, where it was done
+    module _ (limit less : Option ℕ) (first : ℕ × Row K V) (rest : List (ℕ × Row K V)) (old new : Contents K V) where
+      pub judged-first : JudgesFirst is_lru frequency_of capacity limit first rest old new less false
+          → (new.waiting ≡ rest) × (new.admitted ≡ (judge weight_of capacity wins old.admitted first rest).after.admitted)
+      judged-first judges =
+          let part : Part (ℕ × Row K V) = judge weight_of capacity wins old.admitted first rest in
+          let after : rows_of new ≡ part.after = does-after (notice_for Size) limit (part ∷ []) old new less judges.does in
+          let still : part.after.waiting ≡ rest = judge_both weight_of capacity wins old.admitted first rest (λ p. p.after.waiting ≡ rest) (λ _. refl) refl in
+          (ap (λ (q : Queues (ℕ × Row K V)). q.waiting) after ∙ still, ap (λ (q : Queues (ℕ × Row K V)). q.admitted) after)
 
-    -- The judgements on their way: what those that are left make of the admitted and let leave is what it was at first.
-    pub record JudgesAll (first table : Contents K V) : Type 0 where
-      pub admitted : ends table.admitted table.waiting ≡ ends first.admitted first.waiting
-      pub notices : table.notices ++ notices_for Size (leaves table.admitted table.waiting) ≡ first.notices ++ notices_for Size (leaves first.admitted first.waiting)
+      module _ (limit0 : Option ℕ) (ps0 : List (Part (ℕ × Row K V))) (start : Contents K V)
+          (on : Resumes (notice_for Size) limit0 ps0 start limit (judgements is_lru frequency_of capacity old) old) where
+        here : JudgesHere old first rest → Resumes (notice_for Size) limit0 ps0 start limit (judge weight_of capacity wins old.admitted first rest ∷ judged weight_of capacity wins (judge weight_of capacity wins old.admitted first rest).after.admitted rest) old
+        here waited = subst (λ l. Resumes (notice_for Size) limit0 ps0 start limit (judged weight_of capacity wins old.admitted l) old) waited on
+
+        pub judging-on : JudgesFirst is_lru frequency_of capacity limit first rest old new less false → Resumes (notice_for Size) limit0 ps0 start less (judgements is_lru frequency_of capacity new) new
+        judging-on judges =
+            let part : Part (ℕ × Row K V) = judge weight_of capacity wins old.admitted first rest in
+            let after = judged-first judges in
+            let behind : Resumes (notice_for Size) limit0 ps0 start less (judged weight_of capacity wins part.after.admitted rest) new =
+            resumes-behind (notice_for Size) limit0 ps0 start limit (part ∷ []) (judged weight_of capacity wins part.after.admitted rest) old (here judges.waited) new less judges.does in
+            subst (λ a. Resumes (notice_for Size) limit0 ps0 start less (judged weight_of capacity wins a new.waiting) new) (sym after.1)
+            (subst (λ l. Resumes (notice_for Size) limit0 ps0 start less (judged weight_of capacity wins part.after.admitted l) new) (sym after.0) behind)
+
+        pub judging-cut : JudgesFirst is_lru frequency_of capacity limit first rest old new less true → DoesParts (notice_for Size) limit0 ps0 start new less true
+        judging-cut judges =
+            let part : Part (ℕ × Row K V) = judge weight_of capacity wins old.admitted first rest in
+            resumes-within (notice_for Size) limit0 ps0 start limit (part ∷ []) (judged weight_of capacity wins part.after.admitted rest) old (here judges.waited) new less judges.does

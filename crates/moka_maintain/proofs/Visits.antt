@@ -1,5 +1,5 @@
 -- The steps of a maintenance from row to row, added up.
-use Rattle.std.proofs.Common.{◌≡◌, ℕ, ◌+◌, Bool, true, if◌then◌else◌, Option, Some, List, [], drop, length, ap, ◌∙◌, sym, refl}
+use Rattle.std.proofs.Common.{◌≡◌, ℕ, ◌+◌, ◌≤◌, Bool, true, false, if◌then◌else◌, Option, Some, List, [], ◌∷◌, drop, length, arith, ap, ◌∙◌, sym, refl}
 use Rattle.std.proofs.lemmas.Bool.{cond-true}
 use Rattle.moka_model.specs.Maintenance.{fits, front}
 use Rattle.moka_rows.specs.declared.rows.Row.{Row}
@@ -8,7 +8,7 @@ use Rattle.moka_table.specs.Table.{Contents, entries, weight_of}
 use Rattle.moka_maintain.specs.Maintain.{is_within, JudgesFirst}
 use Rattle.moka_maintain.specs.Visits.{visits_first, visits_sweeping, visits_judging, visits_of}
 use Rattle.moka_maintain.proofs.Judging.{fits-within}
-use Rattle.moka_maintain.proofs.Verdicts.{first-waits}
+use Rattle.moka_maintain.proofs.Verdicts.{first-waits, judged-first}
 
 module _ {K V : Type 0} (is_lru : Bool) (capacity : Option ℕ) where
   -- What the judgement of the first that waits may take, where it is no heavier than the capacity.
@@ -23,9 +23,14 @@ module _ {K V : Type 0} (is_lru : Bool) (capacity : Option ℕ) where
 
   module _ (frequency_of : ℕ → ℕ) where
     -- the judgements that are left, after the first
-    pub judging-first : (first : ℕ × Row K V) (rest : List (ℕ × Row K V)) (old new : Contents K V) → JudgesFirst is_lru frequency_of capacity first rest old new
+    pub judging-first : (limit less : Option ℕ) (first : ℕ × Row K V) (rest : List (ℕ × Row K V)) (old new : Contents K V) → JudgesFirst is_lru frequency_of capacity limit first rest old new less false
         → visits_judging is_lru frequency_of capacity old.admitted old.waiting ≡ visits_first is_lru capacity old.admitted old.waiting + visits_judging is_lru frequency_of capacity new.admitted new.waiting
-    judging-first first rest old new judges = rw (judges.waited, judges.waiting, judges.admitted) refl
+    judging-first limit less first rest old new judges = let after = judged-first is_lru frequency_of capacity limit less first rest old new judges in rw (judges.waited, after.0, after.1) refl
+
+    -- the first alone takes no more than all
+    pub judging-first-le : (limit less : Option ℕ) (is_cut : Bool) (first : ℕ × Row K V) (rest : List (ℕ × Row K V)) (old new : Contents K V) → JudgesFirst is_lru frequency_of capacity limit first rest old new less is_cut
+        → visits_first is_lru capacity old.admitted old.waiting ≤ visits_judging is_lru frequency_of capacity old.admitted old.waiting
+    judging-first-le limit less is_cut first rest old new judges = rw judges.waited (let le : visits_first is_lru capacity old.admitted (first ∷ rest) ≤ visits_judging is_lru frequency_of capacity old.admitted (first ∷ rest) = omega arith in le)
 
     -- the parts of a maintenance, one after the other
     pub visits-parts : (at : ℕ) (old come shrunk : Contents K V) → come.admitted ≡ living_at at old.admitted → shrunk.waiting ≡ living_at at old.waiting

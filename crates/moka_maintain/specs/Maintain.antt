@@ -1,12 +1,12 @@
 -- What a maintenance does with the rows.
-use Rattle.std.specs.Prelude.{◌≡◌, ℕ, ◌+◌, Bool, true, not, ◌&&◌, ◌||◌, if◌then◌else◌, nat_le, Option, List, [], ◌∷◌, ◌++◌}
-use Rattle.std.specs.Prelude.{filter, map, None}
+use Rattle.std.specs.Prelude.{◌≡◌, ℕ, ◌+◌, ◌-◌, Bool, true, not, ◌&&◌, ◌||◌, if◌then◌else◌, nat_le, Option, List, [], ◌∷◌, ◌++◌}
+use Rattle.std.specs.Prelude.{filter, map, length, None}
 use Rattle.std.specs.Prelude.{Some}
 use Rattle.moka_model.specs.declared.notification.Notice.{Notice}
 use Rattle.moka_model.specs.declared.notification.RemovalCause.{RemovalCause}
 use Rattle.moka_model.specs.declared.notification.RemovalCause.TheVariants.{Expired, Explicit, Size}
 use Rattle.moka_model.specs.Lives.{has_come}
-use Rattle.moka_model.specs.Maintenance.{Queues, Part, total, judge, judged, parts, evicted_in, after_parts}
+use Rattle.moka_model.specs.Maintenance.{Queues, Part, total, judge, judged, parts, done, is_left, evicted_in, after_parts}
 use Rattle.moka_ways.specs.declared.lives.Lives.{Lives}
 use Rattle.moka_rows.specs.declared.rows.Row.{Row}
 use Rattle.moka_ways.specs.Lives.{deadline_of}
@@ -16,6 +16,16 @@ use Rattle.moka_table.specs.Table.{Contents, weight_of}
 abbrev pub is_within : Option ℕ → ℕ → Bool
 is_within None weight = true
 is_within (Some capacity) weight = nat_le weight capacity
+
+-- whether a limit, if there is one, lets so many leave
+abbrev pub lets_leave : Option ℕ → ℕ → Bool
+lets_leave None count = true
+lets_leave (Some limit) count = nat_le count limit
+
+-- what is left of it once they have left
+abbrev pub limit_less : Option ℕ → ℕ → Option ℕ
+limit_less None count = None
+limit_less (Some limit) count = Some (limit - count)
 
 module _ {K V : Type 0} where
   -- the row's value is neither hidden nor expired at a moment
@@ -55,12 +65,12 @@ module _ {K V : Type 0} where
   abbrev pub rows_of : Contents K V → Queues (ℕ × Row K V)
   rows_of c = record { admitted = c.admitted; waiting = c.waiting }
 
-  -- how often the hashes of some rows were noted, together
+  -- what is estimated of the hashes of some rows, together
   abbrev pub frequencies : (ℕ → ℕ) → List (ℕ × Row K V) → ℕ
   frequencies frequency_of rows = total (λ p. frequency_of p.1.hash) rows
 
-  -- A row of a hash that waits wins against its victims under least recently used, and else where its hash was noted
-  -- more often than theirs together.
+  -- A row of a hash that waits wins against its victims under least recently used, and else where the estimate of
+  -- its hash is greater than theirs together.
   abbrev pub hash_wins : Bool → (ℕ → ℕ) → ℕ → List (ℕ × Row K V) → Bool
   hash_wins is_lru frequency_of hash victims = is_lru || nat_le (frequencies frequency_of victims + 1) (frequency_of hash)
 
@@ -71,14 +81,26 @@ module _ {K V : Type 0} where
   abbrev pub judgements : Bool → (ℕ → ℕ) → Option ℕ → Contents K V → List (Part (ℕ × Row K V))
   judgements is_lru frequency_of capacity c = judged weight_of capacity (row_wins is_lru frequency_of) c.admitted c.waiting
 
-  -- The first row that waits was judged: what the judgement says leaves is noticed, in order, and the rest still wait.
-  pub record JudgesFirst (is_lru : Bool) (frequency_of : ℕ → ℕ) (capacity : Option ℕ) (first : ℕ × Row K V) (rest : List (ℕ × Row K V))
-      (old new : Contents K V) : Type 0 where
+  -- the first row that waits is dropped
+  abbrev pub drops : List (ℕ × Row K V) → ℕ × Row K V → List (ℕ × Row K V) → Part (ℕ × Row K V)
+  drops admitted first rest = record { evicted = first ∷ []; after = record { admitted = admitted; waiting = rest } }
+
+  -- What a phase of a maintenance does within a limit, given its parts: the longest front of them is done in which no more
+  -- leave than the limit lets, what leaves is noticed, in order, and so much less is left of the limit. The phase is cut
+  -- where a part of it is left undone.
+  pub record DoesParts (notice : ℕ × Row K V → Notice K V) (limit : Option ℕ) (ps : List (Part (ℕ × Row K V)))
+      (old new : Contents K V) (rest : Option ℕ) (is_cut : Bool) : Type 0 where
+    pub orders : rows_of new ≡ after_parts (rows_of old) (done limit ps)
+    pub notices : new.notices ≡ old.notices ++ map notice (evicted_in (done limit ps))
+    pub rest_is : rest ≡ limit_less limit (length (evicted_in (done limit ps)))
+    pub left : is_cut ≡ is_left limit ps
+
+  -- The first row that waits is judged, within a limit.
+  pub record JudgesFirst (is_lru : Bool) (frequency_of : ℕ → ℕ) (capacity limit : Option ℕ) (first : ℕ × Row K V)
+      (rest : List (ℕ × Row K V)) (old new : Contents K V) (limit_after : Option ℕ) (is_cut : Bool) : Type 0 where
     pub waited : old.waiting ≡ first ∷ rest
-    pub waiting : new.waiting ≡ rest
-    pub admitted : new.admitted ≡ (judge weight_of capacity (row_wins is_lru frequency_of) old.admitted first rest).after.admitted
-    pub notices : new.notices ≡ old.notices
-        ++ notices_for Size (judge weight_of capacity (row_wins is_lru frequency_of) old.admitted first rest).evicted
+    pub does : DoesParts (notice_for Size) limit (judge weight_of capacity (row_wins is_lru frequency_of) old.admitted first rest ∷ [])
+        old new limit_after is_cut
 
   -- the parts of a maintenance of rows
   abbrev pub row_parts : Lives → Bool → (ℕ → ℕ) → Option ℕ → ℕ → Contents K V → List (Part (ℕ × Row K V))
@@ -91,3 +113,12 @@ pub record IsMaintained {K V : Type 0} (lives : Lives) (is_lru : Bool) (frequenc
   pub waiting : new.waiting ≡ []
   pub admitted : new.admitted ≡ (after_parts (rows_of old) (row_parts lives is_lru frequency_of capacity at old)).admitted
   pub notices : new.notices ≡ old.notices ++ map (notice_at lives at) (evicted_in (row_parts lives is_lru frequency_of capacity at old))
+
+-- What a maintenance at a moment makes of a table within a limit: the longest front of its parts is done in which no more
+-- leave than the limit lets, and what leaves is noticed, in order. A part is left undone, or none is.
+pub record IsMaintainedUpTo {K V : Type 0} (lives : Lives) (is_lru : Bool) (frequency_of : ℕ → ℕ) (capacity : Option ℕ) (at : ℕ)
+    (limit : Option ℕ) (old new : Contents K V) (is_cut : Bool) : Type 0 where
+  pub orders : rows_of new ≡ after_parts (rows_of old) (done limit (row_parts lives is_lru frequency_of capacity at old))
+  pub notices : new.notices
+      ≡ old.notices ++ map (notice_at lives at) (evicted_in (done limit (row_parts lives is_lru frequency_of capacity at old)))
+  pub left : is_cut ≡ is_left limit (row_parts lives is_lru frequency_of capacity at old)

@@ -1,15 +1,15 @@
 //! The maintenance of a cache: what is hidden or expired leaves, then what is over the capacity, and then each key
 //! that waits is admitted or leaves.
-ghost use Rattle.std.specs.Prelude.{◌≡◌, ℕ, ◌+◌, ◌-◌, ◌≤◌, false, Some, List, [], ◌++◌, length, take, drop, if◌then◌else◌};
+ghost use Rattle.std.specs.Prelude.{◌≡◌, ℕ, ◌+◌, ◌≤◌, false, not, Some, None, List, [], ◌∷◌, ◌++◌, length, take, drop, if◌then◌else◌};
 ghost use Rattle.moka_model.specs.declared.notification.RemovalCause.TheVariants.{Size};
-ghost use Rattle.moka_model.specs.Maintenance.{front, evicted_in, after_parts};
+ghost use Rattle.moka_model.specs.Maintenance.{front, dead_admitted, dead_waiting, over};
 ghost use Rattle.moka_policy.specs.Policy.{is_lru};
 ghost use Rattle.moka_rows.specs.declared.rows.Row.{Row};
-ghost use Rattle.moka_rows.specs.Rows.{first_number, dead_at, living_at, NumbersDiffer};
+ghost use Rattle.moka_rows.specs.Rows.{first_number, is_dead, NumbersDiffer};
 ghost use Rattle.moka_ways.specs.declared.lives.Lives.{Lives};
 ghost use Rattle.moka_ways.specs.Lives.{AreDated};
 ghost use Rattle.moka_table.specs.Table.{entries, weight_of, AreShown};
-ghost use Rattle.moka_maintain.specs.Maintain.{notices_for, notices_dead, is_within, rows_of, frequencies, hash_wins, judgements, JudgesFirst, IsMaintained};
+ghost use Rattle.moka_maintain.specs.Maintain.{notice_for, notice_dead, notices_for, is_within, frequencies, hash_wins, judgements, drops, lets_leave, limit_less, DoesParts, JudgesFirst, IsMaintainedUpTo};
 ghost use Rattle.moka_maintain.specs.Visits.{visits_sweeping, visits_first, visits_judging, visits_of};
 
 use moka_model::notification::RemovalCause;
@@ -18,34 +18,63 @@ use moka_policy::policy::EvictionPolicy;
 use moka_rows::rows::RowStore;
 use moka_table::table::Table;
 
-/// Runs a whole maintenance. Every hidden and every expired row leaves, then the least recently used
-/// rows until those that stay admitted are within the capacity, and then each waiting row is
-/// admitted or leaves, as the policy says. It takes no memory.
+/// Runs a maintenance within a limit, if there is one. Every hidden and every expired row leaves,
+/// then the least recently used rows until those that stay admitted are within the capacity, and
+/// then each waiting row is admitted or leaves, as the policy says. A row that leaves by itself is a
+/// part of it, and a row that waits is one with the victims that leave for it. The parts are done in
+/// order, up to the first with which more than the limit would have left; it says whether a part
+/// was left. It takes no memory.
 ///
 /// It visits the waiting rows, for each of them the rows that would have to leave for it, and those
-/// that leave; where a row may be hidden, each admitted one. None is hidden after it.
-/// Each step from a row to the one behind it is counted in `visits`.
-pub fn maintain<K: Eq + Drop, V: Drop, R: RowStore<K, V>, F: FrequencySource>(
+/// that leave; where a row may be hidden, each admitted one. Each step from a row to the one behind
+/// it is counted in `visits`. Where no part was left, no row is hidden after it.
+pub fn maintain_up_to<K: Eq + Drop, V: Drop, R: RowStore<K, V>, F: FrequencySource>(
     table: &mut Table<K, V, R>,
     capacity: Option<u64>,
     policy: EvictionPolicy,
     source: &F,
     now: u64,
+    limit: Option<u64>,
     visits: &mut u128,
-)
+) -> bool
     // Whatever the lives are under which the rows have the deadlines that they keep.
     ensures maintained { (lives : Lives) → AreDated lives (entries table.old) →
-        IsMaintained lives (is_lru policy) (F.count source.now) capacity now table.old table.new }
+        IsMaintainedUpTo lives (is_lru policy) (F.count source.now) capacity now limit
+        table.old table.new result }
+    ensures unlimited { limit ≡ None → result ≡ false }
     ensures visited { visits.new ≤ visits.old
         + visits_of (is_lru policy) (F.count source.now) capacity now table.old }
     ensures room { table.old.room ≤ table.new.room }
-    ensures may_hide { table.new.may_hide ≡ false }
+    ensures may_hide { result ≡ false → table.new.may_hide ≡ false }
 {
-    sweep_admitted(table, now, visits);
-    sweep_waiting(table, now, visits);
-    shrink(table, capacity, visits);
-    judge_all(table, capacity, policy, source, visits);
+    let mut limit = limit;
+    if sweep_admitted(table, now, &mut limit, visits) {
+        return true;
+    }
+    if sweep_waiting(table, now, &mut limit, visits) {
+        return true;
+    }
     table.hides_nothing();
+    if shrink(table, capacity, &mut limit) {
+        return true;
+    }
+    judge_all(table, capacity, policy, source, &mut limit, visits)
+}
+
+/// Takes so many from a limit, if there is one, where it lets so many leave; else it stays.
+fn spend(limit: &mut Option<u64>, count: usize) -> bool
+    ensures lets { result ≡ lets_leave limit.old count }
+    ensures rest { limit.new ≡ (if result then limit_less limit.old count else limit.old) }
+{
+    let Some(most) = *limit else {
+        return true;
+    };
+    let count = count as u64;
+    if most < count {
+        return false;
+    }
+    *limit = Some(most - count);
+    true
 }
 
 /// Evicts the hidden and the expired admitted rows, in the order of use. Visits no other, but each
@@ -53,46 +82,53 @@ pub fn maintain<K: Eq + Drop, V: Drop, R: RowStore<K, V>, F: FrequencySource>(
 fn sweep_admitted<K: Eq + Drop, V: Drop, R: RowStore<K, V>>(
     table: &mut Table<K, V, R>,
     now: u64,
+    limit: &mut Option<u64>,
     visits: &mut u128,
-)
-    ensures admitted { table.new.admitted ≡ living_at now table.old.admitted }
-    ensures waiting { table.new.waiting ≡ table.old.waiting }
-    ensures notices { table.new.notices ≡ table.old.notices
-        ++ notices_dead (dead_at now table.old.admitted) }
+) -> bool
+    ensures swept { DoesParts notice_dead limit.old
+        (dead_admitted (λ p. not (is_dead now p)) [] table.old.admitted table.old.waiting)
+        table.old table.new limit.new result }
     ensures visited { visits.new ≤ visits.old + visits_sweeping table.old }
     ensures room { table.old.room ≤ table.new.room }
 {
     if table.may_hide() {
-        sweep_each(table, now, visits);
+        sweep_each(table, now, limit, visits)
     } else {
-        sweep_expired(table, now);
+        sweep_expired(table, now, limit)
     }
 }
 
 /// Evicts the expired admitted rows where none is hidden. Visits no other.
-fn sweep_expired<K: Eq + Drop, V: Drop, R: RowStore<K, V>>(table: &mut Table<K, V, R>, now: u64)
+fn sweep_expired<K: Eq + Drop, V: Drop, R: RowStore<K, V>>(
+    table: &mut Table<K, V, R>,
+    now: u64,
+    limit: &mut Option<u64>,
+) -> bool
     requires { AreShown table.old.admitted }
-    ensures admitted { table.new.admitted ≡ living_at now table.old.admitted }
-    ensures waiting { table.new.waiting ≡ table.old.waiting }
-    ensures notices { table.new.notices ≡ table.old.notices
-        ++ notices_dead (dead_at now table.old.admitted) }
+    ensures swept { DoesParts notice_dead limit.old
+        (dead_admitted (λ p. not (is_dead now p)) [] table.old.admitted table.old.waiting)
+        table.old table.new limit.new result }
     ensures room { table.old.room ≤ table.new.room }
 {
     while let Some(expired) = table.first_expired(now) {
+        if !spend(limit, 1) {
+            return true;
+        }
         table.evict(expired, RemovalCause::Expired);
     }
+    false
 }
 
 /// Evicts the hidden and the expired admitted rows by a walk. Visits each that is admitted.
 fn sweep_each<K: Eq + Drop, V: Drop, R: RowStore<K, V>>(
     table: &mut Table<K, V, R>,
     now: u64,
+    limit: &mut Option<u64>,
     visits: &mut u128,
-)
-    ensures admitted { table.new.admitted ≡ living_at now table.old.admitted }
-    ensures waiting { table.new.waiting ≡ table.old.waiting }
-    ensures notices { table.new.notices ≡ table.old.notices
-        ++ notices_dead (dead_at now table.old.admitted) }
+) -> bool
+    ensures swept { DoesParts notice_dead limit.old
+        (dead_admitted (λ p. not (is_dead now p)) [] table.old.admitted table.old.waiting)
+        table.old table.new limit.new result }
     ensures visited { visits.new ≤ visits.old + length table.old.admitted }
     ensures room { table.old.room ≤ table.new.room }
 {
@@ -102,9 +138,13 @@ fn sweep_each<K: Eq + Drop, V: Drop, R: RowStore<K, V>>(
         cursor = table.next(number, visits);
         let kept = table.row(number).info();
         if kept.is_dead(now) {
+            if !spend(limit, 1) {
+                return true;
+            }
             table.evict(number, kept.cause(now, RemovalCause::Expired));
         }
     }
+    false
 }
 
 /// Evicts the hidden and the expired rows that wait, in the order in which they came. Visits each
@@ -112,12 +152,12 @@ fn sweep_each<K: Eq + Drop, V: Drop, R: RowStore<K, V>>(
 fn sweep_waiting<K: Eq + Drop, V: Drop, R: RowStore<K, V>>(
     table: &mut Table<K, V, R>,
     now: u64,
+    limit: &mut Option<u64>,
     visits: &mut u128,
-)
-    ensures waiting { table.new.waiting ≡ living_at now table.old.waiting }
-    ensures admitted { table.new.admitted ≡ table.old.admitted }
-    ensures notices { table.new.notices ≡ table.old.notices
-        ++ notices_dead (dead_at now table.old.waiting) }
+) -> bool
+    ensures swept { DoesParts notice_dead limit.old
+        (dead_waiting (λ p. not (is_dead now p)) table.old.admitted [] table.old.waiting)
+        table.old table.new limit.new result }
     ensures visited { visits.new ≤ visits.old + length table.old.waiting }
     ensures room { table.old.room ≤ table.new.room }
 {
@@ -127,85 +167,123 @@ fn sweep_waiting<K: Eq + Drop, V: Drop, R: RowStore<K, V>>(
         cursor = table.next(number, visits);
         let info = table.row(number).info();
         if info.is_dead(now) {
+            if !spend(limit, 1) {
+                return true;
+            }
             table.evict(number, info.cause(now, RemovalCause::Expired));
         }
     }
+    false
 }
 
-/// Evicts the least recently used rows until those that stay admitted are within the capacity.
-/// Visits those that leave.
+/// Evicts the least recently used rows until those that stay admitted are within the capacity. It
+/// goes from no row to another.
 fn shrink<K: Eq + Drop, V: Drop, R: RowStore<K, V>>(
     table: &mut Table<K, V, R>,
     capacity: Option<u64>,
-    visits: &mut u128,
-)
-    ensures admitted { table.new.admitted ≡ drop
-        (front weight_of capacity 0 table.old.admitted) table.old.admitted }
-    ensures waiting { table.new.waiting ≡ table.old.waiting }
-    ensures notices { table.new.notices ≡ table.old.notices ++ notices_for Size
-        (take (front weight_of capacity 0 table.old.admitted) table.old.admitted) }
-    ensures visited { visits.new ≤ visits.old + front weight_of capacity 0 table.old.admitted }
+    limit: &mut Option<u64>,
+) -> bool
+    ensures shrunk { DoesParts (notice_for Size) limit.old
+        (over weight_of capacity table.old.admitted table.old.waiting)
+        table.old table.new limit.new result }
     ensures room { table.old.room ≤ table.new.room }
+    ensures may_hide { table.new.may_hide ≡ table.old.may_hide }
 {
-    let count = victims(table, capacity, 0, visits);
-    evict_first(table, count);
+    while !fits(capacity, 0, table.admitted_weight()) {
+        if !spend(limit, 1) {
+            return true;
+        }
+        table.evict_first(RemovalCause::Size);
+    }
+    false
 }
 
-/// Judges each waiting row, in order. Visits the waiting rows, and for each the victims that it
-/// would take.
+/// Judges each waiting row, in order, until one of them needs more to leave than the limit lets.
+/// Visits those that are judged, and for each the victims that it would take.
 fn judge_all<K: Eq + Drop, V: Drop, R: RowStore<K, V>, F: FrequencySource>(
     table: &mut Table<K, V, R>,
     capacity: Option<u64>,
     policy: EvictionPolicy,
     source: &F,
+    limit: &mut Option<u64>,
     visits: &mut u128,
-)
-    ensures admitted { table.new.admitted ≡
-        (after_parts (rows_of table.old)
-        (judgements (is_lru policy) (F.count source.now) capacity table.old)).admitted }
-    ensures waiting { table.new.waiting ≡ [] }
-    ensures notices { table.new.notices ≡ table.old.notices ++ notices_for Size
-        (evicted_in (judgements (is_lru policy) (F.count source.now) capacity table.old)) }
+) -> bool
+    ensures judged { DoesParts (notice_for Size) limit.old
+        (judgements (is_lru policy) (F.count source.now) capacity table.old)
+        table.old table.new limit.new result }
     ensures visited { visits.new ≤ visits.old + visits_judging (is_lru policy)
         (F.count source.now) capacity table.old.admitted table.old.waiting }
     ensures room { table.old.room ≤ table.new.room }
+    ensures may_hide { table.new.may_hide ≡ table.old.may_hide }
 {
     while let Some(number) = table.first_waiting() {
-        judge(table, capacity, policy, source, number, visits);
+        if judge(table, capacity, policy, source, number, limit, visits) {
+            return true;
+        }
     }
+    false
 }
 
 /// Judges the first row that waits. One that is heavier than the capacity is evicted. Else its
 /// victims, the least recently used rows that have to leave to make room for it, leave and it is
-/// admitted, if it needs none or wins against them; if it does not win, it is evicted itself.
+/// admitted, if it needs none or wins against them; if it does not win, it is evicted itself. Where
+/// the limit does not let so many leave, all stays, and it says so.
 fn judge<K: Eq + Drop, V: Drop, R: RowStore<K, V>, F: FrequencySource>(
     table: &mut Table<K, V, R>,
     capacity: Option<u64>,
     policy: EvictionPolicy,
     source: &F,
     number: usize,
+    limit: &mut Option<u64>,
     visits: &mut u128,
-)
+) -> bool
     requires first { Some number ≡ first_number table.old.waiting }
     requires apart { NumbersDiffer (entries table.old) }
     ensures judged { (first : ℕ × Row K V) × (rest : List (ℕ × Row K V)) × JudgesFirst
-        (is_lru policy) (F.count source.now) capacity first rest table.old table.new }
+        (is_lru policy) (F.count source.now) capacity limit.old first rest
+        table.old table.new limit.new result }
     ensures visited { visits.new ≤ visits.old + visits_first (is_lru policy) capacity
         table.old.admitted table.old.waiting }
     ensures room { table.old.room ≤ table.new.room }
+    ensures may_hide { table.new.may_hide ≡ table.old.may_hide }
 {
     let weight = table.row(number).info().policy_weight;
     if !fits(capacity, weight, 0) {
-        table.evict(number, RemovalCause::Size);
-        return;
+        return drop_first(table, number, limit);
     }
     let count = victims(table, capacity, weight, visits);
     if count == 0 || wins(table, policy, source, table.hash(number), count, visits) {
+        if !spend(limit, count) {
+            return true;
+        }
         evict_first(table, count);
         table.admit(number);
+        false
     } else {
-        table.evict(number, RemovalCause::Size);
+        drop_first(table, number, limit)
     }
+}
+
+/// Evicts a row, where the limit lets one leave. Where it does not, all stays, and it says so.
+fn drop_first<K: Eq + Drop, V: Drop, R: RowStore<K, V>>(
+    table: &mut Table<K, V, R>,
+    number: usize,
+    limit: &mut Option<u64>,
+) -> bool
+    requires first { Some number ≡ first_number table.old.waiting }
+    requires apart { NumbersDiffer (entries table.old) }
+    ensures dropped { (row : Row K V) → (rest : List (ℕ × Row K V))
+        → table.old.waiting ≡ (number, row) ∷ rest
+        → DoesParts (notice_for Size) limit.old (drops table.old.admitted (number, row) rest ∷ [])
+        table.old table.new limit.new result }
+    ensures room { table.old.room ≤ table.new.room }
+    ensures may_hide { table.new.may_hide ≡ table.old.may_hide }
+{
+    if !spend(limit, 1) {
+        return true;
+    }
+    table.evict(number, RemovalCause::Size);
+    false
 }
 
 /// How many of the least recently used rows have to leave to make room for this much more weight.
@@ -238,7 +316,7 @@ fn victims<K: Eq + Drop, V: Drop, R: RowStore<K, V>>(
 }
 
 /// Whether a row of this hash wins against this many of the least recently used rows: it does under
-/// [`EvictionPolicy::lru`], and else where its hash was noted more often than theirs together.
+/// [`EvictionPolicy::lru`], and else where its hash's estimate is greater than theirs together.
 fn wins<K: Eq + Drop, V: Drop, R: RowStore<K, V>, F: FrequencySource>(
     table: &Table<K, V, R>,
     policy: EvictionPolicy,
@@ -290,6 +368,7 @@ fn evict_first<K: Eq + Drop, V: Drop, R: RowStore<K, V>>(table: &mut Table<K, V,
     ensures notices { table.new.notices ≡ table.old.notices ++ notices_for Size
         (take count table.old.admitted) }
     ensures room { table.old.room ≤ table.new.room }
+    ensures may_hide { table.new.may_hide ≡ table.old.may_hide }
 {
     for _ in 0..count {
         table.evict_first(RemovalCause::Size);

@@ -10,7 +10,7 @@ use Rattle.moka_model.specs.declared.notification.RemovalCause.TheVariants.{Expl
 use Rattle.moka_model.specs.Lives.{Settings, Write, after_look}
 use Rattle.moka_model.specs.Events.{Event, Looked, TurnedDown, Written, Invalidated, Hidden, Maintained, Passed, Drawn, Taken, latest}
 use Rattle.moka_model.specs.Admission.{notes, frequency}
-use Rattle.moka_model.specs.Orders.{is_hit, used_where, written_in, removed_in, hidden_in, evicted, maintained, orders, standing}
+use Rattle.moka_model.specs.Orders.{is_hit, used_where, written_in, removed_in, hidden_in, is_cut, evicted, maintained, is_left_at, orders, standing}
 use Rattle.moka_model.specs.OrderLaws.{held}
 use Rattle.moka_model.specs.Removals.{Removal, removal_of, removals_of, removals_at, removals, taken, notices_left}
 use Rattle.moka_model.specs.Numbers.{next_number}
@@ -187,6 +187,15 @@ module _ {K V E : Type 0} (eq : K → K → Bool) (settings : Settings K V) (vie
   -- the orders have for each key the write that stands and no other
   pub held-stands : IsEquivalence eq → StandsFor eq settings view steps → (k : K) → held eq k view.books.orders ≡ option_to_list (standing eq settings k (events_in steps))
   held-stands laws stands k = ap (λ (b : Books K V). held eq k b.orders) stands.books ∙ held-orders eq settings laws k (events_in steps)
+
+  -- a limit leaves a part undone where it leaves one of the maintenance of its books
+  pub cut-stands : StandsFor eq settings view steps → (limit : Option ℕ) (at : ℕ) → is_left_at eq settings limit at (events_in steps) ≡ is_cut view.settings (view.frequency []) limit (max view.books.latest at) view.books.orders
+  cut-stands stands limit at =
+      let h : List (Event K V) = events_in steps in
+      sym
+      (ap (λ (s : Settings K V). is_cut s (view.frequency []) limit (max view.books.latest at) view.books.orders) stands.settings
+      ∙ ap (λ f. is_cut settings f limit (max view.books.latest at) view.books.orders) (frequency-now eq settings view h (view-of stands))
+      ∙ ap (λ (b : Books K V). is_cut settings (frequency settings h) limit (max b.latest at) b.orders) stands.books)
 
   -- after a call a state stands for the steps that follow, where its view is that of their events
   pub stands-after : StandsFor eq settings view steps → (call : Call K V) (new : View K V) → IsViewOf eq settings new (events_in (after eq settings call steps)) → StandsFor eq settings new (after eq settings call steps)

@@ -5,7 +5,7 @@ use Rattle.moka_model.specs.Lives.{Settings}
 use Rattle.moka_model.specs.Events.{Event, Looked, Written, Invalidated, Hidden, Maintained, Passed, Taken}
 use Rattle.moka_model.specs.Numbers.{stores_nothing}
 use Rattle.moka_model.specs.Steps.{AcceptedStep, events_in}
-use Rattle.moka_model.specs.Calls.{Call, Get, ContainsKey, Insert, Invalidate, Remove, InvalidateAll, InvalidateIf, RunPendingTasks, EntryCount, WeightedSize, TakeNotice, Done, Accepted, without_move, accepted, with_step, after, flush, IsLegal}
+use Rattle.moka_model.specs.Calls.{Call, Get, ContainsKey, Insert, Invalidate, Remove, InvalidateAll, InvalidateIf, RunPendingTasks, RunPendingTasksUpTo, EntryCount, WeightedSize, TakeNotice, Done, Accepted, without_move, accepted, with_step, after, flush, IsLegal}
 
 -- an event that is no write
 abbrev pub IsNoWrite : {K V : Type 0} → Event K V → Type 0
@@ -57,6 +57,7 @@ module _ {K V E : Type 0} (eq : K → K → Bool) (settings : Settings K V) wher
           (λ _. others (Hidden test) tt (events_in steps) p)
           (λ _. p)
       more (RunPendingTasks at) steps legal p = others (Maintained None at) tt (events_in steps) p
+      more (RunPendingTasksUpTo limit at) steps legal p = others (Maintained (Some limit) at) tt (events_in steps) p
       more EntryCount steps legal p = p
       more WeightedSize steps legal p = p
       more TakeNotice steps legal p = others Taken tt (events_in steps) p

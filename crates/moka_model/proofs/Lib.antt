@@ -1,14 +1,17 @@
 pub mod Books
 pub mod Callers
 pub mod EachWrite
+pub mod FewLeave
 pub mod Legal
 pub mod ListLemmas
+pub mod LimitedParts
 pub mod Maintenance
 pub mod MaintenanceAgreeing
 pub mod MaintenanceBounds
 pub mod MaintenanceBy
 pub mod MaintenanceCounted
 pub mod MaintenanceKept
+pub mod MaintenanceLimits
 pub mod MaintenanceOnes
 pub mod MaintenanceOrder
 pub mod MaintenanceWins

@@ -1,9 +1,9 @@
 -- A maintenance of the images of what waits and what is admitted is the image of the maintenance.
-use Rattle.std.proofs.Common.{◌≡◌, ◌+◌, ◌==◌, ◌||◌, ℕ, Bool, true, false, cond, nat_le, Option, Some, None, List, [], ◌∷◌, ◌++◌, map, take, drop, filter, not, refl, sym, ap, ◌∙◌}
-use Rattle.std.proofs.lemmas.List.{map-append, take-map, drop-map}
+use Rattle.std.proofs.Common.{◌≡◌, ◌+◌, ◌-◌, ◌==◌, ◌||◌, ℕ, Bool, true, false, cond, nat_le, Option, Some, None, List, [], ◌∷◌, ◌++◌, length, map, take, drop, filter, not, refl, sym, ap, ◌∙◌}
+use Rattle.std.proofs.lemmas.List.{length-map, map-append, take-map, drop-map}
 use Rattle.moka_model.proofs.ListLemmas.{map-filter}
 use Rattle.moka_model.specs.Orders.{changed_where, moved_last}
-use Rattle.moka_model.specs.Maintenance.{Queues, Part, total, fits, front, dead_admitted, dead_waiting, over, judge, judged, parts, evicted_in, after_parts}
+use Rattle.moka_model.specs.Maintenance.{Queues, Part, total, fits, front, dead_admitted, dead_waiting, over, judge, judged, parts, done, is_left, evicted_in, after_parts}
 
 -- a choice has the image of what was chosen
 pub chosen-by : {A B : Type 0} (f : A → B) (b : Bool) (x y : A) → cond b (f x) (f y) ≡ f (cond b x y)
@@ -24,6 +24,19 @@ module _ {X Y : Type 0} (g : X → Y) where
   pub after_parts-by : (q : Queues X) (ps : List (Part X)) → after_parts (queues_by q) (map part_by ps) ≡ queues_by (after_parts q ps)
   after_parts-by q [] = refl
   after_parts-by q (p ∷ ps) = after_parts-by p.after ps
+
+  -- a limit does the same of them
+  pub done-by : (limit : Option ℕ) (ps : List (Part X)) → done limit (map part_by ps) ≡ map part_by (done limit ps)
+  done-by None ps = refl
+  done-by (Some limit) [] = refl
+  done-by (Some limit) (p ∷ ps) =
+      rw (length-map p.evicted g, done-by (Some (limit - length p.evicted)) ps)
+      (chosen-by (map part_by) (nat_le (length p.evicted) limit) (p ∷ done (Some (limit - length p.evicted)) ps) [])
+
+  pub is_left-by : (limit : Option ℕ) (ps : List (Part X)) → is_left limit (map part_by ps) ≡ is_left limit ps
+  is_left-by None ps = refl
+  is_left-by (Some limit) [] = refl
+  is_left-by (Some limit) (p ∷ ps) = rw (length-map p.evicted g, is_left-by (Some (limit - length p.evicted)) ps) refl
 
   -- one more at the end
   pushed-by : (xs : List X) (x : X) → map g xs ++ g x ∷ [] ≡ map g (xs ++ x ∷ [])

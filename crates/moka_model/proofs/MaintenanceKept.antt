@@ -81,7 +81,7 @@ module _ {X : Type 0} (P : X → Type 0) where
           (InParts-append c d (InParts-over admitted waiting alive come)
           (InParts-judged (within weight capacity is_live wins q) waiting (All-drop P (front weight capacity 0 admitted) admitted alive) come)))
 
-  InParts-done : (limit : Option ℕ) (ps : List (Part X)) → InParts ps → InParts (done limit ps)
+  pub InParts-done : (limit : Option ℕ) (ps : List (Part X)) → InParts ps → InParts (done limit ps)
   InParts-done None ps a = a
   InParts-done (Some limit) [] a = tt
   InParts-done (Some limit) (p ∷ ps) a = cond_both (nat_le (length p.evicted) limit) (p ∷ done (Some (limit - length p.evicted)) ps) [] InParts (λ _. (a.0, InParts-done (Some (limit - length p.evicted)) ps a.1)) (λ _. tt)

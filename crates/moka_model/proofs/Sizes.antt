@@ -1,5 +1,5 @@
 -- How many stand, and how heavy they are.
-use Rattle.std.proofs.Common.{◌≡◌, ℕ, ◌+◌, ◌<◌, ◌≤◌, Bool, true, false, not, if◌then◌else◌, Option, Some, None, List, [], ◌∷◌, ◌++◌, length, map, refl, sym, ap, ◌∙◌, subst, length-append, append-nil, arith}
+use Rattle.std.proofs.Common.{◌≡◌, ℕ, ◌+◌, ◌<◌, ◌≤◌, Bool, true, false, not, if◌then◌else◌, Option, Some, None, List, [], ◌∷◌, ◌++◌, length, map, refl, sym, ap, ◌∙◌, subst, ⊎_elim, length-append, append-nil, arith}
 use Rattle.std.specs.Option.{option_to_list, option_map}
 use Rattle.std.specs.List.{All, filter}
 use Rattle.std.specs.Cmp.{IsEquivalence}
@@ -12,16 +12,18 @@ use Rattle.moka_model.specs.Maintenance.{Queues, total, parts, done, after_parts
 use Rattle.moka_model.specs.Lives.{Settings, Write, is_live, after_look, hidden_by}
 use Rattle.moka_model.specs.Events.{Event, Looked, TurnedDown, Written, Invalidated, Hidden, Maintained, Passed, Drawn, Taken, latest}
 use Rattle.moka_model.specs.Admission.{frequency, wins}
-use Rattle.moka_model.specs.Orders.{changed_where, moved_last, is_of, is_hit, used_where, opened_by, written_in, evicted, maintained, orders, is_evicted, standing}
+use Rattle.moka_model.specs.Orders.{changed_where, moved_last, is_of, is_hit, used_where, opened_by, written_in, evicted, evicted_at, maintained, orders, is_evicted, standing}
 use Rattle.moka_model.specs.Removals.{removal_of, removals_at, removals}
 use Rattle.moka_model.specs.Numbers.{entry_count, weighted_size, stores_nothing, flush_point, is_flush_due}
 use Rattle.moka_model.specs.Steps.{AcceptedStep, events_in}
 use Rattle.moka_model.specs.Calls.{flush, IsLegal}
 use Rattle.moka_model.specs.OrderLaws.{writes_of}
-use Rattle.moka_model.specs.SizeLaws.{WeighsOnes}
+use Rattle.moka_model.specs.SizeLaws.{WeighsOnes, LimitsSome}
 use Rattle.moka_model.proofs.Maintenance.{total-append, All-live-after, total-after-le}
 use Rattle.moka_model.proofs.MaintenanceAgreeing.{total-agrees}
 use Rattle.moka_model.proofs.MaintenanceBounds.{length-filter-le, waiting-within-le, admitted-within-le}
+use Rattle.moka_model.proofs.FewLeave.{one-leaves}
+use Rattle.moka_model.proofs.MaintenanceCounted.{count-maintenance}
 use Rattle.moka_model.proofs.MaintenanceOnes.{total-ones}
 use Rattle.moka_model.proofs.EachWrite.{orders-hold}
 use Rattle.moka_model.proofs.Legal.{IsNoWrite, legal-by_events}
@@ -40,6 +42,11 @@ length-moved_last {A} p change xs =
 -- where each weighs one, their weight is their number
 total-each_one : {X : Type 0} (weight : X → ℕ) (xs : List X) → All (λ x. weight x ≡ 1) xs → total weight xs ≡ length xs
 total-each_one weight xs ones = total-agrees weight (λ x. 1) xs ones ∙ total-ones (λ x. 1) (λ x. refl) xs
+
+-- all pass a test that all pass
+pub all-pass : {A : Type 0} (xs : List A) → filter (λ _. true) xs ≡ xs
+all-pass [] = refl
+all-pass (x ∷ xs) = ap (λ l. x ∷ l) (all-pass xs)
 
 module _ {K V : Type 0} (eq : K → K → Bool) (settings : Settings K V) where
   abbrev pub weight_of : Write K V → ℕ
@@ -113,19 +120,21 @@ module _ {K V : Type 0} (eq : K → K → Bool) (settings : Settings K V) where
       let one = length-opened_by-le (opening eq settings k v now) (writes_of eq k (q.admitted ++ q.waiting)) (used_where eq settings (is_of eq settings k) change q) in
       omega arith
 
-  -- behind a flush, if one is due, fewer wait than the flush point says
-  waiting-flush : (at : ℕ) (h : List (Event K V)) → length (orders eq settings (flush eq settings at h ++ h)).waiting < flush_point
-  waiting-flush at h =
-      cond_both (is_flush_due eq settings h) (Maintained None at ∷ []) [] (λ events. length (orders eq settings (events ++ h)).waiting < flush_point)
-      (λ _. let none = ap length (maintained-none_waits eq settings (frequency settings h) (latest (Maintained None at ∷ h)) (orders eq settings h)) in omega arith)
-      (λ few. leb-false 64 (length (orders eq settings h).waiting) few)
+  module _ (whole : settings.flush_limit ≡ None) where
+    -- behind a flush without a limit, if one is due, fewer wait than the flush point says
+    waiting-flush : (at : ℕ) (h : List (Event K V)) → length (orders eq settings (flush eq settings at h ++ h)).waiting < flush_point
+    waiting-flush at h =
+        cond_both (is_flush_due eq settings h) (Maintained settings.flush_limit at ∷ []) [] (λ events. length (orders eq settings (events ++ h)).waiting < flush_point)
+        (λ _. subst (λ limit. length (orders eq settings (Maintained limit at ∷ h)).waiting < flush_point) (sym whole)
+        (let none = ap length (maintained-none_waits eq settings (frequency settings h) (latest (Maintained None at ∷ h)) (orders eq settings h)) in omega arith))
+        (λ few. leb-false 64 (length (orders eq settings h).waiting) few)
 
-  -- so no more wait than that after a legal list
-  pub waiting-le : {E : Type 0} (steps : List (AcceptedStep K V E)) → IsLegal eq settings steps → length (orders eq settings (events_in steps)).waiting ≤ flush_point
-  waiting-le =
-      legal-by_events eq settings (λ h. length (orders eq settings h).waiting ≤ flush_point) (omega arith)
-      (λ e other h before. let fewer = waiting-no_write e other h in omega arith)
-      (λ k v at h stores before. let few = waiting-flush at h in let more = waiting-written k v at (flush eq settings at h ++ h) in omega arith)
+    -- so no more wait than that after a legal list
+    pub waiting-le : {E : Type 0} (steps : List (AcceptedStep K V E)) → IsLegal eq settings steps → length (orders eq settings (events_in steps)).waiting ≤ flush_point
+    waiting-le =
+        legal-by_events eq settings (λ h. length (orders eq settings h).waiting ≤ flush_point) (omega arith)
+        (λ e other h before. let fewer = waiting-no_write e other h in omega arith)
+        (λ k v at h stores before. let few = waiting-flush at h in let more = waiting-written k v at (flush eq settings at h ++ h) in omega arith)
 
   module _ (ones : WeighsOnes settings) where
     -- where each weighs one, so does each that stands
@@ -183,13 +192,100 @@ module _ {K V : Type 0} (eq : K → K → Bool) (settings : Settings K V) where
     admitted-le (Drawn ∷ h) capacity e = admitted-le h capacity e
     admitted-le (Taken ∷ h) capacity e = admitted-le h capacity e
 
-    -- and no more stand after a legal list than the capacity and the flush point together
-    pub entry_count-le : {E : Type 0} (steps : List (AcceptedStep K V E)) (capacity : ℕ) → settings.max_capacity ≡ Some capacity → IsLegal eq settings steps → entry_count eq settings (events_in steps) ≤ capacity + flush_point
-    entry_count-le steps capacity e legal =
-        let admitted = admitted-le (events_in steps) capacity e in
-        let waiting = waiting-le steps legal in
-        let all = length-append (orders eq settings (events_in steps)).admitted (orders eq settings (events_in steps)).waiting in
-        omega arith
+    -- what leaves in a maintenance and what stands after it are as many as stood before it
+    stand-maintained : (limit : Option ℕ) (at : ℕ) (h : List (Event K V)) → length (evicted_at eq settings limit at h) + entry_count eq settings (Maintained limit at ∷ h) ≡ entry_count eq settings h
+    stand-maintained limit at h =
+        let q : Queues (Write K V) = orders eq settings h in
+        let lives : Write K V → Bool = λ (w : Write K V). is_live settings w (latest (Maintained limit at ∷ h)) in
+        let all = count-maintenance (λ _. true) weight_of settings.max_capacity lives (wins settings (frequency settings h)) limit q in
+        let a = ap length (all-pass (evicted_at eq settings limit at h)) in
+        let b = ap length (all-pass ((orders eq settings (Maintained limit at ∷ h)).admitted ++ (orders eq settings (Maintained limit at ∷ h)).waiting)) in
+        let c = ap length (all-pass (q.admitted ++ q.waiting)) in
+        omega (arith, all, a, b, c)
+
+    -- no more stand after an event that is no write,
+    stand-no_write : (e : Event K V) → IsNoWrite e → (h : List (Event K V)) → entry_count eq settings (e ∷ h) ≤ entry_count eq settings h
+    stand-no_write (Looked k at) other h =
+        let q : Queues (Write K V) = orders eq settings h in
+        let now : ℕ = latest (Looked k at ∷ h) in
+        let after : Queues (Write K V) = orders eq settings (Looked k at ∷ h) in
+        let a : length after.admitted ≡ length q.admitted = length-moved_last (is_hit eq settings k now) (after_look settings now) q.admitted in
+        let w : length after.waiting ≡ length q.waiting = length-map q.waiting (λ (w : Write K V). if is_hit eq settings k now w then after_look settings now w else w) in
+        let both = length-append q.admitted q.waiting in
+        let both' = length-append after.admitted after.waiting in
+        omega (arith, a, w, both, both')
+    stand-no_write (TurnedDown k at) other h = omega arith
+    stand-no_write (Written k v at) other h = absurd other
+    stand-no_write (Invalidated k at) other h =
+        let q : Queues (Write K V) = orders eq settings h in
+        let after : Queues (Write K V) = orders eq settings (Invalidated k at ∷ h) in
+        let a : length after.admitted ≤ length q.admitted = length-filter-le (λ (w : Write K V). not (eq w.key k)) q.admitted in
+        let w : length after.waiting ≤ length q.waiting = length-filter-le (λ (w : Write K V). not (eq w.key k)) q.waiting in
+        let both = length-append q.admitted q.waiting in
+        let both' = length-append after.admitted after.waiting in
+        omega (arith, a, w, both, both')
+    stand-no_write (Hidden test) other h =
+        let q : Queues (Write K V) = orders eq settings h in
+        let after : Queues (Write K V) = orders eq settings (Hidden test ∷ h) in
+        let a : length after.admitted ≡ length q.admitted = length-map q.admitted (hidden_by test) in
+        let w : length after.waiting ≡ length q.waiting = length-map q.waiting (hidden_by test) in
+        let both = length-append q.admitted q.waiting in
+        let both' = length-append after.admitted after.waiting in
+        omega (arith, a, w, both, both')
+    stand-no_write (Maintained limit at) other h = let all = stand-maintained limit at h in omega (arith, all)
+    stand-no_write (Passed at) other h = omega arith
+    stand-no_write Drawn other h = omega arith
+    stand-no_write Taken other h = omega arith
+
+    -- and one more after a write
+    stand-written : (k : K) (v : V) (at : ℕ) (h : List (Event K V)) → entry_count eq settings (Written k v at ∷ h) ≤ entry_count eq settings h + 1
+    stand-written k v at h =
+        let now : ℕ = latest (Written k v at ∷ h) in
+        let q : Queues (Write K V) = orders eq settings h in
+        let after : Queues (Write K V) = orders eq settings (Written k v at ∷ h) in
+        let change : Write K V → Write K V = overwrite eq settings k v now in
+        let still : after.admitted ≡ moved_last (is_of eq settings k) change q.admitted = admitted-opened_by (opening eq settings k v now) (writes_of eq k (q.admitted ++ q.waiting)) (used_where eq settings (is_of eq settings k) change q) in
+        let a : length after.admitted ≡ length q.admitted = ap length still ∙ length-moved_last (is_of eq settings k) change q.admitted in
+        let w = waiting-written k v at h in
+        let both = length-append q.admitted q.waiting in
+        let both' = length-append after.admitted after.waiting in
+        omega (arith, a, w, both, both')
+
+    -- behind a maintenance that is due, within a limit that is not 0, one more has room
+    stand-limited : (limit : Option ℕ) → LimitsSome limit → (at : ℕ) (h : List (Event K V)) (capacity : ℕ) → settings.max_capacity ≡ Some capacity → entry_count eq settings h ≤ capacity + flush_point
+        → entry_count eq settings (Maintained limit at ∷ h) < capacity + flush_point
+    stand-limited None some at h capacity e before = let few = maintained-entry_count-le h at capacity e in omega (arith, few)
+    stand-limited (Some limit) some at h capacity e before =
+        let q : Queues (Write K V) = orders eq settings h in
+        let lives : Write K V → Bool = λ (w : Write K V). is_live settings w (latest (Maintained (Some limit) at ∷ h)) in
+        let each = each_one h in
+        ⊎_elim
+        (λ whole.
+        let same : entry_count eq settings (Maintained (Some limit) at ∷ h) ≡ entry_count eq settings (Maintained None at ∷ h) = ap (λ ps. let after : Queues (Write K V) = after_parts q ps in length (after.admitted ++ after.waiting)) whole in
+        let few = maintained-entry_count-le h at capacity e in
+        omega (arith, same, few))
+        (λ less. let all = stand-maintained (Some limit) at h in omega (arith, all, less, before))
+        (one-leaves weight_of settings.max_capacity lives (wins settings (frequency settings h)) q each.0 each.1 limit some)
+
+    -- behind a flush, if one is due, one more has room
+    stand-flush : LimitsSome settings.flush_limit → (at : ℕ) (h : List (Event K V)) (capacity : ℕ) → settings.max_capacity ≡ Some capacity → entry_count eq settings h ≤ capacity + flush_point
+        → entry_count eq settings (flush eq settings at h ++ h) < capacity + flush_point
+    stand-flush some at h capacity e before =
+        cond_both (is_flush_due eq settings h) (Maintained settings.flush_limit at ∷ []) [] (λ events. entry_count eq settings (events ++ h) < capacity + flush_point)
+        (λ _. stand-limited settings.flush_limit some at h capacity e before)
+        (λ few.
+        let waits = leb-false 64 (length (orders eq settings h).waiting) few in
+        let admits = admitted-le h capacity e in
+        let both = length-append (orders eq settings h).admitted (orders eq settings h).waiting in
+        omega (arith, waits, admits, both))
+
+    -- so no more stand after a legal list than the capacity and the flush point together
+    pub entry_count-le : {E : Type 0} → LimitsSome settings.flush_limit → (steps : List (AcceptedStep K V E)) (capacity : ℕ) → settings.max_capacity ≡ Some capacity → IsLegal eq settings steps → entry_count eq settings (events_in steps) ≤ capacity + flush_point
+    entry_count-le some steps capacity e legal =
+        legal-by_events eq settings (λ h. entry_count eq settings h ≤ capacity + flush_point) (omega arith)
+        (λ event other h before. let fewer = stand-no_write event other h in omega (arith, fewer, before))
+        (λ k v at h stores before. let room = stand-flush some at h capacity e before in let more = stand-written k v at (flush eq settings at h ++ h) in omega (arith, room, more))
+        steps legal
 
 -- What a cache of capacity 0 comes to, over every legal list.
 module _ {K V : Type 0} (eq : K → K → Bool) (settings : Settings K V) where

@@ -1,5 +1,5 @@
 -- The events of an accepted write, and the numbers it draws.
-use Rattle.std.proofs.Common.{◌≡◌, ◌↔◌, ℕ, ◌<◌, Bool, true, false, if◌then◌else◌, Option, List, [], ◌∷◌, refl, ap, ◌∙◌, arith}
+use Rattle.std.proofs.Common.{◌≡◌, ◌↔◌, ℕ, ◌<◌, Bool, true, false, if◌then◌else◌, List, [], ◌∷◌, refl, ap, ◌∙◌, arith}
 use Rattle.moka_model.specs.Lives.{Settings}
 use Rattle.moka_model.specs.Events.{Event, Written, Maintained, Passed}
 use Rattle.moka_model.specs.Numbers.{drawn_in, next_number, greatest_number, stores_nothing, is_flush_due}
@@ -8,7 +8,7 @@ use Rattle.moka_model.specs.Calls.{Insert, write_events, IsOutOfNumbers}
 
 module _ {K V : Type 0} (eq : K → K → Bool) (settings : Settings K V) (k : K) (v : V) (at : ℕ) (h : List (Event K V)) where
   abbrev plain_events : Bool → Bool → List (Event K V)
-  plain_events nothing due = if nothing then Passed at ∷ [] else Written k v at ∷ (if due then Maintained Option.None at ∷ [] else [])
+  plain_events nothing due = if nothing then Passed at ∷ [] else Written k v at ∷ (if due then Maintained settings.flush_limit at ∷ [] else [])
 
   -- where the capacity is 0, just its moment passes
   pub write_events-nothing : stores_nothing settings.max_capacity ≡ true → write_events eq settings k v at h ≡ Passed at ∷ []
@@ -19,7 +19,7 @@ module _ {K V : Type 0} (eq : K → K → Bool) (settings : Settings K V) (k : K
   write_events-plain stores few = ap (λ t. plain_events t (is_flush_due eq settings h)) stores ∙ ap (plain_events false) few
 
   -- and else a maintenance comes before it
-  pub write_events-flushed : stores_nothing settings.max_capacity ≡ false → is_flush_due eq settings h ≡ true → write_events eq settings k v at h ≡ Written k v at ∷ Maintained Option.None at ∷ []
+  pub write_events-flushed : stores_nothing settings.max_capacity ≡ false → is_flush_due eq settings h ≡ true → write_events eq settings k v at h ≡ Written k v at ∷ Maintained settings.flush_limit at ∷ []
   write_events-flushed stores due = ap (λ t. plain_events t (is_flush_due eq settings h)) stores ∙ ap (plain_events false) due
 
 module _ {K V E : Type 0} (eq : K → K → Bool) (settings : Settings K V) (k : K) (v : V) (at : ℕ) (steps : List (AcceptedStep K V E)) where

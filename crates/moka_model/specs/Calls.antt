@@ -4,7 +4,7 @@ use Rattle.std.specs.Prelude.{option_map, IsSomeAnd}
 use Rattle.std.specs.Prelude.{is_some, slice_get}
 use Rattle.moka_model.specs.Lives.{Settings, Write}
 use Rattle.moka_model.specs.Events.{Event, Looked, Written, Invalidated, Hidden, Maintained, Passed, Taken, latest}
-use Rattle.moka_model.specs.Orders.{live}
+use Rattle.moka_model.specs.Orders.{live, is_left_at}
 use Rattle.moka_model.specs.Removals.{Removal, notices_left}
 use Rattle.moka_model.specs.Numbers.{drawn_in, next_number, greatest_number, entry_count, weighted_size, stores_nothing, is_flush_due}
 use Rattle.moka_model.specs.Steps.{AcceptedStep, events_in}
@@ -18,6 +18,7 @@ pub data Call (K V : Type 0) : Type 0 where  -- A call, with what it hands in; t
   InvalidateAll : Call K V
   InvalidateIf : (K → V → Bool) → Call K V
   RunPendingTasks : ℕ → Call K V
+  RunPendingTasksUpTo : ℕ → ℕ → Call K V  -- a limit, and a moment
   EntryCount : Call K V
   WeightedSize : Call K V
   TakeNotice : Call K V
@@ -27,6 +28,7 @@ pub data Answer (K V E : Type 0) : Type 0 where  -- An answer, with the values t
   Contains : Bool → Answer K V E
   Done : Answer K V E
   Counted : ℕ → Answer K V E
+  Left : Bool → Answer K V E
   Noticed : Option (Removal K V) → Answer K V E
 
 pub record Accepted (K V E : Type 0) : Type 0 where  -- What an accepted call answers, and the step that it is.
@@ -42,7 +44,7 @@ module _ {K V : Type 0} (eq : K → K → Bool) (settings : Settings K V) where
   live_at k at h = live eq settings k (max (latest h) at) h
 
   abbrev pub flush : ℕ → List (Event K V) → List (Event K V)  -- the maintenance before a write, where one is due
-  flush at h = if is_flush_due eq settings h then Maintained None at ∷ [] else []
+  flush at h = if is_flush_due eq settings h then Maintained settings.flush_limit at ∷ [] else []
 
   -- the events of a write, the newest first; where the capacity is 0 just its moment is recorded
   abbrev pub write_events : K → V → ℕ → List (Event K V) → List (Event K V)
@@ -61,6 +63,8 @@ module _ {K V E : Type 0} (eq : K → K → Bool) (settings : Settings K V) (ste
   accepted InvalidateAll = Some (without_move Done (Hidden (λ k v. true) ∷ []))
   accepted (InvalidateIf test) = if settings.supports_closures then Some (without_move Done (Hidden test ∷ [])) else None
   accepted (RunPendingTasks at) = Some (without_move Done (Maintained None at ∷ []))
+  accepted (RunPendingTasksUpTo limit at) =
+      Some (without_move (Left (is_left_at eq settings (Some limit) at (events_in steps))) (Maintained (Some limit) at ∷ []))
   accepted EntryCount = Some (without_move (Counted (min (entry_count eq settings (events_in steps)) greatest_number)) [])
   accepted WeightedSize = Some (without_move (Counted (min (weighted_size eq settings (events_in steps)) greatest_number)) [])
   accepted TakeNotice = Some (without_move (Noticed (slice_get (notices_left eq settings (events_in steps)) 0)) (Taken ∷ []))

@@ -26,6 +26,7 @@ pub record Settings (K V : Type 0) : Type 0 where
   pub max_capacity : Option ℕ
   pub first_number : ℕ
   pub supports_closures : Bool  -- whether it hides by tests
+  pub flush_limit : Option ℕ  -- how many may leave in a maintenance before a write; none is no limit
   pub behaviour : Behaviour K V
   pub frequency : List ℕ → ℕ → ℕ
 

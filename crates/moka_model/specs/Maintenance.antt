@@ -1,5 +1,5 @@
 -- A maintenance of two queues, as the list of its parts, over anything that has a weight and may be dead.
-use Rattle.std.specs.Prelude.{ℕ, ◌+◌, ◌-◌, Bool, true, ◌||◌, ◌==◌, if◌then◌else◌, nat_le, Option, Some, None, List, [], ◌∷◌, ◌++◌}
+use Rattle.std.specs.Prelude.{ℕ, ◌+◌, ◌-◌, Bool, true, false, ◌||◌, ◌==◌, if◌then◌else◌, nat_le, Option, Some, None, List, [], ◌∷◌, ◌++◌}
 use Rattle.std.specs.Prelude.{length, take, drop, filter}
 
 -- Two orders: the admitted, the least recently used first, and those that wait for admission, in the order in which they came.
@@ -71,6 +71,11 @@ module _ {X : Type 0} where
   done None ps = ps
   done (Some limit) [] = []
   done (Some limit) (p ∷ ps) = if nat_le (length p.evicted) limit then p ∷ done (Some (limit - length p.evicted)) ps else []
+
+  abbrev pub is_left : Option ℕ → List (Part X) → Bool  -- whether a limit leaves a part undone
+  is_left None ps = false
+  is_left (Some limit) [] = false
+  is_left (Some limit) (p ∷ ps) = if nat_le (length p.evicted) limit then is_left (Some (limit - length p.evicted)) ps else true
 
   abbrev pub evicted_in : List (Part X) → List X  -- all that leaves in these parts, in order
   evicted_in [] = []

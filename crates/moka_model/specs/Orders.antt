@@ -1,7 +1,7 @@
 -- What stands after a list of events, by key and in two orders. Keys are compared by `eq`, their `Eq`, and never by identity.
 use Rattle.std.specs.Prelude.{ℕ, Bool, not, ◌&&◌, if◌then◌else◌, Option, Some, None, List, [], ◌∷◌, ◌++◌, option_map, map, filter}
 use Rattle.std.specs.List.{list_any}
-use Rattle.moka_model.specs.Maintenance.{Queues, Part, parts, done, evicted_in, after_parts}
+use Rattle.moka_model.specs.Maintenance.{Queues, Part, parts, done, is_left, evicted_in, after_parts}
 use Rattle.moka_model.specs.Lives.{Settings, Write, is_live, live_one, after_look, after_write, hidden_by}
 use Rattle.moka_model.specs.Events.{Event, Looked, TurnedDown, Written, Invalidated, Hidden, Maintained, Passed, Drawn, Taken, latest}
 use Rattle.moka_model.specs.Admission.{frequency, wins}
@@ -18,10 +18,15 @@ abbrev pub hidden_in : {K V : Type 0} → (K → V → Bool) → Queues (Write K
 hidden_in test q = record { admitted = map (hidden_by test) q.admitted; waiting = map (hidden_by test) q.waiting }
 
 module _ {K V : Type 0} (settings : Settings K V) (frequency_of : ℕ → ℕ) where
-  -- A maintenance of these orders at a moment, within a limit if there is one.
-  abbrev pub maintenance : Option ℕ → ℕ → Queues (Write K V) → List (Part (Write K V))
-  maintenance limit at q =
-      done limit (parts (λ w. w.policy_weight) settings.max_capacity (λ w. is_live settings w at) (wins settings frequency_of) q)
+  -- The parts of a maintenance of these orders at a moment.
+  abbrev pub parts_at : ℕ → Queues (Write K V) → List (Part (Write K V))
+  parts_at at q = parts (λ w. w.policy_weight) settings.max_capacity (λ w. is_live settings w at) (wins settings frequency_of) q
+
+  abbrev pub maintenance : Option ℕ → ℕ → Queues (Write K V) → List (Part (Write K V))  -- those done within a limit, if there is one
+  maintenance limit at q = done limit (parts_at at q)
+
+  abbrev pub is_cut : Option ℕ → ℕ → Queues (Write K V) → Bool  -- whether the limit leaves a part undone
+  is_cut limit at q = is_left limit (parts_at at q)
 
   abbrev pub evicted : Option ℕ → ℕ → Queues (Write K V) → List (Write K V)  -- what leaves in it, in order
   evicted limit at q = evicted_in (maintenance limit at q)
@@ -67,6 +72,9 @@ module _ {K V : Type 0} (eq : K → K → Bool) (settings : Settings K V) where
 
   abbrev pub evicted_at : Option ℕ → ℕ → List (Event K V) → List (Write K V)  -- what leaves in a maintenance, the events before it being h
   evicted_at limit at h = evicted settings (frequency settings h) limit (latest (Maintained limit at ∷ h)) (orders h)
+
+  abbrev pub is_left_at : Option ℕ → ℕ → List (Event K V) → Bool  -- whether it leaves a part undone
+  is_left_at limit at h = is_cut settings (frequency settings h) limit (latest (Maintained limit at ∷ h)) (orders h)
 
   abbrev pub is_evicted : K → Option ℕ → ℕ → List (Event K V) → Bool  -- whether the write that stands for a key leaves in it
   is_evicted k limit at h = list_any (λ w. eq w.key k) (evicted_at limit at h)

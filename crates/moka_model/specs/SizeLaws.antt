@@ -1,5 +1,5 @@
 -- The words of the laws of a bounded size.
-use Rattle.std.specs.Prelude.{◌≡◌, ℕ, ◌-◌, Bool, if◌then◌else◌, Some, None, List, ◌∷◌, length}
+use Rattle.std.specs.Prelude.{◌≡◌, ℕ, ◌-◌, Bool, if◌then◌else◌, Option, ◌<◌, Some, None, List, ◌∷◌, length}
 use Rattle.moka_model.specs.declared.notification.RemovalCause.{RemovalCause}
 use Rattle.moka_model.specs.declared.notification.RemovalCause.TheVariants.{Expired, Explicit}
 use Rattle.moka_model.specs.Maintenance.{front}
@@ -12,6 +12,11 @@ use Rattle.moka_model.specs.Removals.{Removal}
 -- each key weighs one with each value
 abbrev pub WeighsOnes : {K V : Type 0} → Settings K V → Type 0
 WeighsOnes {K} {V} settings = (k : K) (v : V) → settings.behaviour.weight k v ≡ 1
+
+-- a limit, if there is one, is not 0
+abbrev pub LimitsSome : Option ℕ → Type 0
+LimitsSome None = Unit {0}
+LimitsSome (Some limit) = 0 < limit
 
 -- The words of one maintenance without a limit, at a moment, the events before it being h.
 module _ {K V : Type 0} (eq : K → K → Bool) (settings : Settings K V) (at : ℕ) (h : List (Event K V)) where

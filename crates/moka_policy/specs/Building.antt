@@ -1,7 +1,8 @@
--- Which lives a cache is not built with.
-use Rattle.std.specs.Prelude.{ℕ, ◌*◌, nat_lt, Bool, false, Option, Some, None, if◌then◌else◌}
+-- Which lives and which flush limits a cache is not built with.
+use Rattle.std.specs.Prelude.{ℕ, ◌*◌, nat_eq, nat_lt, Bool, false, Option, Some, None, if◌then◌else◌}
 use Rattle.moka_policy.specs.declared.builder_utils.BuildError.{BuildError}
 use Rattle.moka_policy.specs.declared.builder_utils.BuildError.TheVariants.{TimeToLiveTooLong, TimeToIdleTooLong}
+use Rattle.moka_policy.specs.declared.builder_utils.BuildError.TheVariants.{ZeroFlushLimit, FlushLimitWithWeigher}
 
 -- 1000 years of 365 days, in nanoseconds
 abbrev pub longest_life : ℕ
@@ -16,3 +17,9 @@ abbrev pub too_long_of : Option ℕ → Option ℕ → Option BuildError
 too_long_of time_to_live time_to_idle =
     if is_too_long time_to_live then Some TimeToLiveTooLong
     else (if is_too_long time_to_idle then Some TimeToIdleTooLong else None)
+
+-- Why a cache is not built with a flush limit, and with a weigher or without: the 0 first.
+abbrev pub flush_refused_of : Option ℕ → Bool → Option BuildError
+flush_refused_of None has_weigher = None
+flush_refused_of (Some limit) has_weigher =
+    if nat_eq limit 0 then Some ZeroFlushLimit else (if has_weigher then Some FlushLimitWithWeigher else None)

@@ -1,7 +1,7 @@
 //! What a cache is not built with, and why.
 ghost use Rattle.std.specs.Prelude.{◌≡◌, Some, None, option_map, OnOk, IfErr};
 ghost use Rattle.std.specs.Duration.{as_nanos};
-ghost use Rattle.moka_policy.specs.Building.{longest_life, is_too_long, too_long_of};
+ghost use Rattle.moka_policy.specs.Building.{longest_life, is_too_long, too_long_of, flush_refused_of};
 
 use std::time::Duration;
 use thiserror::Error;
@@ -24,6 +24,12 @@ pub enum BuildError {
     /// Memory was refused.
     #[error("OutOfMemory")]
     OutOfMemory,
+    /// Its flush limit is 0.
+    #[error("ZeroFlushLimit")]
+    ZeroFlushLimit,
+    /// It was to have a weigher beside its flush limit.
+    #[error("FlushLimitWithWeigher")]
+    FlushLimitWithWeigher,
 }
 
 // 1000 years of 365 days, in nanoseconds.
@@ -47,6 +53,19 @@ pub fn ensure_expirations(
         return Err(BuildError::TimeToIdleTooLong);
     }
     Ok(())
+}
+
+/// Whether a cache may be built with this flush limit, beside a weigher if `has_weigher`: a limit is
+/// not 0, and stands beside no weigher. Where neither is so, the 0 is named.
+pub fn ensure_flush_limit(flush_limit: Option<u64>, has_weigher: bool) -> Result<(), BuildError>
+    ensures accepted { OnOk result (flush_refused_of flush_limit has_weigher ≡ None) }
+    ensures refused { IfErr result (λ cause. flush_refused_of flush_limit has_weigher ≡ Some cause) }
+{
+    match flush_limit {
+        Some(0) => Err(BuildError::ZeroFlushLimit),
+        Some(_) if has_weigher => Err(BuildError::FlushLimitWithWeigher),
+        _ => Ok(()),
+    }
 }
 
 // Whether a life is longer than any may be.

@@ -11,7 +11,7 @@ use Rattle.moka_conserved.proofs.Callers.{is_conserved, given-by_answer}
 use Rattle.moka_table.specs.Table.{removal_of}
 use Rattle.moka_state.specs.declared.step.Step.{Step}
 use Rattle.moka_state.specs.declared.step.Reply.{Reply}
-use Rattle.moka_state.specs.declared.step.Reply.TheVariants.{Found, Contains, Done, Counted, Noticed, Refused, PredicateRefused}
+use Rattle.moka_state.specs.declared.step.Reply.TheVariants.{Found, Contains, Done, Counted, Left, Noticed, Refused, PredicateRefused}
 use Rattle.moka_state.specs.Step.{call_of, IsReplyTo, IsRun, after_reply, after_all}
 use Rattle.moka_state.specs.Noticed.{noticed_in}
 
@@ -21,6 +21,7 @@ noticed_in-cons (Found v) replies = refl
 noticed_in-cons (Contains b) replies = refl
 noticed_in-cons Done replies = refl
 noticed_in-cons (Counted n) replies = refl
+noticed_in-cons (Left b) replies = refl
 noticed_in-cons (Noticed None) replies = refl
 noticed_in-cons (Noticed (Some n)) replies = refl
 noticed_in-cons (Refused cause) replies = refl
@@ -34,6 +35,7 @@ module _ {K V E : Type 0} (eq : K → K → Bool) (is_clone : V → V → Type 0
   given-reply steps call (Contains b) is = given-by_answer is_clone eq settings steps call (Answer.Contains b) is.0
   given-reply steps call Done is = given-by_answer is_clone eq settings steps call Answer.Done is.0
   given-reply steps call (Counted n) is = given-by_answer is_clone eq settings steps call (Answer.Counted n) is.0
+  given-reply steps call (Left b) is = given-by_answer is_clone eq settings steps call (Answer.Left b) is.0
   given-reply steps call (Noticed None) is = given-by_answer is_clone eq settings steps call (Answer.Noticed None) is.0
   given-reply steps call (Noticed (Some n)) is = given-by_answer is_clone eq settings steps call (Answer.Noticed (Some (removal_of n))) is.0
   given-reply steps call (Refused cause) is = sym (append-nil (given_out eq settings (events_in steps)))

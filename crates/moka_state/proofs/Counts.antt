@@ -5,7 +5,7 @@ use Rattle.std.proofs.lemmas.List.{length-map, map-append}
 use Rattle.moka_model.specs.Lives.{Settings, Write}
 use Rattle.moka_model.specs.Maintenance.{total}
 use Rattle.moka_model.specs.Numbers.{flush_point, entry_count, weighted_size}
-use Rattle.moka_model.specs.SizeLaws.{WeighsOnes}
+use Rattle.moka_model.specs.SizeLaws.{WeighsOnes, LimitsSome}
 use Rattle.moka_model.specs.Steps.{AcceptedStep, events_in}
 use Rattle.moka_model.specs.Calls.{RunPendingTasks, after}
 use Rattle.moka_model.specs.StandsFor.{Books, View, StandsFor}
@@ -33,13 +33,13 @@ module _ {K V E : Type 0} (eq : K → K → Bool) (settings : Settings K V) (vie
   writes-weighed = ap (λ (b : Books K V). total (λ (w : Write K V). w.policy_weight) (b.orders.admitted ++ b.orders.waiting)) stands.books
 
   -- where each weighs one, with a capacity, there are as many at most as it says and the flush point together
-  pub writes-bounded : WeighsOnes view.settings → IfSome view.settings.max_capacity (λ capacity. length (writes_in view) ≤ capacity + flush_point)
-  writes-bounded ones = go view.settings.max_capacity refl
+  pub writes-bounded : WeighsOnes view.settings → LimitsSome view.settings.flush_limit → IfSome view.settings.max_capacity (λ capacity. length (writes_in view) ≤ capacity + flush_point)
+  writes-bounded ones limits = go view.settings.max_capacity refl
     where
       go : (o : Option ℕ) → view.settings.max_capacity ≡ o → IfSome o (λ capacity. length (writes_in view) ≤ capacity + flush_point)
       go None none = tt
       go (Some capacity) some =
-          let few = entry_count-le eq settings (subst WeighsOnes stands.settings ones) steps capacity (sym (ap (λ (s : Settings K V). s.max_capacity) stands.settings) ∙ some) stands.legal in
+          let few = entry_count-le eq settings (subst WeighsOnes stands.settings ones) (subst (λ (s : Settings K V). LimitsSome s.flush_limit) stands.settings limits) steps capacity (sym (ap (λ (s : Settings K V). s.max_capacity) stands.settings) ∙ some) stands.legal in
           omega (arith, writes-counted)
 
 -- where each weighs one, with a capacity, no more after a maintenance than it says

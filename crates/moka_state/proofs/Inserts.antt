@@ -1,5 +1,5 @@
 -- What a state stands for after a write: a write alone, one behind its flush, or a moment that passes.
-use Rattle.std.proofs.Common.{◌≡◌, ℕ, ◌+◌, ◌<◌, ◌≤◌, ◌^◌, max, nat_le, Bool, true, false, None, List, [], ◌∷◌, ◌++◌, length, sym, ap, ◌∙◌, subst, arith}
+use Rattle.std.proofs.Common.{◌≡◌, ℕ, ◌+◌, ◌<◌, ◌≤◌, ◌^◌, max, nat_le, Bool, true, false, List, [], ◌∷◌, ◌++◌, length, sym, ap, ◌∙◌, subst, arith}
 use Rattle.std.specs.Arc.{arc_value}
 use Rattle.std.specs.declared.sync.Arc.{Arc}
 use Rattle.std.specs.declared.alloc.Global.{Global}
@@ -21,7 +21,7 @@ use Rattle.moka_table.specs.declared.target.Target.{Target}
 use Rattle.moka_table.specs.Lookup.{IsLookupOf}
 use Rattle.moka_table.specs.Target.{IsTargetNow, IsInfoOf, Puts}
 use Rattle.moka_table.specs.Table.{Contents, SameRows, entries, stored_write, stored_writes}
-use Rattle.moka_maintain.specs.Maintain.{IsMaintained}
+use Rattle.moka_maintain.specs.Maintain.{IsMaintainedUpTo}
 use Rattle.moka_state.specs.State.{IsSound}
 use Rattle.moka_state.proofs.Maintained.{HasLives, becomes-maintained}
 use Rattle.moka_state.proofs.Targets.{becomes-put-now, one-kept, where-now}
@@ -59,17 +59,18 @@ module _ {K V E : Type 0} (eq : K → K → Bool) (laws : IsEquivalence eq) (set
       by_events (Written k v at ∷ []) (write_events-plain eq settings k v at (events_in steps) (stores-alike ∙ stores) (flush-counted eq settings old steps stands ∙ few))
       (view-becomes eq laws settings old new (events_in steps) (Written k v at) (view-of eq settings old steps stands) becomes)
 
-  stands-flushed : stores_nothing old.settings.max_capacity ≡ false → nat_le 64 (length old.books.orders.waiting) ≡ true → (between : View K V) → Becomes eq old (Maintained None at) between → Becomes eq between (Written k v at) new
+  stands-flushed : stores_nothing old.settings.max_capacity ≡ false → nat_le 64 (length old.books.orders.waiting) ≡ true → (between : View K V) → Becomes eq old (Maintained old.settings.flush_limit at) between → Becomes eq between (Written k v at) new
       → StandsFor eq settings new (after eq settings (Insert k v at) steps)
   stands-flushed stores many between flushed becomes =
-      by_events (Written k v at ∷ Maintained None at ∷ []) (write_events-flushed eq settings k v at (events_in steps) (stores-alike ∙ stores) (flush-counted eq settings old steps stands ∙ many))
-      (view-becomes eq laws settings between new (Maintained None at ∷ events_in steps) (Written k v at)
-      (view-becomes eq laws settings old between (events_in steps) (Maintained None at) (view-of eq settings old steps stands) flushed) becomes)
+      let flush : Becomes eq old (Maintained settings.flush_limit at) between = subst (λ (s : Settings K V). Becomes eq old (Maintained s.flush_limit at) between) stands.settings flushed in
+      by_events (Written k v at ∷ Maintained settings.flush_limit at ∷ []) (write_events-flushed eq settings k v at (events_in steps) (stores-alike ∙ stores) (flush-counted eq settings old steps stands ∙ many))
+      (view-becomes eq laws settings between new (Maintained settings.flush_limit at ∷ events_in steps) (Written k v at)
+      (view-becomes eq laws settings old between (events_in steps) (Maintained settings.flush_limit at) (view-of eq settings old steps stands) flush) becomes)
 
 -- A value that is put where the key's target is once a maintenance has run: the state stands for the steps and the write.
 module _ {K V E : Type 0} (eq : K → K → Bool) (laws : IsEquivalence eq) (settings : Settings K V) (lives : Lives) (expired_alike : HasLives settings lives) (contents kept new : Contents K V) (frequency : List ℕ → ℕ → ℕ) (moment number : ℕ)
     (given : Settings K V) (steps : List (AcceptedStep K V E)) (stands : StandsFor eq given (view_with settings contents frequency moment number) steps) (key : K) (v : V) (at : ℕ)
-    (is : IsMaintained lives settings.behaviour.is_lru (frequency []) settings.max_capacity (max moment at) contents kept) where
+    (is_cut : Bool) (is : IsMaintainedUpTo lives settings.behaviour.is_lru (frequency []) settings.max_capacity (max moment at) settings.flush_limit contents kept is_cut) where
   pub stands-put-flushed : {keeps : K → V → Type 0} {hash_of : K → ℕ} → IsSound keeps hash_of lives contents → IsSound keeps hash_of lives kept → ((a b : K) → eq a b ≡ true → hash_of a ≡ hash_of b)
       → (hash weight : ℕ) (info : EntryInfo) (lookup : Lookup K) (own : Arc K Global) (target : Target K) → max moment at < 2 ^ 64 → hash ≡ hash_of key → arc_value own ≡ key → IsLookupOf eq key hash (entries contents) lookup → IsTargetNow eq hash lookup own (entries kept) target
       → hash ≡ settings.behaviour.hash key → weight ≡ settings.behaviour.weight key v → IsInfoOf settings.behaviour target v weight (max moment at) kept info → Puts target hash v info kept new
@@ -77,9 +78,9 @@ module _ {K V E : Type 0} (eq : K → K → Bool) (laws : IsEquivalence eq) (set
       → StandsFor eq given (view_with settings new frequency (max moment at) (number + 1)) (after eq given (Insert key v at) steps)
   stands-put-flushed sound sound_then respects hash weight info lookup own target is_moment hashed owned found still hashes weighs info_is put stores many =
       let one = one-each eq laws given (view_with settings contents frequency moment number) steps stands in
-      let flushed = becomes-maintained eq settings lives expired_alike contents frequency moment number at kept is in
-      let ones = one-kept eq laws settings (frequency []) (max moment at) contents kept one flushed.orders in
-      let there = where-now eq laws settings (frequency []) (max moment at) contents kept one flushed.orders key sound sound_then respects hash lookup own target hashed owned found still in
+      let flushed = becomes-maintained eq settings lives expired_alike contents frequency moment number at settings.flush_limit kept is_cut is in
+      let ones = one-kept eq laws settings (frequency []) settings.flush_limit (max moment at) contents kept one flushed.orders in
+      let there = where-now eq laws settings (frequency []) settings.flush_limit (max moment at) contents kept one flushed.orders key sound sound_then respects hash lookup own target hashed owned found still in
       stands-flushed eq laws given (view_with settings contents frequency moment number) (view_with settings new frequency (max moment at) (number + 1)) steps stands key v at stores many
       (view_with settings kept frequency (max moment at) number) flushed
       (becomes-put-now eq laws key kept settings lives expired_alike frequency moment number ones sound_then.dated new v at hash weight info target is_moment there hashes weighs info_is put)

@@ -8,6 +8,7 @@ pub mod Inserts
 pub mod Maintained
 pub mod Orders
 pub mod Runs
+mod Scans
 pub mod Sound
 pub mod Targets
 pub mod Views

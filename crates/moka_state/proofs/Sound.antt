@@ -1,5 +1,5 @@
 -- What a state keeps to stays so: after a change of one row, and after a maintenance.
-use Rattle.std.proofs.Common.{◌≡◌, ℕ, Bool, List, [], ◌∷◌, ◌++◌, map, Option, Some, sym, ap, ◌∙◌, append_assoc}
+use Rattle.std.proofs.Common.{◌≡◌, ℕ, Bool, List, [], ◌∷◌, ◌++◌, map, Option, Some, sym, ap, ◌∙◌, subst, append_assoc}
 use Rattle.std.specs.Arc.{arc_value}
 use Rattle.moka_model.specs.declared.notification.Notice.{Notice}
 use Rattle.moka_rows.specs.declared.rows.EntryInfo.{EntryInfo}
@@ -8,10 +8,11 @@ use Rattle.moka_state.specs.State.{IsSound}
 use Rattle.std.specs.List.{AllByRecursion}
 use Rattle.moka_rows.specs.declared.rows.Row.{Row}
 use Rattle.moka_model.specs.declared.notification.RemovalCause.{RemovalCause}
-use Rattle.moka_model.specs.Maintenance.{evicted_in, after_parts}
+use Rattle.moka_model.specs.Maintenance.{done, evicted_in, after_parts}
+use Rattle.moka_model.specs.MaintenanceLaws.{everything}
 use Rattle.moka_ways.specs.declared.lives.Lives.{Lives}
 use Rattle.moka_ways.specs.Lives.{IsDated}
-use Rattle.moka_maintain.specs.Maintain.{is_alive, notice_at, rows_of, row_wins, row_parts, IsMaintained}
+use Rattle.moka_maintain.specs.Maintain.{is_alive, notice_at, rows_of, row_wins, row_parts, IsMaintainedUpTo}
 use Rattle.moka_rows.specs.Rows.{row_under, used_at, touched, overwritten}
 use Rattle.moka_table.specs.Table.{Contents, weight_of, entries, SameRows, UsesRow, TakesRow}
 use Rattle.moka_rows.proofs.Callers.{all-append}
@@ -74,21 +75,21 @@ module _ {K V : Type 0} (keeps : K → V → Type 0) (hash_of : K → ℕ) (live
     notices_kept = rw notices (all-append (λ (m : Notice K V). keeps (arc_value m.key) m.value) old.notices _ sound.notices_kept (of-row (λ (r : Row K V). keeps (arc_value r.key) r.value) n (entries old) row sound.kept there, tt));
   }
 
-  -- after a maintenance
-  pub IsSound-maintained : (is_lru : Bool) (frequency_of : ℕ → ℕ) (capacity : Option ℕ) (at : ℕ) → IsMaintained lives is_lru frequency_of capacity at old new → IsSound keeps hash_of lives new
-  IsSound-maintained is_lru frequency_of capacity at is =
+  -- after a maintenance, within a limit if there is one
+  pub IsSound-maintained : (is_lru : Bool) (frequency_of : ℕ → ℕ) (capacity : Option ℕ) (at : ℕ) (limit : Option ℕ) (is_cut : Bool) → IsMaintainedUpTo lives is_lru frequency_of capacity at limit old new is_cut → IsSound keeps hash_of lives new
+  IsSound-maintained is_lru frequency_of capacity at limit is_cut is =
       let Dated : ℕ × Row K V → Type 0 = λ p. IsDated lives p.1.info in
       let Hashed : ℕ × Row K V → Type 0 = λ p. p.1.hash ≡ hash_of (arc_value p.1.key) in
       let Keeps : ℕ × Row K V → Type 0 = λ p. keeps (arc_value p.1.key) p.1.value in
       let Noticed : Notice K V → Type 0 = λ m. keeps (arc_value m.key) m.value in
       let wins : ℕ × Row K V → List (ℕ × Row K V) → Bool = row_wins is_lru frequency_of in
-      let left : List (ℕ × Row K V) = (after_parts (rows_of old) (row_parts lives is_lru frequency_of capacity at old)).admitted in
-      let gone : List (ℕ × Row K V) = evicted_in (row_parts lives is_lru frequency_of capacity at old) in
+      let gone : List (ℕ × Row K V) = evicted_in (done limit (row_parts lives is_lru frequency_of capacity at old)) in
+      let left : everything (after_parts (rows_of old) (done limit (row_parts lives is_lru frequency_of capacity at old))) ≡ entries new = sym (ap everything is.orders) in
       record {
-        dated = rw (is.waiting, is.admitted) (all-append Dated left [] (all-kept Dated weight_of capacity wins (is_alive lives at) (rows_of old) sound.dated) tt);
-        hashed = rw (is.waiting, is.admitted) (all-append Hashed left [] (all-kept Hashed weight_of capacity wins (is_alive lives at) (rows_of old) sound.hashed) tt);
-        kept = rw (is.waiting, is.admitted) (all-append Keeps left [] (all-kept Keeps weight_of capacity wins (is_alive lives at) (rows_of old) sound.kept) tt);
-        notices_kept = rw is.notices (all-append Noticed old.notices _ sound.notices_kept (kept-noticed gone (all-evicted Keeps weight_of capacity wins (is_alive lives at) (rows_of old) sound.kept)));
+        dated = subst (AllByRecursion Dated) left (all-kept Dated weight_of capacity wins (is_alive lives at) limit (rows_of old) sound.dated);
+        hashed = subst (AllByRecursion Hashed) left (all-kept Hashed weight_of capacity wins (is_alive lives at) limit (rows_of old) sound.hashed);
+        kept = subst (AllByRecursion Keeps) left (all-kept Keeps weight_of capacity wins (is_alive lives at) limit (rows_of old) sound.kept);
+        notices_kept = rw is.notices (all-append Noticed old.notices _ sound.notices_kept (kept-noticed gone (all-evicted Keeps weight_of capacity wins (is_alive lives at) limit (rows_of old) sound.kept)));
       }
     where
       kept-noticed : (rows : List (ℕ × Row K V)) → AllByRecursion (λ (p : ℕ × Row K V). keeps (arc_value p.1.key) p.1.value) rows → AllByRecursion (λ (m : Notice K V). keeps (arc_value m.key) m.value) (map (notice_at lives at) rows)

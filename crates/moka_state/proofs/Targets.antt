@@ -131,12 +131,12 @@ nothing_stood : {A : Type 0} (t : Bool) → ◌≡◌ {A = List A} (option_to_li
 nothing_stood true = refl
 nothing_stood false = refl
 
--- After a maintenance of both orders.
-module _ {K V : Type 0} (eq : K → K → Bool) (laws : IsEquivalence eq) (settings : Settings K V) (frequency_of : ℕ → ℕ) (now : ℕ) (contents kept : Contents K V) (one : HasOneEach eq (stored_orders contents))
-    (is_maintained : stored_orders kept ≡ maintained settings frequency_of None now (stored_orders contents)) where
+-- After a maintenance of both orders, within a limit if there is one.
+module _ {K V : Type 0} (eq : K → K → Bool) (laws : IsEquivalence eq) (settings : Settings K V) (frequency_of : ℕ → ℕ) (limit : Option ℕ) (now : ℕ) (contents kept : Contents K V) (one : HasOneEach eq (stored_orders contents))
+    (is_maintained : stored_orders kept ≡ maintained settings frequency_of limit now (stored_orders contents)) where
   held-now : (k : K) (o : Option (Write K V)) → held eq k (stored_orders contents) ≡ option_to_list o
-      → held eq k (stored_orders kept) ≡ option_to_list (cond (list_any (λ (w : Write K V). eq w.key k) (evicted settings frequency_of None now (stored_orders contents))) None o)
-  held-now k o here = ap (held eq k) is_maintained ∙ (held-maintained eq settings frequency_of k None now (stored_orders contents) o here).1
+      → held eq k (stored_orders kept) ≡ option_to_list (cond (list_any (λ (w : Write K V). eq w.key k) (evicted settings frequency_of limit now (stored_orders contents))) None o)
+  held-now k o here = ap (held eq k) is_maintained ∙ (held-maintained eq settings frequency_of k limit now (stored_orders contents) o here).1
 
   -- each key has one write at most still,
   pub one-kept : HasOneEach eq (stored_orders kept)

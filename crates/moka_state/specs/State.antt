@@ -17,14 +17,15 @@ pub use Rattle.moka_ways.specs.StateData.{SettingsData, StateData}
 
 -- the settings of a state that is built with these
 abbrev pub settings_of : {H W X : Type 0} → Option (String Global) → Option Duration → Option Duration → Option ℕ → ℕ → Bool →
-    BehaviourData H W X → SettingsData H W X
-settings_of name time_to_live time_to_idle max_capacity first_number closures behaviour = record {
+    Option ℕ → BehaviourData H W X → SettingsData H W X
+settings_of name time_to_live time_to_idle max_capacity first_number closures flush_limit behaviour = record {
   name = option_map string_bytes name;
   time_to_live = option_map as_nanos time_to_live;
   time_to_idle = option_map as_nanos time_to_idle;
   max_capacity = max_capacity;
   first_number = first_number;
   supports_closures = closures;
+  flush_limit = flush_limit;
   behaviour = behaviour;
 }
 

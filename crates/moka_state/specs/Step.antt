@@ -10,9 +10,9 @@ use Rattle.moka_model.specs.Calls.{Call, Answer, accepted, after, MayTakeMemory,
 use Rattle.moka_model.specs.StandsFor.{IsAnswerOf}
 use Rattle.moka_state.specs.declared.step.Step.{Step}
 use Rattle.moka_state.specs.declared.step.Step.TheVariants.{Get, ContainsKey, Insert, Invalidate, Remove, InvalidateAll, InvalidateIf}
-use Rattle.moka_state.specs.declared.step.Step.TheVariants.{RunPendingTasks, EntryCount, WeightedSize, TakeNotice}
+use Rattle.moka_state.specs.declared.step.Step.TheVariants.{RunPendingTasks, RunPendingTasksUpTo, EntryCount, WeightedSize, TakeNotice}
 use Rattle.moka_state.specs.declared.step.Reply.{Reply}
-use Rattle.moka_state.specs.declared.step.Reply.TheVariants.{Found, Contains, Done, Counted, Noticed, Refused, PredicateRefused}
+use Rattle.moka_state.specs.declared.step.Reply.TheVariants.{Found, Contains, Done, Counted, Left, Noticed, Refused, PredicateRefused}
 use Rattle.moka_table.specs.Table.{removal_of}
 
 -- Steps of a cache's own types: of its keys and values, its predicates P, and the others that it names.
@@ -27,6 +27,7 @@ module _ {K V C H W X P F L T E S : Type 0} where
   call_of test InvalidateAll = Call.InvalidateAll
   call_of test (InvalidateIf predicate) = Call.InvalidateIf (test (arc_value predicate))
   call_of test (RunPendingTasks now) = Call.RunPendingTasks now
+  call_of test (RunPendingTasksUpTo limit now) = Call.RunPendingTasksUpTo limit now
   call_of test EntryCount = Call.EntryCount
   call_of test WeightedSize = Call.WeightedSize
   call_of test TakeNotice = Call.TakeNotice
@@ -46,6 +47,7 @@ module _ {K V E : Type 0} (eq : K → K → Bool) (is_clone : V → V → Type 0
   IsReplyTo call (Contains b) = IsAccepted call (Answer.Contains b)
   IsReplyTo call Done = IsAccepted call Answer.Done
   IsReplyTo call (Counted n) = IsAccepted call (Answer.Counted n)
+  IsReplyTo call (Left b) = IsAccepted call (Answer.Left b)
   IsReplyTo call (Noticed n) = IsAccepted call (Answer.Noticed (option_map removal_of n))
   IsReplyTo call (Refused OutOfMemory) = MayTakeMemory eq is_infallible settings steps call × ¬ (IsOutOfNumbers eq settings steps call)
   IsReplyTo call (Refused NumbersUsedUp) = IsOutOfNumbers eq settings steps call

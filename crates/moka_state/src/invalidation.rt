@@ -68,7 +68,7 @@ impl<K: Hash + Drop, V: Clone, C: CacheTypes<K, V>, R: RowStore<K, V>> State<K, 
             (λ cause. cause ≡ PredicateError.InvalidationClosuresDisabled) }
         ensures refused { OnErr result (self.new ≡ self.old) }
     {
-        self.predicate_room()?;
+        self.predicate_room()?; // Where it is refused nothing is hidden.
         self.hide_where(&predicate);
         Ok(())
     }

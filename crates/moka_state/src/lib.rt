@@ -3,6 +3,7 @@
 
 pub mod invalidation;
 pub mod removal;
+pub mod scanning;
 pub mod state;
 pub mod step;
 

@@ -16,7 +16,7 @@ impl<K: Hash + Drop, V: Clone, C: CacheTypes<K, V>, R: RowStore<K, V>> State<K, 
     /// Removes a key, and answers its live value. What stood for the key, live or not, is noticed.
     ///
     /// Refused for want of memory for the value's copy alone: where no live value stands it takes
-    /// none and succeeds. Reads the rows that have the key's hash.
+    /// none and succeeds. A `CacheState` reads no rows but those that have the key's hash.
     pub fn remove(&mut self, key: &K, now: u64) -> Result<Option<V>, Refused>
         ensures reply { IfOk result (λ found.
             ⟦<C as StateView<K, V>>⟧.answers self.old (Remove key.now now) (Found found)) }

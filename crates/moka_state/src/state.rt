@@ -1,5 +1,5 @@
 //! The cache as a plain value, lent with `&mut`, with every moment handed in.
-ghost use Rattle.std.specs.Prelude.{◌≡◌, ◌≢◌, ◌+◌, ◌≤◌, ◌↔◌, true, false, [], ◌++◌, length, min, map, option_map, IsNone, IsOk, IfOk, IfErr, IfSome, OnOk, OnErr, None, IsErrAnd, ◌∷◌};
+ghost use Rattle.std.specs.Prelude.{◌≡◌, ◌≢◌, ◌+◌, ◌≤◌, ◌↔◌, true, false, Some, [], ◌++◌, length, min, map, option_map, IsNone, IsSome, IsOk, IfOk, IfErr, IfSome, OnOk, OnErr, None, IsErrAnd, ◌∷◌};
 ghost use Rattle.std.specs.Arc.{arc_value};
 ghost use Rattle.std.specs.Duration.{as_nanos};
 ghost use Rattle.std.specs.List.{AllByRecursion};
@@ -7,8 +7,9 @@ ghost use Rattle.moka_model.specs.Lives.{is_live};
 ghost use Rattle.moka_model.specs.Events.{Maintained, latest};
 ghost use Rattle.moka_model.specs.Maintenance.{total};
 ghost use Rattle.moka_model.specs.Numbers.{greatest_number, flush_point, stores_nothing};
+ghost use Rattle.moka_model.specs.SizeLaws.{LimitsSome};
 ghost use Rattle.moka_model.specs.Steps.{events_in};
-ghost use Rattle.moka_model.specs.Calls.{Get, ContainsKey, Insert, Invalidate, RunPendingTasks, EntryCount, WeightedSize, TakeNotice, Found, Contains, Counted, Noticed, live_at};
+ghost use Rattle.moka_model.specs.Calls.{Get, ContainsKey, Insert, Invalidate, RunPendingTasks, RunPendingTasksUpTo, EntryCount, WeightedSize, TakeNotice, Found, Contains, Counted, Left, Noticed, live_at};
 ghost use Rattle.moka_policy.specs.Policy.{is_lru};
 ghost use Rattle.moka_table.specs.Table.{entries, removal_of};
 ghost use Rattle.moka_ways.specs.Behaviour.{hash_by};
@@ -20,6 +21,7 @@ use moka_maintain::upkeep::Upkeep;
 use moka_model::notification::{Notice, RemovalCause};
 use moka_policy::policy::{CacheTypes, EvictionPolicy, FrequencySource, Policy, Refused};
 use moka_rows::rows::RowStore;
+use moka_snapshot::snapshot::SharedSnapshot;
 use moka_table::shared_key::{IntoShared, Owned};
 use moka_table::table::Table;
 use moka_ways::behaviour::Behaviour;
@@ -56,6 +58,10 @@ pub struct Settings<K: Eq, V: Clone, C: CacheTypes<K, V>> {
     pub expiry: Option<Arc<C::Expiry>>,
     /// Whether its values may be hidden by predicates.
     pub closures: bool,
+    /// How many values may leave in the maintenance that comes before a write where 64 or more keys
+    /// wait; none is no limit. It is not 0, and stands beside no weigher. With it more than 64 keys
+    /// may wait.
+    pub flush_limit: Option<u64>,
     /// The number that the first write draws.
     pub first_number: u64,
     /// Makes the hashers of keys.
@@ -94,13 +100,16 @@ pub struct State<K: Hash + Drop, V: Clone, C: CacheTypes<K, V>, R: RowStore<K, V
     upkeep: Upkeep<C::Frequency>,
     pub(crate) latest: u64,
     pub(crate) closures: bool,
+    flush_limit: Option<u64>,
     first_number: u64,
     next_number: u64,
     pub(crate) behaviour: Behaviour<K, V, C>,
     alloc: Global,
+    // The table as it was at the start, for contracts alone.
+    opening: SharedSnapshot<Table<K, V, R>>,
 }
 
-/// A cache over rows in a slab, of which the first dead one is known without a walk.
+/// A cache over rows in a slab, of which the first expired one is known without a walk.
 ///
 /// A look-up reads at most as many rows as have the key's hash. `DueRows::find` is proved to (its
 /// clause `few`), and no call looks a key up but by it.
@@ -116,29 +125,33 @@ impl<K: Hash + Drop, V: Clone, C: CacheTypes<K, V>, R: RowStore<K, V>> Model for
     ghost view = { λ state. record {
       settings = settings_of state.name state.upkeep.lives.time_to_live
           state.upkeep.lives.time_to_idle state.upkeep.max_capacity state.first_number
-          state.closures state.behaviour;
+          state.closures state.flush_limit state.behaviour;
       books = books_by state.table state.latest state.next_number;
       source = state.upkeep.source;
+      initial_room = state.opening.value.room;
     } };
 
     ghost invariant = { λ state. IsSound C.keeps
         (hash_by C.Hasher.build_hasher C.Hasher.Hasher.write C.Hasher.Hasher.finish K.hash_input
         state.behaviour.hasher)
-        state.upkeep.lives state.table };
+        state.upkeep.lives state.table
+        × LimitsSome state.flush_limit };
 }
 
 impl<K: Hash + Drop, V: Clone, C: CacheTypes<K, V>, R: RowStore<K, V>> State<K, V, C, R> {
     /// A cache without values. The weigher and the expiry, where they are given, do what the
-    /// cache's types say of them. It takes the memory of the source of frequencies, and of the rows
-    /// and notices of the initial capacity.
+    /// cache's types say of them. A flush limit is not 0, and stands beside no weigher. It takes
+    /// the memory of the source of frequencies, and of the rows and notices of the initial capacity.
     pub fn new(alloc: Global, settings: Settings<K, V, C>) -> Result<Self, Refused>
         requires weighs { IfSome settings.weigher (λ weigher.
             C.Weigher.weighs (arc_value weigher) (C.weight (arc_value weigher))) }
         requires gives { IfSome settings.expiry (λ expiry.
             C.Expiry.gives (arc_value expiry) (C.lifetimes (arc_value expiry))) }
+        requires limits { settings.flush_limit ≢ Some 0 }
+        requires unweighed { IsSome settings.flush_limit → settings.weigher ≡ None }
         ensures settings { IfOk result (λ state. state.settings ≡ settings_of settings.name
             settings.time_to_live settings.time_to_idle settings.max_capacity
-            settings.first_number settings.closures (record {
+            settings.first_number settings.closures settings.flush_limit (record {
               is_lru = is_lru settings.eviction_policy;
               hasher = arc_value settings.hasher;
               weigher = option_map arc_value settings.weigher;
@@ -146,6 +159,7 @@ impl<K: Hash + Drop, V: Clone, C: CacheTypes<K, V>, R: RowStore<K, V>> State<K, 
             })) }
         ensures empty { IfOk result (λ state. ⟦<C as StateView<K, V>>⟧.stands_for
             (⟦<C as StateView<K, V>>⟧.settings state.settings) state []) }
+        ensures room { IfOk result (λ state. settings.initial_capacity ≤ state.initial_room) }
         ensures cause { IfErr result (λ cause. cause ≡ Refused.OutOfMemory) }
     {
         let source = C::Frequency::opening(alloc)?;
@@ -154,6 +168,7 @@ impl<K: Hash + Drop, V: Clone, C: CacheTypes<K, V>, R: RowStore<K, V>> State<K, 
             Err(_) => return Err(Refused::OutOfMemory),
         };
         Ok(State {
+            opening: SharedSnapshot::of(&table),
             name: settings.name,
             table,
             upkeep: Upkeep {
@@ -166,6 +181,7 @@ impl<K: Hash + Drop, V: Clone, C: CacheTypes<K, V>, R: RowStore<K, V>> State<K, 
             },
             latest: 0,
             closures: settings.closures,
+            flush_limit: settings.flush_limit,
             first_number: settings.first_number,
             next_number: settings.first_number,
             behaviour: Behaviour::new(
@@ -183,7 +199,7 @@ impl<K: Hash + Drop, V: Clone, C: CacheTypes<K, V>, R: RowStore<K, V>> State<K, 
     /// own.
     ///
     /// Refused for want of memory for the value's copy alone: a look that finds no live value takes
-    /// none and succeeds. Reads the rows that have the key's hash.
+    /// none and succeeds. A [`CacheState`] reads no rows but those that have the key's hash.
     ///
     /// ```
     /// if let Some(line) = lines.get(&number, 0)? {
@@ -235,13 +251,13 @@ impl<K: Hash + Drop, V: Clone, C: CacheTypes<K, V>, R: RowStore<K, V>> State<K, 
     }
 
     /// Writes a value for a key. The value that stands for the key, live or expired, leaves and is
-    /// noticed. Where 64 or more keys wait, a maintenance comes first, at the same moment. Where
-    /// the capacity is 0 nothing is written.
+    /// noticed. Where 64 or more keys wait, a maintenance comes first, at the same moment, within
+    /// the flush limit if there is one. Where the capacity is 0 nothing is written.
     ///
     /// Refused with `NumbersUsedUp` exactly where a number is to be drawn and none is left, and
     /// else with `OutOfMemory` alone. A refused write hands back the key and the value, and changes
-    /// nothing. Where the capacity is 0 it succeeds without memory. Reads the rows that have the
-    /// key's hash, beside a maintenance.
+    /// nothing. Where the capacity is 0 it succeeds without memory. Beside a maintenance, a
+    /// [`CacheState`] reads no rows but those that have the key's hash.
     ///
     /// ```
     /// match pages.insert(number, name, 0) {
@@ -320,8 +336,9 @@ impl<K: Hash + Drop, V: Clone, C: CacheTypes<K, V>, R: RowStore<K, V>> State<K, 
         } else {
             match key.into_shared(self.alloc) {
                 Ok(key) => {
+                    let policy = self.behaviour.policy();
                     self.upkeep
-                        .maintain(&mut self.table, self.behaviour.policy(), now);
+                        .maintain_up_to(&mut self.table, policy, now, self.flush_limit);
                     self.table.target_now(lookup, key, hash)
                 }
                 Err(key) => return Err(InsertRefused { key, value, cause }),
@@ -394,8 +411,9 @@ impl<K: Hash + Drop, V: Clone, C: CacheTypes<K, V>, R: RowStore<K, V>> State<K, 
     /// in place of the least recently used, or it leaves, as the policy wants it. Each that leaves
     /// is noticed. It takes no memory.
     ///
-    /// Visits the waiting rows, for each the admitted ones that would have to leave for it, and the
-    /// others only where one may have expired.
+    /// Visits the waiting rows, for each the admitted ones that would have to leave for it, and those
+    /// that leave; and where a row may be hidden, all. So does a [`CacheState`]; another store may
+    /// walk to find the first expired row.
     ///
     /// ```
     /// sessions.run_pending_tasks(now);
@@ -427,6 +445,49 @@ impl<K: Hash + Drop, V: Clone, C: CacheTypes<K, V>, R: RowStore<K, V>> State<K, 
         self.upkeep
             .maintain(&mut self.table, self.behaviour.policy(), now);
         self.latest = now;
+    }
+
+    /// Runs a maintenance within a limit, and answers whether it left a part undone. What leaves by
+    /// itself is a part, and a key that waits is one with the keys that leave for it. The parts are
+    /// done in the order of [`State::run_pending_tasks`], up to the first with which more than the
+    /// limit would have left. It takes no memory.
+    ///
+    /// Visits no more rows than a whole maintenance. The next one visits those that wait again, and
+    /// where a row may be hidden the admitted ones in front that live.
+    pub fn run_pending_tasks_up_to(&mut self, limit: u64, now: u64) -> bool
+        ensures reply { ⟦<C as StateView<K, V>>⟧.answers self.old
+            (RunPendingTasksUpTo limit now) (Left result) }
+        ensures stands { ⟦<C as StateView<K, V>>⟧.follows self.old
+            (RunPendingTasksUpTo limit now) self.new }
+
+        // At most as many leave as the limit says, and each is noticed.
+        ensures fewer { length (all_writes self.old) ≤ length (all_writes self.new) + limit }
+        ensures noticed { length self.new.books.notices
+            ≤ length self.old.books.notices + limit }
+
+        // Where it leaves no part undone, all is as after a whole maintenance.
+        ensures whole { result ≡ false →
+            ⟦<C as StateView<K, V>>⟧.follows self.old (RunPendingTasks now) self.new }
+        ensures none_waits { result ≡ false → self.new.books.orders.waiting ≡ [] }
+        ensures all_live { result ≡ false →
+            ⟦<C as StateView<K, V>>⟧.at_each_history self.old (λ settings steps. AllByRecursion
+            (λ w. is_live settings w (latest (Maintained None now ∷ events_in steps)) ≡ true)
+            (all_writes self.new)) }
+        ensures within { result ≡ false → IfSome self.new.settings.max_capacity (λ capacity.
+            total (λ w. w.policy_weight) (all_writes self.new) ≤ capacity) }
+        ensures count { result ≡ false →
+            ⟦<C as StateView<K, V>>⟧.at_each_history self.old (λ _ _.
+            self.new.settings.behaviour.weigher ≡ None →
+            IfSome self.new.settings.max_capacity (λ capacity.
+            length (all_writes self.new) ≤ capacity)) }
+    {
+        let now = self.latest.max(now);
+        let policy = self.behaviour.policy();
+        let is_cut = self
+            .upkeep
+            .maintain_up_to(&mut self.table, policy, now, Some(limit));
+        self.latest = now;
+        is_cut
     }
 
     /// How many keys are stored, with those that wait and those whose values are expired. With a
@@ -479,8 +540,10 @@ impl<K: Hash + Drop, V: Clone, C: CacheTypes<K, V>, R: RowStore<K, V>> State<K, 
         )
     }
 
-    // The allocator that it keeps.
-    pub(crate) fn alloc(&self) -> Global {
+    // The allocator that it keeps. Its flush limit, if there is one, is not 0.
+    pub(crate) fn alloc(&self) -> Global
+        ensures { LimitsSome self.now.settings.flush_limit }
+    {
         self.alloc
     }
 

@@ -39,6 +39,8 @@ pub enum Step<K: Eq, V: Clone, C: CacheTypes<K, V>> {
     InvalidateIf { predicate: Arc<C::Predicate> },
     /// A maintenance.
     RunPendingTasks { now: u64 },
+    /// A maintenance within a limit.
+    RunPendingTasksUpTo { limit: u64, now: u64 },
     /// A count of the stored keys.
     EntryCount,
     /// The weight of all that is stored.
@@ -58,6 +60,8 @@ pub enum Reply<K, V> {
     Done,
     /// How many keys `EntryCount` found stored, or what `WeightedSize` found.
     Counted(u64),
+    /// Whether `RunPendingTasksUpTo` left a part undone.
+    Left(bool),
     /// The notice that was taken, if there was one.
     Noticed(Option<Notice<K, V>>),
     /// The call was refused, and changed nothing.
@@ -84,6 +88,9 @@ impl<K: Eq + Debug, V: Clone + Debug, C: CacheTypes<K, V>> Debug for Step<K, V, 
             Step::InvalidateAll => f.write_str("InvalidateAll"),
             Step::InvalidateIf { .. } => f.write_str("InvalidateIf { predicate: .. }"),
             Step::RunPendingTasks { now } => write!(f, "RunPendingTasks {{ now: {now} }}"),
+            Step::RunPendingTasksUpTo { limit, now } => {
+                write!(f, "RunPendingTasksUpTo {{ limit: {limit}, now: {now} }}")
+            }
             Step::EntryCount => f.write_str("EntryCount"),
             Step::WeightedSize => f.write_str("WeightedSize"),
             Step::TakeNotice => f.write_str("TakeNotice"),
@@ -136,6 +143,9 @@ impl<K: Hash + Drop, V: Clone, C: CacheTypes<K, V>, R: RowStore<K, V>> State<K, 
             Step::RunPendingTasks { now } => {
                 self.run_pending_tasks(now);
                 Reply::Done
+            }
+            Step::RunPendingTasksUpTo { limit, now } => {
+                Reply::Left(self.run_pending_tasks_up_to(limit, now))
             }
             Step::EntryCount => Reply::Counted(self.entry_count()),
             Step::WeightedSize => Reply::Counted(self.weighted_size()),

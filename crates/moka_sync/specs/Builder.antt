@@ -1,7 +1,9 @@
 -- What a builder was told, and the settings of what it builds.
-use Rattle.std.specs.Prelude.{ℕ, ◌^◌, Bool, false, List, Option, Some, None, option_map, nat_eq, nat_lt, if◌then◌else◌}
+use Rattle.std.specs.Prelude.{ℕ, ◌^◌, Bool, false, List, Option, Some, None, is_some, option_map, nat_eq, nat_lt, if◌then◌else◌}
+use Rattle.std.specs.Option.{option_or}
 use Rattle.std.specs.Duration.{as_nanos}
 use Rattle.std.specs.declared.time.Duration.{Duration}
+use Rattle.moka_policy.specs.Building.{too_long_of, flush_refused_of}
 use Rattle.moka_policy.specs.declared.builder_utils.BuildError.{BuildError}
 use Rattle.moka_policy.specs.declared.builder_utils.BuildError.TheVariants.{NoSegments, TooManySegments}
 use Rattle.moka_state.specs.StateData.{SettingsData}
@@ -18,6 +20,7 @@ pub record BuilderData (W X L : Type 0) : Type 0 where
   pub expiry : Option X
   pub listener : Option L
   pub closures : Bool
+  pub flush_limit : Option ℕ
   pub first_number : ℕ
   pub num_segments : ℕ
 
@@ -34,6 +37,7 @@ nothing_said = record {
   expiry = None;
   listener = None;
   closures = false;
+  flush_limit = None;
   first_number = 0;
   num_segments = 1;
 }
@@ -42,6 +46,12 @@ nothing_said = record {
 abbrev pub segments_refused : ℕ → Option BuildError
 segments_refused count =
     if nat_eq count 0 then Some NoSegments else (if nat_lt (2 ^ 63) count then Some TooManySegments else None)
+
+-- Why nothing is built by what a builder was told: a life that is too long, or else the flush limit.
+abbrev pub build_refused : {W X L : Type 0} → BuilderData W X L → Option BuildError
+build_refused told =
+    option_or (too_long_of (option_map as_nanos told.time_to_live) (option_map as_nanos told.time_to_idle))
+    (flush_refused_of told.flush_limit (is_some told.weigher))
 
 -- The settings of a state that is built so, with this hasher.
 abbrev pub settings_built : {H W X L : Type 0} → BuilderData W X L → H → SettingsData H W X
@@ -52,5 +62,6 @@ settings_built told hasher = record {
   max_capacity = told.max_capacity;
   first_number = told.first_number;
   supports_closures = told.closures;
+  flush_limit = told.flush_limit;
   behaviour = record { is_lru = told.is_lru; hasher = hasher; weigher = told.weigher; expiry = told.expiry };
 }

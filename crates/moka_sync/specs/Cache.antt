@@ -1,22 +1,31 @@
 -- What of a shared cache never changes, and the moment of a call.
-use Rattle.std.specs.Prelude.{ℕ, List, Option}
-use Rattle.moka_state.specs.StateData.{SettingsData}
+use Rattle.std.specs.Prelude.{◌≡◌, ℕ, Option, option_map, String}
+use Rattle.std.specs.Duration.{as_nanos}
+use Rattle.std.specs.String.{string_bytes}
+use Rattle.std.specs.declared.alloc.Global.{Global}
+use Rattle.moka_policy.specs.declared.policy.Policy.{Policy}
+use Rattle.moka_state.specs.StateData.{SettingsData, StateData}
+use Rattle.moka_sync.specs.Builder.{BuilderData, settings_built}
 
--- what a shared cache shows without its lock
-pub record CacheData : Type 0 where
-  pub name : Option (List ℕ)
-  pub max_capacity : Option ℕ
-  pub time_to_live : Option ℕ
-  pub time_to_idle : Option ℕ
+-- What is known of a shared cache without its lock: the state that went under its lock, as it was then, and the clock that
+-- went there with it; and its listener. Of that state the settings never change.
+pub record CacheData (K V H W X F L T : Type 0) : Type 0 where
+  pub opening : StateData K V H W X F
+  pub clock : T
+  pub listener : Option L
 
--- what it shows with these settings
-abbrev pub shown : {H W X : Type 0} → SettingsData H W X → CacheData
-shown settings = record {
-  name = settings.name;
-  max_capacity = settings.max_capacity;
-  time_to_live = settings.time_to_live;
-  time_to_idle = settings.time_to_idle;
-}
+-- The cache is what a builder makes that was told this: its state has these settings, with this hasher, it looks at this
+-- clock, and it has this listener.
+abbrev pub IsBuilt : {K V H W X F L T : Type 0} → BuilderData W X L → H → T → CacheData K V H W X F L T → Type 0
+IsBuilt told hasher clock cache =
+    (cache.opening.settings ≡ settings_built told hasher) × (cache.clock ≡ clock) × (cache.listener ≡ told.listener)
+
+-- a name and a policy show these settings
+abbrev pub Shows : {H W X : Type 0} → SettingsData H W X → Option (String Global) → Policy → Type 0
+Shows settings name policy =
+    (option_map string_bytes name ≡ settings.name) × (policy.max_capacity ≡ settings.max_capacity) × (policy.num_segments ≡ 1)
+    × (option_map as_nanos policy.time_to_live ≡ settings.time_to_live)
+    × (option_map as_nanos policy.time_to_idle ≡ settings.time_to_idle)
 
 -- there is a moment that is told and of which this holds
 abbrev pub AtToldMoment : (ℕ → Type 0) → (ℕ → Type 0) → Type 0

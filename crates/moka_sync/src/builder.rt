@@ -1,22 +1,21 @@
 //! Builds caches.
-ghost use Rattle.std.specs.Prelude.{◌≡◌, true, Some, None, [], option_map, unwrap_or, IfSome, IfOk, IfErr, OnOk};
+ghost use Rattle.std.specs.Prelude.{◌≡◌, ◌≤◌, true, Some, None, [], option_map, unwrap_or, IfSome, IfOk, IfErr, OnOk};
 ghost use Rattle.std.specs.Arc.{arc_value};
-ghost use Rattle.std.specs.Duration.{as_nanos};
 ghost use Rattle.std.specs.String.{string_bytes};
-ghost use Rattle.moka_policy.specs.Building.{too_long_of};
 ghost use Rattle.moka_policy.specs.Policy.{is_lru};
-ghost use Rattle.moka_sync.specs.Builder.{BuilderData, nothing_said, segments_refused, settings_built};
-ghost use Rattle.moka_sync.specs.Cache.{shown};
+ghost use Rattle.moka_sync.specs.Builder.{BuilderData, nothing_said, segments_refused, build_refused, settings_built};
+ghost use Rattle.moka_sync.specs.Cache.{IsBuilt};
 
 use crate::cache::{Cache, Inside, Locked};
-use moka_policy::builder_utils::{BuildError, ensure_expirations};
+use crate::opened::Opened;
+use moka_policy::builder_utils::{BuildError, ensure_expirations, ensure_flush_limit};
 use moka_policy::policy::{CacheTypes, EvictionPolicy, Expiry, Listener, Weigher};
 use moka_state::state::{CacheState, Settings};
 use moka_state::view::StateView;
 use std::alloc::Global;
 use std::hash::{Hash, RandomState};
 use std::marker::{Model, PhantomData};
-use std::sync::{Arc, Mutex};
+use std::sync::Arc;
 use std::time::Duration;
 
 // A cache's segment is named by some of the 64 bits of a hash.
@@ -51,6 +50,7 @@ pub struct CacheBuilder<K: Hash + Drop, V: Clone, C: CacheTypes<K, V>, T> {
     expiry: Option<C::Expiry>,
     listener: Option<C::Listener>,
     closures: bool,
+    flush_limit: Option<u64>,
     first_number: u64,
     num_segments: usize,
     built: PhantomData<(K, V, T)>,
@@ -70,6 +70,7 @@ impl<K: Hash + Drop, V: Clone, C: CacheTypes<K, V>, T> Model for CacheBuilder<K,
       expiry = builder.expiry;
       listener = builder.listener;
       closures = builder.closures;
+      flush_limit = builder.flush_limit;
       first_number = builder.first_number;
       num_segments = builder.num_segments;
     } };
@@ -97,6 +98,7 @@ impl<K: Hash + Drop, V: Clone, C: CacheTypes<K, V>> Default for CacheBuilder<K, 
             expiry: None,
             listener: None,
             closures: false,
+            flush_limit: None,
             first_number: 0,
             num_segments: 1,
             built: PhantomData,
@@ -226,6 +228,19 @@ impl<K: Hash + Drop, V: Clone, C: CacheTypes<K, V>, T> CacheBuilder<K, V, C, T> 
         }
     }
 
+    /// How many values may leave in the maintenance that comes before a write where 64 or more keys
+    /// wait: at least 1, and no weigher stands beside it, or nothing is built. With it more than 64
+    /// keys may wait, and still no more than 64 more keys are stored than the capacity says. Without
+    /// it such a maintenance is whole.
+    pub fn flush_limit(self, limit: u64) -> Self
+        ensures { result ≡ record self { flush_limit = Some limit } }
+    {
+        CacheBuilder {
+            flush_limit: Some(limit),
+            ..self
+        }
+    }
+
     /// The number that the first write draws, 0 without this setting. Writes are refused when all numbers to 2^64 - 2
     /// are drawn.
     pub fn first_number(self, number: u64) -> Self
@@ -274,6 +289,7 @@ impl<K: Hash + Drop, V: Clone, C: CacheTypes<K, V>> CacheBuilder<K, V, C, Single
             expiry: single.expiry,
             listener: single.listener,
             closures: single.closures,
+            flush_limit: single.flush_limit,
             first_number: single.first_number,
             num_segments,
             built: PhantomData,
@@ -282,8 +298,9 @@ impl<K: Hash + Drop, V: Clone, C: CacheTypes<K, V>> CacheBuilder<K, V, C, Single
 
     /// A cache without values, of these settings, as a plain value. The listener is dropped: a state calls none.
     ///
-    /// Refused with `TimeToLiveTooLong` or else with `TimeToIdleTooLong` where that one is above 1000 years, and else for
-    /// want of memory alone: of the source of frequencies, of the rows of the initial capacity, and of what it shares.
+    /// Refused with `TimeToLiveTooLong` or else with `TimeToIdleTooLong` where that one is above 1000 years, else with
+    /// `ZeroFlushLimit` where the flush limit is 0, with `FlushLimitWithWeigher` where a weigher is set beside one, and else
+    /// for want of memory alone: of the source of frequencies, of the rows of the initial capacity, and of what it shares.
     pub fn build_state(
         self,
         alloc: Global,
@@ -292,11 +309,10 @@ impl<K: Hash + Drop, V: Clone, C: CacheTypes<K, V>> CacheBuilder<K, V, C, Single
         ensures settings { IfOk result (λ state. state.settings ≡ settings_built self hasher) }
         ensures empty { IfOk result (λ state. ⟦<C as StateView<K, V>>⟧.stands_for
             (⟦<C as StateView<K, V>>⟧.settings state.settings) state []) }
-        ensures accepted { OnOk result (too_long_of (option_map as_nanos self.time_to_live)
-            (option_map as_nanos self.time_to_idle) ≡ None) }
-        ensures refused { IfErr result (λ cause. cause ≡ unwrap_or (too_long_of
-            (option_map as_nanos self.time_to_live) (option_map as_nanos self.time_to_idle))
-            BuildError.OutOfMemory) }
+        ensures room { IfOk result (λ state. self.initial_capacity ≤ state.initial_room) }
+        ensures accepted { OnOk result (build_refused self ≡ None) }
+        ensures refused { IfErr result (λ cause.
+            cause ≡ unwrap_or (build_refused self) BuildError.OutOfMemory) }
     {
         let (state, _listener) = self.opened(alloc, hasher)?;
         Ok(state)
@@ -313,18 +329,19 @@ impl<K: Hash + Drop, V: Clone, C: CacheTypes<K, V>> CacheBuilder<K, V, C, Single
         clock: C::Clock,
         waits: W,
     ) -> Result<Cache<K, V, C, W>, BuildError>
-        ensures built { IfOk result (λ cache. cache ≡ shown (settings_built self hasher)) }
-        ensures accepted { OnOk result (too_long_of (option_map as_nanos self.time_to_live)
-            (option_map as_nanos self.time_to_idle) ≡ None) }
-        ensures refused { IfErr result (λ cause. cause ≡ unwrap_or (too_long_of
-            (option_map as_nanos self.time_to_live) (option_map as_nanos self.time_to_idle))
-            BuildError.OutOfMemory) }
+        ensures built { IfOk result (IsBuilt self hasher clock) }
+        ensures empty { IfOk result (λ cache. ⟦<C as StateView<K, V>>⟧.stands_for
+            (⟦<C as StateView<K, V>>⟧.settings cache.opening.settings) cache.opening []) }
+        ensures room { IfOk result (λ cache. self.initial_capacity ≤ cache.opening.initial_room) }
+        ensures accepted { OnOk result (build_refused self ≡ None) }
+        ensures refused { IfErr result (λ cause.
+            cause ≡ unwrap_or (build_refused self) BuildError.OutOfMemory) }
     {
         let (state, listener) = self.opened(alloc, hasher)?;
         let inside = Inside {
             name: copied(alloc, state.name())?,
             policy: state.policy(),
-            locked: Mutex::new(Locked { state, clock }),
+            locked: Opened::new(Locked { state, clock }),
             listener,
         };
         Ok(Cache {
@@ -343,16 +360,16 @@ impl<K: Hash + Drop, V: Clone, C: CacheTypes<K, V>> CacheBuilder<K, V, C, Single
             opened.0.settings ≡ settings_built self hasher) }
         ensures empty { IfOk result (λ opened. ⟦<C as StateView<K, V>>⟧.stands_for
             (⟦<C as StateView<K, V>>⟧.settings opened.0.settings) opened.0 []) }
+        ensures room { IfOk result (λ opened. self.initial_capacity ≤ opened.0.initial_room) }
         ensures listener { IfOk result (λ opened. opened.1 ≡ self.listener) }
         ensures hears { IfOk result (λ opened. IfSome opened.1 (λ listener.
             (key : K) (value : V) → C.keeps key value → C.Listener.hears listener key value)) }
-        ensures accepted { OnOk result (too_long_of (option_map as_nanos self.time_to_live)
-            (option_map as_nanos self.time_to_idle) ≡ None) }
-        ensures refused { IfErr result (λ cause. cause ≡ unwrap_or (too_long_of
-            (option_map as_nanos self.time_to_live) (option_map as_nanos self.time_to_idle))
-            BuildError.OutOfMemory) }
+        ensures accepted { OnOk result (build_refused self ≡ None) }
+        ensures refused { IfErr result (λ cause.
+            cause ≡ unwrap_or (build_refused self) BuildError.OutOfMemory) }
     {
         ensure_expirations(self.time_to_live, self.time_to_idle)?;
+        ensure_flush_limit(self.flush_limit, self.weigher.is_some())?;
         let listener = self.listener;
         let settings = Settings {
             name: self.name,
@@ -364,6 +381,7 @@ impl<K: Hash + Drop, V: Clone, C: CacheTypes<K, V>> CacheBuilder<K, V, C, Single
             weigher: shared(alloc, self.weigher)?,
             expiry: shared(alloc, self.expiry)?,
             closures: self.closures,
+            flush_limit: self.flush_limit,
             first_number: self.first_number,
             hasher: share(alloc, hasher)?,
         };
@@ -389,12 +407,13 @@ where
         clock: C::Clock,
         waits: W,
     ) -> Result<Cache<K, V, C, W>, BuildError>
-        ensures built { IfOk result (λ cache. cache ≡ shown (settings_built self hasher)) }
-        ensures accepted { OnOk result (too_long_of (option_map as_nanos self.time_to_live)
-            (option_map as_nanos self.time_to_idle) ≡ None) }
-        ensures refused { IfErr result (λ cause. cause ≡ unwrap_or (too_long_of
-            (option_map as_nanos self.time_to_live) (option_map as_nanos self.time_to_idle))
-            BuildError.OutOfMemory) }
+        ensures built { IfOk result (IsBuilt self hasher clock) }
+        ensures empty { IfOk result (λ cache. ⟦<C as StateView<K, V>>⟧.stands_for
+            (⟦<C as StateView<K, V>>⟧.settings cache.opening.settings) cache.opening []) }
+        ensures room { IfOk result (λ cache. self.initial_capacity ≤ cache.opening.initial_room) }
+        ensures accepted { OnOk result (build_refused self ≡ None) }
+        ensures refused { IfErr result (λ cause.
+            cause ≡ unwrap_or (build_refused self) BuildError.OutOfMemory) }
     {
         self.build_with_hasher(alloc, hasher, clock, waits)
     }

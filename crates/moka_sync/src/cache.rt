@@ -1,14 +1,15 @@
 //! A cache that threads share.
-ghost use Rattle.std.specs.Prelude.{◌≡◌, ◌⊎◌, Some, None, option_map, IfSome, IfOk, IfErr, OnOk};
+ghost use Rattle.std.specs.Prelude.{◌≡◌, ◌⊎◌, [], length, Some, None, option_map, IfSome, IfOk, IfErr, OnOk};
 ghost use Rattle.std.specs.Arc.{arc_value};
 ghost use Rattle.std.specs.Duration.{as_nanos};
-ghost use Rattle.std.specs.String.{string_bytes};
-ghost use Rattle.moka_model.specs.Calls.{Get, ContainsKey, Insert, Invalidate, Found, Contains};
+ghost use Rattle.moka_model.specs.Calls.{Get, ContainsKey, Insert, Invalidate, TakeNotice, Found, Contains, Noticed};
 ghost use Rattle.moka_state.specs.Write.{WriteEnds};
+ghost use Rattle.moka_table.specs.Table.{removal_of};
 ghost use Rattle.moka_sync.specs.Builder.{nothing_said};
-ghost use Rattle.moka_sync.specs.Cache.{CacheData, AtToldMoment};
+ghost use Rattle.moka_sync.specs.Cache.{CacheData, IsBuilt, Shows, AtToldMoment};
 
 use crate::builder::{CacheBuilder, Single};
+use crate::opened::Opened;
 use moka_model::notification::Notice;
 use moka_policy::builder_utils::BuildError;
 use moka_policy::policy::{CacheTypes, Clock, Listener, Policy, Refused};
@@ -17,7 +18,7 @@ use moka_state::view::StateView;
 use std::alloc::{AllocError, Global};
 use std::hash::{Hash, RandomState};
 use std::marker::Model;
-use std::sync::{Arc, Mutex, Wait};
+use std::sync::{Arc, Wait};
 
 /// What the lock keeps: a state, which keeps that each stored and each noticed value stands in the cache's relation to its
 /// key, and the clock that its calls look at.
@@ -77,7 +78,12 @@ impl<K: Hash + Drop, V: Clone, C: CacheTypes<K, V>> Locked<K, V, C> {
         self.state.invalidate(key, now);
     }
 
-    fn take_gone(&mut self) -> Gone<K, V> {
+    fn take_gone(&mut self) -> Gone<K, V>
+        ensures first { ⟦<C as StateView<K, V>>⟧.answers self.old.state TakeNotice
+            (Noticed (option_map removal_of result.first)) }
+        ensures step { ⟦<C as StateView<K, V>>⟧.follows self.old.state TakeNotice self.new.state }
+        ensures others { result.others ≡ length self.new.state.books.notices }
+    {
         let first = self.state.take_notice();
         Gone {
             first,
@@ -86,14 +92,14 @@ impl<K: Hash + Drop, V: Clone, C: CacheTypes<K, V>> Locked<K, V, C> {
     }
 }
 
-/// What all clones of a cache share.
+/// What all clones of a cache share. The name and the policy are those of the state that went under the lock.
 #[derive(Drop)]
 pub(crate) struct Inside<K: Hash + Drop, V: Clone, C: CacheTypes<K, V>> {
-    pub locked: Mutex<Locked<K, V, C>>,
+    pub locked: Opened<Locked<K, V, C>>,
     pub name: Option<String>,
     pub policy: Policy,
     pub listener: Option<C::Listener>,
-    ghost is_one: { policy.num_segments ≡ 1 },
+    ghost shows: { Shows locked.state.settings name policy },
     ghost hears: { ∥ IfSome listener (λ listener.
         (key : K) (value : V) → C.keeps key value → C.Listener.hears listener key value) ∥₁ },
 }
@@ -107,13 +113,12 @@ pub struct Cache<K: Hash + Drop, V: Clone, C: CacheTypes<K, V>, W> {
 }
 
 impl<K: Hash + Drop, V: Clone, C: CacheTypes<K, V>, W> Model for Cache<K, V, C, W> {
-    ghost Value = { CacheData };
+    ghost Value = { CacheData K V C.Hasher C.Weigher C.Expiry C.Frequency C.Listener C.Clock };
 
     ghost view = { λ cache. record {
-      name = option_map string_bytes (arc_value cache.inside).name;
-      max_capacity = (arc_value cache.inside).policy.max_capacity;
-      time_to_live = option_map as_nanos (arc_value cache.inside).policy.time_to_live;
-      time_to_idle = option_map as_nanos (arc_value cache.inside).policy.time_to_idle;
+      opening = (arc_value cache.inside).locked.state;
+      clock = (arc_value cache.inside).locked.clock;
+      listener = (arc_value cache.inside).listener;
     } };
 }
 
@@ -138,17 +143,19 @@ impl<K: Hash + Drop, V: Clone, C: CacheTypes<K, V>, W: Drop> Cache<K, V, C, W> {
 
     /// What it is called.
     pub fn name(&self) -> Option<&str>
-        ensures { option_map (λ name. name.now) result ≡ self.now.name }
+        ensures { option_map (λ name. name.now) result ≡ self.now.opening.settings.name }
     {
         self.inside.name.as_deref()
     }
 
     /// How much it may store and how long its values live, as it was built. It is one segment.
     pub fn policy(&self) -> Policy
-        ensures max_capacity { result.max_capacity ≡ self.now.max_capacity }
+        ensures max_capacity { result.max_capacity ≡ self.now.opening.settings.max_capacity }
         ensures num_segments { result.num_segments ≡ 1 }
-        ensures time_to_live { option_map as_nanos result.time_to_live ≡ self.now.time_to_live }
-        ensures time_to_idle { option_map as_nanos result.time_to_idle ≡ self.now.time_to_idle }
+        ensures time_to_live { option_map as_nanos result.time_to_live
+            ≡ self.now.opening.settings.time_to_live }
+        ensures time_to_idle { option_map as_nanos result.time_to_idle
+            ≡ self.now.opening.settings.time_to_idle }
     {
         self.inside.policy
     }
@@ -169,12 +176,10 @@ where
         clock: C::Clock,
         waits: W,
     ) -> Result<Self, BuildError>
-        ensures built { IfOk result (λ cache. cache ≡ record {
-          name = None;
-          max_capacity = Some max_capacity;
-          time_to_live = None;
-          time_to_idle = None;
-        }) }
+        ensures built { IfOk result (IsBuilt
+            (record nothing_said { max_capacity = Some max_capacity }) hasher clock) }
+        ensures empty { IfOk result (λ cache. ⟦<C as StateView<K, V>>⟧.stands_for
+            (⟦<C as StateView<K, V>>⟧.settings cache.opening.settings) cache.opening []) }
         ensures cause { IfErr result (λ cause. cause ≡ BuildError.OutOfMemory) }
     {
         CacheBuilder::new(max_capacity).build(alloc, hasher, clock, waits)

@@ -1,5 +1,5 @@
 //! What a builder builds, and what it refuses.
-use moka::common::builder_utils::{BuildError, ensure_expirations};
+use moka::common::builder_utils::{BuildError, ensure_expirations, ensure_flush_limit};
 use moka::policy::{EvictionPolicy, ManualClock, NoExpiry, NoListener, NoWeigher, Policy, Refused};
 use moka::ready::{FoldState, Plain};
 use moka::state::{CacheState, InsertRefused};
@@ -7,6 +7,7 @@ use moka::sync::builder::Single;
 use moka::sync::{Cache, CacheBuilder};
 use std::alloc::{AllocError, Global};
 use std::hash::BuildHasherDefault;
+use std::process::Abort;
 use std::sync::Arc;
 use std::test::Fail;
 use std::time::Duration;
@@ -46,6 +47,34 @@ fn a_life_of_1000_years_is_the_longest(rt: HostRuntime) {
 }
 
 #[test]
+fn a_flush_limit_is_not_0_and_beside_no_weigher(rt: HostRuntime) -> Result<(), Fail> {
+    for (limit, has_weigher, refused) in [
+        (None, false, None),
+        (None, true, None),
+        (Some(1), false, None),
+        (Some(u64::MAX), false, None),
+        (Some(0), false, Some(BuildError::ZeroFlushLimit)),
+        (Some(0), true, Some(BuildError::ZeroFlushLimit)),
+        (Some(1), true, Some(BuildError::FlushLimitWithWeigher)),
+    ] {
+        assert_eq!(rt; ensure_flush_limit(limit, has_weigher).err(), refused);
+    }
+    for (idle, limit, refused) in [
+        (LONGEST, 8, None),
+        (LONGEST, 0, Some(BuildError::ZeroFlushLimit)),
+        (LONGEST + 1, 0, Some(BuildError::TimeToIdleTooLong)),
+    ] {
+        let builder: Builder = CacheBuilder::new(400);
+        let built = builder
+            .time_to_idle(Duration::from_secs(idle))
+            .flush_limit(limit)
+            .build_state(rt.alloc(), hasher());
+        assert_eq!(rt; built.err(), refused);
+    }
+    Ok(())
+}
+
+#[test]
 fn more_rows_than_memory_are_refused(rt: HostRuntime) -> Result<(), Fail> {
     for rows in [1_099_511_627_776, usize::MAX] {
         let builder: Builder = CacheBuilder::new(400);
@@ -59,6 +88,7 @@ fn more_rows_than_memory_are_refused(rt: HostRuntime) -> Result<(), Fail> {
 
 #[test]
 fn a_state_is_built_by_the_settings(rt: HostRuntime) -> Result<(), Fail> {
+    let value = Arc::new(rt.alloc(), 7)?;
     let builder: Builder = CacheBuilder::new(400);
     let mut state = builder
         .max_capacity(300)
@@ -70,6 +100,11 @@ fn a_state_is_built_by_the_settings(rt: HostRuntime) -> Result<(), Fail> {
         .first_number(u64::MAX)
         .name(rt.alloc(), "tracked_sessions")?
         .build_state(rt.alloc(), hasher())?;
+    has_the_settings(&rt, &mut state, value)
+}
+
+// What owns a state does nothing else that can fail: each way out of it has to be shown to let the state go.
+fn has_the_settings(rt: &impl Abort, state: &mut State, value: Arc<u64>) -> Result<(), Fail> {
     assert_eq!(rt; state.name(), Some("tracked_sessions"));
     let policy = Policy::new(
         Some(400),
@@ -78,10 +113,7 @@ fn a_state_is_built_by_the_settings(rt: HostRuntime) -> Result<(), Fail> {
         Some(Duration::from_secs(900)),
     );
     assert_eq!(rt; state.policy(), policy);
-    let InsertRefused { key, value, cause } = state
-        .insert(1, Arc::new(rt.alloc(), 7)?, 0)
-        .err()
-        .ok_or("a refusal")?;
+    let InsertRefused { key, value, cause } = state.insert(1, value, 0).err().ok_or("a refusal")?;
     assert_eq!(rt; (key, *value, cause), (1, 7, Refused::NumbersUsedUp));
     Ok(())
 }
@@ -108,6 +140,8 @@ fn refusals_say_what_was_refused(rt: HostRuntime) -> Result<(), Fail> {
         (BuildError::TimeToLiveTooLong, "TimeToLiveTooLong"),
         (BuildError::TimeToIdleTooLong, "TimeToIdleTooLong"),
         (BuildError::OutOfMemory, "OutOfMemory"),
+        (BuildError::ZeroFlushLimit, "ZeroFlushLimit"),
+        (BuildError::FlushLimitWithWeigher, "FlushLimitWithWeigher"),
     ] {
         assert_eq!(rt; format!(in rt.alloc(); "{refusal}")?.as_str(), text);
     }
@@ -165,6 +199,10 @@ fn a_state_is_built_anew_where_memory_was_refused(rt: HostRuntime) -> Result<(),
         Err(BuildError::OutOfMemory) => built_state(alloc)?,
         built => built?,
     };
+    is_as_told(&rt, &mut state, value)
+}
+
+fn is_as_told(rt: &impl Abort, state: &mut State, value: Arc<u64>) -> Result<(), Fail> {
     assert_eq!(rt; state.name(), Some("tracked_sessions"));
     assert_eq!(rt; state.policy(), Policy::new(Some(400), 1, None, None));
     if state.insert(1, value.clone()?, 0).is_err() {

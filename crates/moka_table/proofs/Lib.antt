@@ -1,7 +1,7 @@
 pub mod Callers
 pub mod Each
 pub mod Finds
-pub mod Lengths
 pub mod Weights
 pub mod HiddenWhere
+mod KeyWalks
 pub mod Walks

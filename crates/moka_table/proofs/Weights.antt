@@ -10,8 +10,7 @@ use Rattle.moka_rows.specs.Rows.{row_under, with_row, without_row, hidden, other
 use Rattle.moka_rows.specs.declared.rows.Order.{Order}
 use Rattle.moka_rows.specs.declared.rows.Order.TheVariants.{Admitted, Waiting}
 use Rattle.moka_table.specs.Table.{Contents, entries, weight_of, weight_in, AreShown, UsesRow, TakesRow, IsKept}
-use Rattle.moka_rows.proofs.Callers.{all-append, all-front, all-back, absent-before, row_under-at, row_under-append_left, row_under-append_right, split_at_row}
-use Rattle.moka_table.proofs.Lengths.{length-changed}
+use Rattle.moka_rows.proofs.Callers.{all-append, all-front, all-back, absent-before, row_under-at, row_under-append_left, row_under-append_right, split_at_row, length-changed, each-admitted, each-added}
 use Rattle.moka_table.proofs.Each.{of-row, of-used, of-taken}
 
 -- an order weighs no more than both
@@ -177,21 +176,6 @@ module _ {K V : Type 0} where
   abbrev IsShown : ℕ × Row K V → Type 0
   IsShown p = p.1.info.is_hidden ≡ false
 
-  -- what holds of each row does so once one that waits is admitted
-  all-admitted : (P : ℕ × Row K V → Type 0) (n : ℕ) (row : Row K V) (admitted waiting : List (ℕ × Row K V)) → row_under n waiting ≡ Some row → AllByRecursion P (admitted ++ waiting)
-      → AllByRecursion P ((admitted ++ (n, row) ∷ []) ++ without_row n waiting)
-  all-admitted P n row admitted waiting found all =
-      let c = split_at_row n row waiting found in
-      let waits : AllByRecursion P (c.0 ++ (n, row) ∷ c.1) = subst (AllByRecursion P) c.2.whole (all-back P admitted waiting all) in
-      let from_it = all-back P c.0 ((n, row) ∷ c.1) waits in
-      let rest : AllByRecursion P (without_row n waiting) = subst (AllByRecursion P) (sym c.2.rest) (all-append P c.0 c.1 (all-front P c.0 ((n, row) ∷ c.1) waits) from_it.1) in
-      all-append P (admitted ++ (n, row) ∷ []) (without_row n waiting) (all-append P admitted ((n, row) ∷ []) (all-front P admitted waiting all) (from_it.0, tt)) rest
-
-  -- and once one of which it holds is added to those that wait
-  all-added : (P : ℕ × Row K V → Type 0) (p : ℕ × Row K V) (admitted waiting : List (ℕ × Row K V)) → AllByRecursion P (admitted ++ waiting) → P p → AllByRecursion P (admitted ++ (waiting ++ p ∷ []))
-  all-added P p admitted waiting all it =
-      all-append P admitted (waiting ++ p ∷ []) (all-front P admitted waiting all) (all-append P waiting (p ∷ []) (all-back P admitted waiting all) (it, tt))
-
   module _ (admitted waiting : List (ℕ × Row K V)) (weights : Weights) (may_hide : Bool) (notices places : ℕ) (kept : IsKept admitted waiting weights may_hide notices places)
       (admitted' waiting' : List (ℕ × Row K V)) (weights' : Weights) (notices' places' : ℕ) (few : length (admitted' ++ waiting') + notices' ≤ places') where
     -- What a table keeps to stays so: after a use of a row,
@@ -227,10 +211,10 @@ module _ {K V : Type 0} where
         let left = total-without_row n row waiting found in
         record {
           few = few;
-          light = rw (a, w) (all-admitted IsLight n row admitted waiting found kept.light);
+          light = each-admitted IsLight n admitted waiting admitted' waiting' kept.light row found a w;
           admitted_weight = rw a (omega (arith, more, last, kept.admitted_weight));
           waiting_weight = rw w (omega (arith, less, left, kept.waiting_weight));
-          shown = λ none. rw (a, w) (all-admitted IsShown n row admitted waiting found (kept.shown none));
+          shown = λ none. each-admitted IsShown n admitted waiting admitted' waiting' (kept.shown none) row found a w;
         }
 
     -- and after a row was added
@@ -240,10 +224,10 @@ module _ {K V : Type 0} where
         let last = total-append weight_of waiting ((n, row) ∷ []) in
         record {
           few = few;
-          light = rw (a, w) (all-added IsLight (n, row) admitted waiting kept.light is_light);
+          light = each-added IsLight n admitted waiting admitted' waiting' kept.light (n, row) is_light a w;
           admitted_weight = rw a (same ∙ kept.admitted_weight);
           waiting_weight = rw w (omega (arith, more, last, kept.waiting_weight));
-          shown = λ none. rw (a, w) (all-added IsShown (n, row) admitted waiting (kept.shown none) is_shown);
+          shown = λ none. each-added IsShown n admitted waiting admitted' waiting' (kept.shown none) (n, row) is_shown a w;
         }
 
     -- after the first admitted row left,

@@ -32,6 +32,10 @@ module _ {K V : Type 0} where
   abbrev pub entries : Contents K V → List (ℕ × Row K V)
   entries c = c.admitted ++ c.waiting
 
+  -- the keys of some rows, in their order
+  abbrev pub keys_of : List (ℕ × Row K V) → List K
+  keys_of rows = map (λ p. arc_value p.1.key) rows
+
   -- the write that a row stores
   abbrev pub stored_write : Row K V → Write K V
   stored_write row =

@@ -2,6 +2,7 @@
 #![tactic(auto)]
 
 pub mod hiding;
+pub mod scanning;
 pub mod shared_key;
 pub mod table;
 pub mod target;

@@ -13,6 +13,8 @@ mod hiding;
 #[cfg(test)]
 mod keys;
 #[cfg(test)]
+mod limits;
+#[cfg(test)]
 mod list_rows;
 #[cfg(test)]
 mod long_use;

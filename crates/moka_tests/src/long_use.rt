@@ -232,6 +232,7 @@ fn opens_with_all_settings(rt: HostRuntime) -> Result<(), Fail> {
                 is_tiny_lfu: numbers.below(2) == 0,
                 time_to_live: numbers.life(),
                 time_to_idle: Some(numbers.below(greatest)),
+                flush_limit: Some(numbers.below(greatest)),
                 first_number: numbers.below(greatest),
                 is_weighed: numbers.below(2) == 0,
                 may_expire: numbers.below(2) == 0,

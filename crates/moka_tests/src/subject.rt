@@ -5,6 +5,8 @@
 //! - where there is a capacity and each value weighs one, no more keys are stored than it allows, and 64;
 //! - a call that was refused has left the numbers of keys and notices and the weight as they were, no expiry was asked,
 //!   and a write has handed back its key and its value.
+ghost use Rattle.std.specs.Prelude.{◌≡◌, ◌≢◌, false, Some, None, IsSome, IfOk};
+
 use crate::keys::{ByNumber, Collides, Key};
 use crate::values::{Counts, EitherText, Given, Types, Value, Watch, heavy, plain};
 use moka::PredicateError;
@@ -24,8 +26,9 @@ use std::time::Duration;
 /// The store in which the caches keep their rows.
 pub(crate) type CacheRows<K, V> = DueRows<K, V>;
 
-/// How a cache is built: its capacities and its policy, its lives in seconds, its first number, and whether values may
-/// be hidden by predicates, are weighed and have lives of their own.
+/// How a cache is built: its capacities and its policy, its lives in seconds, its flush limit, its first number, and
+/// whether values may be hidden by predicates, are weighed and have lives of their own. A limit of 0, and one beside a
+/// weigher, is none.
 #[derive(Clone, Copy)]
 pub(crate) struct Rules {
     pub max_capacity: Option<u64>,
@@ -34,6 +37,7 @@ pub(crate) struct Rules {
     pub time_to_live: Option<u64>,
     pub time_to_idle: Option<u64>,
     pub closures: bool,
+    pub flush_limit: Option<u64>,
     pub first_number: u64,
     pub is_weighed: bool,
     pub may_expire: bool,
@@ -47,10 +51,24 @@ pub(crate) const UNLIMITED: Rules = Rules {
     time_to_live: None,
     time_to_idle: None,
     closures: false,
+    flush_limit: None,
     first_number: 0,
     is_weighed: false,
     may_expire: false,
 };
+
+impl Rules {
+    /// The flush limit of a cache with these rules.
+    fn limit(self) -> Option<u64>
+        ensures limits { result ≢ Some 0 }
+        ensures unweighed { IsSome result → self.is_weighed ≡ false }
+    {
+        match self.flush_limit {
+            Some(limit) if limit > 0 && !self.is_weighed => Some(limit),
+            _ => None,
+        }
+    }
+}
 
 /// A call of a cache, or what a table does beside it.
 #[derive(Clone, Copy)]
@@ -72,6 +90,7 @@ pub(crate) enum Call {
     InvalidateById(&'static str, &'static str),
     PredicateRoom,
     RunPendingTasks,
+    RunPendingTasksUpTo(u64),
     EntryCount,
     WeightedSize,
     TakeNotice,
@@ -94,6 +113,7 @@ pub(crate) enum Answer {
     Contains(bool),
     Done,
     Counted(u64),
+    Left(bool),
     Noticed(u64, &'static str, RemovalCause),
     NoNotice,
     Refused(Refused),
@@ -157,7 +177,11 @@ fn settings<K: Key, H: BuildHasher + Default + Drop>(
     alloc: Global,
     rules: Rules,
     watch: &Arc<Watch>,
-) -> Result<Settings<K, Value, Types<H>>, AllocError> {
+) -> Result<Settings<K, Value, Types<H>>, AllocError>
+    ensures limits { IfOk result (λ settings. settings.flush_limit ≢ Some 0) }
+    ensures unweighed { IfOk result (λ settings.
+        IsSome settings.flush_limit → settings.weigher ≡ None) }
+{
     Ok(Settings {
         name: None,
         initial_capacity: rules.initial_capacity,
@@ -180,6 +204,7 @@ fn settings<K: Key, H: BuildHasher + Default + Drop>(
         time_to_live: rules.time_to_live.map(Duration::from_secs),
         time_to_idle: rules.time_to_idle.map(Duration::from_secs),
         closures: rules.closures,
+        flush_limit: rules.limit(),
         first_number: rules.first_number,
         hasher: shared(alloc, H::default())?,
     })
@@ -285,6 +310,9 @@ impl<K: Key, H: BuildHasher + Default + Drop, R: RowStore<K, Value>> Subject<K, 
                 self.cache.run_pending_tasks(now);
                 Answer::Done
             }
+            Call::RunPendingTasksUpTo(limit) => {
+                Answer::Left(self.cache.run_pending_tasks_up_to(limit, now))
+            }
             Call::EntryCount => Answer::Counted(self.cache.entry_count()),
             Call::WeightedSize => Answer::Counted(self.cache.weighted_size()),
             Call::TakeNotice => match self.cache.take_notice() {
@@ -352,6 +380,7 @@ impl<K: Key, H: BuildHasher + Default + Drop, R: RowStore<K, Value>> Subject<K, 
                 Some(Step::InvalidateIf { predicate })
             }
             Call::RunPendingTasks => Some(Step::RunPendingTasks { now }),
+            Call::RunPendingTasksUpTo(limit) => Some(Step::RunPendingTasksUpTo { limit, now }),
             Call::EntryCount => Some(Step::EntryCount),
             Call::WeightedSize => Some(Step::WeightedSize),
             Call::TakeNotice => Some(Step::TakeNotice),
@@ -587,6 +616,7 @@ fn said<K: Key>(reply: Reply<K, Value>) -> Answer {
         Reply::Contains(found) => Answer::Contains(found),
         Reply::Done => Answer::Done,
         Reply::Counted(count) => Answer::Counted(count),
+        Reply::Left(is_left) => Answer::Left(is_left),
         Reply::Noticed(Some(notice)) => {
             Answer::Noticed(notice.key.number(), notice.value.given.text, notice.cause)
         }

@@ -19,14 +19,16 @@ pub record SettingsData (H W X : Type 0) : Type 0 where
   pub max_capacity : Option ℕ
   pub first_number : ℕ
   pub supports_closures : Bool
+  pub flush_limit : Option ℕ
   pub behaviour : BehaviourData H W X
 
 -- What a state keeps, as data: its settings, its books, and its source of frequencies. What the types of the cache mean
--- by it is its view.
+-- by it is its view. And for how many rows there was room from the start, which matters to no answer.
 pub record StateData (K V H W X F : Type 0) : Type 0 where
   pub settings : SettingsData H W X
   pub books : Books K V
   pub source : F
+  pub initial_room : ℕ
 
 module _ {K V H W X : Type 0} (behaviour_in : BehaviourData H W X → Behaviour K V) where
   -- the settings that this means, by the behaviour that it means and by what a new source estimates
@@ -37,6 +39,7 @@ module _ {K V H W X : Type 0} (behaviour_in : BehaviourData H W X → Behaviour 
     max_capacity = kept.max_capacity;
     first_number = kept.first_number;
     supports_closures = kept.supports_closures;
+    flush_limit = kept.flush_limit;
     behaviour = behaviour_in kept.behaviour;
     frequency = frequency;
   }

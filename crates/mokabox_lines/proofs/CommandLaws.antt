@@ -6,7 +6,7 @@ use Rattle.std.proofs.lemmas.Option.{option_and_then_some, same_Some}
 use Rattle.std.proofs.lemmas.Slice.Eq.{bytes_eq-Decides}
 use Rattle.std.proofs.lemmas.List.Splits.{join_with_byte-slice_split}
 use Rattle.mokabox_lines.specs.declared.command.Command.{Command}
-use Rattle.mokabox_lines.specs.declared.command.Command.TheVariants.{At, Insert, Get, Has, Invalidate, Tasks, Count, Weight, Notices, Policy, Remove, InvalidateAll, InvalidateIf}
+use Rattle.mokabox_lines.specs.declared.command.Command.TheVariants.{At, Insert, Get, Has, Invalidate, Tasks, TasksUpTo, Count, Weight, Notices, Policy, Remove, InvalidateAll, InvalidateIf, Walk}
 use Rattle.mokabox_lines.specs.Command.{PlainCommand, plain_command, command_fields, line_of, IsExpressible, Reader, insert_of, alone, words, read_by, command_of, command_by_line}
 use Rattle.mokabox_lines.specs.Fields.{fields_of, number_of, text_of, sole_number_of, sole_text_of, none_empty, texts_of, IsText}
 use Rattle.mokabox_lines.proofs.NumberLaws.{number_takes, number_again}
@@ -120,12 +120,15 @@ words_take = (
                 (
                   alone_takes (codes "tasks") Tasks refl tt,
                   (
-                    alone_takes (codes "count") Count refl tt,
+                    number_behind (codes "tasks-up-to") TasksUpTo (λ n. refl) (λ n small. small),
                     (
-                      alone_takes (codes "weight") Weight refl tt,
+                      alone_takes (codes "count") Count refl tt,
                       (
-                        alone_takes (codes "notices") Notices refl tt,
-                        (alone_takes (codes "policy") Policy refl tt, tt),
+                        alone_takes (codes "weight") Weight refl tt,
+                        (
+                          alone_takes (codes "notices") Notices refl tt,
+                          (alone_takes (codes "policy") Policy refl tt, (alone_takes (codes "walk") Walk refl tt, tt)),
+                        ),
                       ),
                     ),
                   ),
@@ -164,10 +167,12 @@ command_again (Remove key) small = rw (number_again key small) refl
 command_again InvalidateAll sayable = refl
 command_again (InvalidateIf values) each = rw (texts_again values each) refl
 command_again Tasks sayable = refl
+command_again (TasksUpTo limit) small = rw (number_again limit small) refl
 command_again Count sayable = refl
 command_again Weight sayable = refl
 command_again Notices sayable = refl
 command_again Policy sayable = refl
+command_again Walk sayable = refl
 
 number_written : (word : List ℕ) (n : ℕ) → is_plain word ≡ true → n < 2 ^ 64 → AllByRecursion IsField (word ∷ decimal n ∷ [])
 number_written word n plain small = (word_field word plain, (number_field n small, tt))
@@ -183,10 +188,12 @@ command_fields_are (Remove key) small = (omega arith, number_written (codes "rem
 command_fields_are InvalidateAll sayable = (omega arith, (word_field (codes "invalidate-all") refl, tt))
 command_fields_are (InvalidateIf values) each = (omega arith, (word_field (codes "invalidate-if") refl, text_fields (fields_of values) each))
 command_fields_are Tasks sayable = (omega arith, (word_field (codes "tasks") refl, tt))
+command_fields_are (TasksUpTo limit) small = (omega arith, number_written (codes "tasks-up-to") limit refl small)
 command_fields_are Count sayable = (omega arith, (word_field (codes "count") refl, tt))
 command_fields_are Weight sayable = (omega arith, (word_field (codes "weight") refl, tt))
 command_fields_are Notices sayable = (omega arith, (word_field (codes "notices") refl, tt))
 command_fields_are Policy sayable = (omega arith, (word_field (codes "policy") refl, tt))
+command_fields_are Walk sayable = (omega arith, (word_field (codes "walk") refl, tt))
 
 -- a line that is read as a command is the one that it is written as
 pub line_takes : (line : List ℕ) (command : PlainCommand) → command_by_line line ≡ Some command → (line ≡ line_of command) × IsExpressible command

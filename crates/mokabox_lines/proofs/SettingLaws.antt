@@ -10,7 +10,7 @@ use Rattle.std.proofs.lemmas.Str.Pattern.{IsSplitOnceResult, split_parts}
 use Rattle.mokabox_lines.specs.declared.settings.Eviction.{Eviction}
 use Rattle.mokabox_lines.specs.declared.settings.Eviction.TheVariants.{Lru, TinyLfu}
 use Rattle.mokabox_lines.specs.declared.settings.Setting.{Setting}
-use Rattle.mokabox_lines.specs.declared.settings.Setting.TheVariants.{TimeToLive, TimeToIdle, FirstNumber, Capacity, InitialCapacity, Policy, Weigher, Closures}
+use Rattle.mokabox_lines.specs.declared.settings.Setting.TheVariants.{TimeToLive, TimeToIdle, FirstNumber, Capacity, InitialCapacity, Policy, Weigher, Closures, FlushLimit}
 use Rattle.mokabox_lines.specs.declared.settings.Settings.{Settings}
 use Rattle.mokabox_lines.specs.declared.settings.Weighing.{Weighing}
 use Rattle.mokabox_lines.specs.declared.settings.Weighing.TheVariants.{Bytes}
@@ -103,7 +103,7 @@ names_take = (
             policy_takes,
             (
               weigher_takes,
-              tt,
+              (numbered (codes "flush") FlushLimit (λ n. refl) (λ n small. small), tt),
             ),
           ),
         ),
@@ -145,6 +145,7 @@ setting_again (Policy Lru) givable = refl
 setting_again (Policy TinyLfu) givable = refl
 setting_again (Weigher Bytes) givable = refl
 setting_again Closures givable = refl
+setting_again (FlushLimit most) small = rw (number_again most small) refl
 
 -- the fields that are read as settings are what they are written as
 abbrev AreGiven : List (List ℕ) → Settings → Settings → Type 0
@@ -182,6 +183,7 @@ setting_field (Policy Lru) givable = word_field (codes "policy=lru") refl
 setting_field (Policy TinyLfu) givable = word_field (codes "policy=tinylfu") refl
 setting_field (Weigher Bytes) givable = word_field (codes "weigher=bytes") refl
 setting_field Closures givable = word_field (codes "closures") refl
+setting_field (FlushLimit most) small = joined_field (codes "flush=") (decimal most) (word_field (codes "flush=") refl) (number_field most small)
 
 setting_fields : (given : List Setting) → AllByRecursion IsGivable given → AllByRecursion IsField (map setting_text given)
 setting_fields [] givable = tt

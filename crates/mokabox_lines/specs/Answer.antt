@@ -1,6 +1,7 @@
-use Rattle.std.specs.Prelude.{ℕ, true, false, List, [], ◌∷◌, ◌++◌, Option, Some, None, codes}
+use Rattle.std.specs.Prelude.{ℕ, true, false, List, [], ◌∷◌, ◌++◌, Option, Some, None, codes, String, flat_map}
 use Rattle.std.specs.Fmt.{decimal}
 use Rattle.std.specs.String.{string_bytes}
+use Rattle.std.specs.declared.alloc.Global.{Global}
 use Rattle.moka_model.specs.declared.notification.RemovalCause.{RemovalCause}
 use Rattle.moka_model.specs.declared.notification.RemovalCause.TheVariants as causes
 use Rattle.moka_policy.specs.declared.builder_utils.BuildError.{BuildError}
@@ -11,7 +12,7 @@ use Rattle.moka_predicate_ids.specs.declared.predicate_error.PredicateError.{Pre
 use Rattle.moka_predicate_ids.specs.declared.predicate_error.PredicateError.TheVariants as predicates
 use Rattle.mokabox_lines.specs.declared.answer.Answer.{Answer}
 use Rattle.mokabox_lines.specs.declared.answer.Answer.TheVariants.{Done, Found, NotFound, Whether, Counted, Refused, NotBuilt, Left, End}
-use Rattle.mokabox_lines.specs.declared.answer.Answer.TheVariants.{NotHidden, Policy, BadLine}
+use Rattle.mokabox_lines.specs.declared.answer.Answer.TheVariants.{Unfinished, NotHidden, Policy, Walked, BadLine}
 
 -- the number by which a refusal is printed
 abbrev pub refusal_number : moka_refused.Refused → ℕ
@@ -25,6 +26,8 @@ build_refusal_number builds.TooManySegments = 2
 build_refusal_number builds.TimeToLiveTooLong = 3
 build_refusal_number builds.TimeToIdleTooLong = 4
 build_refusal_number builds.OutOfMemory = 5
+build_refusal_number builds.ZeroFlushLimit = 6
+build_refusal_number builds.FlushLimitWithWeigher = 7
 
 -- the number by which a refusal to remove by what values are is printed
 abbrev pub predicate_error_number : PredicateError → ℕ
@@ -43,6 +46,10 @@ abbrev pub measure_text : Option ℕ → List ℕ
 measure_text None = codes "none"
 measure_text (Some number) = decimal number
 
+-- keys with their values, each pair as `KEY=VALUE` behind a space
+abbrev pub pairs_text : List (ℕ × String Global) → List ℕ
+pairs_text pairs = flat_map (λ pair. codes " " ++ (decimal pair.0 ++ (codes "=" ++ string_bytes pair.1))) pairs
+
 -- the line that an answer is printed as, without its end
 abbrev pub answer_text : Answer → List ℕ
 answer_text Done = codes "ok"
@@ -51,6 +58,8 @@ answer_text NotFound = codes "none"
 answer_text (Whether true) = codes "true"
 answer_text (Whether false) = codes "false"
 answer_text (Counted count) = decimal count
+answer_text (Unfinished true) = codes "left"
+answer_text (Unfinished false) = codes "done"
 answer_text (Refused refused) = codes "refused " ++ decimal (refusal_number refused)
 answer_text (NotBuilt refusal) = codes "refused build " ++ decimal (build_refusal_number refusal)
 answer_text (NotHidden refusal) = codes "error " ++ decimal (predicate_error_number refusal)
@@ -58,6 +67,7 @@ answer_text (Left key value cause) = codes "notice " ++ (decimal key ++ (32 ∷ 
 answer_text (Policy capacity live idle segments) =
     codes "policy capacity " ++ (measure_text capacity.0 ++ (codes " ttl " ++ (measure_text live.0
     ++ (codes " tti " ++ (measure_text idle.0 ++ (codes " segments " ++ decimal segments))))))
+answer_text (Walked pairs) = codes "walk" ++ pairs_text pairs.0.items
 answer_text End = codes "end"
 answer_text BadLine = codes "bad line"
 

@@ -6,7 +6,7 @@ use Rattle.std.specs.Str.{bytes_eq}
 use Rattle.mokabox_lines.specs.Fields.{line_reading, fields_of, number_of, sole_number_of, sole_text_of, texts_of, IsText}
 use Rattle.mokabox_lines.specs.declared.command.Command.{Command}
 use Rattle.mokabox_lines.specs.declared.command.Command.TheVariants.{At, Insert, Get, Has, Invalidate, Tasks, Count, Weight, Notices}
-use Rattle.mokabox_lines.specs.declared.command.Command.TheVariants.{Remove, InvalidateAll, InvalidateIf, Policy}
+use Rattle.mokabox_lines.specs.declared.command.Command.TheVariants.{Remove, InvalidateAll, InvalidateIf, TasksUpTo, Policy, Walk}
 
 -- a command with the bytes of its texts
 abbrev pub PlainCommand : Type 0
@@ -22,10 +22,12 @@ plain_command (Remove key) = Remove key
 plain_command InvalidateAll = InvalidateAll
 plain_command (InvalidateIf values) = InvalidateIf values.now
 plain_command Tasks = Tasks
+plain_command (TasksUpTo limit) = TasksUpTo limit
 plain_command Count = Count
 plain_command Weight = Weight
 plain_command Notices = Notices
 plain_command Policy = Policy
+plain_command Walk = Walk
 
 -- the fields that a command is written as
 abbrev pub command_fields : PlainCommand → List (List ℕ)
@@ -38,10 +40,12 @@ command_fields (Remove key) = codes "remove" ∷ decimal key ∷ []
 command_fields InvalidateAll = codes "invalidate-all" ∷ []
 command_fields (InvalidateIf values) = codes "invalidate-if" ∷ fields_of values
 command_fields Tasks = codes "tasks" ∷ []
+command_fields (TasksUpTo limit) = codes "tasks-up-to" ∷ decimal limit ∷ []
 command_fields Count = codes "count" ∷ []
 command_fields Weight = codes "weight" ∷ []
 command_fields Notices = codes "notices" ∷ []
 command_fields Policy = codes "policy" ∷ []
+command_fields Walk = codes "walk" ∷ []
 
 -- the line that a command is written as, its fields separated by one space
 abbrev pub line_of : PlainCommand → List ℕ
@@ -58,10 +62,12 @@ IsExpressible (Remove key) = key < 2 ^ 64
 IsExpressible InvalidateAll = Unit {0}
 IsExpressible (InvalidateIf values) = AllByRecursion IsText (fields_of values)
 IsExpressible Tasks = Unit {0}
+IsExpressible (TasksUpTo limit) = limit < 2 ^ 64
 IsExpressible Count = Unit {0}
 IsExpressible Weight = Unit {0}
 IsExpressible Notices = Unit {0}
 IsExpressible Policy = Unit {0}
+IsExpressible Walk = Unit {0}
 
 -- what reads the fields behind a command's word
 abbrev pub Reader : Type 0
@@ -86,10 +92,12 @@ words = (codes "at", λ rest. option_map At (sole_number_of rest))
     ∷ (codes "invalidate-all", alone InvalidateAll)
     ∷ (codes "invalidate-if", λ rest. option_map InvalidateIf (texts_of rest))
     ∷ (codes "tasks", alone Tasks)
+    ∷ (codes "tasks-up-to", λ rest. option_map TasksUpTo (sole_number_of rest))
     ∷ (codes "count", alone Count)
     ∷ (codes "weight", alone Weight)
     ∷ (codes "notices", alone Notices)
     ∷ (codes "policy", alone Policy)
+    ∷ (codes "walk", alone Walk)
     ∷ []
 
 abbrev pub read_by : List (List ℕ × Reader) → List ℕ → Reader

@@ -9,7 +9,7 @@ use Rattle.mokabox_lines.specs.declared.settings.Eviction.{Eviction}
 use Rattle.mokabox_lines.specs.declared.settings.Eviction.TheVariants.{Lru, TinyLfu}
 use Rattle.mokabox_lines.specs.declared.settings.Setting.{Setting}
 use Rattle.mokabox_lines.specs.declared.settings.Setting.TheVariants.{TimeToLive, TimeToIdle, FirstNumber, Capacity}
-use Rattle.mokabox_lines.specs.declared.settings.Setting.TheVariants.{InitialCapacity, Policy, Weigher, Closures}
+use Rattle.mokabox_lines.specs.declared.settings.Setting.TheVariants.{InitialCapacity, Policy, Weigher, Closures, FlushLimit}
 use Rattle.mokabox_lines.specs.declared.settings.Settings.{Settings}
 use Rattle.mokabox_lines.specs.declared.settings.Weighing.{Weighing}
 use Rattle.mokabox_lines.specs.declared.settings.Weighing.TheVariants.{Bytes}
@@ -37,6 +37,7 @@ setting_text (InitialCapacity count) = codes "initial=" ++ decimal count
 setting_text (Policy eviction) = codes "policy=" ++ eviction_text eviction
 setting_text (Weigher weighing) = codes "weigher=" ++ weighing_text weighing
 setting_text Closures = codes "closures"
+setting_text (FlushLimit most) = codes "flush=" ++ decimal most
 
 -- the first line that gives the settings, in this order
 abbrev pub first_line_of : List Setting → List ℕ
@@ -52,6 +53,7 @@ IsGivable (InitialCapacity count) = count < 2 ^ 64
 IsGivable (Policy eviction) = Unit {0}
 IsGivable (Weigher weighing) = Unit {0}
 IsGivable Closures = Unit {0}
+IsGivable (FlushLimit most) = most < 2 ^ 64
 
 -- no setting is given
 abbrev pub none_given : Settings
@@ -64,6 +66,7 @@ none_given = record {
   policy = None;
   weigher = None;
   closures = false;
+  flush_limit = None;
 }
 
 -- the settings and one more, which isn't given yet
@@ -80,6 +83,8 @@ with_setting settings (InitialCapacity count) =
 with_setting settings (Policy eviction) = if is_some settings.policy then None else Some (record settings { policy = Some eviction })
 with_setting settings (Weigher weighing) = if is_some settings.weigher then None else Some (record settings { weigher = Some weighing })
 with_setting settings Closures = if settings.closures then None else Some (record settings { closures = true })
+with_setting settings (FlushLimit most) =
+    if is_some settings.flush_limit then None else Some (record settings { flush_limit = Some most })
 
 -- the settings with all of these, of which none is given twice
 abbrev pub settings_with_all : Settings → List Setting → Option Settings
@@ -112,6 +117,7 @@ names = (codes "ttl", λ value. option_map TimeToLive (number_of value))
     ∷ (codes "initial", λ value. option_map InitialCapacity (number_of value))
     ∷ (codes "policy", λ value. option_map Policy (eviction_of value))
     ∷ (codes "weigher", λ value. option_map Weigher (weighing_of value))
+    ∷ (codes "flush", λ value. option_map FlushLimit (number_of value))
     ∷ []
 
 abbrev pub value_by : List (List ℕ × (List ℕ → Option Setting)) → List ℕ → List ℕ → Option Setting

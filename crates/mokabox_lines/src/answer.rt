@@ -1,7 +1,7 @@
 //! What the program prints: a line for each answer.
 ghost use Rattle.std.specs.Prelude.{◌≡◌, Some, OnOk};
 ghost use Rattle.std.specs.Io.KnownBytes.{Appends};
-ghost use Rattle.mokabox_lines.specs.Answer.{answer_text, answer_line, cause_text, measure_text, refusal_number, build_refusal_number, predicate_error_number};
+ghost use Rattle.mokabox_lines.specs.Answer.{answer_text, answer_line, cause_text, measure_text, pairs_text, refusal_number, build_refusal_number, predicate_error_number};
 
 use moka_model::notification::RemovalCause;
 use moka_policy::builder_utils::BuildError;
@@ -25,6 +25,21 @@ impl fmt::Display for Measure {
     }
 }
 
+/// Keys with their values, each pair behind a space.
+#[derive(Debug, Drop)]
+pub struct Pairs(pub Vec<(u64, String)>);
+
+impl fmt::Display for Pairs {
+    ghost output = { λ pairs. Some (pairs_text pairs.0.items) };
+
+    fn fmt<W: fmt::Write>(&self, f: &mut fmt::Formatter<W>) -> fmt::Result {
+        for pair in &self.0 {
+            write!(f, " {}={}", pair.0, pair.1)?;
+        }
+        Ok(())
+    }
+}
+
 /// One line of what the program prints.
 #[derive(Debug, Drop)]
 pub enum Answer {
@@ -38,6 +53,8 @@ pub enum Answer {
     Whether(bool),
     /// How many there are.
     Counted(u64),
+    /// Whether a maintenance left something undone.
+    Unfinished(bool),
     /// The step was refused.
     Refused(Refused),
     /// The cache was not built.
@@ -48,6 +65,8 @@ pub enum Answer {
     Left(u64, String, RemovalCause),
     /// A cache's capacity, its time to live and to idle in seconds, and its number of segments.
     Policy(Measure, Measure, Measure, u64),
+    /// The pairs that are live.
+    Walked(Pairs),
     /// No further notice is there.
     End,
     /// The line is none of a script's.
@@ -64,6 +83,8 @@ impl fmt::Display for Answer {
             Answer::NotFound => write!(f, "none"),
             Answer::Whether(is_so) => write!(f, "{is_so}"),
             Answer::Counted(count) => write!(f, "{count}"),
+            Answer::Unfinished(true) => write!(f, "left"),
+            Answer::Unfinished(false) => write!(f, "done"),
             Answer::Refused(refused) => {
                 let number = refusal_number(*refused);
                 write!(f, "refused {number}")
@@ -84,6 +105,7 @@ impl fmt::Display for Answer {
                 f,
                 "policy capacity {capacity} ttl {live} tti {idle} segments {segments}"
             ),
+            Answer::Walked(pairs) => write!(f, "walk{pairs}"),
             Answer::End => write!(f, "end"),
             Answer::BadLine => write!(f, "bad line"),
         }
@@ -118,6 +140,8 @@ fn build_refusal_number(refusal: BuildError) -> u8
         BuildError::TimeToLiveTooLong => 3,
         BuildError::TimeToIdleTooLong => 4,
         BuildError::OutOfMemory => 5,
+        BuildError::ZeroFlushLimit => 6,
+        BuildError::FlushLimitWithWeigher => 7,
     }
 }
 

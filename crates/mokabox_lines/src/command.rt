@@ -26,6 +26,8 @@ pub enum Command<T> {
     InvalidateIf(T),
     /// Runs the pending tasks.
     Tasks,
+    /// Runs the pending tasks within a limit, and asks whether some are left.
+    TasksUpTo(u64),
     /// Asks how many keys are stored.
     Count,
     /// Asks for the weight of all that is stored.
@@ -34,6 +36,8 @@ pub enum Command<T> {
     Notices,
     /// Asks for the cache's policy.
     Policy,
+    /// Asks for all live pairs.
+    Walk,
 }
 
 /// The command that a line writes. `None` where it writes none.
@@ -65,10 +69,12 @@ fn read(mut fields: Fields<'_>) -> Option<Command<&str>>
         "invalidate-all" => alone(fields, Command::InvalidateAll)?,
         "invalidate-if" => Command::InvalidateIf(fields.texts()?),
         "tasks" => alone(fields, Command::Tasks)?,
+        "tasks-up-to" => Command::TasksUpTo(fields.sole_number()?),
         "count" => alone(fields, Command::Count)?,
         "weight" => alone(fields, Command::Weight)?,
         "notices" => alone(fields, Command::Notices)?,
         "policy" => alone(fields, Command::Policy)?,
+        "walk" => alone(fields, Command::Walk)?,
         _ => return None,
     };
     Some(command)

@@ -26,6 +26,8 @@ pub struct Settings {
     pub weigher: Option<Weighing>,
     /// Whether keys may be removed by what their values are.
     pub closures: bool,
+    /// How many values may leave in the maintenance before a write.
+    pub flush_limit: Option<u64>,
 }
 
 /// Which keys leave a cache that is too full, and which are admitted.
@@ -63,6 +65,8 @@ pub enum Setting {
     Weigher(Weighing),
     /// Keys may be removed by what their values are.
     Closures,
+    /// How many values may leave in the maintenance before a write.
+    FlushLimit(u64),
 }
 
 impl Settings {
@@ -80,6 +84,7 @@ impl Settings {
             Setting::Policy(eviction) => give(&mut settings.policy, eviction)?,
             Setting::Weigher(weighing) => give(&mut settings.weigher, weighing)?,
             Setting::Closures => set(&mut settings.closures)?,
+            Setting::FlushLimit(most) => give(&mut settings.flush_limit, most)?,
         }
         Some(settings)
     }
@@ -157,6 +162,7 @@ fn read_setting(field: &str) -> Option<Setting>
         "initial" => Some(Setting::InitialCapacity(number(value)?)),
         "policy" => Some(Setting::Policy(read_eviction(value)?)),
         "weigher" => Some(Setting::Weigher(read_weighing(value)?)),
+        "flush" => Some(Setting::FlushLimit(number(value)?)),
         _ => None,
     }
 }

@@ -1,5 +1,5 @@
 -- A cache that was just built is where a script begins.
-use Rattle.std.proofs.Common.{◌≡◌, ◌%◌, ◌^◌, ◌<◌, ℕ, Bool, false, is_some, [], Option, Some, None, option_map, nat_eq, refl, ap, ◌∙◌, subst}
+use Rattle.std.proofs.Common.{◌≡◌, ◌%◌, ◌^◌, ◌<◌, ℕ, Bool, is_some, [], Option, Some, None, option_map, nat_eq, refl, ap, ◌∙◌, subst}
 use Rattle.std.proofs.Math.Path.{fun_ext}
 use Rattle.std.specs.declared.convert.Infallible.{Infallible}
 use Rattle.std.specs.Duration.{as_nanos}
@@ -44,13 +44,14 @@ hashed_by : (hasher : CacheHasher) → (initial_hasher hasher).hash < 2 ^ 64 →
 hashed_by hasher small = fun_ext (λ key. number_hash-remainder (initial_hasher hasher).hash key small)
 
 -- what a cache of texts is built with
-abbrev settings_with : Option ℕ → Option ℕ → Option ℕ → ℕ → Bool → Bool → (ℕ → ℕ) → (ℕ → Text → ℕ) → Lifetimes ℕ Text → CacheSettings
-settings_with live idle capacity first closures is_lru hash weight own = record {
+abbrev settings_with : Option ℕ → Option ℕ → Option ℕ → ℕ → Bool → Option ℕ → Bool → (ℕ → ℕ) → (ℕ → Text → ℕ) → Lifetimes ℕ Text → CacheSettings
+settings_with live idle capacity first closures flush is_lru hash weight own = record {
   time_to_live = live;
   time_to_idle = idle;
   max_capacity = capacity;
   first_number = first;
   supports_closures = closures;
+  flush_limit = flush;
   behaviour = record { is_lru = is_lru; hash = hash; weight = weight; lifetimes = own };
   frequency = estimate_after 6;
 }
@@ -67,15 +68,16 @@ built_so given told hasher is small =
     let idle : Option ℕ = option_map as_nanos told.time_to_idle in
     let hash : ℕ → ℕ = λ key. key % 2 ^ 64 in
     let weight : ℕ → Text → ℕ = weight_given given.weigher in
-    ap (λ l. settings_with l idle told.max_capacity told.first_number told.closures told.is_lru (cache_hash hasher) (text_weight told.weigher) (own_lives told.expiry)) is.time_to_live
-    ∙ ap (λ l. settings_with wanted.time_to_live l told.max_capacity told.first_number told.closures told.is_lru (cache_hash hasher) (text_weight told.weigher) (own_lives told.expiry)) is.time_to_idle
-    ∙ ap (λ c. settings_with wanted.time_to_live wanted.time_to_idle c told.first_number told.closures told.is_lru (cache_hash hasher) (text_weight told.weigher) (own_lives told.expiry)) is.max_capacity
-    ∙ ap (λ n. settings_with wanted.time_to_live wanted.time_to_idle given.capacity n told.closures told.is_lru (cache_hash hasher) (text_weight told.weigher) (own_lives told.expiry)) is.first_number
-    ∙ ap (λ b. settings_with wanted.time_to_live wanted.time_to_idle given.capacity wanted.first_number b told.is_lru (cache_hash hasher) (text_weight told.weigher) (own_lives told.expiry)) is.closures
-    ∙ ap (λ b. settings_with wanted.time_to_live wanted.time_to_idle given.capacity wanted.first_number given.closures b (cache_hash hasher) (text_weight told.weigher) (own_lives told.expiry)) is.is_lru
-    ∙ ap (λ h. settings_with wanted.time_to_live wanted.time_to_idle given.capacity wanted.first_number given.closures (is_lru_by given.policy) h (text_weight told.weigher) (own_lives told.expiry)) (hashed_by hasher small)
-    ∙ ap (λ w. settings_with wanted.time_to_live wanted.time_to_idle given.capacity wanted.first_number given.closures (is_lru_by given.policy) hash w (own_lives told.expiry)) (weighed_by told.weigher given.weigher is.weigher)
-    ∙ ap (λ e. settings_with wanted.time_to_live wanted.time_to_idle given.capacity wanted.first_number given.closures (is_lru_by given.policy) hash weight (own_lives e)) is.expiry
+    ap (λ l. settings_with l idle told.max_capacity told.first_number told.closures told.flush_limit told.is_lru (cache_hash hasher) (text_weight told.weigher) (own_lives told.expiry)) is.time_to_live
+    ∙ ap (λ l. settings_with wanted.time_to_live l told.max_capacity told.first_number told.closures told.flush_limit told.is_lru (cache_hash hasher) (text_weight told.weigher) (own_lives told.expiry)) is.time_to_idle
+    ∙ ap (λ c. settings_with wanted.time_to_live wanted.time_to_idle c told.first_number told.closures told.flush_limit told.is_lru (cache_hash hasher) (text_weight told.weigher) (own_lives told.expiry)) is.max_capacity
+    ∙ ap (λ n. settings_with wanted.time_to_live wanted.time_to_idle given.capacity n told.closures told.flush_limit told.is_lru (cache_hash hasher) (text_weight told.weigher) (own_lives told.expiry)) is.first_number
+    ∙ ap (λ b. settings_with wanted.time_to_live wanted.time_to_idle given.capacity wanted.first_number b told.flush_limit told.is_lru (cache_hash hasher) (text_weight told.weigher) (own_lives told.expiry)) is.closures
+    ∙ ap (λ l. settings_with wanted.time_to_live wanted.time_to_idle given.capacity wanted.first_number given.closures l told.is_lru (cache_hash hasher) (text_weight told.weigher) (own_lives told.expiry)) is.flush_limit
+    ∙ ap (λ b. settings_with wanted.time_to_live wanted.time_to_idle given.capacity wanted.first_number given.closures given.flush_limit b (cache_hash hasher) (text_weight told.weigher) (own_lives told.expiry)) is.is_lru
+    ∙ ap (λ h. settings_with wanted.time_to_live wanted.time_to_idle given.capacity wanted.first_number given.closures given.flush_limit (is_lru_by given.policy) h (text_weight told.weigher) (own_lives told.expiry)) (hashed_by hasher small)
+    ∙ ap (λ w. settings_with wanted.time_to_live wanted.time_to_idle given.capacity wanted.first_number given.closures given.flush_limit (is_lru_by given.policy) hash w (own_lives told.expiry)) (weighed_by told.weigher given.weigher is.weigher)
+    ∙ ap (λ e. settings_with wanted.time_to_live wanted.time_to_idle given.capacity wanted.first_number given.closures given.flush_limit (is_lru_by given.policy) hash weight (own_lives e)) is.expiry
 
 -- the cache of a session that was just built
 pub begins : (given : Settings) (cache : CacheData) (told : Told) (hasher : CacheHasher) → IsTold given told → (initial_hasher hasher).hash < 2 ^ 64 → cache.settings ≡ settings_built told hasher

@@ -1,15 +1,15 @@
 -- The steps of a run, as the calls of its reader, its session and its writer say them.
-use Rattle.std.proofs.Common.{◌≡◌, ◌<◌, ℕ, Bool, true, false, ◌||◌, List, [], ◌∷◌, ◌++◌, length, Option, Some, None, unwrap_or, Result, Ok, IfOk, IfSome, codes, refl, sym, ap, ◌∙◌, subst, inl, inr}
+use Rattle.std.proofs.Common.{◌≡◌, ◌<◌, ℕ, Bool, true, false, ◌||◌, List, [], ◌∷◌, length, Option, Some, None, unwrap_or, Result, Ok, IfOk, IfSome, codes, refl, sym, ap, ◌∙◌, subst, inl, inr}
 use Rattle.std.specs.Io.BufRead.{drop_through, first_piece, DropsThrough}
 use Rattle.std.specs.Io.KnownBytes.{Appends, Keeps}
 use Rattle.mokabox_script.proofs.LineLaws.{IsRunning, run_step, or_when_true, or_when_false, lines_first, one_written, appends-appends, if_some}
-use Rattle.mokabox_lines.specs.Answer.{answer_text, answer_line}
+use Rattle.mokabox_lines.specs.Answer.{answer_line}
 use Rattle.mokabox_lines.specs.Command.{PlainCommand, command_by_line}
 use Rattle.mokabox_lines.specs.declared.answer.Answer.TheVariants as answers
 use Rattle.moka_policy.specs.declared.builder_utils.BuildError.{BuildError}
 use Rattle.moka_policy.specs.declared.builder_utils.BuildError.TheVariants.{OutOfMemory}
 use Rattle.mokabox_lines.specs.declared.settings.Settings.{Settings}
-use Rattle.mokabox_script.specs.Script.{CacheSettings, Course, LinePrints, LinesPrint, FirstPrints, ScriptPrints, lines_of, lines_text, cache_settings, lives_refused, not_built, beginning, status_of}
+use Rattle.mokabox_script.specs.Script.{CacheSettings, Course, LinePrints, LinesPrint, FirstPrints, ScriptPrints, lines_of, lines_text, cache_settings, settings_refused, not_built, beginning, status_of}
 use Rattle.mokabox_script.specs.Session.{CacheData, IsAt, Prints, DoesLine}
 use Rattle.mokabox_lines.specs.Settings.{settings_by}
 
@@ -49,12 +49,12 @@ first_bad settings known held held_after none written = if_some known (λ input.
     (codes "bad line" ∷ [], subst (λ o. FirstPrints o (lines_of input) (codes "bad line" ∷ []) 2) (sym none) (refl, refl), one_written held held_after (codes "bad line") written))
 
 -- a cache that isn't built
-pub first_not_built : (settings : Option Settings) (given : Settings) (refusal : BuildError) (known held held_after : Option (List ℕ)) → settings ≡ Some given → refusal ≡ unwrap_or (lives_refused given) OutOfMemory → Appends held held_after (answer_line (answers.NotBuilt refusal)) → IfSome known (λ input. (printed : List (List ℕ)) × FirstPrints settings (lines_of input) printed 2 × Appends held held_after (lines_text printed))
+pub first_not_built : (settings : Option Settings) (given : Settings) (refusal : BuildError) (known held held_after : Option (List ℕ)) → settings ≡ Some given → refusal ≡ unwrap_or (settings_refused given) OutOfMemory → Appends held held_after (answer_line (answers.NotBuilt refusal)) → IfSome known (λ input. (printed : List (List ℕ)) × FirstPrints settings (lines_of input) printed 2 × Appends held held_after (lines_text printed))
 first_not_built settings given refusal known held held_after some cause written = if_some known (λ input.
     (not_built refusal ∷ [], subst (λ o. FirstPrints o (lines_of input) (not_built refusal ∷ []) 2) (sym some) (inr (ap (λ r. not_built r ∷ []) cause, refl)), one_written held held_after (not_built refusal) written))
 
 -- a first line that is done, and the lines after it
-pub first_done : (settings : Option Settings) (given : Settings) (known held held_mid held_after : Option (List ℕ)) (cache : CacheData) (moment : ℕ) (bad : Bool) (code : ℕ) → settings ≡ Some given → lives_refused given ≡ None → IsAt cache moment (cache_settings given) beginning → Appends held held_mid (answer_line answers.Done) → ((cached : CacheSettings) (before : Course) → IsAt cache moment cached before → IfSome known (λ input. (printed : List (List ℕ)) × LinesPrint cached before (lines_of input) printed bad × Appends held_mid held_after (lines_text printed))) → code ≡ status_of bad → IfSome known (λ input. (printed : List (List ℕ)) × FirstPrints settings (lines_of input) printed code × Appends held held_after (lines_text printed))
+pub first_done : (settings : Option Settings) (given : Settings) (known held held_mid held_after : Option (List ℕ)) (cache : CacheData) (moment : ℕ) (bad : Bool) (code : ℕ) → settings ≡ Some given → settings_refused given ≡ None → IsAt cache moment (cache_settings given) beginning → Appends held held_mid (answer_line answers.Done) → ((cached : CacheSettings) (before : Course) → IsAt cache moment cached before → IfSome known (λ input. (printed : List (List ℕ)) × LinesPrint cached before (lines_of input) printed bad × Appends held_mid held_after (lines_text printed))) → code ≡ status_of bad → IfSome known (λ input. (printed : List (List ℕ)) × FirstPrints settings (lines_of input) printed code × Appends held held_after (lines_text printed))
 first_done settings given None held held_mid held_after cache moment bad code some fits begins written rest is_code = tt
 first_done settings given (Some input) held held_mid held_after cache moment bad code some fits begins written rest is_code =
     let later = rest (cache_settings given) beginning begins in (

@@ -1,6 +1,6 @@
 -- What a session prints, from what its cache's steps ensure.
 use Rattle.std.proofs.Common.{◌≡◌, ◌+◌, ℕ, zero, suc, List, [], ◌∷◌, ◌++◌, length, map, replicate, nat_eq, refl, sym, ap, ◌∙◌, subst, add-one}
-use Rattle.std.proofs.lemmas.List.{map-append}
+use Rattle.std.proofs.lemmas.List.{map-append, append-nil}
 use Rattle.moka_model.specs.Calls as calls
 use Rattle.moka_model.specs.Calls.{Call}
 use Rattle.moka_model.specs.StandsFor.{StandsFor}
@@ -10,7 +10,7 @@ use Rattle.mokabox_lines.specs.Answer.{answer_text}
 use Rattle.mokabox_lines.specs.declared.answer.Answer.{Answer}
 use Rattle.mokabox_lines.specs.Command.{PlainCommand}
 use Rattle.mokabox_lines.specs.declared.command.Command.TheVariants as commands
-use Rattle.mokabox_script.specs.Script.{Text, is_copy, is_surely_copied, CacheSettings, CacheStep, Makes, moment_after, answer_of, CallsPrint, policy_line, told}
+use Rattle.mokabox_script.specs.Script.{Text, is_copy, is_surely_copied, CacheSettings, CacheStep, Course, Makes, moment_after, answer_of, CallsPrint, policy_line, Tells}
 use Rattle.mokabox_script.specs.Session.{CacheData, view, Prints}
 
 -- The cache goes from one state to another by a call with this reply.
@@ -21,18 +21,18 @@ pub record Goes (old new : CacheData) (call : Call ℕ Text) (reply : Reply ℕ 
 -- the moment of what follows
 pub moved : (cache : CacheData) (moment later : ℕ) → Prints cache moment (commands.At later) [] cache later
 moved cache moment later settings before is =
-    (record before { moment = later }, ([], [], refl, (refl, refl), refl, refl), record { stands = is.stands; now = refl })
+    (record before { moment = later }, ([], [], [], refl, (refl, refl), refl, refl, refl), record { stands = is.stands; now = refl })
 
 -- the policy, by the settings that the cache was built with
 pub policy_told : (cache : CacheData) (moment : ℕ) (lines : List (List ℕ)) → lines ≡ policy_line (view cache).settings ∷ [] → Prints cache moment commands.Policy lines cache moment
 policy_told cache moment lines are settings before is =
-    (before, ([], [], refl, (refl, refl), are ∙ ap (λ s. policy_line s ∷ []) is.stands.settings, sym is.now ∙ is.now), is)
+    (before, ([], [], lines, refl, (refl, refl), are ∙ ap (λ s. policy_line s ∷ []) is.stands.settings, sym (append-nil lines), sym is.now ∙ is.now), is)
 
 -- A command is one call.
 pub record IsOneCall (moment : ℕ) (command : PlainCommand) (call : Call ℕ Text) : Type 0 where
   pub makes : (notices : ℕ) → Makes notices moment command (call ∷ [])
   pub stays : (at : ℕ) → moment_after command at ≡ at
-  pub says_nothing : (settings : CacheSettings) → told settings command ≡ []
+  pub tells_nothing : (settings : CacheSettings) (before : Course) → Tells settings before command []
 
 -- then its line is that of the reply to the call
 pub one_call : (old new : CacheData) (moment : ℕ) (command : PlainCommand) (call : Call ℕ Text) (reply : Reply ℕ Text) (answer : Answer) (items : List Answer) → IsOneCall moment command call → Goes old new call reply → answer ≡ answer_of reply → items ≡ answer ∷ [] → Prints old moment command (map answer_text items) new moment
@@ -40,7 +40,7 @@ one_call old new moment command call reply answer items is_one goes is_answer ar
     let made : (notices : ℕ) → Makes notices before.moment command (call ∷ []) = subst (λ at. (notices : ℕ) → Makes notices at command (call ∷ [])) is.now is_one.makes in
     let line : map answer_text items ≡ answer_text (answer_of reply) ∷ [] = ap (map answer_text) are ∙ ap (λ a. answer_text a ∷ []) is_answer in (
       record { steps = after_reply nat_eq settings call reply before.steps; moment = before.moment },
-      (call ∷ [], map answer_text items, made _, (reply, [], goes.reply_is settings before.steps is.stands, line, (refl, refl)), ap (λ lines. lines ++ map answer_text items) (sym (is_one.says_nothing settings)), sym (is_one.stays before.moment)),
+      (call ∷ [], map answer_text items, [], made _, (reply, [], goes.reply_is settings before.steps is.stands, line, (refl, refl)), is_one.tells_nothing settings before, refl, sym (is_one.stays before.moment)),
       record { stands = goes.stands settings before.steps is.stands; now = is.now },
     )
 
@@ -82,7 +82,7 @@ all_taken old new moment count printed counted has settings before is =
     let taken = has settings before.steps is.stands in
     let all = counted ∙ ap (λ b. length b.notices + 1) is.stands.books in (
       record { steps = taken.after; moment = before.moment },
-      (replicate count calls.TakeNotice, printed, ap (λ n. replicate n calls.TakeNotice) all, taken.prints, refl, refl),
+      (replicate count calls.TakeNotice, printed, [], ap (λ n. replicate n calls.TakeNotice) all, taken.prints, refl, refl, refl),
       record { stands = taken.stands; now = is.now },
     )
 

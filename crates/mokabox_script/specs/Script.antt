@@ -1,33 +1,37 @@
 -- What a script prints, by the calls of its cache.
 use Rattle.std.specs.Prelude.{◌≡◌, ℕ, ◌+◌, ◌*◌, ◌/◌, ◌%◌, ◌^◌, Bool, true, false, ◌||◌, List, [], ◌∷◌, ◌++◌, length}
-use Rattle.std.specs.Prelude.{flat_map, replicate, Option, Some, None, String, option_map, unwrap_or, nat_eq, codes, ◌⊎◌, if◌then◌else◌}
+use Rattle.std.specs.Prelude.{flat_map, replicate, Option, Some, None, IsSome, String, option_map, unwrap_or, nat_eq, codes, ◌⊎◌}
+use Rattle.std.specs.Prelude.{if◌then◌else◌, is_some}
 use Rattle.std.specs.Arc.{arc_value}
 use Rattle.std.specs.Fmt.{decimal}
-use Rattle.std.specs.List.{onto_first}
+use Rattle.std.specs.List.{onto_first, All}
+use Rattle.std.specs.Option.{option_or}
+use Rattle.std.specs.List.Sorted.{IsNonDecreasingBy}
 use Rattle.std.specs.String.{string_bytes}
 use Rattle.std.specs.declared.alloc.Global.{Global}
 use Rattle.std.specs.declared.convert.Infallible.{Infallible}
 use Rattle.moka_model.specs.Lives as lives
 use Rattle.moka_model.specs.Lives.{no_lifetimes}
+use Rattle.moka_model.specs.MaintenanceLaws.{count}
 use Rattle.moka_model.specs.Removals.{notices_left}
 use Rattle.moka_model.specs.Steps.{AcceptedStep, events_in}
 use Rattle.moka_model.specs.Calls as calls
-use Rattle.moka_model.specs.Calls.{Call}
+use Rattle.moka_model.specs.Calls.{Call, live_at, IsCopyOf}
 use Rattle.moka_policy.specs.Frequency.{estimate_after}
 use Rattle.moka_state.specs.Step.{IsReplyTo, after_reply}
 use Rattle.moka_state.specs.declared.step.Reply.{Reply}
 use Rattle.moka_state.specs.declared.step.Reply.TheVariants as replies
-use Rattle.moka_policy.specs.Building.{too_long_of}
+use Rattle.moka_policy.specs.Building.{too_long_of, flush_refused_of}
 use Rattle.moka_policy.specs.declared.builder_utils.BuildError.{BuildError}
 use Rattle.moka_policy.specs.declared.builder_utils.BuildError.TheVariants.{OutOfMemory}
-use Rattle.mokabox_lines.specs.Answer.{answer_text, measure_text}
+use Rattle.mokabox_lines.specs.Answer.{answer_text, measure_text, pairs_text}
 use Rattle.mokabox_lines.specs.declared.answer.Answer.{Answer}
 use Rattle.mokabox_lines.specs.declared.answer.Answer.TheVariants as answers
 use Rattle.mokabox_lines.specs.Command.{PlainCommand, command_by_line}
 use Rattle.mokabox_lines.specs.Fields.{fields_of, is_one_of}
 use Rattle.mokabox_lines.specs.Settings.{settings_by, byte_weight}
 use Rattle.mokabox_lines.specs.declared.command.Command.TheVariants.{At, Insert, Get, Has, Invalidate, Tasks, Count, Weight, Notices}
-use Rattle.mokabox_lines.specs.declared.command.Command.TheVariants.{Remove, InvalidateAll, InvalidateIf, Policy}
+use Rattle.mokabox_lines.specs.declared.command.Command.TheVariants.{Remove, InvalidateAll, InvalidateIf, TasksUpTo, Policy, Walk}
 use Rattle.mokabox_lines.specs.declared.settings.Eviction.{Eviction}
 use Rattle.mokabox_lines.specs.declared.settings.Eviction.TheVariants.{Lru, TinyLfu}
 use Rattle.mokabox_lines.specs.declared.settings.Settings.{Settings}
@@ -75,10 +79,12 @@ Makes notices moment (Remove key) made = made ≡ calls.Remove key moment ∷ []
 Makes notices moment InvalidateAll made = made ≡ calls.InvalidateAll ∷ []
 Makes notices moment (InvalidateIf texts) made = made ≡ calls.InvalidateIf (λ key text. is_among texts text) ∷ []
 Makes notices moment Tasks made = made ≡ calls.RunPendingTasks moment ∷ []
+Makes notices moment (TasksUpTo limit) made = made ≡ calls.RunPendingTasksUpTo limit moment ∷ []
 Makes notices moment Count made = made ≡ calls.EntryCount ∷ []
 Makes notices moment Weight made = made ≡ calls.WeightedSize ∷ []
 Makes notices moment Notices made = made ≡ replicate (notices + 1) calls.TakeNotice
 Makes notices moment Policy made = made ≡ []
+Makes notices moment Walk made = made ≡ []
 
 -- the moment of the commands after a command
 abbrev pub moment_after : PlainCommand → ℕ → ℕ
@@ -92,6 +98,7 @@ answer_of (replies.Found (Some text)) = answers.Found text
 answer_of (replies.Contains is_there) = answers.Whether is_there
 answer_of replies.Done = answers.Done
 answer_of (replies.Counted count) = answers.Counted count
+answer_of (replies.Left b) = answers.Unfinished b
 answer_of (replies.Noticed None) = answers.End
 answer_of (replies.Noticed (Some notice)) = answers.Left (arc_value notice.key) notice.value notice.cause
 answer_of (replies.Refused cause) = answers.Refused cause
@@ -114,17 +121,31 @@ policy_line settings =
     codes "policy capacity " ++ (measure_text settings.max_capacity ++ (codes " ttl " ++ (measure_text (in_seconds settings.time_to_live)
     ++ (codes " tti " ++ (measure_text (in_seconds settings.time_to_idle) ++ (codes " segments " ++ decimal 1))))))
 
--- what a command prints of the settings alone
-abbrev pub told : CacheSettings → PlainCommand → List (List ℕ)
-told settings Policy = policy_line settings ∷ []
-told settings command = []
+-- the value that is live for a key where a script has come
+abbrev pub live_value : CacheSettings → Course → ℕ → Option Text
+live_value settings before key = option_map (λ w. w.value) (live_at nat_eq settings key before.moment (events_in before.steps))
+
+-- All that is live there, by rising key: each key that is live once, with a copy of its value, and no other.
+pub record AreTheLive (settings : CacheSettings) (before : Course) (pairs : List (ℕ × Text)) : Type 0 where
+  pub rising : IsNonDecreasingBy (λ pair. pair.0) pairs
+  pub live : All (λ pair. IsCopyOf is_copy (live_value settings before pair.0) (Some pair.1)) pairs
+  pub each_once : (key : ℕ) → IsSome (live_value settings before key) → count (λ pair. nat_eq pair.0 key) pairs ≡ 1
+
+-- What a command tells that makes no call: the policy by the settings alone, and a walk all that is live. A walk may be refused
+-- memory, and tells that then.
+abbrev pub Tells : CacheSettings → Course → PlainCommand → List (List ℕ) → Type 0
+Tells settings before Policy lines = lines ≡ policy_line settings ∷ []
+Tells settings before Walk lines =
+    ((pairs : List (ℕ × Text)) × AreTheLive settings before pairs × (lines ≡ (codes "walk" ++ pairs_text pairs) ∷ []))
+    ⊎ (lines ≡ (codes "refused " ++ decimal 1) ∷ [])
+Tells settings before command lines = lines ≡ []
 
 -- What a command prints, and how far the script has come then.
 abbrev pub CommandPrints : CacheSettings → Course → PlainCommand → List (List ℕ) → Course → Type 0
 CommandPrints settings before command printed after =
-    (made : List (Call ℕ Text)) × (answers : List (List ℕ))
+    (made : List (Call ℕ Text)) × (answers : List (List ℕ)) × (own : List (List ℕ))
     × Makes (length (notices_left nat_eq settings (events_in before.steps))) before.moment command made
-    × CallsPrint settings before.steps made answers after.steps × (printed ≡ told settings command ++ answers)
+    × CallsPrint settings before.steps made answers after.steps × Tells settings before command own × (printed ≡ own ++ answers)
     × (after.moment ≡ moment_after command before.moment)
 
 -- What a line prints, how far the script has come then, and whether the line is bad.
@@ -159,6 +180,7 @@ cache_settings settings = record {
   max_capacity = settings.capacity;
   first_number = unwrap_or settings.first_number 0;
   supports_closures = settings.closures;
+  flush_limit = settings.flush_limit;
   behaviour = record {
     is_lru = is_lru_by settings.policy;
     hash = λ key. key % 2 ^ 64;
@@ -168,9 +190,11 @@ cache_settings settings = record {
   frequency = estimate_after 6;
 }
 
--- Which of the two lives a cache is not built with, if one is too long.
-abbrev pub lives_refused : Settings → Option BuildError
-lives_refused settings = too_long_of (cache_settings settings).time_to_live (cache_settings settings).time_to_idle
+-- Why a cache is not built with these settings: for a life that is too long, or else for its flush limit.
+abbrev pub settings_refused : Settings → Option BuildError
+settings_refused settings =
+    option_or (too_long_of (cache_settings settings).time_to_live (cache_settings settings).time_to_idle)
+    (flush_refused_of settings.flush_limit (is_some settings.weigher))
 
 -- what is printed where a cache is not built
 abbrev pub not_built : BuildError → List ℕ
@@ -183,15 +207,15 @@ beginning = record { steps = []; moment = 0 }
 abbrev pub status_of : Bool → ℕ
 status_of bad = if bad then 2 else 0
 
--- What the first line and those after it print, and the status at the end. A cache whose lives are not too long may be refused
--- for want of memory.
+-- What the first line and those after it print, and the status at the end. A cache whose settings are not refused may be
+-- refused for want of memory.
 abbrev pub FirstPrints : Option Settings → List (List ℕ) → List (List ℕ) → ℕ → Type 0
 FirstPrints None lines printed status = (printed ≡ codes "bad line" ∷ []) × (status ≡ 2)
 FirstPrints (Some settings) lines printed status =
-    ((rest : List (List ℕ)) × (bad : Bool) × (lives_refused settings ≡ None) × (printed ≡ codes "ok" ∷ rest)
+    ((rest : List (List ℕ)) × (bad : Bool) × (settings_refused settings ≡ None) × (printed ≡ codes "ok" ∷ rest)
     × LinesPrint (cache_settings settings) beginning lines rest bad
     × (status ≡ status_of bad))
-    ⊎ ((printed ≡ not_built (unwrap_or (lives_refused settings) OutOfMemory) ∷ []) × (status ≡ 2))
+    ⊎ ((printed ≡ not_built (unwrap_or (settings_refused settings) OutOfMemory) ∷ []) × (status ≡ 2))
 
 -- The lines of an input: a line end ends a line, and what stands behind the last one is a line if it is anything.
 abbrev pub lines_of : List ℕ → List (List ℕ)

@@ -1,5 +1,5 @@
 -- How far a script has come where its session is, and what the session prints.
-use Rattle.std.specs.Prelude.{◌≡◌, ℕ, Bool, List, Option, None, is_some, option_map, unwrap_or, nat_eq}
+use Rattle.std.specs.Prelude.{◌≡◌, ℕ, Bool, List, [], ◌∷◌, Option, None, is_some, option_map, unwrap_or, nat_eq}
 use Rattle.std.specs.Duration.{as_nanos}
 use Rattle.std.specs.Hash.{u64 as number_writes}
 use Rattle.std.specs.Hash.BuildHasherDefault.{initial_hasher}
@@ -19,7 +19,10 @@ use Rattle.mokabox_lines.specs.Command.{PlainCommand, command_by_line}
 use Rattle.moka_sync.specs.Builder.{BuilderData}
 use Rattle.mokabox_lines.specs.Settings.{byte_weight}
 use Rattle.mokabox_lines.specs.declared.settings.Settings.{Settings}
-use Rattle.mokabox_script.specs.Script.{Text, is_among, CacheSettings, Course, CommandPrints, LinePrints, cache_settings}
+use Rattle.moka_walks.specs.Walks.{start}
+use Rattle.moka_walks.specs.WalkLaws.{YieldsJust}
+use Rattle.mokabox_script.specs.Script.{Text, is_copy, is_surely_copied, is_among}
+use Rattle.mokabox_script.specs.Script.{CacheSettings, CacheStep, Course, CommandPrints, LinePrints, cache_settings}
 use Rattle.mokabox_script.specs.Script.{is_lru_by, lines_text}
 use Rattle.mokabox_script.specs.declared.one_of.OneOf.{OneOf}
 use Rattle.mokabox_script.specs.declared.session.Bytes.{Bytes}
@@ -62,6 +65,7 @@ pub record IsTold (given : Settings) (told : Told) : Type 0 where
   pub weigher : is_some told.weigher ≡ is_some given.weigher
   pub expiry : told.expiry ≡ None
   pub closures : told.closures ≡ given.closures
+  pub flush_limit : told.flush_limit ≡ given.flush_limit
   pub first_number : told.first_number ≡ unwrap_or given.first_number 0
 
 -- A session is where the script has come: its cache stands for the accepted steps, and its moment is the script's.
@@ -74,6 +78,12 @@ abbrev pub Prints : CacheData → ℕ → PlainCommand → List (List ℕ) → C
 Prints cache moment command printed cache_after moment_after =
     (settings : CacheSettings) (before : Course) → IsAt cache moment settings before →
     (after : Course) × CommandPrints settings before command printed after × IsAt cache_after moment_after settings after
+
+-- A walk of the cache at a moment, of which nothing is refused, yields these pairs, and then it ends.
+abbrev pub IsWholeWalk : CacheData → ℕ → List (ℕ × Text) → Type 0
+IsWholeWalk cache moment pairs =
+    (settings : CacheSettings) (steps : List CacheStep) → StandsFor nat_eq settings (view cache) steps
+    → YieldsJust nat_eq is_copy is_surely_copied (record { settings = settings; steps = steps } ∷ []) moment start pairs
 
 -- Wherever the script has come, the line prints what is written, and the session is where it comes.
 abbrev pub DoesLine : CacheData → ℕ → List ℕ → Bool → CacheData → ℕ → Option (List ℕ) → Option (List ℕ) → Type 0

@@ -7,26 +7,29 @@ ghost use Rattle.moka_model.specs.Lives.{no_lifetimes};
 ghost use Rattle.moka_policy.specs.Policy.{is_lru};
 ghost use Rattle.mokabox_lines.specs.Answer.{answer_text};
 ghost use Rattle.mokabox_lines.specs.Command.{plain_command};
-ghost use Rattle.mokabox_script.specs.Script.{beginning, is_lru_by, cache_settings, lives_refused, answer_of};
-ghost use Rattle.mokabox_script.specs.Session.{IsAt, IsTold, Prints, holds_of};
+ghost use Rattle.mokabox_script.specs.Script.{beginning, is_lru_by, cache_settings, settings_refused, answer_of};
+ghost use Rattle.mokabox_script.specs.Session.{IsAt, IsTold, Prints, IsWholeWalk, holds_of};
 ghost use Rattle.mokabox_lines.specs.Settings.{byte_weight};
 ghost use Rattle.mokabox_lines.specs.declared.command.Command.TheVariants as commands;
 
 use crate::one_of::OneOf;
 use moka::common::builder_utils::BuildError;
+use moka::common::iter::WalkCursor;
 use moka::policy::{
-    CacheTypes, CountTable, EvictionPolicy, ManualClock, NoExpiry, NoListener, NumberHash, Weigher,
+    CacheTypes, CountTable, EvictionPolicy, ManualClock, NoExpiry, NoListener, NumberHash, Refused,
+    Weigher,
 };
 use moka::state::{CacheState, Reply, Step};
 use moka::sync::CacheBuilder;
 use moka::sync::builder::Single;
-use mokabox_lines::answer::{Answer, Measure};
+use mokabox_lines::answer::{Answer, Measure, Pairs};
 use mokabox_lines::command::Command;
 use mokabox_lines::settings;
 use mokabox_lines::settings::{Eviction, Weighing};
 use std::alloc::{AllocError, Global};
 use std::convert::Infallible;
 use std::hash::BuildHasherDefault;
+use std::slice;
 use std::sync::Arc;
 use std::time::Duration;
 
@@ -88,11 +91,12 @@ pub struct Session {
 }
 
 impl Session {
-    /// A cache with these settings, at moment 0. Refused where a life is too long, and else for want of memory alone.
+    /// A cache with these settings, at moment 0. Refused where a life is too long or the flush limit does
+    /// not serve, and else for want of memory alone.
     pub fn new(alloc: Global, settings: settings::Settings) -> Result<Self, BuildError>
         ensures begun { IfOk result (λ session. IsAt session.cache session.moment (cache_settings settings) beginning) }
-        ensures accepted { OnOk result (lives_refused settings ≡ None) }
-        ensures refused { IfErr result (λ cause. cause ≡ unwrap_or (lives_refused settings) BuildError.OutOfMemory) }
+        ensures accepted { OnOk result (settings_refused settings ≡ None) }
+        ensures refused { IfErr result (λ cause. cause ≡ unwrap_or (settings_refused settings) BuildError.OutOfMemory) }
     {
         let cache = builder_of(settings).build_state(alloc, BuildHasherDefault::default())?;
         Ok(Session {
@@ -116,6 +120,7 @@ impl Session {
             }
             Command::Notices => return self.notices(),
             Command::Policy => return self.policy(),
+            Command::Walk => return self.walk(),
             Command::Insert(key, value) => Step::Insert {
                 key: self.shared(key)?,
                 value: String::from_str(self.alloc, value)?,
@@ -142,6 +147,7 @@ impl Session {
                 predicate: self.predicate(texts)?,
             },
             Command::Tasks => Step::RunPendingTasks { now },
+            Command::TasksUpTo(limit) => Step::RunPendingTasksUpTo { limit, now },
             Command::Count => Step::EntryCount,
             Command::Weight => Step::WeightedSize,
         };
@@ -162,6 +168,38 @@ impl Session {
             policy.num_segments() as u64,
         );
         Ok(vec![in self.alloc; answer]?)
+    }
+
+    // All live pairs, by rising key. Where one of them is refused, the walk is.
+    fn walk(&self) -> Result<Vec<Answer>, AllocError>
+        ensures { IfOk result (λ answers. Prints self.now.cache self.now.moment commands.Walk
+            (map answer_text answers.items) self.now.cache self.now.moment) }
+    {
+        match self.live_pairs()? {
+            Ok(mut pairs) => {
+                pairs.sort_unstable_by_key(|pair| pair.0);
+                Ok(vec![in self.alloc; Answer::Walked(Pairs(pairs))]?)
+            }
+            Err(cause) => Ok(vec![in self.alloc; Answer::Refused(cause)]?),
+        }
+    }
+
+    // All live pairs, in no order. The inner `Err` is a refusal of the walk.
+    fn live_pairs(&self) -> Result<Result<Vec<(u64, String)>, Refused>, AllocError>
+        ensures pairs { IfOk result (λ walked. IfOk walked (λ pairs.
+            IsWholeWalk self.now.cache self.now.moment pairs.items)) }
+        ensures cause { IfOk result (λ walked. IfErr walked (λ cause. cause ≡ Refused.OutOfMemory)) }
+    {
+        let states = slice::from_ref(&self.cache);
+        let mut cursor = WalkCursor::new();
+        let mut pairs = Vec::new(self.alloc);
+        while let Some(pair) = cursor.next(states, self.moment) {
+            match pair {
+                Ok((key, value)) => pairs.push((*key, value))?,
+                Err(refused) => return Ok(Err(refused)),
+            }
+        }
+        Ok(Ok(pairs))
     }
 
     // A key as a step takes it.
@@ -205,6 +243,7 @@ fn answer_of(reply: Reply<u64, String>) -> Answer
         Reply::Contains(is_there) => Answer::Whether(is_there),
         Reply::Done => Answer::Done,
         Reply::Counted(count) => Answer::Counted(count),
+        Reply::Left(is_left) => Answer::Unfinished(is_left),
         Reply::Noticed(Some(notice)) => Answer::Left(*notice.key, notice.value, notice.cause),
         Reply::Noticed(None) => Answer::End,
         Reply::Refused(refused) => Answer::Refused(refused),
@@ -227,6 +266,7 @@ fn builder_of(settings: settings::Settings) -> Builder
     let builder = lived(builder, settings.time_to_live.map(Duration::from_secs));
     let builder = idled(builder, settings.time_to_idle.map(Duration::from_secs));
     let builder = weighed(builder, settings.weigher);
+    let builder = flushed(builder, settings.flush_limit);
     supporting(builder, settings.closures)
 }
 
@@ -271,6 +311,17 @@ fn weighed(builder: Builder, weighing: Option<Weighing>) -> Builder
 {
     match weighing {
         Some(Weighing::Bytes) => builder.weigher(Bytes),
+        None => builder,
+    }
+}
+
+// The builder that is told a flush limit, where there is one.
+fn flushed(builder: Builder, flush_limit: Option<u64>) -> Builder
+    requires { builder.flush_limit ≡ None }
+    ensures { result ≡ record builder { flush_limit = flush_limit } }
+{
+    match flush_limit {
+        Some(limit) => builder.flush_limit(limit),
         None => builder,
     }
 }

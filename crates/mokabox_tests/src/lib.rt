@@ -10,6 +10,8 @@ mod failures;
 #[cfg(test)]
 mod hiding;
 #[cfg(test)]
+mod limits;
+#[cfg(test)]
 mod lines;
 #[cfg(test)]
 mod runs;

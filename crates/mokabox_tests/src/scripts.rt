@@ -72,6 +72,35 @@ fn a_write_is_refused_where_the_numbers_are_used_up(rt: HostRuntime) -> Result<(
     prints(&rt, rt.alloc(), &NUMBERS)
 }
 
+const WALKS: [Row; 4] = [
+    (
+        "new ttl=10\ninsert 2 b\ninsert 1 a\nwalk\nat 10000000000\nwalk\ncount\n",
+        "ok\nok\nok\nwalk 1=a 2=b\nwalk\n2\n",
+        Status::Done,
+    ),
+    (
+        "new\nwalk\ninsert 10 ten\ninsert 9 nine=\ninsert 18446744073709551615 last\ntasks\n\
+         invalidate 10\nwalk\n",
+        "ok\nwalk\nok\nok\nok\nok\nok\nwalk 9=nine= 18446744073709551615=last\n",
+        Status::Done,
+    ),
+    (
+        "new tti=5\ninsert 1 a\nat 4000000000\nwalk\nat 5000000000\nget 1\nwalk\n",
+        "ok\nok\nwalk 1=a\nnone\nwalk\n",
+        Status::Done,
+    ),
+    (
+        "new\nwalk 1\nwalk \nwalks\n",
+        "ok\nbad line\nbad line\nbad line\n",
+        Status::Bad,
+    ),
+];
+
+#[test]
+fn a_walk_prints_what_is_live_by_rising_key(rt: HostRuntime) -> Result<(), Fail> {
+    prints(&rt, rt.alloc(), &WALKS)
+}
+
 const CAPACITIES: [Row; 3] = [
     (
         "new capacity=2 policy=lru\ninsert 1 a\ninsert 2 b\ntasks\nget 1\ninsert 3 c\ntasks\n\

@@ -5,7 +5,7 @@ pub returns-clause-admitted : goal.returns-clause-admitted
 returns-clause-admitted g c settings h capacity ones e = admitted-le g.K.PartialEq.eq settings ones h capacity e
 
 pub returns-clause-waiting : goal.returns-clause-waiting
-returns-clause-waiting g c settings steps legal = waiting-le g.K.PartialEq.eq settings steps legal
+returns-clause-waiting g c settings steps whole legal = waiting-le g.K.PartialEq.eq settings whole steps legal
 
 pub returns-clause-all : goal.returns-clause-all
-returns-clause-all g c settings steps capacity ones e legal = entry_count-le g.K.PartialEq.eq settings ones steps capacity e legal
+returns-clause-all g c settings steps capacity ones some e legal = entry_count-le g.K.PartialEq.eq settings ones some steps capacity e legal

@@ -1,4 +1,4 @@
-use Rattle.std.proofs.Common.{◌≡◌, ◌-◌, ◌+◌, suc, arith, subst}
+use Rattle.std.proofs.Common.{◌≡◌, ◌-◌, ◌+◌, suc, arith, subst, ◌∙◌}
 use Rattle.moka_maintain.proofs.Maintaining.{EvictsFirst, evicts-on}
 use Rattle.moka_maintain.proofs.maintain.evict_first.Goals as goal
 
@@ -11,6 +11,7 @@ loop-preserved g c =
     let evicted = c.evict_first.ensures.evicted in
     record {
       within = omega (arith, c.loop-test.true);
+      may_hide = c.evict_first.ensures.may_hide ∙ c.loop.invariant.may_hide;
       room = omega arith;
       evicts = evicts-on c.args.count c.args.table.now c.loop.table (c.args.count - (c.loop.counter + 1)) (subst (EvictsFirst c.args.count c.args.table.now c.loop.table) one_more c.loop.invariant.evicts)
           evicted.0 c.evict_first.new.self evicted.1;

@@ -1,6 +1,9 @@
-use Rattle.std.proofs.Common.{◌≡◌, ℕ, ◌+◌, ◌≤◌, List, length}
+use Rattle.std.proofs.Common.{◌≡◌, ℕ, ◌+◌, ◌≤◌, List, [], length}
 use Rattle.moka_rows.specs.declared.rows.Row.{Row}
 use Rattle.moka_rows.proofs.Callers.{rows_from}
+use Rattle.moka_maintain.specs.Maintain.{notice_dead}
+use Rattle.moka_maintain.proofs.Resuming.{Resumes}
+use Rattle.moka_maintain.proofs.FirstDead.{admitted_parts}
 use Rattle.moka_maintain.proofs.Sweeping.{Sweeps}
 use Rattle.moka_maintain.proofs.maintain.sweep_each.Given as goal
 
@@ -9,7 +12,8 @@ abbrev pub invariant-loop-cursor : goal.invariant-loop-cursor
 invariant-loop-cursor g l = record {
   room : l.fn.table.room ≤ l.table.room;
   waiting : l.table.waiting ≡ l.fn.table.waiting;
-  sweeps : (kept : List (ℕ × Row _ _)) × (rest : List (ℕ × Row _ _)) × Sweeps l.now l.fn.table.admitted l.fn.table.notices l.table.admitted l.table.notices l.cursor kept rest
+  sweeps : (kept : List (ℕ × Row _ _)) × (rest : List (ℕ × Row _ _)) × Sweeps l.table.admitted l.cursor kept rest
+      × Resumes notice_dead l.fn.limit (admitted_parts l.now l.fn.table.waiting [] l.fn.table.admitted) l.fn.table l.limit (admitted_parts l.now l.fn.table.waiting kept rest) l.table
       × (l.visits + length rest ≤ l.fn.visits + length l.fn.table.admitted);
 }
 

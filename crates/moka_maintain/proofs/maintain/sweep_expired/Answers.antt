@@ -1,12 +1,14 @@
-use Rattle.std.proofs.Common.{◌≡◌, false, cond, length, ◌∙◌, ◌++◌, ◌∷◌, [], refl, sym, ap, append_assoc, arith}
-use Rattle.std.proofs.lemmas.List.{append-nil}
+use Rattle.std.proofs.Common.{◌≡◌, false, cond, length, ◌∙◌, ◌++◌, ◌∷◌, [], refl, sym, ap, subst, arith}
 use Rattle.moka_model.specs.declared.notification.RemovalCause.TheVariants.{Expired, Explicit}
-use Rattle.moka_rows.specs.Rows.{first_number, dead_at, living_at}
+use Rattle.moka_model.specs.MaintenanceLaws.{queues}
+use Rattle.moka_rows.specs.Rows.{first_number, without_row}
 use Rattle.moka_rows.proofs.Callers.{row_under-append_left, differ-front}
 use Rattle.moka_table.proofs.Callers.{of-row, of-taken-admitted}
-use Rattle.moka_maintain.specs.Maintain.{notice_for, notice_dead, notices_dead}
+use Rattle.moka_maintain.specs.Maintain.{notice_for, notice_dead}
 use Rattle.moka_maintain.proofs.Maintaining.{left-admitted}
-use Rattle.moka_maintain.proofs.FirstDead.{first-expired, none-dead, expired-shown}
+use Rattle.moka_maintain.proofs.FirstDead.{admitted_parts, first-expired, none-swept, expired-shown}
+use Rattle.moka_maintain.proofs.Resuming.{Resumes, resumes-first, resumes-end, resumes-cut, resumes-over}
+use Rattle.moka_maintain.proofs.Sweeping.{queues-are, spent, unspent}
 use Rattle.moka_maintain.proofs.maintain.sweep_expired.Goals as goal
 
 pub evict-requires : goal.evict-requires
@@ -14,6 +16,14 @@ evict-requires g c =
     let table = c.loop-expired.table in
     let there = first-expired c.args.now table.admitted c.in-Some.expired c.loop-expired.invariant.shown (differ-front table.admitted table.waiting c.in-Some.ensures.apart c.in-Some.expired) c.in-Some.ensures.first in
     rw (row_under-append_left c.in-Some.expired table.admitted table.waiting there.row there.stands) refl
+
+pub loop-expired-init : goal.loop-expired-init
+loop-expired-init g c = record {
+  room = omega arith;
+  waiting = refl;
+  shown = c.requires;
+  resumes = resumes-first notice_dead c.args.limit.now (admitted_parts c.args.now c.args.table.now.waiting [] c.args.table.now.admitted) c.args.table.now;
+}
 
 pub loop-expired-smaller : goal.loop-expired-smaller
 loop-expired-smaller g c =
@@ -23,34 +33,47 @@ loop-expired-smaller g c =
     let same = ap length left.0 in
     omega (arith, same, there.shorter)
 
+pub returns-then-not-spend-clause-swept : goal.returns-then-not-spend-clause-swept
+returns-then-not-spend-clause-swept g c =
+    let table = c.loop-expired.table in
+    let first = c.args.table.now in
+    let there = first-expired c.args.now table.admitted c.in-Some.expired c.loop-expired.invariant.shown (differ-front table.admitted table.waiting c.in-Some.ensures.apart c.in-Some.expired) c.in-Some.ensures.first in
+    let stops = unspent c.loop-expired.limit c.spend.new.limit 1 c.spend.result c.spend.ensures.lets c.spend.ensures.rest c.if-not-spend.true in
+    let ps0 = admitted_parts c.args.now first.waiting [] first.admitted in
+    let at_dead = subst (λ ps. Resumes notice_dead c.args.limit.now ps0 first c.loop-expired.limit ps table) (there.parts [] first.waiting) c.loop-expired.invariant.resumes in
+    rw stops.1
+    (resumes-cut notice_dead c.args.limit.now ps0 first c.loop-expired.limit (record { evicted = (c.in-Some.expired, there.row) ∷ []; after = queues (without_row c.in-Some.expired table.admitted) first.waiting })
+    (admitted_parts c.args.now first.waiting [] (without_row c.in-Some.expired table.admitted)) table at_dead stops.0)
+
 pub loop-expired-preserved : goal.loop-expired-preserved
 loop-expired-preserved g c =
     let table = c.loop-expired.table in
+    let first = c.args.table.now in
     let new = c.evict.new.self in
     let there = first-expired c.args.now table.admitted c.in-Some.expired c.loop-expired.invariant.shown (differ-front table.admitted table.waiting c.in-Some.ensures.apart c.in-Some.expired) c.in-Some.ensures.first in
     let left = left-admitted c.in-Some.expired there.row Expired table new c.evict.ensures.rows c.evict.ensures.notices there.stands in
     let shown = of-row (λ r. r.info.is_hidden ≡ false) c.in-Some.expired table.admitted there.row c.loop-expired.invariant.shown there.stands in
+    let yet = spent c.loop-expired.limit c.spend.new.limit 1 c.spend.result c.spend.ensures.lets c.spend.ensures.rest c.if-not-spend.false in
+    let ps0 = admitted_parts c.args.now first.waiting [] first.admitted in
+    let at_dead = subst (λ ps. Resumes notice_dead c.args.limit.now ps0 first c.loop-expired.limit ps table) (there.parts [] first.waiting) c.loop-expired.invariant.resumes in
+    let waiting = left.1 ∙ c.loop-expired.invariant.waiting in
+    let noticed = left.2 ∙ ap (λ h. table.notices ++ notice_for (cond h Explicit Expired) (c.in-Some.expired, there.row) ∷ []) (sym shown) in
     record {
       room = omega arith;
-      waiting = left.1 ∙ c.loop-expired.invariant.waiting;
+      waiting = waiting;
       shown = of-taken-admitted (λ r. r.info.is_hidden ≡ false) c.in-Some.expired there.row table new c.loop-expired.invariant.shown
           (row_under-append_left c.in-Some.expired table.admitted table.waiting there.row there.stands) c.evict.ensures.rows;
-      alive = ap (living_at c.args.now) left.0 ∙ there.alive ∙ c.loop-expired.invariant.alive;
-      noticed = ap (λ l. l ++ notices_dead (dead_at c.args.now new.admitted)) left.2
-          ∙ ap (λ h. (table.notices ++ notice_for (cond h Explicit Expired) (c.in-Some.expired, there.row) ∷ []) ++ notices_dead (dead_at c.args.now new.admitted)) (sym shown)
-          ∙ append_assoc table.notices (notice_dead (c.in-Some.expired, there.row) ∷ []) (notices_dead (dead_at c.args.now new.admitted))
-          ∙ ap (λ l. table.notices ++ (notice_dead (c.in-Some.expired, there.row) ∷ notices_dead (dead_at c.args.now l))) left.0
-          ∙ ap (λ l. table.notices ++ notices_dead l) (sym there.first)
-          ∙ c.loop-expired.invariant.noticed;
+      resumes = subst (λ l. Resumes notice_dead c.args.limit.now ps0 first c.spend.new.limit (admitted_parts c.args.now first.waiting [] l) new) (sym left.0)
+          (resumes-over notice_dead c.args.limit.now ps0 first c.loop-expired.limit (record { evicted = (c.in-Some.expired, there.row) ∷ []; after = queues (without_row c.in-Some.expired table.admitted) first.waiting })
+          (admitted_parts c.args.now first.waiting [] (without_row c.in-Some.expired table.admitted)) table at_dead yet.0 new
+          (queues-are new (without_row c.in-Some.expired table.admitted) first.waiting left.0 waiting) noticed c.spend.new.limit yet.1);
     }
 
-pub returns : goal.returns
-returns g c =
+pub returns-clause-swept : goal.returns-clause-swept
+returns-clause-swept g c =
     let table = c.loop-expired.table in
-    let none = none-dead c.args.now table.admitted (c.in_default.ensures.first ∙ ap first_number (expired-shown c.args.now table.admitted c.loop-expired.invariant.shown)) in
-    record {
-      admitted = sym none.1 ∙ c.loop-expired.invariant.alive;
-      waiting = c.loop-expired.invariant.waiting;
-      notices = sym (append-nil table.notices) ∙ ap (λ l. table.notices ++ notices_dead l) (sym none.0) ∙ c.loop-expired.invariant.noticed;
-      room = c.loop-expired.invariant.room;
-    }
+    let first = c.args.table.now in
+    let ps0 = admitted_parts c.args.now first.waiting [] first.admitted in
+    let none = none-swept c.args.now table.admitted (c.in_default.ensures.first ∙ ap first_number (expired-shown c.args.now table.admitted c.loop-expired.invariant.shown)) [] first.waiting in
+    resumes-end notice_dead c.args.limit.now ps0 first c.loop-expired.limit table
+    (subst (λ ps. Resumes notice_dead c.args.limit.now ps0 first c.loop-expired.limit ps table) none c.loop-expired.invariant.resumes)

@@ -1,7 +1,9 @@
-use Rattle.std.proofs.Common.{◌≡◌, ℕ, ◌+◌, ◌≤◌, List, length}
+use Rattle.std.proofs.Common.{◌≡◌, ℕ, ◌+◌, ◌≤◌, List, [], length}
 use Rattle.moka_rows.specs.declared.rows.Row.{Row}
 use Rattle.moka_rows.proofs.Callers.{rows_from}
-use Rattle.moka_maintain.proofs.Sweeping.{Sweeps}
+use Rattle.moka_maintain.specs.Maintain.{notice_dead}
+use Rattle.moka_maintain.proofs.Resuming.{Resumes}
+use Rattle.moka_maintain.proofs.Sweeping.{Sweeps, waiting_parts}
 use Rattle.moka_maintain.proofs.maintain.sweep_waiting.Given as goal
 
 -- The rows before the cursor are swept, each by one step, and those from the cursor on are not.
@@ -9,7 +11,8 @@ abbrev pub invariant-loop-cursor : goal.invariant-loop-cursor
 invariant-loop-cursor g l = record {
   room : l.fn.table.room ≤ l.table.room;
   admitted : l.table.admitted ≡ l.fn.table.admitted;
-  sweeps : (kept : List (ℕ × Row _ _)) × (rest : List (ℕ × Row _ _)) × Sweeps l.now l.fn.table.waiting l.fn.table.notices l.table.waiting l.table.notices l.cursor kept rest
+  sweeps : (kept : List (ℕ × Row _ _)) × (rest : List (ℕ × Row _ _)) × Sweeps l.table.waiting l.cursor kept rest
+      × Resumes notice_dead l.fn.limit (waiting_parts l.now l.fn.table.admitted [] l.fn.table.waiting) l.fn.table l.limit (waiting_parts l.now l.fn.table.admitted kept rest) l.table
       × (l.visits + length rest ≤ l.fn.visits + length l.fn.table.waiting);
 }
 

@@ -13,7 +13,7 @@ use Rattle.moka_state.proofs.state.State.contains_key.Goals as goal
 pub returns-in-None-clause-reply : goal.returns-in-None-clause-reply
 returns-in-None-clause-reply g c given steps stands =
     let s = c.self.inside in
-    let none = live-absent g.K.PartialEq.eq g.met.K.Eq.laws _ s.table _ s.latest s.next_number given steps (rw (← c.self.view_is) at stands) _ c.hash-hash.ensures.alike c.self.invariant.hashed c.args.key.now c.args.now c.hash-hash.result c.hash-hash.ensures.hash c.in-None.ensures.absent in
+    let none = live-absent g.K.PartialEq.eq g.met.K.Eq.laws _ s.table _ s.latest s.next_number given steps (rw (← c.self.view_is) at stands) _ c.hash-hash.ensures.alike c.self.invariant.0.hashed c.args.key.now c.args.now c.hash-hash.result c.hash-hash.ensures.hash c.in-None.ensures.absent in
     sym (ap (λ o. Contains (is_some o)) none)
 
 pub returns-in-None-clause-stands : goal.returns-in-None-clause-stands
@@ -28,7 +28,7 @@ pub returns-in-Some-clause-reply : goal.returns-in-Some-clause-reply
 returns-in-Some-clause-reply g c given steps stands =
     let s = c.self.inside in
     let row = c.row.result.now in
-    let dated = of-row (λ r. IsDated s.upkeep.lives r.info) c.in-Some.number _ row c.self.invariant.dated c.row.ensures in
+    let dated = of-row (λ r. IsDated s.upkeep.lives r.info) c.in-Some.number _ row c.self.invariant.0.dated c.row.ensures in
     let key = same-key g.K.PartialEq.eq c.args.key.now c.hash-hash.result row (rw c.row.ensures at c.in-Some.ensures.found) in
     let alive = alive-kept s.upkeep.lives row.info dated (max s.latest c.args.now) (omega (arith, c.max-now.ensures)) in
     let it = live-row g.K.PartialEq.eq g.met.K.Eq.laws _ s.table _ s.latest s.next_number given steps (rw (← c.self.view_is) at stands) s.upkeep.lives refl c.args.key.now c.args.now c.in-Some.number row c.row.ensures key _ alive in

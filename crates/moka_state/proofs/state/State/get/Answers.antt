@@ -18,13 +18,13 @@ use Rattle.moka_state.proofs.state.State.get.Goals as goal
 pub returns-in_default-clause-reply : goal.returns-in_default-clause-reply
 returns-in_default-clause-reply g c given steps stands =
     let s = c.self.inside in
-    let none = live-absent g.K.PartialEq.eq g.met.K.Eq.laws _ s.table _ s.latest s.next_number given steps (rw (← c.self.view_is) at stands) _ c.hash-hash.ensures.alike c.self.invariant.hashed c.args.key.now c.args.now c.hash-hash.result c.hash-hash.ensures.hash c.in_default.ensures.absent in
+    let none = live-absent g.K.PartialEq.eq g.met.K.Eq.laws _ s.table _ s.latest s.next_number given steps (rw (← c.self.view_is) at stands) _ c.hash-hash.ensures.alike c.self.invariant.0.hashed c.args.key.now c.args.now c.hash-hash.result c.hash-hash.ensures.hash c.in_default.ensures.absent in
     rw none tt
 
 pub returns-in_default-clause-stands : goal.returns-in_default-clause-stands
 returns-in_default-clause-stands g c =
     let s = c.self.inside in
-    let none = held-absent g.K.PartialEq.eq s.table _ c.hash-hash.ensures.alike c.self.invariant.hashed c.args.key.now c.hash-hash.result c.hash-hash.ensures.hash c.in_default.ensures.absent in
+    let none = held-absent g.K.PartialEq.eq s.table _ c.hash-hash.ensures.alike c.self.invariant.0.hashed c.args.key.now c.hash-hash.result c.hash-hash.ensures.hash c.in_default.ensures.absent in
     rw (← c.self.view_is, c.max-now.ensures) (follows-event g.K.PartialEq.eq g.met.K.Eq.laws _ _ (Get c.args.key.now c.args.now) (Looked c.args.key.now c.args.now) (λ _ _. refl)
     (λ _. becomes-absent g.K.PartialEq.eq _ s.table _ s.latest s.next_number _ c.args.key.now c.args.now (estimates-noted g.C.Frequency.FrequencySource.noted g.C.Frequency.FrequencySource.count s.upkeep.source c.note.new.self c.hash-hash.result _ c.note.ensures c.hash-hash.ensures.hash) none))
 
@@ -32,7 +32,7 @@ pub returns-then-is_dead-clause-reply : goal.returns-then-is_dead-clause-reply
 returns-then-is_dead-clause-reply g c given steps stands =
     let s = c.self.inside in
     let row = c.row-row.result.now in
-    let dated = of-row (λ r. IsDated s.upkeep.lives r.info) c.in-Some.number _ row c.self.invariant.dated c.row-row.ensures in
+    let dated = of-row (λ r. IsDated s.upkeep.lives r.info) c.in-Some.number _ row c.self.invariant.0.dated c.row-row.ensures in
     let key = same-key g.K.PartialEq.eq c.args.key.now c.hash-hash.result row (rw c.row-row.ensures at c.in-Some.ensures.found) in
     let alive = alive-kept s.upkeep.lives row.info dated (max s.latest c.args.now) (omega (arith, c.max-now.ensures)) ∙ ap not (sym (ap (λ m. row.info.is_hidden || has_come row.info.deadline m) c.max-now.ensures) ∙ sym (ap (λ (i : EntryInfo). i.is_hidden || has_come i.deadline c.max-now.result) c.info-info.ensures) ∙ sym c.is_dead.ensures ∙ c.if-is_dead.true) in
     let it = live-row g.K.PartialEq.eq g.met.K.Eq.laws _ s.table _ s.latest s.next_number given steps (rw (← c.self.view_is) at stands) s.upkeep.lives refl c.args.key.now c.args.now c.in-Some.number row c.row-row.ensures key _ alive in
@@ -42,7 +42,7 @@ pub returns-then-is_dead-clause-stands : goal.returns-then-is_dead-clause-stands
 returns-then-is_dead-clause-stands g c =
     let s = c.self.inside in
     let row = c.row-row.result.now in
-    let dated = of-row (λ r. IsDated s.upkeep.lives r.info) c.in-Some.number _ row c.self.invariant.dated c.row-row.ensures in
+    let dated = of-row (λ r. IsDated s.upkeep.lives r.info) c.in-Some.number _ row c.self.invariant.0.dated c.row-row.ensures in
     let key = same-key g.K.PartialEq.eq c.args.key.now c.hash-hash.result row (rw c.row-row.ensures at c.in-Some.ensures.found) in
     let alive = alive-kept s.upkeep.lives row.info dated (max s.latest c.args.now) (omega (arith, c.max-now.ensures)) ∙ ap not (sym (ap (λ m. row.info.is_hidden || has_come row.info.deadline m) c.max-now.ensures) ∙ sym (ap (λ (i : EntryInfo). i.is_hidden || has_come i.deadline c.max-now.result) c.info-info.ensures) ∙ sym c.is_dead.ensures ∙ c.if-is_dead.true) in
     rw (← c.self.view_is, c.max-now.ensures) (follows-event g.K.PartialEq.eq g.met.K.Eq.laws _ _ (Get c.args.key.now c.args.now) (Looked c.args.key.now c.args.now) (λ _ _. refl)
@@ -52,7 +52,7 @@ pub returns-in_default-clone-clause-miss : goal.returns-in_default-clone-clause-
 returns-in_default-clone-clause-miss g c given steps stands nothing =
     let s = c.self.inside in
     let row = c.row-row.result.now in
-    let dated = of-row (λ r. IsDated s.upkeep.lives r.info) c.in-Some.number _ row c.self.invariant.dated c.row-row.ensures in
+    let dated = of-row (λ r. IsDated s.upkeep.lives r.info) c.in-Some.number _ row c.self.invariant.0.dated c.row-row.ensures in
     let key = same-key g.K.PartialEq.eq c.args.key.now c.hash-hash.result row (rw c.row-row.ensures at c.in-Some.ensures.found) in
     let alive = alive-kept s.upkeep.lives row.info dated (max s.latest c.args.now) (omega (arith, c.max-now.ensures)) ∙ ap not (sym (ap (λ m. row.info.is_hidden || has_come row.info.deadline m) c.max-now.ensures) ∙ sym (ap (λ (i : EntryInfo). i.is_hidden || has_come i.deadline c.max-now.result) c.info-info.ensures) ∙ sym c.is_dead.ensures ∙ c.if-is_dead.false) in
     let it = live-row g.K.PartialEq.eq g.met.K.Eq.laws _ s.table _ s.latest s.next_number given steps (rw (← c.self.view_is) at stands) s.upkeep.lives refl c.args.key.now c.args.now c.in-Some.number row c.row-row.ensures key _ alive in
@@ -63,7 +63,7 @@ pub returns-in_default-clone-clause-copied : goal.returns-in_default-clone-claus
 returns-in_default-clone-clause-copied g c given steps stands =
     let s = c.self.inside in
     let row = c.row-row.result.now in
-    let dated = of-row (λ r. IsDated s.upkeep.lives r.info) c.in-Some.number _ row c.self.invariant.dated c.row-row.ensures in
+    let dated = of-row (λ r. IsDated s.upkeep.lives r.info) c.in-Some.number _ row c.self.invariant.0.dated c.row-row.ensures in
     let key = same-key g.K.PartialEq.eq c.args.key.now c.hash-hash.result row (rw c.row-row.ensures at c.in-Some.ensures.found) in
     let alive = alive-kept s.upkeep.lives row.info dated (max s.latest c.args.now) (omega (arith, c.max-now.ensures)) ∙ ap not (sym (ap (λ m. row.info.is_hidden || has_come row.info.deadline m) c.max-now.ensures) ∙ sym (ap (λ (i : EntryInfo). i.is_hidden || has_come i.deadline c.max-now.result) c.info-info.ensures) ∙ sym c.is_dead.ensures ∙ c.if-is_dead.false) in
     let it = live-row g.K.PartialEq.eq g.met.K.Eq.laws _ s.table _ s.latest s.next_number given steps (rw (← c.self.view_is) at stands) s.upkeep.lives refl c.args.key.now c.args.now c.in-Some.number row c.row-row.ensures key _ alive in
@@ -72,13 +72,13 @@ returns-in_default-clone-clause-copied g c given steps stands =
 pub invariant_of-self-2 : goal.invariant_of-self-2
 invariant_of-self-2 g c =
     let s = c.self.inside in
-    IsSound-touched _ _ s.upkeep.lives s.table c.touch.new.self c.self.invariant c.in-Some.number c.row-row.result.now _ c.row-row.ensures c.touch.ensures.rows c.touch.ensures.notices (rw c.info-info.ensures at c.used-touch.ensures.dated)
+    (IsSound-touched _ _ s.upkeep.lives s.table c.touch.new.self c.self.invariant.0 c.in-Some.number c.row-row.result.now _ c.row-row.ensures c.touch.ensures.rows c.touch.ensures.notices (rw c.info-info.ensures at c.used-touch.ensures.dated), c.self.invariant.1)
 
 pub returns-clause-reply : goal.returns-clause-reply
 returns-clause-reply g c given steps stands =
     let s = c.self.inside in
     let row = c.row-row.result.now in
-    let dated = of-row (λ r. IsDated s.upkeep.lives r.info) c.in-Some.number _ row c.self.invariant.dated c.row-row.ensures in
+    let dated = of-row (λ r. IsDated s.upkeep.lives r.info) c.in-Some.number _ row c.self.invariant.0.dated c.row-row.ensures in
     let key = same-key g.K.PartialEq.eq c.args.key.now c.hash-hash.result row (rw c.row-row.ensures at c.in-Some.ensures.found) in
     let alive = alive-kept s.upkeep.lives row.info dated (max s.latest c.args.now) (omega (arith, c.max-now.ensures)) ∙ ap not (sym (ap (λ m. row.info.is_hidden || has_come row.info.deadline m) c.max-now.ensures) ∙ sym (ap (λ (i : EntryInfo). i.is_hidden || has_come i.deadline c.max-now.result) c.info-info.ensures) ∙ sym c.is_dead.ensures ∙ c.if-is_dead.false) in
     let it = live-row g.K.PartialEq.eq g.met.K.Eq.laws _ s.table _ s.latest s.next_number given steps (rw (← c.self.view_is) at stands) s.upkeep.lives refl c.args.key.now c.args.now c.in-Some.number row c.row-row.ensures key _ alive in
@@ -88,7 +88,7 @@ pub returns-clause-stands : goal.returns-clause-stands
 returns-clause-stands g c =
     let s = c.self.inside in
     let row = c.row-row.result.now in
-    let dated = of-row (λ r. IsDated s.upkeep.lives r.info) c.in-Some.number _ row c.self.invariant.dated c.row-row.ensures in
+    let dated = of-row (λ r. IsDated s.upkeep.lives r.info) c.in-Some.number _ row c.self.invariant.0.dated c.row-row.ensures in
     let key = same-key g.K.PartialEq.eq c.args.key.now c.hash-hash.result row (rw c.row-row.ensures at c.in-Some.ensures.found) in
     let alive = alive-kept s.upkeep.lives row.info dated (max s.latest c.args.now) (omega (arith, c.max-now.ensures)) ∙ ap not (sym (ap (λ m. row.info.is_hidden || has_come row.info.deadline m) c.max-now.ensures) ∙ sym (ap (λ (i : EntryInfo). i.is_hidden || has_come i.deadline c.max-now.result) c.info-info.ensures) ∙ sym c.is_dead.ensures ∙ c.if-is_dead.false) in
     let life = rw (c.deref.ensures, c.info-info.ensures, c.max-now.ensures) at c.life_of_hit-own_life.ensures in
@@ -100,5 +100,5 @@ pub returns-clause-kept : goal.returns-clause-kept
 returns-clause-kept g c =
     let row = c.row-row.result.now in
     let key = same-key g.K.PartialEq.eq c.args.key.now c.hash-hash.result row (rw c.row-row.ensures at c.in-Some.ensures.found) in
-    let kept = of-row (λ r. g.C.CacheTypes.keeps (arc_value r.key) r.value) c.in-Some.number _ row c.self.invariant.kept c.row-row.ensures in
+    let kept = of-row (λ r. g.C.CacheTypes.keeps (arc_value r.key) r.value) c.in-Some.number _ row c.self.invariant.0.kept c.row-row.ensures in
     g.met.C.CacheTypes.copies_keep c.args.key.now row.value c.in-Ok.value c.in-Ok.ensures.cases (g.met.C.CacheTypes.equal_keys_keep (arc_value row.key) c.args.key.now row.value key kept)

@@ -17,14 +17,14 @@ pub invariant_of-self : goal.invariant_of-self
 invariant_of-self g c =
     let s = c.self.inside in
     let row = c.row.result.now in
-    IsSound-taken _ _ s.upkeep.lives s.table c.evict.new.self c.self.invariant c.in-Some.number row _ c.row.ensures c.evict.ensures.rows (rw c.row.ensures at c.evict.ensures.notices)
+    (IsSound-taken _ _ s.upkeep.lives s.table c.evict.new.self c.self.invariant.0 c.in-Some.number row _ c.row.ensures c.evict.ensures.rows (rw c.row.ensures at c.evict.ensures.notices), c.self.invariant.1)
 
 pub returns-in-Some : goal.returns-in-Some
 returns-in-Some g c =
     let s = c.self.inside in
     let row = c.row.result.now in
     let key = same-key g.K.PartialEq.eq c.args.key.now c.hash-hash.result row (rw c.row.ensures at c.in-Some.ensures.found) in
-    let dated = of-row (λ r. IsDated s.upkeep.lives r.info) c.in-Some.number _ row c.self.invariant.dated c.row.ensures in
+    let dated = of-row (λ r. IsDated s.upkeep.lives r.info) c.in-Some.number _ row c.self.invariant.0.dated c.row.ensures in
     let why = c.cause-cause.ensures ∙ ap (λ (i : EntryInfo). cause_at Explicit i c.max-now.result) c.info-info.ensures ∙ ap (λ m. cause_at Explicit row.info m) c.max-now.ensures
     ∙ sym (cause-kept s.upkeep.lives row.info dated (max s.latest c.args.now) (omega (arith, c.max-now.ensures)) Explicit) in
     rw (← c.self.view_is, c.max-now.ensures) (follows-event g.K.PartialEq.eq g.met.K.Eq.laws _ _ (Invalidate c.args.key.now c.args.now) (Invalidated c.args.key.now c.args.now) (λ _ _. refl)
@@ -33,6 +33,6 @@ returns-in-Some g c =
 pub returns-in_default : goal.returns-in_default
 returns-in_default g c =
     let s = c.self.inside in
-    let none = held-absent g.K.PartialEq.eq s.table _ c.hash-hash.ensures.alike c.self.invariant.hashed c.args.key.now c.hash-hash.result c.hash-hash.ensures.hash c.in_default.ensures.absent in
+    let none = held-absent g.K.PartialEq.eq s.table _ c.hash-hash.ensures.alike c.self.invariant.0.hashed c.args.key.now c.hash-hash.result c.hash-hash.ensures.hash c.in_default.ensures.absent in
     rw (← c.self.view_is, c.max-now.ensures) (follows-event g.K.PartialEq.eq g.met.K.Eq.laws _ _ (Invalidate c.args.key.now c.args.now) (Invalidated c.args.key.now c.args.now) (λ _ _. refl)
     (λ _. becomes-unremoved g.K.PartialEq.eq _ s.table _ s.latest s.next_number c.args.key.now c.args.now none))

@@ -22,13 +22,13 @@ use Rattle.moka_state.proofs.state.State.remove.Goals as goal
 pub returns-in_default-clause-reply : goal.returns-in_default-clause-reply
 returns-in_default-clause-reply g c given steps stands =
     let s = c.self.inside in
-    let none = live-absent g.K.PartialEq.eq g.met.K.Eq.laws _ s.table _ s.latest s.next_number given steps (rw (← c.self.view_is) at stands) _ c.hash-hash.ensures.alike c.self.invariant.hashed c.args.key.now c.args.now c.hash-hash.result c.hash-hash.ensures.hash c.in_default.ensures.absent in
+    let none = live-absent g.K.PartialEq.eq g.met.K.Eq.laws _ s.table _ s.latest s.next_number given steps (rw (← c.self.view_is) at stands) _ c.hash-hash.ensures.alike c.self.invariant.0.hashed c.args.key.now c.args.now c.hash-hash.result c.hash-hash.ensures.hash c.in_default.ensures.absent in
     rw none tt
 
 pub returns-in_default-clause-stands : goal.returns-in_default-clause-stands
 returns-in_default-clause-stands g c =
     let s = c.self.inside in
-    let none = held-absent g.K.PartialEq.eq s.table _ c.hash-hash.ensures.alike c.self.invariant.hashed c.args.key.now c.hash-hash.result c.hash-hash.ensures.hash c.in_default.ensures.absent in
+    let none = held-absent g.K.PartialEq.eq s.table _ c.hash-hash.ensures.alike c.self.invariant.0.hashed c.args.key.now c.hash-hash.result c.hash-hash.ensures.hash c.in_default.ensures.absent in
     rw (← c.self.view_is, c.max-now.ensures) (follows-event g.K.PartialEq.eq g.met.K.Eq.laws _ _ (Remove c.args.key.now c.args.now) (Invalidated c.args.key.now c.args.now) (λ _ _. refl)
     (λ _. becomes-unremoved g.K.PartialEq.eq _ s.table _ s.latest s.next_number c.args.key.now c.args.now none))
 
@@ -36,14 +36,14 @@ pub invariant_of-self-2 : goal.invariant_of-self-2
 invariant_of-self-2 g c =
     let s = c.self.inside in
     let row = c.row-row.result.now in
-    IsSound-taken _ _ s.upkeep.lives s.table c.evict.new.self c.self.invariant c.in-Some.number row _ c.row-row.ensures c.evict.ensures.rows (rw c.row-row.ensures at c.evict.ensures.notices)
+    (IsSound-taken _ _ s.upkeep.lives s.table c.evict.new.self c.self.invariant.0 c.in-Some.number row _ c.row-row.ensures c.evict.ensures.rows (rw c.row-row.ensures at c.evict.ensures.notices), c.self.invariant.1)
 
 pub returns-clause-stands : goal.returns-clause-stands
 returns-clause-stands g c =
     let s = c.self.inside in
     let row = c.row-row.result.now in
     let key = same-key g.K.PartialEq.eq c.args.key.now c.hash-hash.result row (rw c.row-row.ensures at c.in-Some.ensures.found) in
-    let dated = of-row (λ r. IsDated s.upkeep.lives r.info) c.in-Some.number _ row c.self.invariant.dated c.row-row.ensures in
+    let dated = of-row (λ r. IsDated s.upkeep.lives r.info) c.in-Some.number _ row c.self.invariant.0.dated c.row-row.ensures in
     let why = c.cause-cause.ensures ∙ ap (λ (i : EntryInfo). cause_at Explicit i c.max-now.result) c.info.ensures ∙ ap (λ m. cause_at Explicit row.info m) c.max-now.ensures
     ∙ sym (cause-kept s.upkeep.lives row.info dated (max s.latest c.args.now) (omega (arith, c.max-now.ensures)) Explicit) in
     rw (← c.self.view_is, c.max-now.ensures) (follows-event g.K.PartialEq.eq g.met.K.Eq.laws _ _ (Remove c.args.key.now c.args.now) (Invalidated c.args.key.now c.args.now) (λ _ _. refl)
@@ -54,7 +54,7 @@ returns-clause-reply g c given steps stands =
     let s = c.self.inside in
     let row = c.row-row.result.now in
     let dead = row.info.is_hidden || has_come row.info.deadline c.max-now.result in
-    let dated = of-row (λ r. IsDated s.upkeep.lives r.info) c.in-Some.number _ row c.self.invariant.dated c.row-row.ensures in
+    let dated = of-row (λ r. IsDated s.upkeep.lives r.info) c.in-Some.number _ row c.self.invariant.0.dated c.row-row.ensures in
     let key = same-key g.K.PartialEq.eq c.args.key.now c.hash-hash.result row (rw c.row-row.ensures at c.in-Some.ensures.found) in
     let alive = alive-kept s.upkeep.lives row.info dated (max s.latest c.args.now) (omega (arith, c.max-now.ensures)) ∙ ap (λ m. not (row.info.is_hidden || has_come row.info.deadline m)) (sym c.max-now.ensures) in
     let it = live-row g.K.PartialEq.eq g.met.K.Eq.laws _ s.table _ s.latest s.next_number given steps (rw (← c.self.view_is) at stands) s.upkeep.lives refl c.args.key.now c.args.now c.in-Some.number row c.row-row.ensures key (not dead) alive in
@@ -65,7 +65,7 @@ returns-in_err-found-clause-miss g c given steps stands nothing =
     let s = c.self.inside in
     let row = c.row-row.result.now in
     let dead = row.info.is_hidden || has_come row.info.deadline c.max-now.result in
-    let dated = of-row (λ r. IsDated s.upkeep.lives r.info) c.in-Some.number _ row c.self.invariant.dated c.row-row.ensures in
+    let dated = of-row (λ r. IsDated s.upkeep.lives r.info) c.in-Some.number _ row c.self.invariant.0.dated c.row-row.ensures in
     let key = same-key g.K.PartialEq.eq c.args.key.now c.hash-hash.result row (rw c.row-row.ensures at c.in-Some.ensures.found) in
     let alive = alive-kept s.upkeep.lives row.info dated (max s.latest c.args.now) (omega (arith, c.max-now.ensures)) ∙ ap (λ m. not (row.info.is_hidden || has_come row.info.deadline m)) (sym c.max-now.ensures) in
     let it = live-row g.K.PartialEq.eq g.met.K.Eq.laws _ s.table _ s.latest s.next_number given steps (rw (← c.self.view_is) at stands) s.upkeep.lives refl c.args.key.now c.args.now c.in-Some.number row c.row-row.ensures key (not dead) alive in
@@ -76,7 +76,7 @@ returns-in_err-found-clause-copied g c given steps stands =
     let s = c.self.inside in
     let row = c.row-row.result.now in
     let dead = row.info.is_hidden || has_come row.info.deadline c.max-now.result in
-    let dated = of-row (λ r. IsDated s.upkeep.lives r.info) c.in-Some.number _ row c.self.invariant.dated c.row-row.ensures in
+    let dated = of-row (λ r. IsDated s.upkeep.lives r.info) c.in-Some.number _ row c.self.invariant.0.dated c.row-row.ensures in
     let key = same-key g.K.PartialEq.eq c.args.key.now c.hash-hash.result row (rw c.row-row.ensures at c.in-Some.ensures.found) in
     let alive = alive-kept s.upkeep.lives row.info dated (max s.latest c.args.now) (omega (arith, c.max-now.ensures)) ∙ ap (λ m. not (row.info.is_hidden || has_come row.info.deadline m)) (sym c.max-now.ensures) in
     let it = live-row g.K.PartialEq.eq g.met.K.Eq.laws _ s.table _ s.latest s.next_number given steps (rw (← c.self.view_is) at stands) s.upkeep.lives refl c.args.key.now c.args.now c.in-Some.number row c.row-row.ensures key (not dead) alive in
@@ -86,6 +86,6 @@ pub returns-clause-kept : goal.returns-clause-kept
 returns-clause-kept g c =
     let row = c.row-row.result.now in
     let key = same-key g.K.PartialEq.eq c.args.key.now c.hash-hash.result row (rw c.row-row.ensures at c.in-Some.ensures.found) in
-    let kept = of-row (λ r. g.C.CacheTypes.keeps (arc_value r.key) r.value) c.in-Some.number _ row c.self.invariant.kept c.row-row.ensures in
+    let kept = of-row (λ r. g.C.CacheTypes.keeps (arc_value r.key) r.value) c.in-Some.number _ row c.self.invariant.0.kept c.row-row.ensures in
     if-copied g.V.Clone.is_clone (g.C.CacheTypes.keeps c.args.key.now) (row.info.is_hidden || has_come row.info.deadline c.max-now.result) row.value c.in_ok-found.found
     (λ w copy. g.met.C.CacheTypes.copies_keep c.args.key.now row.value w copy (g.met.C.CacheTypes.equal_keys_keep (arc_value row.key) c.args.key.now row.value key kept)) c.in_ok-found.ensures.copy

@@ -1,5 +1,6 @@
-use Rattle.std.proofs.Common.{[], ◌∷◌, ◌++◌, sym, ap, ◌∙◌, arith, append_assoc}
+use Rattle.std.proofs.Common.{[], ◌∷◌, ◌++◌, sym, ap, ◌∙◌, subst, arith, append_assoc}
 use Rattle.std.proofs.lemmas.List.{append-nil}
+use Rattle.moka_model.specs.SizeLaws.{LimitsSome}
 use Rattle.moka_state.proofs.Counts.{weighs_one, writes-bounded}
 use Rattle.moka_state.proofs.Conserved.{run-conserved}
 use Rattle.moka_state.proofs.Runs.{IsRun-more, stands-more, same_as_rest-empty}
@@ -45,7 +46,8 @@ returns-clause-stands g c given before stands =
 pub returns-clause-bounded : goal.returns-clause-bounded
 returns-clause-bounded g c given before stands without =
     let was = c.loop-step.invariant.so_far given before stands in
-    writes-bounded g.K.PartialEq.eq given _ _ was.3 (weighs_one g.C.CacheTypes.weight _ without)
+    let limits = subst (λ s. LimitsSome s.flush_limit) (stands.settings ∙ sym was.3.settings) c.alloc.ensures in
+    writes-bounded g.K.PartialEq.eq given _ _ was.3 (weighs_one g.C.CacheTypes.weight _ without) limits
 
 pub returns-clause-conserved : goal.returns-clause-conserved
 returns-clause-conserved g c given before stands =

@@ -1,7 +1,8 @@
-use Rattle.std.proofs.Common.{None, refl}
+use Rattle.std.proofs.Common.{None, false, refl}
 use Rattle.moka_model.specs.Events.{Maintained}
 use Rattle.moka_model.specs.Calls.{RunPendingTasks}
 use Rattle.moka_state.proofs.Counts.{weighs_one, writes-within}
+use Rattle.moka_maintain.proofs.Callers.{without-limit}
 use Rattle.moka_state.proofs.Maintained.{becomes-maintained, live-after, stored-within}
 use Rattle.moka_state.proofs.Sound.{IsSound-maintained}
 use Rattle.moka_state.proofs.Views.{follows-event}
@@ -10,24 +11,26 @@ use Rattle.moka_state.proofs.state.State.run_pending_tasks.Goals as goal
 pub invariant_of-self : goal.invariant_of-self
 invariant_of-self g c =
     let s = c.self.inside in
-    IsSound-maintained _ _ s.upkeep.lives s.table c.maintain.new.table c.self.invariant _ _ s.upkeep.max_capacity c.max-now.result (c.maintain.ensures.maintained c.self.invariant.dated)
+    let whole = without-limit (c.maintain.ensures.maintained c.self.invariant.0.dated) in
+    (IsSound-maintained _ _ s.upkeep.lives s.table c.maintain.new.table c.self.invariant.0 _ _ s.upkeep.max_capacity c.max-now.result None false whole, c.self.invariant.1)
 
 pub returns-clause-stands : goal.returns-clause-stands
 returns-clause-stands g c =
     let s = c.self.inside in
+    let whole = without-limit (rw (c.policy.ensures, c.max-now.ensures) at (c.maintain.ensures.maintained c.self.invariant.0.dated)) in
     rw (← c.self.view_is, c.max-now.ensures) (follows-event g.K.PartialEq.eq g.met.K.Eq.laws _ _ (RunPendingTasks c.args.now) (Maintained None c.args.now) (λ _ _. refl)
-    (λ _. becomes-maintained g.K.PartialEq.eq _ s.upkeep.lives refl s.table _ s.latest s.next_number c.args.now c.maintain.new.table (rw (c.policy.ensures, c.max-now.ensures) at (c.maintain.ensures.maintained c.self.invariant.dated))))
+    (λ _. becomes-maintained g.K.PartialEq.eq _ s.upkeep.lives refl s.table _ s.latest s.next_number c.args.now None c.maintain.new.table false whole))
 
 pub returns-clause-all_live : goal.returns-clause-all_live
 returns-clause-all_live g c given steps stands =
     let s = c.self.inside in
     let same = rw (← c.self.view_is) at stands in
-    live-after g.K.PartialEq.eq given steps _ s.upkeep.lives refl s.table _ s.latest s.next_number same c.args.now c.maintain.new.table (rw (c.policy.ensures, c.max-now.ensures) at (c.maintain.ensures.maintained c.self.invariant.dated))
+    live-after g.K.PartialEq.eq given steps _ s.upkeep.lives refl s.table _ s.latest s.next_number same c.args.now c.maintain.new.table (rw (c.policy.ensures, c.max-now.ensures) at (c.maintain.ensures.maintained c.self.invariant.0.dated))
 
 pub returns-clause-within : goal.returns-clause-within
 returns-clause-within g c =
     let s = c.self.inside in
-    stored-within s.upkeep.lives s.upkeep.max_capacity c.max-now.result s.table c.maintain.new.table (c.maintain.ensures.maintained c.self.invariant.dated)
+    stored-within s.upkeep.lives s.upkeep.max_capacity c.max-now.result s.table c.maintain.new.table (c.maintain.ensures.maintained c.self.invariant.0.dated)
 
 pub returns-clause-count : goal.returns-clause-count
 returns-clause-count g c given steps stands without =

@@ -12,6 +12,9 @@ returns-in-Invalidate-clause-stands g c given steps stands = rw c.in-Invalidate.
 pub returns-in-RunPendingTasks-clause-stands : goal.returns-in-RunPendingTasks-clause-stands
 returns-in-RunPendingTasks-clause-stands g c given steps stands = rw c.in-RunPendingTasks.is (c.run_pending_tasks.ensures.stands given steps stands)
 
+pub returns-in-RunPendingTasksUpTo-clause-stands : goal.returns-in-RunPendingTasksUpTo-clause-stands
+returns-in-RunPendingTasksUpTo-clause-stands g c given steps stands = rw c.in-RunPendingTasksUpTo.is (c.run_pending_tasks_up_to.ensures.stands given steps stands)
+
 pub returns-clause-stands : goal.returns-clause-stands
 returns-clause-stands g c given steps stands = rw c.in-TakeNotice.is (c.take_notice.ensures.stands given steps stands)
 

@@ -2,7 +2,7 @@ use Rattle.std.proofs.Common.{refl, ◌+◌, ap, arith}
 use Rattle.moka_model.proofs.Callers.{total-append}
 use Rattle.moka_rows.specs.declared.rows.EntryInfo.{EntryInfo}
 use Rattle.moka_table.specs.Table.{weight_of}
-use Rattle.moka_table.proofs.Lengths.{length-added}
+use Rattle.moka_rows.proofs.Callers.{length-added}
 use Rattle.moka_table.proofs.Weights.{total-light, kept-added}
 use Rattle.moka_table.proofs.table.Table.add.Goals as goal
 

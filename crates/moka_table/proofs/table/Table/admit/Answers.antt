@@ -2,7 +2,7 @@ use Rattle.std.proofs.Common.{◌+◌, ◌-◌, ap, arith}
 use Rattle.moka_model.proofs.Callers.{total-append}
 use Rattle.moka_rows.specs.declared.rows.EntryInfo.{EntryInfo}
 use Rattle.moka_table.specs.Table.{weight_of}
-use Rattle.moka_table.proofs.Lengths.{length-admitted}
+use Rattle.moka_rows.proofs.Callers.{length-admitted}
 use Rattle.moka_table.proofs.Weights.{total-light, kept-admitted, stored-waiting, under-waiting, row-le}
 use Rattle.moka_table.proofs.table.Table.admit.Goals as goal
 

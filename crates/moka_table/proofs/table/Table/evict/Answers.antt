@@ -1,7 +1,7 @@
 use Rattle.std.proofs.Common.{arith}
 use Rattle.moka_model.proofs.Callers.{total-append}
 use Rattle.moka_table.specs.Table.{weight_of}
-use Rattle.moka_table.proofs.Lengths.{length-taken}
+use Rattle.moka_rows.proofs.Callers.{length-taken}
 use Rattle.moka_table.proofs.Weights.{total-light, weight_in-le, with-le, with-changed, kept-taken}
 use Rattle.moka_table.proofs.table.Table.evict.Goals as goal
 

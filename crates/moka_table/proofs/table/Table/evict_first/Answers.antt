@@ -1,7 +1,7 @@
 use Rattle.std.proofs.Common.{◌≡◌, ◌+◌, arith}
 use Rattle.moka_model.proofs.Callers.{total-append}
 use Rattle.moka_table.specs.Table.{weight_of}
-use Rattle.moka_table.proofs.Lengths.{length-first}
+use Rattle.moka_rows.proofs.Callers.{length-first}
 use Rattle.moka_table.proofs.Weights.{total-light, first-le, kept-first}
 use Rattle.moka_table.proofs.table.Table.evict_first.Goals as goal
 

@@ -1,6 +1,6 @@
 use Rattle.std.proofs.Common.{arith}
 use Rattle.moka_rows.specs.Rows.{hidden}
-use Rattle.moka_table.proofs.Lengths.{length-changed}
+use Rattle.moka_rows.proofs.Callers.{length-changed}
 use Rattle.moka_table.proofs.Weights.{kept-hidden}
 use Rattle.moka_table.proofs.table.Table.hide.Goals as goal
 

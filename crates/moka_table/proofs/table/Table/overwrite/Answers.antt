@@ -3,7 +3,7 @@ use Rattle.moka_rows.specs.Rows.{overwritten}
 use Rattle.moka_model.proofs.Callers.{total-append}
 use Rattle.moka_table.specs.Table.{weight_of}
 use Rattle.moka_table.proofs.Finds.{found-row}
-use Rattle.moka_table.proofs.Lengths.{length-used}
+use Rattle.moka_rows.proofs.Callers.{length-used}
 use Rattle.moka_table.proofs.Weights.{total-light, weight_in-le, with-le, with-changed, kept-used}
 use Rattle.moka_table.proofs.table.Table.overwrite.Goals as goal
 

@@ -2,7 +2,7 @@ use Rattle.std.proofs.Common.{refl, ◌<◌, ◌^◌, arith}
 use Rattle.moka_rows.specs.Rows.{touched}
 use Rattle.moka_table.proofs.Each.{of-row}
 use Rattle.moka_table.proofs.Finds.{stored-row}
-use Rattle.moka_table.proofs.Lengths.{length-used}
+use Rattle.moka_rows.proofs.Callers.{length-used}
 use Rattle.moka_table.proofs.Weights.{kept-used, with-same}
 use Rattle.moka_table.proofs.table.Table.touch.Goals as goal
 

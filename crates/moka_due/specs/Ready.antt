@@ -1,0 +1,19 @@
+-- Whether there is room for the deadlines of all rows.
+use Rattle.std.specs.Prelude.{◌≡◌, ◌⊎◌, ℕ, ◌+◌, ◌<◌, ◌≤◌, true, List, ◌++◌, length}
+use Rattle.moka_rows.specs.declared.rows.Row.{Row}
+use Rattle.moka_deadlines.specs.Deadlines.{known_of, room_of}
+use Rattle.moka_slab.specs.Store.{admitted_in, waiting_in}
+use Rattle.moka_due.specs.declared.due_rows.DueRows.{DueRows}
+
+module _ {K V : Type 0} where
+  -- all rows, each with its number, the admitted ones first
+  abbrev pub rows_in : DueRows K V → List (ℕ × Row K V)
+  rows_in store = admitted_in store.rows ++ waiting_in store.rows
+
+  -- there is room for the deadlines of all rows, and of so many more under as many numbers from the top on
+  abbrev pub IsReady : ℕ → DueRows K V → Type 0
+  IsReady more store = (store.top + more < known_of store.deadlines) × (length (rows_in store) + more ≤ room_of store.deadlines)
+
+  -- a row has had a deadline, or there is none yet
+  abbrev pub WantsRoom : DueRows K V → Type 0
+  WantsRoom store = (store.has_deadlines ≡ true) ⊎ (length (rows_in store) ≡ 0)

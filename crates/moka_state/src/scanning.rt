@@ -1,0 +1,58 @@
+//! What walks ask of a state. The calls change nothing, and are no steps.
+ghost use Rattle.std.specs.Prelude.{◌≡◌, None, map, IsOk, IfOk, IfErr, IfSome};
+ghost use Rattle.std.specs.Arc.{arc_value};
+ghost use Rattle.moka_model.specs.Steps.{events_in};
+ghost use Rattle.moka_model.specs.Calls.{Get, Found, live_at};
+ghost use Rattle.moka_state.specs.State.{all_writes};
+
+use crate::state::State;
+use moka_policy::policy::{CacheTypes, Refused};
+use moka_rows::rows::RowStore;
+use moka_ways::live_value::copy_of_live;
+use moka_ways::view::StateView;
+use std::hash::Hash;
+use std::sync::Arc;
+
+impl<K: Hash + Drop, V: Clone, C: CacheTypes<K, V>, R: RowStore<K, V>> State<K, V, C, R> {
+    /// The key of each stored value, live or not, once. Keys are shared, and not copied.
+    ///
+    /// Refused for want of memory alone. Visits each row once.
+    pub fn scan_keys(&self) -> Result<Vec<Arc<K>>, Refused>
+        ensures keys { IfOk result (λ keys.
+            map arc_value keys.items ≡ map (λ w. w.key) (all_writes self.now)) }
+        ensures cause { IfErr result (λ cause. cause ≡ Refused.OutOfMemory) }
+    {
+        let mut visits = 0;
+        match self.table.keys(self.alloc(), &mut visits) {
+            Ok(keys) => Ok(keys),
+            Err(_) => Err(Refused::OutOfMemory),
+        }
+    }
+
+    /// The live value of a key at a moment: what `get` would answer. It is no use of the value, notes no
+    /// hash, and records no moment.
+    ///
+    /// Refused for want of memory for the value's copy alone: where no value is live it takes none and
+    /// succeeds. A `CacheState` reads no rows but those that have the key's hash.
+    pub fn scan_get(&self, key: &K, now: u64) -> Result<Option<V>, Refused>
+        ensures reply { IfOk result (λ found.
+            ⟦<C as StateView<K, V>>⟧.answers self.now (Get key.now now) (Found found)) }
+        ensures kept { IfOk result (λ found. IfSome found (C.keeps key.now)) }
+        ensures cause { IfErr result (λ cause. cause ≡ Refused.OutOfMemory) }
+
+        // It is not refused where nothing is live, nor where the copies of the live value never fail.
+        ensures miss { ⟦<C as StateView<K, V>>⟧.at_each_history self.now (λ settings steps.
+            live_at K.eq settings key.now now (events_in steps) ≡ None → IsOk result) }
+        ensures copied { ⟦<C as StateView<K, V>>⟧.at_each_history self.now (λ settings steps.
+            IfSome (live_at K.eq settings key.now now (events_in steps)) (λ live.
+            V.is_infallible live.value → IsOk result)) }
+    {
+        let now = self.latest.max(now);
+        let hash = self.behaviour.hash(key);
+        let Some(number) = self.table.find(key, hash) else {
+            return Ok(None);
+        };
+        let found = copy_of_live(self.table.row(number), now)?;
+        Ok(found)
+    }
+}

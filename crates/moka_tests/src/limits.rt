@@ -1,0 +1,253 @@
+//! Maintenances and flushes within a limit, by tables.
+use crate::subject::{
+    Answer, CacheRows, Call, Row, Rules, UNLIMITED, answers, answers_between_requests,
+    answers_patiently, room,
+};
+use crate::values::Value;
+use moka::notification::RemovalCause;
+use std::alloc::{AllocError, Global};
+use std::test::Fail;
+
+const SECOND: u64 = 1_000_000_000;
+
+/// A capacity of 2 and a life of 10 seconds.
+const TWO: Rules = Rules {
+    max_capacity: Some(2),
+    time_to_live: Some(10),
+    ..UNLIMITED
+};
+
+/// With a limit of 0 the keys that fit are admitted, and no other part is done.
+const ONE_BY_ONE: [Row; 13] = [
+    (Call::Insert(1, "one"), 0, Answer::Done),
+    (Call::Insert(2, "two"), 0, Answer::Done),
+    (Call::Insert(3, "three"), 0, Answer::Done),
+    (Call::Insert(4, "four"), 0, Answer::Done),
+    (Call::RunPendingTasksUpTo(0), 0, Answer::Left(true)),
+    (Call::EntryCount, 0, Answer::Counted(4)),
+    (Call::RunPendingTasksUpTo(1), 0, Answer::Left(true)),
+    (
+        Call::TakeNotice,
+        0,
+        Answer::Noticed(1, "one", RemovalCause::Size),
+    ),
+    (Call::TakeNotice, 0, Answer::NoNotice),
+    (Call::RunPendingTasksUpTo(1), 0, Answer::Left(false)),
+    (
+        Call::TakeNotice,
+        0,
+        Answer::Noticed(2, "two", RemovalCause::Size),
+    ),
+    (Call::TakeNotice, 0, Answer::NoNotice),
+    (Call::RunPendingTasksUpTo(1), 0, Answer::Left(false)),
+];
+
+const EXPIRED: [Row; 9] = [
+    (Call::Insert(1, "one"), 0, Answer::Done),
+    (Call::Insert(2, "two"), 0, Answer::Done),
+    (Call::Insert(3, "three"), 0, Answer::Done),
+    (Call::RunPendingTasks, 0, Answer::Done),
+    (
+        Call::RunPendingTasksUpTo(2),
+        10 * SECOND,
+        Answer::Left(true),
+    ),
+    (Call::EntryCount, 0, Answer::Counted(1)),
+    (Call::Get(3), 10 * SECOND, Answer::Absent),
+    (
+        Call::RunPendingTasksUpTo(2),
+        10 * SECOND,
+        Answer::Left(false),
+    ),
+    (Call::EntryCount, 0, Answer::Counted(0)),
+];
+
+/// The moment is recorded where nothing may leave, too.
+const AT_NO_EARLIER_MOMENT: [Row; 5] = [
+    (Call::Insert(1, "one"), 0, Answer::Done),
+    (
+        Call::RunPendingTasksUpTo(0),
+        10 * SECOND,
+        Answer::Left(true),
+    ),
+    (Call::Get(1), 9 * SECOND, Answer::Absent),
+    (
+        Call::RunPendingTasksUpTo(u64::MAX),
+        9 * SECOND,
+        Answer::Left(false),
+    ),
+    (Call::EntryCount, 0, Answer::Counted(0)),
+];
+
+#[test]
+fn does_as_many_parts_as_the_limit_lets(rt: HostRuntime) -> Result<(), Fail> {
+    answers(&rt, rt.alloc(), TWO, &ONE_BY_ONE)?;
+    let rules = Rules {
+        max_capacity: None,
+        ..TWO
+    };
+    answers(&rt, rt.alloc(), rules, &EXPIRED)?;
+    answers(&rt, rt.alloc(), rules, &AT_NO_EARLIER_MOMENT)
+}
+
+/// Three keys that weigh 3 are admitted. The first that waits has to take the place of two, and the next one would fit.
+const TWO_AT_ONCE: [Row; 15] = [
+    (Call::InsertHeavy(1, 3), 0, Answer::Done),
+    (Call::InsertHeavy(2, 3), 0, Answer::Done),
+    (Call::InsertHeavy(3, 3), 0, Answer::Done),
+    (Call::RunPendingTasks, 0, Answer::Done),
+    (Call::InsertHeavy(4, 7), 0, Answer::Done),
+    (Call::InsertHeavy(5, 1), 0, Answer::Done),
+    (Call::RunPendingTasksUpTo(1), 0, Answer::Left(true)),
+    (Call::NoticeCount, 0, Answer::Counted(0)),
+    (Call::WeightedSize, 0, Answer::Counted(17)),
+    (Call::RunPendingTasksUpTo(2), 0, Answer::Left(true)),
+    (Call::NoticeCount, 0, Answer::Counted(2)),
+    (Call::WeightedSize, 0, Answer::Counted(11)),
+    (Call::RunPendingTasksUpTo(1), 0, Answer::Left(false)),
+    (Call::NoticeCount, 0, Answer::Counted(3)),
+    (Call::WeightedSize, 0, Answer::Counted(8)),
+];
+
+#[test]
+fn stops_at_a_part_that_the_limit_does_not_let(rt: HostRuntime) -> Result<(), Fail> {
+    let rules = Rules {
+        max_capacity: Some(10),
+        is_weighed: true,
+        ..UNLIMITED
+    };
+    answers(&rt, rt.alloc(), rules, &TWO_AT_ONCE)
+}
+
+/// What is hidden stays so until it has left, however often a sweep is cut before it.
+const HIDDEN: [Row; 15] = [
+    (Call::Insert(1, "one"), 0, Answer::Done),
+    (Call::Insert(2, "two"), 0, Answer::Done),
+    (Call::RunPendingTasks, 0, Answer::Done),
+    (Call::InvalidateAll, 0, Answer::Done),
+    (Call::RunPendingTasksUpTo(1), 0, Answer::Left(true)),
+    (Call::Get(2), 0, Answer::Absent),
+    (Call::Insert(3, "three"), 0, Answer::Done),
+    (Call::RunPendingTasksUpTo(0), 0, Answer::Left(true)),
+    (Call::ContainsKey(2), 0, Answer::Contains(false)),
+    (Call::RunPendingTasksUpTo(1), 0, Answer::Left(false)),
+    (
+        Call::TakeNotice,
+        0,
+        Answer::Noticed(1, "one", RemovalCause::Explicit),
+    ),
+    (
+        Call::TakeNotice,
+        0,
+        Answer::Noticed(2, "two", RemovalCause::Explicit),
+    ),
+    (Call::TakeNotice, 0, Answer::NoNotice),
+    (Call::Get(3), 0, Answer::Found("three")),
+    (Call::EntryCount, 0, Answer::Counted(1)),
+];
+
+#[test]
+fn hides_until_it_has_left(rt: HostRuntime) -> Result<(), Fail> {
+    answers(&rt, rt.alloc(), TWO, &HIDDEN)
+}
+
+/// What the calls within a limit answer where two keys are admitted and two wait.
+const IN_SLICES: [Row; 6] = [
+    (Call::RunPendingTasksUpTo(1), 0, Answer::Left(true)),
+    (Call::NoticeCount, 0, Answer::Counted(1)),
+    (Call::RunPendingTasksUpTo(u64::MAX), 0, Answer::Left(false)),
+    (Call::NoticeCount, 0, Answer::Counted(2)),
+    (Call::EntryCount, 0, Answer::Counted(2)),
+    (Call::RunPendingTasksUpTo(0), 0, Answer::Left(false)),
+];
+
+#[test]
+fn takes_no_memory_within_a_limit(rt: HostRuntime) -> Result<(), Fail> {
+    let before = written(rt.alloc(), 1, 4, 0)?;
+    answers_between_requests::<CacheRows<u64, Value>>(
+        &rt,
+        rt.alloc(),
+        TWO,
+        before.as_slice(),
+        &IN_SLICES,
+    )
+}
+
+/// Writes of these keys at a moment.
+fn written(alloc: Global, first: u64, last: u64, now: u64) -> Result<Vec<Row>, AllocError> {
+    let mut rows = room(alloc, 90)?;
+    for number in first..=last {
+        rows.push((Call::Insert(number, "value"), now, Answer::Done))?;
+    }
+    Ok(rows)
+}
+
+/// One more notice, and then none, and so many keys that are stored.
+fn left(number: u64, cause: RemovalCause, count: u64) -> [Row; 3] {
+    [
+        (Call::TakeNotice, 0, Answer::Noticed(number, "value", cause)),
+        (Call::TakeNotice, 0, Answer::NoNotice),
+        (Call::EntryCount, 0, Answer::Counted(count)),
+    ]
+}
+
+/// A capacity of 10 and a flush limit of 1.
+const FLUSHED_BY_ONE: Rules = Rules {
+    max_capacity: Some(10),
+    flush_limit: Some(1),
+    ..UNLIMITED
+};
+
+/// Each flush lets one leave. The first admits ten keys, and an eleventh in the place of the oldest.
+fn many_writes(alloc: Global) -> Result<Vec<Row>, AllocError> {
+    let mut rows = written(alloc, 1, 65, 0)?;
+    for row in left(1, RemovalCause::Size, 64) {
+        rows.push(row)?;
+    }
+    for row in written(alloc, 66, 75, 0)?.iter() {
+        rows.push(*row)?;
+    }
+    rows.push((Call::NoticeCount, 0, Answer::Counted(0)))?;
+    rows.push((Call::EntryCount, 0, Answer::Counted(74)))?;
+    rows.push((Call::Insert(76, "value"), 0, Answer::Done))?;
+    for row in left(2, RemovalCause::Size, 74) {
+        rows.push(row)?;
+    }
+    Ok(rows)
+}
+
+#[test]
+fn lets_no_more_leave_before_a_write_than_the_flush_limit(rt: HostRuntime) -> Result<(), Fail> {
+    let rows = many_writes(rt.alloc())?;
+    answers(&rt, rt.alloc(), FLUSHED_BY_ONE, rows.as_slice())
+}
+
+/// It passes also where one request for memory is refused, whichever.
+#[test]
+fn flushes_within_a_limit_where_memory_is_refused(rt: HostRuntime) -> Result<(), Fail> {
+    let rows = many_writes(rt.alloc())?;
+    answers_patiently::<CacheRows<u64, Value>>(&rt, rt.alloc(), FLUSHED_BY_ONE, rows.as_slice())
+}
+
+/// A flush that is cut in its sweep leaves more than 64 keys waiting.
+#[test]
+fn more_wait_where_a_flush_is_cut(rt: HostRuntime) -> Result<(), Fail> {
+    let mut rows = written(rt.alloc(), 1, 2, 0)?;
+    rows.push((Call::RunPendingTasks, 0, Answer::Done))?;
+    for row in written(rt.alloc(), 3, 66, 9 * SECOND)?.iter() {
+        rows.push(*row)?;
+    }
+    rows.push((Call::Insert(67, "value"), 10 * SECOND, Answer::Done))?;
+    for row in left(1, RemovalCause::Expired, 66) {
+        rows.push(row)?;
+    }
+    rows.push((Call::Insert(68, "value"), 10 * SECOND, Answer::Done))?;
+    for row in left(2, RemovalCause::Expired, 66) {
+        rows.push(row)?;
+    }
+    let rules = Rules {
+        flush_limit: Some(1),
+        ..TWO
+    };
+    answers(&rt, rt.alloc(), rules, rows.as_slice())
+}

@@ -1,0 +1,5 @@
+pub mod Callers
+pub mod Counts
+pub mod Goings
+pub mod KeyCounts
+pub mod Laws

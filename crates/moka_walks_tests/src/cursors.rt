@@ -1,0 +1,183 @@
+//! Walks by a cursor over states, to which something is done between two calls.
+use moka::common::iter::WalkCursor;
+use moka::policy::EvictionPolicy;
+use moka::ready::{FoldState, Plain};
+use moka::state::CacheState;
+use moka::sync::CacheBuilder;
+use std::alloc::Global;
+use std::process::Abort;
+use std::slice;
+use std::sync::Arc;
+use std::test::Fail;
+use std::time::Duration;
+
+pub(crate) type State = CacheState<u64, Arc<u64>, Plain>;
+
+/// A state in which these keys stand from moment 0 on, each with a value ten times as large.
+pub(crate) fn state(alloc: Global, keys: &[u64]) -> Result<State, Fail> {
+    let mut state: State = CacheBuilder::new(100)
+        .eviction_policy(EvictionPolicy::lru())
+        .time_to_idle(Duration::from_secs(5))
+        .build_state(alloc, FoldState::default())?;
+    for key in keys {
+        insert(&mut state, alloc, *key, key.wrapping_mul(10), 0)?;
+    }
+    Ok(state)
+}
+
+fn insert(state: &mut State, alloc: Global, key: u64, value: u64, now: u64) -> Result<(), Fail> {
+    Ok(state.insert(key, Arc::new(alloc, value)?, now)?)
+}
+
+const SECOND: u64 = 1_000_000_000;
+
+/// What is done to the key that has not come yet, the other of 1 and 2.
+#[derive(Clone, Copy)]
+enum Between {
+    Nothing,
+    Invalidated,
+    Removed,
+    Overwritten,
+    Expired,
+    AllInvalidated,
+    AllLeave,
+    AnotherInserted,
+}
+
+/// What comes then for the other key, its value being so many times as large, and none where it does not come.
+const CASES: [(Between, Option<u64>); 8] = [
+    (Between::Nothing, Some(10)),
+    (Between::Invalidated, None),
+    (Between::Removed, None),
+    (Between::Overwritten, Some(7)),
+    (Between::Expired, None),
+    (Between::AllInvalidated, None),
+    (Between::AllLeave, None),
+    (Between::AnotherInserted, Some(10)),
+];
+
+// Does it, and answers the moment of the calls behind it.
+fn do_between(between: Between, state: &mut State, alloc: Global, other: u64) -> Result<u64, Fail> {
+    match between {
+        Between::Nothing => {}
+        Between::Invalidated => state.invalidate(&other, 0),
+        Between::Removed => {
+            state.remove(&other, 0)?;
+        }
+        Between::Overwritten => insert(state, alloc, other, other.wrapping_mul(7), 0)?,
+        Between::Expired => return Ok(5 * SECOND),
+        Between::AllInvalidated => state.invalidate_all(),
+        Between::AllLeave => {
+            state.invalidate_all();
+            state.run_pending_tasks(0);
+        }
+        Between::AnotherInserted => insert(state, alloc, 3, 30, 0)?,
+    }
+    Ok(0)
+}
+
+// The next pair, by its numbers.
+fn next(
+    rt: &impl Abort,
+    cursor: &mut WalkCursor<u64>,
+    states: &[State],
+    now: u64,
+) -> Option<(u64, u64)> {
+    match cursor.next(states, now)? {
+        Ok((key, value)) => Some((*key, *value)),
+        Err(_) => {
+            assert!(rt; false, "memory is there");
+            None
+        }
+    }
+}
+
+#[test]
+fn what_comes_is_live_when_it_comes(rt: HostRuntime) -> Result<(), Fail> {
+    for (between, times) in CASES {
+        let mut state = state(rt.alloc(), &[1, 2])?;
+        let mut cursor = WalkCursor::new();
+        let (first, value) = next(&rt, &mut cursor, slice::from_ref(&state), 0).ok_or("a pair")?;
+        assert!(rt; first == 1 || first == 2);
+        assert_eq!(rt; value, first.wrapping_mul(10));
+        let other = 3u64.wrapping_sub(first);
+        let now = do_between(between, &mut state, rt.alloc(), other)?;
+        let second = times.map(|times| (other, other.wrapping_mul(times)));
+        if second.is_some() {
+            assert_eq!(rt;
+                next(&rt, &mut cursor, slice::from_ref(&state), now),
+                second
+            );
+        }
+        for _ in 0..2 {
+            assert_eq!(rt; next(&rt, &mut cursor, slice::from_ref(&state), now), None);
+        }
+    }
+    Ok(())
+}
+
+#[test]
+fn a_segment_is_reached_once_it_is_needed(rt: HostRuntime) -> Result<(), Fail> {
+    let mut states = Vec::with_capacity(rt.alloc(), 2)?;
+    states.push(state(rt.alloc(), &[1])?)?;
+    states.push(state(rt.alloc(), &[])?)?;
+    is_reached_once_it_is_needed(&rt, rt.alloc(), &mut states)
+}
+
+fn is_reached_once_it_is_needed(
+    rt: &impl Abort,
+    alloc: Global,
+    states: &mut [State],
+) -> Result<(), Fail> {
+    let mut cursor = WalkCursor::new();
+    assert_eq!(rt; next(rt, &mut cursor, states, 0), Some((1, 10)));
+    if let Some(second) = states.get_mut(1) {
+        insert(second, alloc, 2, 20, 0)?;
+    }
+    if let Some(first) = states.get_mut(0) {
+        insert(first, alloc, 3, 30, 0)?;
+    }
+    assert_eq!(rt; next(rt, &mut cursor, states, 0), Some((2, 20)));
+    assert_eq!(rt; next(rt, &mut cursor, states, 0), None);
+    Ok(())
+}
+
+#[test]
+fn over_no_segments_nothing_comes(rt: HostRuntime) -> Result<(), Fail> {
+    let mut cursor = WalkCursor::new();
+    for _ in 0..2 {
+        assert_eq!(rt; next(&rt, &mut cursor, &[], 0), None);
+    }
+    Ok(())
+}
+
+#[test]
+fn a_walk_is_no_use_and_records_nothing(rt: HostRuntime) -> Result<(), Fail> {
+    let mut state = state(rt.alloc(), &[1])?;
+    let mut cursor = WalkCursor::new();
+    assert_eq!(rt;
+        next(&rt, &mut cursor, slice::from_ref(&state), 4 * SECOND),
+        Some((1, 10))
+    );
+    assert_eq!(rt;
+        next(&rt, &mut cursor, slice::from_ref(&state), 9 * SECOND),
+        None
+    );
+    assert!(rt; state.contains_key(&1, 4 * SECOND));
+    assert!(rt; !state.contains_key(&1, 5 * SECOND));
+    Ok(())
+}
+
+#[test]
+fn an_earlier_moment_counts_as_the_latest(rt: HostRuntime) -> Result<(), Fail> {
+    let mut state = state(rt.alloc(), &[1])?;
+    state.run_pending_tasks(4 * SECOND);
+    insert(&mut state, rt.alloc(), 2, 20, 6 * SECOND)?;
+    let mut cursor = WalkCursor::new();
+    assert_eq!(rt;
+        next(&rt, &mut cursor, slice::from_ref(&state), 0),
+        Some((2, 20))
+    );
+    assert_eq!(rt; next(&rt, &mut cursor, slice::from_ref(&state), 0), None);
+    Ok(())
+}

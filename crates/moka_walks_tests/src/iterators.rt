@@ -1,0 +1,102 @@
+//! Walks by an iterator over caches that stand still, where memory is refused.
+use crate::cursors::{State, state};
+use moka::common::iter::{Iter, ScanningGet};
+use moka::policy::Refused;
+use std::cell::Cell;
+use std::sync::Arc;
+use std::test::Fail;
+
+/// A state at moment 0. Of all that is asked of it and of those that share the count, the request with this number is
+/// refused.
+#[derive(Drop)]
+struct Scarce<'s> {
+    state: State,
+    requests: &'s Cell<u64>,
+    refused: u64,
+}
+
+impl Scarce<'_> {
+    // Counts a request, and refuses the one that is to be refused.
+    fn request(&self) -> Result<(), Refused> {
+        let number = self.requests.get();
+        self.requests.set(number.wrapping_add(1));
+        if number == self.refused {
+            Err(Refused::OutOfMemory)
+        } else {
+            Ok(())
+        }
+    }
+}
+
+impl ScanningGet<u64, Arc<u64>> for Scarce<'_> {
+    ghost stands = { λ _ _. Unit {0} };
+
+    ghost finds = { λ _ _ _. Unit {0} };
+
+    fn num_cht_segments(&self) -> usize {
+        1
+    }
+
+    fn scanning_get(&self, key: &Arc<u64>) -> Result<Option<Arc<u64>>, Refused> {
+        self.request()?;
+        self.state.scan_get(&**key, 0)
+    }
+
+    fn keys(&self, segment: usize) -> Result<Option<Vec<Arc<u64>>>, Refused> {
+        if segment != 0 {
+            return Ok(None);
+        }
+        self.request()?;
+        Ok(Some(self.state.scan_keys()?))
+    }
+}
+
+/// Which request is refused, and how many pairs come then. The segments have the keys 1 and 2, none, and 3: the first request
+/// is for the keys of the first segment, the next two for its values, and so on.
+const REFUSALS: [(u64, usize); 7] = [(0, 1), (1, 2), (2, 2), (3, 3), (4, 2), (5, 2), (6, 3)];
+
+#[test]
+fn what_is_refused_is_passed_over_as_one_error(rt: HostRuntime) -> Result<(), Fail> {
+    for (refused, pairs) in REFUSALS {
+        let requests = Cell::new(0);
+        let mut caches = Vec::new(rt.alloc());
+        for keys in [&[1u64, 2] as &[u64], &[], &[3]] {
+            let state = state(rt.alloc(), keys)?;
+            caches.push(Scarce {
+                state,
+                requests: &requests,
+                refused,
+            })?;
+        }
+        let mut came = Vec::new(rt.alloc());
+        let mut errors: usize = 0;
+        for pair in Iter::new(&caches) {
+            match pair {
+                Ok((key, value)) => {
+                    assert_eq!(rt; *value, key.wrapping_mul(10));
+                    assert!(rt; !came.contains(&*key), "no key comes twice");
+                    came.push(*key)?;
+                }
+                Err(cause) => {
+                    assert_eq!(rt; cause, Refused::OutOfMemory);
+                    errors = errors.wrapping_add(1);
+                }
+            }
+        }
+        assert_eq!(rt; came.len(), pairs, "request {refused}");
+        assert_eq!(rt; errors, if refused < 6 { 1 } else { 0 });
+    }
+    Ok(())
+}
+
+#[test]
+fn over_no_caches_nothing_comes() -> Result<(), Fail> {
+    let caches: [Scarce; 0] = [];
+    let mut walk = Iter::new(&caches);
+    for _ in 0..2 {
+        if walk.next().is_some() {
+            return Err(Fail::from("nothing is there"));
+        }
+    }
+    Ok(())
+}

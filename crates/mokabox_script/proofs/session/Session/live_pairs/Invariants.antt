@@ -1,0 +1,9 @@
+use Rattle.moka_walks.specs.Walks.{calls_left}
+use Rattle.mokabox_script.proofs.WalkLines.{HasWalked}
+use Rattle.mokabox_script.proofs.session.Session.live_pairs.Given as goal
+
+abbrev pub invariant-loop-pair : goal.invariant-loop-pair
+invariant-loop-pair l = HasWalked l.self.cache l.self.moment l.pairs.items l.cursor
+
+abbrev pub decreases-loop-pair : goal.decreases-loop-pair
+decreases-loop-pair l = calls_left 1 l.cursor
