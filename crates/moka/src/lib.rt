@@ -31,6 +31,12 @@ pub mod sync {
     pub use moka_sync::builder::CacheBuilder;
     pub use moka_sync::cache::Cache;
     pub use moka_walks::iter::Iter;
+
+    /// The cache of several segments as a plain value.
+    pub mod segment {
+        pub use moka_segmented::segment::{Segmented, SegmentedState};
+        pub use moka_segmented::segmented_view::SegmentedStateView;
+    }
 }
 
 /// Calls and their answers as data.

@@ -89,8 +89,10 @@ impl<K: Hash + Drop, V: Clone, C: CacheTypes<K, V>, R: RowStore<K, V>> State<K, 
         }
     }
 
-    // Hides what a predicate holds of, where closures are supported.
-    fn hide_where(&mut self, predicate: &C::Predicate)
+    /// Hides what a predicate holds of, where closures are supported: an
+    /// [`State::invalidate_entries_if`] that cannot be refused, for who has asked
+    /// [`State::predicate_room`]. It takes no memory.
+    pub fn hide_where(&mut self, predicate: &C::Predicate)
         requires tests { C.Predicate.tests predicate.now (C.test predicate.now) }
         requires supported { self.old.settings.supports_closures ≡ true }
         ensures { ⟦<C as StateView<K, V>>⟧.follows

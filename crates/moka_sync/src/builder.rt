@@ -1,15 +1,20 @@
 //! Builds caches.
-ghost use Rattle.std.specs.Prelude.{◌≡◌, ◌≤◌, true, Some, None, [], option_map, unwrap_or, IfSome, IfOk, IfErr, OnOk};
+ghost use Rattle.std.specs.Prelude.{◌≡◌, ◌≢◌, ◌≤◌, true, Some, None, [], option_map, unwrap_or, IfSome, IfOk, IfErr, IsSome, OnOk};
 ghost use Rattle.std.specs.Arc.{arc_value};
 ghost use Rattle.std.specs.String.{string_bytes};
 ghost use Rattle.moka_policy.specs.Policy.{is_lru};
 ghost use Rattle.moka_sync.specs.Builder.{BuilderData, nothing_said, segments_refused, build_refused, settings_built};
 ghost use Rattle.moka_sync.specs.Cache.{IsBuilt};
+ghost use Rattle.moka_segments.specs.Segments.{bits_for};
+ghost use Rattle.moka_segmented.specs.SegmentedData.{data_of};
 
 use crate::cache::{Cache, Inside, Locked};
 use crate::opened::Opened;
 use moka_policy::builder_utils::{BuildError, ensure_expirations, ensure_flush_limit};
 use moka_policy::policy::{CacheTypes, EvictionPolicy, Expiry, Listener, Weigher};
+use moka_segmented::opening::{bits_for, opened};
+use moka_segmented::segment::SegmentedState;
+use moka_segmented::segmented_view::SegmentedStateView;
 use moka_state::state::{CacheState, Settings};
 use moka_state::view::StateView;
 use std::alloc::Global;
@@ -368,6 +373,66 @@ impl<K: Hash + Drop, V: Clone, C: CacheTypes<K, V>> CacheBuilder<K, V, C, Single
         ensures refused { IfErr result (λ cause.
             cause ≡ unwrap_or (build_refused self) BuildError.OutOfMemory) }
     {
+        let (settings, listener) = self.settled(alloc, hasher)?;
+        match CacheState::new(alloc, settings) {
+            Ok(state) => Ok((state, listener)),
+            Err(_) => Err(BuildError::OutOfMemory),
+        }
+    }
+}
+
+impl<K: Hash + Drop, V: Clone, C: CacheTypes<K, V>> CacheBuilder<K, V, C, Segmented> {
+    /// A cache without values, of these settings, as a plain value, of as many segments as were
+    /// wanted, or of the next power of two. Each has its share of the capacity and of the initial
+    /// capacity. The listener is dropped: a state calls none.
+    ///
+    /// Refused as [`CacheBuilder::build_state`] is.
+    pub fn build_segmented_state(
+        self,
+        alloc: Global,
+        hasher: C::Hasher,
+    ) -> Result<SegmentedState<K, V, C>, BuildError>
+        ensures settings { IfOk result (λ cache. cache.settings ≡ settings_built self hasher) }
+        ensures segments { IfOk result (λ cache. cache.bits ≡ bits_for self.num_segments) }
+        ensures empty { IfOk result (λ cache. ⟦<C as SegmentedStateView<K, V>>⟧.all_stand_for
+            (⟦<C as SegmentedStateView<K, V>>⟧.segmented_settings cache) cache []) }
+        ensures accepted { OnOk result (build_refused self ≡ None) }
+        ensures refused { IfErr result (λ cause.
+            cause ≡ unwrap_or (build_refused self) BuildError.OutOfMemory) }
+    {
+        let bits = bits_for(self.num_segments);
+        let (settings, _listener) = self.settled(alloc, hasher)?;
+        match opened(alloc, settings, bits) {
+            Ok(cache) => Ok(cache),
+            Err(_) => Err(BuildError::OutOfMemory),
+        }
+    }
+}
+
+impl<K: Hash + Drop, V: Clone, C: CacheTypes<K, V>, T> CacheBuilder<K, V, C, T> {
+    // What a state is made from, and the listener that is still to be given a place.
+    fn settled(
+        self,
+        alloc: Global,
+        hasher: C::Hasher,
+    ) -> Result<(Settings<K, V, C>, Option<C::Listener>), BuildError>
+        ensures settings { IfOk result (λ settled. data_of settled.0 ≡ settings_built self hasher) }
+        ensures weighs { IfOk result (λ settled. IfSome settled.0.weigher (λ weigher.
+            C.Weigher.weighs (arc_value weigher) (C.weight (arc_value weigher)))) }
+        ensures gives { IfOk result (λ settled. IfSome settled.0.expiry (λ expiry.
+            C.Expiry.gives (arc_value expiry) (C.lifetimes (arc_value expiry)))) }
+        ensures limits { IfOk result (λ settled. settled.0.flush_limit ≢ Some 0) }
+        ensures unweighed { IfOk result (λ settled.
+            IsSome settled.0.flush_limit → settled.0.weigher ≡ None) }
+        ensures room { IfOk result (λ settled.
+            settled.0.initial_capacity ≡ self.initial_capacity) }
+        ensures listener { IfOk result (λ settled. settled.1 ≡ self.listener) }
+        ensures hears { IfOk result (λ settled. IfSome settled.1 (λ listener.
+            (key : K) (value : V) → C.keeps key value → C.Listener.hears listener key value)) }
+        ensures accepted { OnOk result (build_refused self ≡ None) }
+        ensures refused { IfErr result (λ cause.
+            cause ≡ unwrap_or (build_refused self) BuildError.OutOfMemory) }
+    {
         ensure_expirations(self.time_to_live, self.time_to_idle)?;
         ensure_flush_limit(self.flush_limit, self.weigher.is_some())?;
         let listener = self.listener;
@@ -385,10 +450,7 @@ impl<K: Hash + Drop, V: Clone, C: CacheTypes<K, V>> CacheBuilder<K, V, C, Single
             first_number: self.first_number,
             hasher: share(alloc, hasher)?,
         };
-        match CacheState::new(alloc, settings) {
-            Ok(state) => Ok((state, listener)),
-            Err(_) => Err(BuildError::OutOfMemory),
-        }
+        Ok((settings, listener))
     }
 }
 

@@ -35,7 +35,7 @@ pub struct Settings {
 pub enum Eviction {
     /// The least recently used ones leave, and each new one is admitted.
     Lru,
-    /// The least recently used ones leave, for a new one that was looked for more often than they.
+    /// The least recently used ones leave, for a new one that by an estimate was looked for more often than they.
     TinyLfu,
 }
 

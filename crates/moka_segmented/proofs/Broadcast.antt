@@ -1,0 +1,89 @@
+-- A call to each state of a vector, one after another.
+use Rattle.std.proofs.Common.{◌≡◌, ◌≢◌, ◌⊎◌, inl, inr, ℕ, zero, suc, ◌+◌, ◌<◌, ◌≤◌, Bool, true, ◌↔◌, ◌^◌, IfSome, Option, Some, None, List, [], ◌∷◌, length, map, option_map, refl, sym, ap, ◌∙◌, subst, ⊎_elim, set, arith}
+use Rattle.std.specs.List.{slice_get}
+use Rattle.std.proofs.lemmas.Option.{slice_get_past, slice_get-map}
+use Rattle.std.proofs.lemmas.List.{length-map}
+use Rattle.std.proofs.lemmas.Nat.{pow_pos}
+use Rattle.std.proofs.lemmas.Bool.Decides.{eqb_tells}
+use Rattle.moka_model.specs.Lives.{Behaviour, Settings}
+use Rattle.moka_model.specs.Calls.{Call}
+use Rattle.moka_model.specs.StandsFor.{View, StandsFor, Follows}
+use Rattle.moka_ways.specs.Behaviour.{BehaviourData}
+use Rattle.moka_ways.specs.StateData.{SettingsData, StateData, view_by}
+use Rattle.moka_segments.specs.Segments.{SegmentedSettings, Each, place_of, segments_of, share_settings, steps_in, AllStandFor, FollowsIn}
+use Rattle.moka_segments.proofs.Callers.{FollowsAt, slice_get-set_same, slice_get-set_other, length-set, stand-each, there}
+use Rattle.moka_segmented.specs.SegmentedData.{SegmentedData, segmented_view_by}
+
+pub below-or-past : (a b : ℕ) → (a < b) ⊎ (b ≤ a)
+below-or-past a zero = inr (omega arith)
+below-or-past zero (suc b) = inl (omega arith)
+below-or-past (suc a) (suc b) = ⊎_elim (λ lt. inl (omega (arith, lt))) (λ le. inr (omega (arith, le))) (below-or-past a b)
+
+-- The first i of some states have followed a call, and the others are as they were.
+pub record Progress {K V S : Type 0} (E : Type 0) (eq : K → K → Bool) (view : S → View K V) (call : Call K V) (old now : List S) (i : ℕ) : Type 0 where
+  pub count : length now ≡ length old
+  pub done : (j : ℕ) → j < i → FollowsAt E eq call (option_map view (slice_get old j)) (option_map view (slice_get now j))
+  pub rest : (j : ℕ) → i ≤ j → slice_get now j ≡ slice_get old j
+
+module _ {K V S : Type 0} (E : Type 0) (eq : K → K → Bool) (view : S → View K V) (call : Call K V) where
+  pub progress-none : (old : List S) → Progress E eq view call old old 0
+  progress-none old = record { count = refl; done = λ j lt. absurd (let no : ⊥ = omega arith in no); rest = λ j le. refl }
+
+  -- one state more
+  pub progress-more : (old now : List S) (i : ℕ) (s t : S) → slice_get now i ≡ Some s → Follows E eq (view s) call (view t) → Progress E eq view call old now i → Progress E eq view call old (set now i t) (i + 1)
+  progress-more old now i s t here follows was = record {
+    count = length-set now i t ∙ was.count;
+    done = λ j lt.
+        ⊎_elim
+        (λ same.
+            let new : slice_get (set now i t) j ≡ Some t = ap (slice_get (set now i t)) same.1 ∙ slice_get-set_same now i t s here in
+            let before : slice_get old j ≡ Some s = sym (was.rest j (omega (arith, same.1))) ∙ ap (slice_get now) same.1 ∙ here in
+            rw (new, before) follows)
+        (λ other. rw (slice_get-set_other now i j t other.1) (was.done j (below i j lt other.1)))
+        (eqb_tells j i);
+    rest = λ j le. slice_get-set_other now i j t (above i j le) ∙ was.rest j (omega arith);
+  } where
+    below : (i j : ℕ) → j < i + 1 → j ≢ i → j < i
+    below i j lt ne = omega (arith, ne)
+    above : (i j : ℕ) → i + 1 ≤ j → j ≢ i
+    above i j le e = omega (arith, e)
+
+  -- all states
+  pub progress-all : (old now : List S) (i : ℕ) → i ≡ length old → Progress E eq view call old now i → (j : ℕ) → FollowsAt E eq call (slice_get (map view old) j) (slice_get (map view now) j)
+  progress-all old now i all was j =
+      rw (slice_get-map view old j, slice_get-map view now j)
+      (⊎_elim (λ lt. was.done j (omega (arith, lt))) (λ le. rw (slice_get_past old j le, slice_get_past now j (omega (arith, was.count, le))) tt) (below-or-past j (length old)))
+
+module _ {K V H W X F : Type 0} (E : Type 0) (eq : K → K → Bool) (behaviour : BehaviourData H W X → Behaviour K V) (frequency : F → List ℕ → ℕ → ℕ) (opened : F) where
+  -- where all states have followed a call that goes to each, the cache has
+  pub broadcast-follows : (call : Call K V) (old : SegmentedData K V H W X F) (bits : ℕ) (settings : SettingsData H W X) (now : List (StateData K V H W X F)) (i : ℕ) → bits ≡ old.bits → settings ≡ old.settings → i ≡ length old.segments
+      → Progress E eq (view_by behaviour frequency opened) call old.segments now i → ((given : SegmentedSettings K V) (calls : List (Call K V)) → place_of E eq given calls call ≡ Each)
+      → FollowsIn E eq (segmented_view_by behaviour frequency opened old) call (segmented_view_by behaviour frequency opened (record { bits = bits; settings = settings; segments = now }))
+  broadcast-follows call old bits settings now i b s all was place given calls stand =
+      stand-each E eq given (segmented_view_by behaviour frequency opened old) (segmented_view_by behaviour frequency opened (record { bits = bits; settings = settings; segments = now })) calls call (place given calls)
+      (ap (λ n. let it : SegmentedSettings K V = record { bits = n; whole = (segmented_view_by behaviour frequency opened (record old { settings = settings })).settings.whole } in it) b
+      ∙ ap (λ m. (segmented_view_by behaviour frequency opened (record old { settings = m })).settings) s)
+      (length-map now (view_by behaviour frequency opened) ∙ was.count ∙ sym (length-map old.segments (view_by behaviour frequency opened)))
+      (progress-all E eq (view_by behaviour frequency opened) call old.segments now i all was)
+      stand
+
+  module _ (cache : SegmentedData K V H W X F) (given : SegmentedSettings K V) (calls : List (Call K V)) (stand : AllStandFor E eq given (segmented_view_by behaviour frequency opened cache) calls) where
+    supports-as : (i : ℕ) (o : Option (StateData K V H W X F)) → slice_get cache.segments i ≡ o → IfSome o (λ state. state.settings.supports_closures ≡ given.whole.supports_closures)
+    supports-as i None e = tt
+    supports-as i (Some state) e =
+        let here : slice_get (map (view_by behaviour frequency opened) cache.segments) i ≡ Some (view_by behaviour frequency opened state) = slice_get-map (view_by behaviour frequency opened) cache.segments i ∙ ap (option_map (view_by behaviour frequency opened)) e in
+        let one : StandsFor {E = E} eq (share_settings given) (view_by behaviour frequency opened state) (steps_in E eq given calls i) = rw here at (stand.each i) in
+        ap (λ (s : Settings K V). s.supports_closures) one.settings
+
+    -- the segments support closures just where the cache was built to
+    pub supported-by : ((i : ℕ) → IfSome (slice_get cache.segments i) (λ state. state.settings.supports_closures ≡ true)) ↔ (given.whole.supports_closures ≡ true)
+    supported-by =
+        (λ all.
+            let some : 0 < length cache.segments = omega (arith, pow_pos given.bits, stand.count, length-map cache.segments (view_by behaviour frequency opened)) in
+            let first = there cache.segments 0 some in
+            sym (rw first.1 at (supports-as 0 (slice_get cache.segments 0) refl)) ∙ (rw first.1 at (all 0)),
+        λ supports i. by (slice_get cache.segments i) (supports-as i (slice_get cache.segments i) refl) supports)
+      where
+        by : (o : Option (StateData K V H W X F)) → IfSome o (λ state. state.settings.supports_closures ≡ given.whole.supports_closures) → given.whole.supports_closures ≡ true → IfSome o (λ state. state.settings.supports_closures ≡ true)
+        by None same supports = tt
+        by (Some state) same supports = same ∙ supports

@@ -1,0 +1,3 @@
+-- The lemmas that the crates above use.
+pub use Rattle.moka_segmented.proofs.Noticing.{notices-by}
+pub use Rattle.moka_segmented.proofs.Replies.{taken-replies}

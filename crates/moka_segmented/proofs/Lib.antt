@@ -1,0 +1,9 @@
+pub mod Bounds
+pub mod Broadcast
+pub mod Callers
+pub mod Noticing
+pub mod Numbers
+pub mod Opened
+pub mod Replies
+pub mod Routed
+pub mod Runs

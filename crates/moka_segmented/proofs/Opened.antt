@@ -1,0 +1,60 @@
+-- Segments that were just opened.
+use Rattle.std.proofs.Common.{◌≡◌, ℕ, zero, suc, ◌+◌, ◌-◌, ◌*◌, ◌/◌, ◌%◌, ◌<◌, ◌^◌, min, Bool, Option, Some, None, IfSome, List, [], ◌∷◌, ◌++◌, subst, length, map, option_map, refl, sym, ap, ◌∙◌, arith}
+use Rattle.std.specs.List.{slice_get, AllByRecursion}
+use Rattle.std.proofs.Math.Nat.{div-eq_of_lt, mul-add-div_right, mod-eq-sub-div-mul, div-mul-le_self, mod-lt}
+use Rattle.std.proofs.lemmas.List.{length-map}
+use Rattle.std.proofs.lemmas.Option.{slice_get-map}
+use Rattle.moka_model.specs.Lives.{Behaviour, Settings}
+use Rattle.moka_model.specs.StandsFor.{View, StandsFor}
+use Rattle.moka_ways.specs.Behaviour.{BehaviourData}
+use Rattle.moka_ways.specs.StateData.{SettingsData, StateData, settings_by, view_by}
+use Rattle.moka_segments.specs.Segments.{share, share_settings, AllStandFor}
+use Rattle.moka_segmented.specs.SegmentedData.{SegmentedData, segmented_settings_by, segmented_view_by}
+
+-- a share by a remainder
+pub share-ceil : (whole count : ℕ) → 0 < count → whole / count + min 1 (whole % count) ≡ (whole + (count - 1)) / count
+share-ceil whole count some =
+    let left : whole + (count - 1) ≡ whole / count * count + (whole % count + (count - 1)) = omega (arith, some, mod-eq-sub-div-mul whole count, div-mul-le_self whole count) in
+    sym (ap (λ n. n / count) left ∙ mul-add-div_right some (whole / count) (whole % count + (count - 1)) ∙ ap (λ n. whole / count + n) (by (whole % count) (mod-lt whole some)))
+  where
+    by : (r : ℕ) → r < count → (r + (count - 1)) / count ≡ min 1 r
+    by zero less = div-eq_of_lt (omega (arith, some))
+    by (suc r) less =
+        let one : suc r + (count - 1) ≡ 1 * count + r = omega (arith, some) in
+        ap (λ n. n / count) one ∙ mul-add-div_right some 1 r ∙ ap (λ n. 1 + n) (div-eq_of_lt (let lt : r < count = omega (arith, less) in lt)) ∙ (let least : 1 + 0 ≡ min 1 (suc r) = omega arith in least)
+
+module _ {K V H W X F : Type 0} (E : Type 0) (eq : K → K → Bool) (behaviour : BehaviourData H W X → Behaviour K V) (frequency : F → List ℕ → ℕ → ℕ) (opened : F) (cache : SegmentedData K V H W X F) where
+  -- where each state stands for no steps, with its share, the cache stands for no calls
+  pub all-empty : length cache.segments ≡ 2 ^ cache.bits
+      → AllByRecursion (λ state. StandsFor {E = E} eq (share_settings (segmented_settings_by behaviour (frequency opened) cache)) (view_by behaviour frequency opened state) []) cache.segments
+      → AllStandFor E eq (segmented_settings_by behaviour (frequency opened) cache) (segmented_view_by behaviour frequency opened cache) []
+  all-empty count all = record {
+    settings = refl;
+    count = length-map cache.segments (view_by behaviour frequency opened) ∙ count;
+    each = at cache.segments all;
+  } where
+    at : (states : List (StateData K V H W X F)) → AllByRecursion (λ state. StandsFor {E = E} eq (share_settings (segmented_settings_by behaviour (frequency opened) cache)) (view_by behaviour frequency opened state) []) states
+        → (i : ℕ) → IfSome (slice_get (map (view_by behaviour frequency opened) states) i) (λ one. StandsFor {E = E} eq (share_settings (segmented_settings_by behaviour (frequency opened) cache)) one [])
+    at [] all i = tt
+    at (s ∷ ss) all zero = all.0
+    at (s ∷ ss) all (suc i) = at ss all.1 i
+
+module _ {K V H W X F : Type 0} (E : Type 0) (eq : K → K → Bool) (behaviour : BehaviourData H W X → Behaviour K V) (frequency : F → List ℕ → ℕ → ℕ) (opened : F) (bits : ℕ) (whole : SettingsData H W X) where
+  -- one state more that stands for no steps, with its share
+  pub opened-more : (states : List (StateData K V H W X F)) (state : StateData K V H W X F) (count : ℕ) → count ≡ 2 ^ bits
+      → state.settings ≡ record whole { name = None; max_capacity = option_map (share count) whole.max_capacity }
+      → StandsFor {E = E} eq (settings_by behaviour (frequency opened) state.settings) (view_by behaviour frequency opened state) []
+      → AllByRecursion (λ s. StandsFor {E = E} eq (share_settings (record { bits = bits; whole = settings_by behaviour (frequency opened) whole })) (view_by behaviour frequency opened s) []) states
+      → AllByRecursion (λ s. StandsFor {E = E} eq (share_settings (record { bits = bits; whole = settings_by behaviour (frequency opened) whole })) (view_by behaviour frequency opened s) []) (states ++ state ∷ [])
+  opened-more states state count is settings empty all = at states all
+    where
+      here : StandsFor {E = E} eq (share_settings (record { bits = bits; whole = settings_by behaviour (frequency opened) whole })) (view_by behaviour frequency opened state) []
+      here =
+          subst (λ s. StandsFor {E = E} eq s (view_by behaviour frequency opened state) [])
+          (ap (settings_by behaviour (frequency opened)) settings
+          ∙ ap (λ n. settings_by behaviour (frequency opened) (record whole { name = None; max_capacity = option_map (share n) whole.max_capacity })) is)
+          empty
+      at : (ss : List (StateData K V H W X F)) → AllByRecursion (λ s. StandsFor {E = E} eq (share_settings (record { bits = bits; whole = settings_by behaviour (frequency opened) whole })) (view_by behaviour frequency opened s) []) ss
+          → AllByRecursion (λ s. StandsFor {E = E} eq (share_settings (record { bits = bits; whole = settings_by behaviour (frequency opened) whole })) (view_by behaviour frequency opened s) []) (ss ++ state ∷ [])
+      at [] all = (here, tt)
+      at (s ∷ ss) all = (all.0, at ss all.1)

@@ -1,0 +1,20 @@
+use Rattle.std.proofs.Common.{◌≡◌, ◌+◌, ◌-◌, ◌≤◌, [], length, vec_len}
+use Rattle.std.specs.Vec.{vec_capacity}
+use Rattle.std.specs.List.{AllByRecursion}
+use Rattle.moka_model.specs.StandsFor.{StandsFor}
+use Rattle.moka_ways.specs.Behaviour.{hash_by, behaviour_by}
+use Rattle.moka_ways.specs.StateData.{estimates, settings_by, view_by}
+use Rattle.moka_segments.specs.Segments.{share_settings}
+use Rattle.moka_segmented.specs.SegmentedData.{data_of}
+use Rattle.moka_segmented.proofs.opening.opened.Given as goal
+
+-- So many states are opened, each with its share, and there is room for the others.
+abbrev pub invariant-loop : goal.invariant-loop
+invariant-loop g l =
+    let behaviour = behaviour_by (hash_by g.C.Hasher.BuildHasher.build_hasher g.C.Hasher.Hasher.Hasher.write g.C.Hasher.Hasher.Hasher.finish g.K.Hash.hash_input) g.C.CacheTypes.weight g.C.CacheTypes.lifetimes in
+    let frequency = estimates g.C.Frequency.FrequencySource.noted g.C.Frequency.FrequencySource.count in
+    record {
+      count : vec_len l.segments ≡ l.counter;
+      room : l.count ≤ vec_capacity l.segments;
+      each : AllByRecursion (λ state. StandsFor {E = g.row.C-Error.Denot} g.K.PartialEq.eq (share_settings (record { bits = l.fn.bits; whole = settings_by behaviour (frequency g.C.Frequency.FrequencySource.opened) (data_of l.fn.settings) })) (view_by behaviour frequency g.C.Frequency.FrequencySource.opened state) []) l.segments.items;
+    }

@@ -1,0 +1,50 @@
+use Rattle.std.proofs.Common.{◌≡◌, true, IsOk, IsErrAnd, ◌↔◌, refl}
+use Rattle.moka_ways.specs.Behaviour.{hash_by, behaviour_by}
+use Rattle.moka_ways.specs.StateData.{estimates}
+use Rattle.moka_model.specs.Calls.{Insert, IsOutOfNumbers}
+use Rattle.moka_model.specs.Numbers.{stores_nothing}
+use Rattle.moka_policy.specs.declared.policy.Refused.TheVariants.{NumbersUsedUp}
+use Rattle.moka_segmented.specs.SegmentedData.{SegmentedData, data_of, segmented_settings_by}
+use Rattle.moka_segmented.proofs.Routed.{OnOk-by, OnErr-by, Routing, routed-follows, routed-history, data-same}
+use Rattle.moka_segmented.proofs.Numbers.{out-of-numbers, nothing-stored, nothing-shared}
+use Rattle.moka_segmented.proofs.segment.Segmented.insert.Goals as goal
+
+pub returns-clause-stands : goal.returns-clause-stands
+returns-clause-stands g c =
+    let behaviour = behaviour_by (hash_by g.C.Hasher.BuildHasher.build_hasher g.C.Hasher.Hasher.Hasher.write g.C.Hasher.Hasher.Hasher.finish g.K.Hash.hash_input) g.C.CacheTypes.weight g.C.CacheTypes.lifetimes in
+    let frequency = estimates g.C.Frequency.FrequencySource.noted g.C.Frequency.FrequencySource.count in
+    let it = c.self.inside in
+    let cache : SegmentedData _ _ _ _ _ _ = record { bits = it.bits; settings = data_of it.settings; segments = it.segments.items } in
+    let routing : Routing (segmented_settings_by behaviour (frequency g.C.Frequency.FrequencySource.opened) cache) it.segments.items c.index_mut.result.now c.segment_of-index.result c.args.key =
+    record { here_is = c.index_mut.ensures.value; is = rw (← c.self.view_is) at c.segment_of-index.ensures.is; within = rw (← c.self.view_is) at c.segment_of-index.ensures.within } in
+    rw (← c.self.view_is) (OnOk-by c.insert.result (λ follows. routed-follows g.row.C-Error.Denot g.K.PartialEq.eq behaviour frequency g.C.Frequency.FrequencySource.opened cache _ _ c.args.key routing (Insert c.args.key c.args.value c.args.now) c.insert.new.self refl follows) c.insert.ensures.stands)
+
+pub returns-clause-refused : goal.returns-clause-refused
+returns-clause-refused g c =
+    let it = c.self.inside in
+    rw (← c.self.view_is) (OnErr-by c.insert.result (λ same. data-same it.bits (data_of it.settings) it.segments.items c.segment_of-index.result c.index_mut.result.now c.insert.new.self c.index_mut.ensures.value same) c.insert.ensures.refused)
+
+pub returns-clause-numbers : goal.returns-clause-numbers
+returns-clause-numbers g c =
+    let behaviour = behaviour_by (hash_by g.C.Hasher.BuildHasher.build_hasher g.C.Hasher.Hasher.Hasher.write g.C.Hasher.Hasher.Hasher.finish g.K.Hash.hash_input) g.C.CacheTypes.weight g.C.CacheTypes.lifetimes in
+    let frequency = estimates g.C.Frequency.FrequencySource.noted g.C.Frequency.FrequencySource.count in
+    let it = c.self.inside in
+    let cache : SegmentedData _ _ _ _ _ _ = record { bits = it.bits; settings = data_of it.settings; segments = it.segments.items } in
+    let routing : Routing (segmented_settings_by behaviour (frequency g.C.Frequency.FrequencySource.opened) cache) it.segments.items c.index_mut.result.now c.segment_of-index.result c.args.key =
+    record { here_is = c.index_mut.ensures.value; is = rw (← c.self.view_is) at c.segment_of-index.ensures.is; within = rw (← c.self.view_is) at c.segment_of-index.ensures.within } in
+    let used_up = IsErrAnd c.insert.result (λ refused. refused.cause ≡ NumbersUsedUp) in
+    rw (← c.self.view_is) (routed-history g.row.C-Error.Denot g.K.PartialEq.eq behaviour frequency g.C.Frequency.FrequencySource.opened cache _ _ c.args.key routing (λ s steps. used_up ↔ IsOutOfNumbers g.K.PartialEq.eq s steps (Insert c.args.key c.args.value c.args.now))
+    (λ s steps stands. out-of-numbers g.K.PartialEq.eq s _ steps stands c.args.key c.args.value c.args.now used_up c.insert.ensures.numbers))
+
+pub returns-clause-nothing : goal.returns-clause-nothing
+returns-clause-nothing g c =
+    let behaviour = behaviour_by (hash_by g.C.Hasher.BuildHasher.build_hasher g.C.Hasher.Hasher.Hasher.write g.C.Hasher.Hasher.Hasher.finish g.K.Hash.hash_input) g.C.CacheTypes.weight g.C.CacheTypes.lifetimes in
+    let frequency = estimates g.C.Frequency.FrequencySource.noted g.C.Frequency.FrequencySource.count in
+    let it = c.self.inside in
+    let cache : SegmentedData _ _ _ _ _ _ = record { bits = it.bits; settings = data_of it.settings; segments = it.segments.items } in
+    let routing : Routing (segmented_settings_by behaviour (frequency g.C.Frequency.FrequencySource.opened) cache) it.segments.items c.index_mut.result.now c.segment_of-index.result c.args.key =
+    record { here_is = c.index_mut.ensures.value; is = rw (← c.self.view_is) at c.segment_of-index.ensures.is; within = rw (← c.self.view_is) at c.segment_of-index.ensures.within } in
+    rw (← c.self.view_is)
+    (λ given calls stand none.
+        routed-history g.row.C-Error.Denot g.K.PartialEq.eq behaviour frequency g.C.Frequency.FrequencySource.opened cache _ _ c.args.key routing (λ s steps. stores_nothing s.max_capacity ≡ true → IsOk c.insert.result) (λ s steps stands. nothing-stored g.K.PartialEq.eq s _ steps stands (IsOk c.insert.result) c.insert.ensures.nothing)
+        given calls stand (nothing-shared given none))

@@ -1,0 +1,53 @@
+use Rattle.std.proofs.Common.{◌≡◌, None, IsOk, IfSome, refl}
+use Rattle.moka_ways.specs.Behaviour.{hash_by, behaviour_by}
+use Rattle.moka_ways.specs.StateData.{estimates}
+use Rattle.moka_model.specs.Calls.{Remove, Found, live_at}
+use Rattle.moka_model.specs.Steps.{events_in}
+use Rattle.moka_segmented.specs.SegmentedData.{SegmentedData, data_of, segmented_settings_by}
+use Rattle.moka_segmented.proofs.Routed.{IfOk-by, OnOk-by, OnErr-by, Routing, routed-answers, routed-follows, routed-history, data-same}
+use Rattle.moka_segmented.proofs.segment.Segmented.remove.Goals as goal
+
+pub returns-clause-reply : goal.returns-clause-reply
+returns-clause-reply g c =
+    let behaviour = behaviour_by (hash_by g.C.Hasher.BuildHasher.build_hasher g.C.Hasher.Hasher.Hasher.write g.C.Hasher.Hasher.Hasher.finish g.K.Hash.hash_input) g.C.CacheTypes.weight g.C.CacheTypes.lifetimes in
+    let frequency = estimates g.C.Frequency.FrequencySource.noted g.C.Frequency.FrequencySource.count in
+    let it = c.self.inside in
+    let cache : SegmentedData _ _ _ _ _ _ = record { bits = it.bits; settings = data_of it.settings; segments = it.segments.items } in
+    let routing : Routing (segmented_settings_by behaviour (frequency g.C.Frequency.FrequencySource.opened) cache) it.segments.items c.index_mut.result.now c.segment_of-index.result c.args.key.now =
+    record { here_is = c.index_mut.ensures.value; is = rw (← c.self.view_is) at c.segment_of-index.ensures.is; within = rw (← c.self.view_is) at c.segment_of-index.ensures.within } in
+    rw (← c.self.view_is) (IfOk-by c.remove.result (λ found answers. routed-answers g.row.C-Error.Denot g.K.PartialEq.eq behaviour frequency g.C.Frequency.FrequencySource.opened cache _ _ c.args.key.now routing g.V.Clone.is_clone (Remove c.args.key.now c.args.now) (Found found) refl answers) c.remove.ensures.reply)
+
+pub returns-clause-stands : goal.returns-clause-stands
+returns-clause-stands g c =
+    let behaviour = behaviour_by (hash_by g.C.Hasher.BuildHasher.build_hasher g.C.Hasher.Hasher.Hasher.write g.C.Hasher.Hasher.Hasher.finish g.K.Hash.hash_input) g.C.CacheTypes.weight g.C.CacheTypes.lifetimes in
+    let frequency = estimates g.C.Frequency.FrequencySource.noted g.C.Frequency.FrequencySource.count in
+    let it = c.self.inside in
+    let cache : SegmentedData _ _ _ _ _ _ = record { bits = it.bits; settings = data_of it.settings; segments = it.segments.items } in
+    let routing : Routing (segmented_settings_by behaviour (frequency g.C.Frequency.FrequencySource.opened) cache) it.segments.items c.index_mut.result.now c.segment_of-index.result c.args.key.now =
+    record { here_is = c.index_mut.ensures.value; is = rw (← c.self.view_is) at c.segment_of-index.ensures.is; within = rw (← c.self.view_is) at c.segment_of-index.ensures.within } in
+    rw (← c.self.view_is) (OnOk-by c.remove.result (λ follows. routed-follows g.row.C-Error.Denot g.K.PartialEq.eq behaviour frequency g.C.Frequency.FrequencySource.opened cache _ _ c.args.key.now routing (Remove c.args.key.now c.args.now) c.remove.new.self refl follows) c.remove.ensures.stands)
+
+pub returns-clause-refused : goal.returns-clause-refused
+returns-clause-refused g c =
+    let it = c.self.inside in
+    rw (← c.self.view_is) (OnErr-by c.remove.result (λ same. data-same it.bits (data_of it.settings) it.segments.items c.segment_of-index.result c.index_mut.result.now c.remove.new.self c.index_mut.ensures.value same) c.remove.ensures.refused)
+
+pub returns-clause-miss : goal.returns-clause-miss
+returns-clause-miss g c =
+    let behaviour = behaviour_by (hash_by g.C.Hasher.BuildHasher.build_hasher g.C.Hasher.Hasher.Hasher.write g.C.Hasher.Hasher.Hasher.finish g.K.Hash.hash_input) g.C.CacheTypes.weight g.C.CacheTypes.lifetimes in
+    let frequency = estimates g.C.Frequency.FrequencySource.noted g.C.Frequency.FrequencySource.count in
+    let it = c.self.inside in
+    let cache : SegmentedData _ _ _ _ _ _ = record { bits = it.bits; settings = data_of it.settings; segments = it.segments.items } in
+    let routing : Routing (segmented_settings_by behaviour (frequency g.C.Frequency.FrequencySource.opened) cache) it.segments.items c.index_mut.result.now c.segment_of-index.result c.args.key.now =
+    record { here_is = c.index_mut.ensures.value; is = rw (← c.self.view_is) at c.segment_of-index.ensures.is; within = rw (← c.self.view_is) at c.segment_of-index.ensures.within } in
+    rw (← c.self.view_is) (routed-history g.row.C-Error.Denot g.K.PartialEq.eq behaviour frequency g.C.Frequency.FrequencySource.opened cache _ _ c.args.key.now routing (λ s steps. live_at g.K.PartialEq.eq s c.args.key.now c.args.now (events_in steps) ≡ None → IsOk c.remove.result) c.remove.ensures.miss)
+
+pub returns-clause-copied : goal.returns-clause-copied
+returns-clause-copied g c =
+    let behaviour = behaviour_by (hash_by g.C.Hasher.BuildHasher.build_hasher g.C.Hasher.Hasher.Hasher.write g.C.Hasher.Hasher.Hasher.finish g.K.Hash.hash_input) g.C.CacheTypes.weight g.C.CacheTypes.lifetimes in
+    let frequency = estimates g.C.Frequency.FrequencySource.noted g.C.Frequency.FrequencySource.count in
+    let it = c.self.inside in
+    let cache : SegmentedData _ _ _ _ _ _ = record { bits = it.bits; settings = data_of it.settings; segments = it.segments.items } in
+    let routing : Routing (segmented_settings_by behaviour (frequency g.C.Frequency.FrequencySource.opened) cache) it.segments.items c.index_mut.result.now c.segment_of-index.result c.args.key.now =
+    record { here_is = c.index_mut.ensures.value; is = rw (← c.self.view_is) at c.segment_of-index.ensures.is; within = rw (← c.self.view_is) at c.segment_of-index.ensures.within } in
+    rw (← c.self.view_is) (routed-history g.row.C-Error.Denot g.K.PartialEq.eq behaviour frequency g.C.Frequency.FrequencySource.opened cache _ _ c.args.key.now routing (λ s steps. IfSome (live_at g.K.PartialEq.eq s c.args.key.now c.args.now (events_in steps)) (λ live. g.V.Clone.is_infallible live.value → IsOk c.remove.result)) c.remove.ensures.copied)

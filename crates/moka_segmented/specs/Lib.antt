@@ -1,0 +1,5 @@
+-- The definitions of this crate, and those of the crates below that its public clauses cite.
+pub use Rattle.moka_segments.specs.Segments
+pub use Rattle.moka_state.specs.State
+pub mod SegmentedData
+pub mod Step

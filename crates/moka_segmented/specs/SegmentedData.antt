@@ -1,0 +1,78 @@
+-- What a cache of several segments keeps, and what this means.
+use Rattle.std.specs.Prelude.{ℕ, Bool, false, not, List, map, length, slice_get, option_map, Option, Some, None}
+use Rattle.std.specs.Arc.{arc_value}
+use Rattle.moka_model.specs.Lives.{Behaviour}
+use Rattle.moka_model.specs.Maintenance.{total}
+use Rattle.moka_model.specs.Calls.{Call, Answer}
+use Rattle.moka_ways.specs.Behaviour.{BehaviourData}
+use Rattle.moka_ways.specs.StateData.{SettingsData, StateData, settings_by, view_by}
+use Rattle.moka_policy.specs.Policy.{is_lru}
+use Rattle.moka_state.specs.State.{all_writes, settings_of}
+use Rattle.moka_state.specs.declared.state.Settings.{Settings}
+use Rattle.moka_segments.specs.Segments.{SegmentedSettings, SegmentedView, is_empty, sum_below}
+use Rattle.moka_segments.specs.Segments.{AllStandFor, AtEachList, FollowsIn, AnswersIn}
+
+-- What a cache of several segments keeps, as data: how many bits of a hash name a segment, the settings of the whole, and the
+-- state of each segment.
+pub record SegmentedData (K V H W X F : Type 0) : Type 0 where
+  pub bits : ℕ
+  pub settings : SettingsData H W X
+  pub segments : List (StateData K V H W X F)
+
+-- the settings that a cache is made from, as data
+abbrev pub data_of : {K V C H W X P F L T E S : Type 0} → Settings K V C H W X P F L T E S → SettingsData H W X
+data_of settings =
+    settings_of settings.name settings.time_to_live settings.time_to_idle settings.max_capacity settings.first_number settings.closures
+    settings.flush_limit (record {
+      is_lru = is_lru settings.eviction_policy;
+      hasher = arc_value settings.hasher;
+      weigher = option_map arc_value settings.weigher;
+      expiry = option_map arc_value settings.expiry;
+    })
+
+module _ {K V H W X : Type 0} (behaviour_in : BehaviourData H W X → Behaviour K V) where
+  -- what it is built with, by the behaviour that its settings mean, and by what a new source estimates
+  abbrev pub segmented_settings_by : {F : Type 0} → (List ℕ → ℕ → ℕ) → SegmentedData K V H W X F → SegmentedSettings K V
+  segmented_settings_by frequency it = record { bits = it.bits; whole = settings_by behaviour_in frequency it.settings }
+
+  -- its view, by those of its states
+  abbrev pub segmented_view_by : {F : Type 0} → (F → List ℕ → ℕ → ℕ) → F → SegmentedData K V H W X F → SegmentedView K V
+  segmented_view_by frequency_in opened it = record {
+    settings = segmented_settings_by (frequency_in opened) it;
+    segments = map (view_by behaviour_in frequency_in opened) it.segments;
+  }
+
+-- The relations of caches of several segments, by what the view of each is.
+module _ {K V : Type 0} (E : Type 0) (eq : K → K → Bool) where
+  abbrev pub AllStandForBy : {S : Type 0} → (S → SegmentedView K V) → SegmentedSettings K V → S → List (Call K V) → Type 0
+  AllStandForBy view settings it calls = AllStandFor E eq settings (view it) calls
+
+  abbrev pub AtEachListBy : {S : Type 0} → (S → SegmentedView K V) → S → (SegmentedSettings K V → List (Call K V) → Type 0) → Type 0
+  AtEachListBy view it P = AtEachList E eq (view it) P
+
+  abbrev pub FollowsInBy : {S : Type 0} → (S → SegmentedView K V) → S → Call K V → S → Type 0
+  FollowsInBy view old call new = FollowsIn E eq (view old) call (view new)
+
+  abbrev pub AnswersInBy : {S : Type 0} → (V → V → Type 0) → (S → SegmentedView K V) → S → Call K V → Answer K V E → Type 0
+  AnswersInBy is_clone view it call answer = AnswersIn E eq is_clone (view it) call answer
+
+-- what is said of the state at a place, and something else where there is none
+abbrev pub state_at : {S Y : Type 0} → (S → Y) → Y → Option S → Y
+state_at f other None = other
+state_at f other (Some state) = f state
+
+module _ {K V H W X F : Type 0} (states : List (StateData K V H W X F)) where
+  abbrev pub has_notice : ℕ → Bool  -- whether the state at a place has a notice
+  has_notice i = state_at (λ state. not (is_empty state.books.notices)) false (slice_get states i)
+
+  abbrev pub stored_at : ℕ → ℕ  -- how many writes it stores
+  stored_at i = state_at (λ state. length (all_writes state)) 0 (slice_get states i)
+
+  abbrev pub weight_at : ℕ → ℕ  -- and what they weigh
+  weight_at i = state_at (λ state. total (λ w. w.policy_weight) (all_writes state)) 0 (slice_get states i)
+
+  abbrev pub notices_at : ℕ → ℕ  -- how many notices it has
+  notices_at i = state_at (λ state. length state.books.notices) 0 (slice_get states i)
+
+  abbrev pub notices_kept : ℕ  -- how many notices they all have
+  notices_kept = sum_below notices_at (length states)

@@ -1,0 +1,46 @@
+-- What a step of a cache of several segments replies, and what a run of steps does.
+use Rattle.std.specs.Prelude.{⊤, ◌≡◌, ℕ, Bool, Option, Some, None, List, [], ◌∷◌}
+use Rattle.moka_model.specs.Calls.{Call}
+use Rattle.moka_state.specs.declared.step.Step.{Step}
+use Rattle.moka_state.specs.declared.step.Reply.{Reply}
+use Rattle.moka_state.specs.declared.step.Reply.TheVariants.{Counted, Refused, PredicateRefused}
+use Rattle.moka_state.specs.Step.{call_of, IsReplyTo}
+use Rattle.moka_segments.specs.Segments.{SegmentedSettings, share_settings, steps_in, asked, place_of, total_in}
+
+-- a reply to a count is its total, and to any other call it is such as is said
+abbrev pub IsReplyBy : {K V : Type 0} → Option ℕ → Type 0 → Reply K V → Type 0
+IsReplyBy (Some total) Otherwise reply = reply ≡ Counted total
+IsReplyBy None Otherwise reply = Otherwise
+
+-- What a call replies after others: a count its total, and any other call what the segment that is asked replies, as a state
+-- of its share that was given its own list alone.
+abbrev pub IsReplyIn : {K V : Type 0} (E : Type 0) → (K → K → Bool) → (V → V → Type 0) → (V → Type 0) → SegmentedSettings K V →
+    List (Call K V) → Call K V → Reply K V → Type 0
+IsReplyIn E eq is_clone is_infallible settings calls call reply =
+    IsReplyBy (total_in E eq settings calls call)
+    (IsReplyTo eq is_clone is_infallible (share_settings settings)
+    (steps_in E eq settings calls (asked (place_of E eq settings calls call))) call reply)
+    reply
+
+-- The calls after a reply to one more: a refused call leaves them as they are.
+abbrev pub after_reply_in : {K V : Type 0} → Call K V → Reply K V → List (Call K V) → List (Call K V)
+after_reply_in call (Refused cause) calls = calls
+after_reply_in call (PredicateRefused cause) calls = calls
+after_reply_in call reply calls = call ∷ calls
+
+module _ {K V C H W X P F L T E S : Type 0} (test : P → K → V → Bool) where
+  -- those after a run, on those before it
+  abbrev pub after_all_in : List (Step K V C H W X P F L T E S) → List (Reply K V) → List (Call K V) → List (Call K V)
+  after_all_in [] replies calls = calls
+  after_all_in (step ∷ rest) [] calls = calls
+  after_all_in (step ∷ rest) (reply ∷ replies) calls = after_all_in rest replies (after_reply_in (call_of test step) reply calls)
+
+  -- Each reply is the step's, after the calls before it, and there are as many replies as steps.
+  abbrev pub IsRunIn : (K → K → Bool) → (V → V → Type 0) → (V → Type 0) → SegmentedSettings K V → List (Call K V) →
+      List (Step K V C H W X P F L T E S) → List (Reply K V) → Type 0
+  IsRunIn eq is_clone is_infallible settings calls [] [] = ⊤
+  IsRunIn eq is_clone is_infallible settings calls (step ∷ rest) (reply ∷ replies) =
+      IsReplyIn E eq is_clone is_infallible settings calls (call_of test step) reply
+      × IsRunIn eq is_clone is_infallible settings (after_reply_in (call_of test step) reply calls) rest replies
+  IsRunIn eq is_clone is_infallible settings calls [] (reply ∷ replies) = ⊥
+  IsRunIn eq is_clone is_infallible settings calls (step ∷ rest) [] = ⊥

@@ -1,0 +1,148 @@
+//! The calls that go to all segments, and the questions that ask all of them.
+ghost use Rattle.std.specs.Prelude.{◌≡◌, ◌↔◌, ℕ, true, min, length, slice_get, IsOk, IfErr, IfSome, OnOk, OnErr};
+ghost use Rattle.std.specs.Arc.{arc_value};
+ghost use Rattle.moka_model.specs.Calls.{InvalidateAll, InvalidateIf, RunPendingTasks, EntryCount, WeightedSize, Counted};
+ghost use Rattle.moka_model.specs.Numbers.{greatest_number};
+ghost use Rattle.moka_segments.specs.Segments.{sum_below};
+ghost use Rattle.moka_segmented.specs.SegmentedData.{stored_at, weight_at, notices_kept};
+
+use crate::segment::Segmented;
+use crate::segmented_view::SegmentedStateView;
+use moka_policy::policy::CacheTypes;
+use moka_predicate_ids::predicate_error::PredicateError;
+use moka_rows::rows::RowStore;
+use std::hash::Hash;
+use std::sync::Arc;
+
+impl<K: Hash + Drop, V: Clone, C: CacheTypes<K, V>, R: RowStore<K, V>> Segmented<K, V, C, R> {
+    /// Removes all keys of all segments. From then on no value that stood is found; each is noticed
+    /// once it leaves. It has no moment, and takes no memory. Visits each row.
+    pub fn invalidate_all(&mut self)
+        ensures { ⟦<C as SegmentedStateView<K, V>>⟧.follows_in self.old InvalidateAll self.new }
+    {
+        for index in 0..self.segments.len() {
+            self.segments[index].invalidate_all();
+        }
+    }
+
+    /// Runs a maintenance in each segment, in order. It takes no memory.
+    pub fn run_pending_tasks(&mut self, now: u64)
+        ensures { ⟦<C as SegmentedStateView<K, V>>⟧.follows_in
+            self.old (RunPendingTasks now) self.new }
+    {
+        for index in 0..self.segments.len() {
+            self.segments[index].run_pending_tasks(now);
+        }
+    }
+
+    /// How many keys are stored in all segments together, with those that wait and those whose
+    /// values are expired; where that is more than `u64::MAX`, this is `u64::MAX`.
+    pub fn entry_count(&self) -> u64
+        ensures counted { result ≡ min
+            (sum_below (stored_at self.now.segments) (length self.now.segments)) greatest_number }
+        ensures reply { ⟦<C as SegmentedStateView<K, V>>⟧.answers_in
+            self.now EntryCount (Counted result) }
+        ensures stands { ⟦<C as SegmentedStateView<K, V>>⟧.follows_in self.now EntryCount self.now }
+    {
+        let mut count: u64 = 0;
+        for index in 0..self.segments.len() {
+            count = count.saturating_add(self.segments[index].entry_count());
+        }
+        count
+    }
+
+    /// How heavy all that is stored is, in all segments together, with what waits and what is
+    /// expired; where that is more than `u64::MAX`, this is `u64::MAX`.
+    pub fn weighted_size(&self) -> u64
+        ensures counted { result ≡ min
+            (sum_below (weight_at self.now.segments) (length self.now.segments)) greatest_number }
+        ensures reply { ⟦<C as SegmentedStateView<K, V>>⟧.answers_in
+            self.now WeightedSize (Counted result) }
+        ensures stands { ⟦<C as SegmentedStateView<K, V>>⟧.follows_in
+            self.now WeightedSize self.now }
+    {
+        let mut weight: u64 = 0;
+        for index in 0..self.segments.len() {
+            weight = weight.saturating_add(self.segments[index].weighted_size());
+        }
+        weight
+    }
+
+    /// How many notices of all segments have not been taken; where that is more than `usize::MAX`,
+    /// this is `usize::MAX`.
+    pub fn notice_count(&self) -> usize
+        ensures { result ≡ min (notices_kept self.now.segments) greatest_number }
+    {
+        let mut count: usize = 0;
+        for index in 0..self.segments.len() {
+            count = count.saturating_add(self.segments[index].notice_count());
+        }
+        count
+    }
+
+    /// Hides each value of which a predicate holds, in all segments, or, where the cache was built
+    /// without support for closures, in none. What is written later is not hidden. The call has no
+    /// moment, and takes no memory. Asks the predicate once of each stored value.
+    ///
+    /// Refused with `InvalidationClosuresDisabled` alone, exactly where closures are not supported.
+    pub fn invalidate_entries_if(&mut self, predicate: C::Predicate) -> Result<(), PredicateError>
+        requires tests { C.Predicate.tests predicate (C.test predicate) }
+        ensures stands { OnOk result (⟦<C as SegmentedStateView<K, V>>⟧.follows_in
+            self.old (InvalidateIf (C.test predicate)) self.new) }
+        ensures accepted { ⟦<C as SegmentedStateView<K, V>>⟧.at_each_list self.old (λ settings _.
+            IsOk result ↔ (settings.whole.supports_closures ≡ true)) }
+        ensures cause { IfErr result
+            (λ cause. cause ≡ PredicateError.InvalidationClosuresDisabled) }
+        ensures refused { OnErr result (self.new ≡ self.old) }
+    {
+        self.room_in_all()?;
+        self.hide_in_all(&predicate);
+        Ok(())
+    }
+
+    /// As [`Segmented::invalidate_entries_if`] for a predicate that is shared already.
+    pub fn invalidate_entries_with_arc_fun(
+        &mut self,
+        predicate: Arc<C::Predicate>,
+    ) -> Result<(), PredicateError>
+        requires tests { C.Predicate.tests (arc_value predicate) (C.test (arc_value predicate)) }
+        ensures stands { OnOk result (⟦<C as SegmentedStateView<K, V>>⟧.follows_in
+            self.old (InvalidateIf (C.test (arc_value predicate))) self.new) }
+        ensures accepted { ⟦<C as SegmentedStateView<K, V>>⟧.at_each_list self.old (λ settings _.
+            IsOk result ↔ (settings.whole.supports_closures ≡ true)) }
+        ensures cause { IfErr result
+            (λ cause. cause ≡ PredicateError.InvalidationClosuresDisabled) }
+        ensures refused { OnErr result (self.new ≡ self.old) }
+    {
+        self.room_in_all()?;
+        self.hide_in_all(&predicate);
+        Ok(())
+    }
+
+    // Whether all segments would accept a predicate. Nothing changes.
+    fn room_in_all(&mut self) -> Result<(), PredicateError>
+        ensures accepted { IsOk result ↔ ((i : ℕ) → IfSome (slice_get self.old.segments i)
+            (λ state. state.settings.supports_closures ≡ true)) }
+        ensures cause { IfErr result
+            (λ cause. cause ≡ PredicateError.InvalidationClosuresDisabled) }
+        ensures same { self.new ≡ self.old }
+    {
+        for index in 0..self.segments.len() {
+            self.segments[index].predicate_room()?;
+        }
+        Ok(())
+    }
+
+    // Hides what a predicate holds of, where all segments support that.
+    fn hide_in_all(&mut self, predicate: &C::Predicate)
+        requires tests { C.Predicate.tests predicate.now (C.test predicate.now) }
+        requires supported { (i : ℕ) → IfSome (slice_get self.old.segments i)
+            (λ state. state.settings.supports_closures ≡ true) }
+        ensures { ⟦<C as SegmentedStateView<K, V>>⟧.follows_in
+            self.old (InvalidateIf (C.test predicate.now)) self.new }
+    {
+        for index in 0..self.segments.len() {
+            self.segments[index].hide_where(predicate);
+        }
+    }
+}

@@ -1,0 +1,127 @@
+//! Runs of calls as data, over several segments.
+ghost use Rattle.std.specs.Prelude.{◌≡◌, ◌+◌, ◌≤◌, None, length, map, option_map, IfOk, IfErr, IfSome, OnErr};
+ghost use Rattle.std.specs.Arc.{arc_value};
+ghost use Rattle.std.specs.List.{AllByRecursion};
+ghost use Rattle.moka_model.specs.Numbers.{flush_point};
+ghost use Rattle.moka_state.specs.State.{all_writes};
+ghost use Rattle.moka_state.specs.Step.{call_of, StepKeeps, ReplyKeeps};
+ghost use Rattle.moka_segments.specs.Segments.{key_in, share, segments_of};
+ghost use Rattle.moka_segmented.specs.Step.{IsReplyIn, after_reply_in, IsRunIn, after_all_in};
+
+use crate::segment::Segmented;
+use crate::segmented_view::SegmentedStateView;
+use moka_policy::policy::{CacheTypes, Refused};
+use moka_rows::rows::RowStore;
+use moka_state::step::{Reply, Step};
+use std::collections::VecDeque;
+use std::hash::Hash;
+
+impl<K: Hash + Drop, V: Clone, C: CacheTypes<K, V>, R: RowStore<K, V>> Segmented<K, V, C, R> {
+    /// Does one step: of a key in its segment, and any other in all. A step and the call that it
+    /// stands for answer the same. A refused step has changed nothing, and what it carried is
+    /// dropped.
+    pub fn step(&mut self, step: Step<K, V, C>) -> Reply<K, V>
+        requires { StepKeeps C.keeps C.Predicate.tests C.test step }
+        ensures reply { ⟦<C as SegmentedStateView<K, V>>⟧.at_each_list self.old (λ settings calls.
+            IsReplyIn C.Error K.eq V.is_clone V.is_infallible settings calls
+            (call_of C.test step) result) }
+        ensures stands { ⟦<C as SegmentedStateView<K, V>>⟧.at_each_list self.old (λ settings calls.
+            ⟦<C as SegmentedStateView<K, V>>⟧.all_stand_for settings self.new
+            (after_reply_in (call_of C.test step) result calls)) }
+        ensures kept { ReplyKeeps C.keeps step result }
+    {
+        let index = match key_of(&step) {
+            Some(key) => self.segment_of(key),
+            None => return self.step_of_all(step),
+        };
+        self.segments[index].step(step)
+    }
+
+    // A step without a key.
+    fn step_of_all(&mut self, step: Step<K, V, C>) -> Reply<K, V>
+        requires keeps { StepKeeps C.keeps C.Predicate.tests C.test step }
+        requires keyless { key_in (call_of C.test step) ≡ None }
+        ensures reply { ⟦<C as SegmentedStateView<K, V>>⟧.at_each_list self.old (λ settings calls.
+            IsReplyIn C.Error K.eq V.is_clone V.is_infallible settings calls
+            (call_of C.test step) result) }
+        ensures stands { ⟦<C as SegmentedStateView<K, V>>⟧.at_each_list self.old (λ settings calls.
+            ⟦<C as SegmentedStateView<K, V>>⟧.all_stand_for settings self.new
+            (after_reply_in (call_of C.test step) result calls)) }
+        ensures kept { ReplyKeeps C.keeps step result }
+    {
+        match step {
+            Step::InvalidateAll => {
+                self.invalidate_all();
+                Reply::Done
+            }
+            Step::InvalidateIf { predicate } => {
+                match self.invalidate_entries_with_arc_fun(predicate) {
+                    Ok(()) => Reply::Done,
+                    Err(refused) => Reply::PredicateRefused(refused),
+                }
+            }
+            Step::RunPendingTasks { now } => {
+                self.run_pending_tasks(now);
+                Reply::Done
+            }
+            Step::EntryCount => Reply::Counted(self.entry_count()),
+            Step::WeightedSize => Reply::Counted(self.weighted_size()),
+            Step::TakeNotice => Reply::Noticed(self.take_notice()),
+            Step::Get { .. }
+            | Step::ContainsKey { .. }
+            | Step::Insert { .. }
+            | Step::Invalidate { .. }
+            | Step::Remove { .. } => unreachable!(),
+        }
+    }
+
+    /// Does steps in order, and answers their replies. Each segment stands then for its own list of
+    /// calls, a filter of the whole one, as a cache of its share, and each reply is that of such a
+    /// cache. With a capacity and without a weigher no more keys are stored in a segment then than
+    /// its share allows, and 64. Where the list of replies finds no room, no step was done.
+    pub fn run(&mut self, steps: Vec<Step<K, V, C>>) -> Result<Vec<Reply<K, V>>, Refused>
+        requires { AllByRecursion (StepKeeps C.keeps C.Predicate.tests C.test) steps.items }
+        ensures replies { IfOk result (λ replies.
+            ⟦<C as SegmentedStateView<K, V>>⟧.at_each_list self.old (λ settings before.
+            IsRunIn C.test K.eq V.is_clone V.is_infallible settings before
+            steps.items replies.items)) }
+        ensures stands { IfOk result (λ replies.
+            ⟦<C as SegmentedStateView<K, V>>⟧.at_each_list self.old (λ settings before.
+            ⟦<C as SegmentedStateView<K, V>>⟧.all_stand_for settings self.new
+            (after_all_in C.test steps.items replies.items before))) }
+        ensures bounded { IfOk result (λ _.
+            ⟦<C as SegmentedStateView<K, V>>⟧.at_each_list self.old (λ settings _.
+            self.new.settings.behaviour.weigher ≡ None →
+            IfSome self.new.settings.max_capacity (λ capacity. AllByRecursion
+            (λ state. length (all_writes state) ≤ share (segments_of settings) capacity + flush_point)
+            self.new.segments))) }
+        ensures refused { OnErr result (self.new ≡ self.old) }
+        ensures cause { IfErr result (λ cause. cause ≡ Refused.OutOfMemory) }
+    {
+        let Ok(mut replies) = Vec::with_capacity(self.alloc, steps.len()) else {
+            return Err(Refused::OutOfMemory);
+        };
+        let mut left = VecDeque::from_vec(steps);
+        while let Some(step) = left.pop_front() {
+            let reply = self.step(step);
+            replies.push_reserved(reply);
+        }
+        Ok(replies)
+    }
+}
+
+// The key of a step, if it has one.
+fn key_of<'a, K: Hash + Drop, V: Clone, C: CacheTypes<K, V>>(
+    step: &'a Step<K, V, C>,
+) -> Option<&'a K>
+    ensures { option_map (λ key. key.now) result ≡ key_in (call_of C.test step.now) }
+{
+    match step {
+        Step::Get { key, .. }
+        | Step::ContainsKey { key, .. }
+        | Step::Insert { key, .. }
+        | Step::Invalidate { key, .. }
+        | Step::Remove { key, .. } => Some(&**key),
+        _ => None,
+    }
+}

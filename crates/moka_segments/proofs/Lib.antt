@@ -1,0 +1,6 @@
+pub mod Callers
+pub mod Counts
+pub mod Lists
+pub mod Rounding
+pub mod SegmentLaws
+pub mod Standing

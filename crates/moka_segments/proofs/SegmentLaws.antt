@@ -1,0 +1,215 @@
+-- The proofs of the laws of segments.
+use Rattle.std.proofs.Common.{◌≡◌, ◌≢◌, ℕ, zero, suc, ◌+◌, ◌-◌, ◌*◌, ◌/◌, ◌<◌, ◌≤◌, ◌^◌, ◌==◌, min, Bool, true, false, not, ◌&&◌, cond, Option, Some, None, List, [], ◌∷◌, ◌++◌, length, option_map, refl, sym, ap, ◌∙◌, subst, ⊎_elim, arith}
+use Rattle.std.specs.Cmp.{IsEquivalence}
+use Rattle.std.proofs.Math.Nat.{div-eq_of_lt, div-lt_iff_lt-mul, div-one}
+use Rattle.std.proofs.lemmas.Nat.{pow_pos}
+use Rattle.std.proofs.lemmas.Bool.Decides.{eqb_tells}
+use Rattle.moka_model.specs.Lives.{Settings}
+use Rattle.moka_model.specs.Events.{Event, Written, Passed, Maintained}
+use Rattle.moka_model.specs.Numbers.{entry_count, weighted_size, greatest_number, stores_nothing, is_flush_due}
+use Rattle.moka_model.specs.Orders.{orders}
+use Rattle.moka_model.specs.Removals.{notices_left}
+use Rattle.moka_model.specs.Steps.{AcceptedStep, events_in}
+use Rattle.moka_model.specs.Calls.{Call, Answer, Counted, accepted, answer_of, after, with_step, without_move, Done, IsLegal}
+use Rattle.moka_model.specs.Calls.{Get, ContainsKey, Insert, Invalidate, Remove, InvalidateAll, InvalidateIf, RunPendingTasks, EntryCount, WeightedSize, TakeNotice}
+use Rattle.moka_model.proofs.Callers.{IsLegal-after}
+use Rattle.moka_conserved.specs.Conserved.{SeesKeysAlike, count_written, count_standing, count_left, given_out}
+use Rattle.moka_conserved.proofs.Callers.{is_conserved}
+use Rattle.moka_segments.specs.Segments.{SegmentedSettings, segments_of, share, share_settings, segment_of, segment_of_key, Place, One, Each, Nowhere, goes_to, at_first, asked, place_of, first_from, first_noticed, list_of, steps_after, steps_in, events_of, sum_below, total_in, answer_by, answer_in}
+use Rattle.moka_segments.specs.SegmentLaws.{pairs_written, pairs_standing, pairs_waiting, pairs_given}
+use Rattle.moka_segments.proofs.Lists.{segment-within, eqb_refl}
+use Rattle.moka_segments.proofs.Counts.{sum_below-same, first_from-passes}
+
+-- what calls give is legal
+pub legal-calls : {K V : Type 0} (E : Type 0) (eq : K → K → Bool) (settings : Settings K V) (calls : List (Call K V)) → IsLegal {E = E} eq settings (steps_after eq settings calls)
+legal-calls E eq settings [] = tt
+legal-calls E eq settings (call ∷ calls) = IsLegal-after eq settings call (steps_after eq settings calls) (legal-calls E eq settings calls)
+
+-- a sum in which one is greater
+pub sum_below-one : (f g : ℕ → ℕ) (n j more : ℕ) → j < n → g j ≡ f j + more → ((i : ℕ) → (i == j) ≡ false → g i ≡ f i) → sum_below g n ≡ sum_below f n + more
+sum_below-one f g zero j more lt here others = absurd (let no : ⊥ = omega (arith, lt) in no)
+sum_below-one f g (suc n) j more lt here others =
+    ⊎_elim
+    (λ same.
+        let below : sum_below g n ≡ sum_below f n = sum_below-same g f n (λ i below. others i (apart i below same.1)) in
+        let it : g n ≡ f n + more = ap g same.1 ∙ here ∙ ap (λ i. f i + more) (sym same.1) in
+        omega (arith, below, it))
+    (λ other.
+        let below = sum_below-one f g n j more (less other.1) here others in
+        let it = others n other.0 in
+        omega (arith, below, it))
+    (eqb_tells n j)
+  where
+    less : n ≢ j → j < n
+    less ne = omega (arith, lt, ne)
+    apart : (i : ℕ) → i < n → n ≡ j → (i == j) ≡ false
+    apart i below e = ⊎_elim (λ same. absurd (let no : ⊥ = omega (arith, below, e, same.1) in no)) (λ other. other.0) (eqb_tells i j)
+
+sum_below-plus : (f g h : ℕ → ℕ) (n : ℕ) → sum_below (λ i. f i + (g i + h i)) n ≡ sum_below f n + (sum_below g n + sum_below h n)
+sum_below-plus f g h zero = refl
+sum_below-plus f g h (suc n) = let before = sum_below-plus f g h n in omega (arith, before)
+
+module _ {K V : Type 0} (E : Type 0) (eq : K → K → Bool) (settings : Settings K V) (test : K → V → Bool) where
+  written-or : (k : K) (v : V) (at : ℕ) (h : List (Event K V)) (nothing due : Bool)
+      → count_written test (cond nothing (Passed at ∷ []) (Written k v at ∷ cond due (Maintained None at ∷ []) []) ++ h) ≡ cond (not nothing && test k v) (suc (count_written test h)) (count_written test h)
+  written-or k v at h true due = refl
+  written-or k v at h false true = refl
+  written-or k v at h false false = refl
+
+  -- a write adds its pair where something is stored
+  written-more : (k : K) (v : V) (at : ℕ) (steps : List (AcceptedStep K V E))
+      → count_written test (events_in (after eq settings (Insert k v at) steps)) ≡ cond (not (stores_nothing settings.max_capacity) && test k v) (suc (count_written test (events_in steps))) (count_written test (events_in steps))
+  written-more k v at steps = written-or k v at (events_in steps) (stores_nothing settings.max_capacity) (is_flush_due eq settings (events_in steps))
+
+  -- and hiding adds none
+  hidden-none : (hide : K → V → Bool) (steps : List (AcceptedStep K V E)) → count_written test (events_in (after eq settings (InvalidateIf hide) steps)) ≡ count_written test (events_in steps)
+  hidden-none hide steps = by settings.supports_closures
+    where
+      by : (b : Bool) → count_written test (events_in (with_step (cond b (Some (without_move {E = E} Done (Rattle.moka_model.specs.Events.Hidden hide ∷ []))) None) steps)) ≡ count_written test (events_in steps)
+      by true = refl
+      by false = refl
+
+-- the share of nothing is nothing, and of no other whole
+pub share-nothing : (segments : ℕ) → 0 < segments → (c : Option ℕ) → stores_nothing (option_map (share segments) c) ≡ stores_nothing c
+share-nothing segments some None = refl
+share-nothing segments some (Some c) = by c
+  where
+    share-some : (c : ℕ) → 0 < share segments (suc c)
+    share-some c =
+        let no : share segments (suc c) < 1 → suc c + (segments - 1) < 1 * segments = λ lt. (div-lt_iff_lt-mul {k = segments} {x = suc c + (segments - 1)} {y = 1} some).0 lt in
+        ⊎_elim (λ same. absurd (let it = no (omega (arith, same.1)) in omega (arith, it, some))) (λ other. omega (arith, other.1)) (eqb_tells (share segments (suc c)) 0)
+    unlike : (n : ℕ) → 0 < n → (n == 0) ≡ false
+    unlike n more = ⊎_elim (λ same. absurd (let no : ⊥ = omega (arith, more, same.1) in no)) (λ other. other.0) (eqb_tells n 0)
+    by : (c : ℕ) → (share segments c == 0) ≡ (c == 0)
+    by zero = ap (λ n. n == 0) (div-eq_of_lt {n = 0 + (segments - 1)} {m = segments} (let few : 0 + (segments - 1) < segments = omega (arith, some) in few))
+    by (suc c) = unlike (share segments (suc c)) (share-some c) ∙ sym (unlike (suc c) (omega arith))
+
+module _ {K V : Type 0} (E : Type 0) (eq : K → K → Bool) (given : SegmentedSettings K V) (test : K → V → Bool) where
+  abbrev written-of : List (Call K V) → ℕ → ℕ
+  written-of calls i = count_written test (events_of E eq given calls i)
+
+  -- a call that writes nothing adds no pair, wherever it goes
+  written-same : (call : Call K V) (calls : List (Call K V))
+      → ((steps : List (AcceptedStep K V E)) → count_written test (events_in (after eq (share_settings given) call steps)) ≡ count_written test (events_in steps))
+      → sum_below (written-of (call ∷ calls)) (segments_of given) ≡ sum_below (written-of calls) (segments_of given)
+  written-same call calls none = sum_below-same (written-of (call ∷ calls)) (written-of calls) (segments_of given) (λ i lt. by i (goes_to i (place_of E eq given calls call)))
+    where
+      by : (i : ℕ) (b : Bool) → count_written test (events_in (steps_after {E = E} eq (share_settings given) (cond b (call ∷ list_of E eq given calls i) (list_of E eq given calls i)))) ≡ written-of calls i
+      by i true = none (steps_in E eq given calls i)
+      by i false = refl
+
+  module _ (few : given.bits < 64) (fits : (k : K) → given.whole.behaviour.hash k < 2 ^ 64) where
+    some-segments : 0 < segments_of given
+    some-segments = pow_pos given.bits
+
+    -- each pair is written in one segment
+    written-insert : (k : K) (v : V) (at : ℕ) (calls : List (Call K V)) → sum_below (written-of calls) (segments_of given) ≡ pairs_written E eq given test calls
+        → sum_below (written-of (Insert k v at ∷ calls)) (segments_of given) ≡ pairs_written E eq given test (Insert k v at ∷ calls)
+    written-insert k v at calls before = by (not (stores_nothing given.whole.max_capacity) && test k v) refl
+      where
+        j : ℕ
+        j = segment_of_key given k
+        within : j < segments_of given
+        within = segment-within given.bits (given.whole.behaviour.hash k) few (fits k)
+        others : (i : ℕ) → (i == j) ≡ false → written-of (Insert k v at ∷ calls) i ≡ written-of calls i
+        others i other = ap (λ b. count_written test (events_in (steps_after {E = E} eq (share_settings given) (cond b (Insert k v at ∷ list_of E eq given calls i) (list_of E eq given calls i))))) other
+        here : written-of (Insert k v at ∷ calls) j ≡ cond (not (stores_nothing given.whole.max_capacity) && test k v) (suc (written-of calls j)) (written-of calls j)
+        here =
+            ap (λ b. count_written test (events_in (steps_after {E = E} eq (share_settings given) (cond b (Insert k v at ∷ list_of E eq given calls j) (list_of E eq given calls j))))) (eqb_refl j)
+            ∙ written-more E eq (share_settings given) test k v at (steps_in E eq given calls j)
+            ∙ ap (λ b. cond (not b && test k v) (suc (written-of calls j)) (written-of calls j)) (share-nothing (segments_of given) some-segments given.whole.max_capacity)
+        by : (b : Bool) → (not (stores_nothing given.whole.max_capacity) && test k v) ≡ b → sum_below (written-of (Insert k v at ∷ calls)) (segments_of given) ≡ pairs_written E eq given test (Insert k v at ∷ calls)
+        by true e =
+            sum_below-one (written-of calls) (written-of (Insert k v at ∷ calls)) (segments_of given) j 1 within
+            (here ∙ ap (λ b. cond b (suc (written-of calls j)) (written-of calls j)) e ∙ (let one : suc (written-of calls j) ≡ written-of calls j + 1 = omega arith in one)) others
+            ∙ (let one : sum_below (written-of calls) (segments_of given) + 1 ≡ suc (pairs_written E eq given test calls) = omega (arith, before) in one)
+            ∙ sym (ap (λ b. cond b (suc (pairs_written E eq given test calls)) (pairs_written E eq given test calls)) e)
+        by false e =
+            sum_below-one (written-of calls) (written-of (Insert k v at ∷ calls)) (segments_of given) j 0 within
+            (here ∙ ap (λ b. cond b (suc (written-of calls j)) (written-of calls j)) e ∙ (let one : written-of calls j ≡ written-of calls j + 0 = omega arith in one)) others
+            ∙ (let one : sum_below (written-of calls) (segments_of given) + 0 ≡ pairs_written E eq given test calls = omega (arith, before) in one)
+            ∙ sym (ap (λ b. cond b (suc (pairs_written E eq given test calls)) (pairs_written E eq given test calls)) e)
+
+    written-in : (calls : List (Call K V)) → sum_below (written-of calls) (segments_of given) ≡ pairs_written E eq given test calls
+    written-in [] = zeros (segments_of given)
+      where
+        zeros : (n : ℕ) → sum_below (λ i. 0) n ≡ 0
+        zeros zero = refl
+        zeros (suc n) = let before = zeros n in omega (arith, before)
+    written-in (Insert k v at ∷ calls) = written-insert k v at calls (written-in calls)
+    written-in (Get k at ∷ calls) = written-same (Get k at) calls (λ steps. refl) ∙ written-in calls
+    written-in (ContainsKey k at ∷ calls) = written-same (ContainsKey k at) calls (λ steps. refl) ∙ written-in calls
+    written-in (Invalidate k at ∷ calls) = written-same (Invalidate k at) calls (λ steps. refl) ∙ written-in calls
+    written-in (Remove k at ∷ calls) = written-same (Remove k at) calls (λ steps. refl) ∙ written-in calls
+    written-in (InvalidateAll ∷ calls) = written-same InvalidateAll calls (λ steps. refl) ∙ written-in calls
+    written-in (InvalidateIf hide ∷ calls) = written-same (InvalidateIf hide) calls (hidden-none E eq (share_settings given) test hide) ∙ written-in calls
+    written-in (RunPendingTasks at ∷ calls) = written-same (RunPendingTasks at) calls (λ steps. refl) ∙ written-in calls
+    written-in (EntryCount ∷ calls) = written-same EntryCount calls (λ steps. refl) ∙ written-in calls
+    written-in (WeightedSize ∷ calls) = written-same WeightedSize calls (λ steps. refl) ∙ written-in calls
+    written-in (TakeNotice ∷ calls) = written-same TakeNotice calls (λ steps. refl) ∙ written-in calls
+
+    -- so nothing is lost or doubled over all segments
+    pub pairs-conserved : IsEquivalence eq → SeesKeysAlike eq test → (calls : List (Call K V))
+        → pairs_written E eq given test calls ≡ pairs_standing E eq given test calls + (pairs_waiting E eq given test calls + pairs_given E eq given test calls)
+    pairs-conserved laws alike calls =
+        let standing_of : ℕ → ℕ = λ i. count_standing test (orders eq (share_settings given) (events_of E eq given calls i)) in
+        let waiting_of : ℕ → ℕ = λ i. count_left test (notices_left eq (share_settings given) (events_of E eq given calls i)) in
+        let given_of : ℕ → ℕ = λ i. count_left test (given_out eq (share_settings given) (events_of E eq given calls i)) in
+        sym (written-in calls)
+        ∙ sum_below-same (written-of calls) (λ i. standing_of i + (waiting_of i + given_of i)) (segments_of given) (λ i lt. (is_conserved eq (share_settings given) laws (events_of E eq given calls i)).pairs test alike)
+        ∙ sum_below-plus standing_of waiting_of given_of (segments_of given)
+
+module _ {K V : Type 0} (E : Type 0) (eq : K → K → Bool) (given : SegmentedSettings K V) (one : given.bits ≡ 0) where
+  -- one segment has the settings of the whole
+  pub alone-settings : share_settings given ≡ given.whole
+  alone-settings = ap (λ (m : Option ℕ). let s : Settings K V = record given.whole { max_capacity = m } in s) (ap (λ b. option_map (share (2 ^ b)) given.whole.max_capacity) one ∙ wholes given.whole.max_capacity)
+    where
+      wholes : (m : Option ℕ) → option_map (share 1) m ≡ m
+      wholes None = refl
+      wholes (Some c) = ap Some (let all : c + (1 - 1) ≡ c = omega arith in ap (λ n. n / 1) all ∙ div-one c)
+
+  alone-first : (o : Option ℕ) (lists : ℕ → List (Call K V)) → first_noticed E eq given lists ≡ o → asked (at_first o) ≡ 0
+  alone-first None lists e = refl
+  alone-first (Some i) lists e = let it = first_from-passes _ 0 (2 ^ given.bits) i e in let n : 2 ^ given.bits ≡ 1 = ap (λ b. 2 ^ b) one in omega (arith, it.0, n)
+
+  module _ (fits : (k : K) → given.whole.behaviour.hash k < 2 ^ 64) where
+    alone-key : (k : K) → segment_of_key given k ≡ 0
+    alone-key k = ap (λ b. given.whole.behaviour.hash k / 2 ^ (64 - b)) one ∙ div-eq_of_lt (fits k)
+
+    alone-asked : (calls : List (Call K V)) (call : Call K V) → asked (place_of E eq given calls call) ≡ 0
+    alone-asked calls (Get k at) = alone-key k
+    alone-asked calls (ContainsKey k at) = alone-key k
+    alone-asked calls (Insert k v at) = alone-key k
+    alone-asked calls (Invalidate k at) = alone-key k
+    alone-asked calls (Remove k at) = alone-key k
+    alone-asked calls InvalidateAll = refl
+    alone-asked calls (InvalidateIf test) = refl
+    alone-asked calls (RunPendingTasks at) = refl
+    alone-asked calls EntryCount = refl
+    alone-asked calls WeightedSize = refl
+    alone-asked calls TakeNotice = alone-first (first_noticed E eq given (list_of E eq given calls)) (list_of E eq given calls) refl
+
+    -- it answers what a cache does that was given its list
+    alone-share : (calls : List (Call K V)) (call : Call K V) → answer_in E eq given calls call ≡ answer_by (total_in E eq given calls call) (answer_of (accepted eq (share_settings given) (steps_in E eq given calls 0) call))
+    alone-share calls call = ap (λ i. answer_by (total_in E eq given calls call) (answer_of (accepted eq (share_settings given) (steps_in E eq given calls i) call))) (alone-asked calls call)
+
+    alone-sum : (f : ℕ → ℕ) → sum_below f (segments_of given) ≡ f 0
+    alone-sum f = ap (λ b. sum_below f (2 ^ b)) one ∙ (let all : 0 + f 0 ≡ f 0 = omega arith in all)
+
+    alone-here : (calls : List (Call K V)) (call : Call K V) → answer_by (total_in E eq given calls call) (answer_of (accepted eq (share_settings given) (steps_in E eq given calls 0) call)) ≡ answer_of (accepted eq (share_settings given) (steps_in E eq given calls 0) call)
+    alone-here calls (Get k at) = refl
+    alone-here calls (ContainsKey k at) = refl
+    alone-here calls (Insert k v at) = refl
+    alone-here calls (Invalidate k at) = refl
+    alone-here calls (Remove k at) = refl
+    alone-here calls InvalidateAll = refl
+    alone-here calls (InvalidateIf test) = refl
+    alone-here calls (RunPendingTasks at) = refl
+    alone-here calls EntryCount = ap (λ n. let a : Option (Answer K V E) = Some (Counted (min n greatest_number)) in a) (alone-sum (λ i. entry_count eq (share_settings given) (events_of E eq given calls i)))
+    alone-here calls WeightedSize = ap (λ n. let a : Option (Answer K V E) = Some (Counted (min n greatest_number)) in a) (alone-sum (λ i. weighted_size eq (share_settings given) (events_of E eq given calls i)))
+    alone-here calls TakeNotice = refl
+
+    pub alone-answers : (calls : List (Call K V)) (call : Call K V) → answer_in E eq given calls call ≡ answer_of (accepted eq given.whole (steps_after eq given.whole (list_of E eq given calls 0)) call)
+    alone-answers calls call =
+        alone-share calls call ∙ alone-here calls call
+        ∙ ap (λ s. answer_of (accepted eq s (steps_after {E = E} eq s (list_of E eq given calls 0)) call)) alone-settings

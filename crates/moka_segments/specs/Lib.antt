@@ -1,0 +1,4 @@
+pub use Rattle.moka_conserved.specs.Conserved
+pub mod SegmentLaws
+pub mod Segments
+pub mod WorkedSegments

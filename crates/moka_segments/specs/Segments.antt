@@ -1,0 +1,190 @@
+-- A cache of several segments: where each call goes, what list each segment so has, and what is answered.
+use Rattle.std.specs.Prelude.{◌≡◌, ◌==◌, ℕ, zero, suc, ◌+◌, ◌-◌, ◌/◌, ◌^◌, min, Bool, true, false, not, if◌then◌else◌, Option, Some, None}
+use Rattle.std.specs.Prelude.{IfSome, List, [], ◌∷◌, length, option_map, unwrap_or, nat_le, slice_get}
+use Rattle.moka_model.specs.Lives.{Settings, Write}
+use Rattle.moka_model.specs.Removals.{Removal, notices_left}
+use Rattle.moka_model.specs.Numbers.{entry_count, weighted_size, greatest_number}
+use Rattle.moka_model.specs.Events.{Event}
+use Rattle.moka_model.specs.Steps.{AcceptedStep, events_in}
+use Rattle.moka_model.specs.Calls.{Call, Get, ContainsKey, Insert, Invalidate, Remove, EntryCount, WeightedSize, TakeNotice}
+use Rattle.moka_model.specs.Calls.{Answer, Counted, accepted, answer_of, after, live_at, IsAnswer}
+use Rattle.moka_model.specs.StandsFor.{View, StandsFor}
+
+-- the segment of a hash, of 2 ^ bits segments: the number that the hash's highest bits are
+abbrev pub segment_of : ℕ → ℕ → ℕ
+segment_of bits hash = hash / 2 ^ (64 - bits)
+
+-- one segment's share of a whole: the least number that, taken once for each segment, is at least the whole
+abbrev pub share : ℕ → ℕ → ℕ
+share segments whole = (whole + (segments - 1)) / segments
+
+-- What a cache of 2 ^ bits segments is built with: the settings of the whole.
+pub record SegmentedSettings (K V : Type 0) : Type 0 where
+  pub bits : ℕ
+  pub whole : Settings K V
+
+abbrev pub segments_of : {K V : Type 0} → SegmentedSettings K V → ℕ  -- how many segments it has
+segments_of settings = 2 ^ settings.bits
+
+-- what one segment is built with: the settings of the whole, with its share of the capacity
+abbrev pub share_settings : {K V : Type 0} → SegmentedSettings K V → Settings K V
+share_settings settings =
+    record settings.whole { max_capacity = option_map (share (segments_of settings)) settings.whole.max_capacity }
+
+-- the key of a call, if it has one
+abbrev pub key_in : {K V : Type 0} → Call K V → Option K
+key_in (Get k at) = Some k
+key_in (ContainsKey k at) = Some k
+key_in (Insert k v at) = Some k
+key_in (Invalidate k at) = Some k
+key_in (Remove k at) = Some k
+key_in call = None
+
+-- where a call goes: to one segment, to each, or to none, where it changes nothing
+pub data Place : Type 0 where
+  One : ℕ → Place
+  Each : Place
+  Nowhere : Place
+
+abbrev pub goes_to : ℕ → Place → Bool
+goes_to i (One j) = i == j
+goes_to i Each = true
+goes_to i Nowhere = false
+
+abbrev pub at_first : Option ℕ → Place  -- at the first segment of some kind, where there is one
+at_first None = Nowhere
+at_first (Some i) = One i
+
+-- the segment that is asked; where a call goes to each or to none, all of them answer alike
+abbrev pub asked : Place → ℕ
+asked (One i) = i
+asked Each = 0
+asked Nowhere = 0
+
+-- the answer to a count by its total, and to any other call by another one
+abbrev pub answer_by : {K V E : Type 0} → Option ℕ → Option (Answer K V E) → Option (Answer K V E)
+answer_by (Some total) other = Some (Counted total)
+answer_by None other = other
+
+-- the sum of what a function gives for each number below another
+abbrev pub sum_below : (ℕ → ℕ) → ℕ → ℕ
+sum_below f zero = 0
+sum_below f (suc n) = sum_below f n + f n
+
+-- the first of so many numbers, from one on, that passes a test
+abbrev pub first_from : (ℕ → Bool) → ℕ → ℕ → Option ℕ
+first_from test i zero = None
+first_from test i (suc more) = if test i then Some i else first_from test (suc i) more
+
+abbrev pub is_empty : {X : Type 0} → List X → Bool
+is_empty [] = true
+is_empty (x ∷ xs) = false
+
+-- how many bits of a hash name one of so many segments: the fewest that name as many, and 63 at most
+abbrev pub bits_for : ℕ → ℕ
+bits_for segments = unwrap_or (first_from (λ bits. nat_le segments (2 ^ bits)) 0 63) 63
+
+-- the accepted steps that calls are, each after those before it
+abbrev pub steps_after : {K V E : Type 0} → (K → K → Bool) → Settings K V → List (Call K V) → List (AcceptedStep K V E)
+steps_after eq settings [] = []
+steps_after eq settings (call ∷ calls) = after eq settings call (steps_after eq settings calls)
+
+abbrev pub segment_of_key : {K V : Type 0} → SegmentedSettings K V → K → ℕ  -- the segment of a key
+segment_of_key settings k = segment_of settings.bits (settings.whole.behaviour.hash k)
+
+module _ {K V : Type 0} (E : Type 0) (eq : K → K → Bool) (settings : SegmentedSettings K V) where
+  abbrev pub notices_after : List (Call K V) → List (Removal K V)  -- the notices of a segment that were not taken, after its list
+  notices_after calls = notices_left eq (share_settings settings) (events_in {E = E} (steps_after eq (share_settings settings) calls))
+
+  -- the first segment that has a notice, by the list of each
+  abbrev pub first_noticed : (ℕ → List (Call K V)) → Option ℕ
+  first_noticed lists = first_from (λ i. not (is_empty (notices_after (lists i)))) 0 (segments_of settings)
+
+  -- Where a call goes, by the list of each segment: to the segment of its key; to the first that has a notice; to none,
+  -- where it counts; and else to each.
+  abbrev pub place_by : (ℕ → List (Call K V)) → Call K V → Place
+  place_by lists (Get k at) = One (segment_of_key settings k)
+  place_by lists (ContainsKey k at) = One (segment_of_key settings k)
+  place_by lists (Insert k v at) = One (segment_of_key settings k)
+  place_by lists (Invalidate k at) = One (segment_of_key settings k)
+  place_by lists (Remove k at) = One (segment_of_key settings k)
+  place_by lists EntryCount = Nowhere
+  place_by lists WeightedSize = Nowhere
+  place_by lists TakeNotice = at_first (first_noticed lists)
+  place_by lists call = Each
+
+  -- A segment's list: a filter of the list of all calls, both read from the newest.
+  abbrev pub list_of : List (Call K V) → ℕ → List (Call K V)
+  list_of [] i = []
+  list_of (call ∷ calls) i =
+      if goes_to i (place_by (list_of calls) call) then call ∷ list_of calls i else list_of calls i
+
+  abbrev pub place_of : List (Call K V) → Call K V → Place  -- where a call goes, after others
+  place_of calls call = place_by (list_of calls) call
+
+  -- the accepted steps of a segment: those of its own list, under its own settings
+  abbrev pub steps_in : List (Call K V) → ℕ → List (AcceptedStep K V E)
+  steps_in calls i = steps_after eq (share_settings settings) (list_of calls i)
+
+  abbrev pub events_of : List (Call K V) → ℕ → List (Event K V)  -- the events of a segment
+  events_of calls i = events_in (steps_in calls i)
+
+  -- the live write of a key where a call looks at a moment: that of the key's segment
+  abbrev pub live_in : List (Call K V) → K → ℕ → Option (Write K V)
+  live_in calls k at = live_at eq (share_settings settings) k at (events_of calls (segment_of_key settings k))
+
+  -- How many stand in all segments, and their weight.
+  abbrev pub entries_in : List (Call K V) → ℕ
+  entries_in calls = sum_below (λ i. entry_count eq (share_settings settings) (events_of calls i)) (segments_of settings)
+
+  abbrev pub weight_in : List (Call K V) → ℕ
+  weight_in calls = sum_below (λ i. weighted_size eq (share_settings settings) (events_of calls i)) (segments_of settings)
+
+  abbrev pub notices_in : List (Call K V) → ℕ  -- how many notices of all segments were not taken
+  notices_in calls = sum_below (λ i. length (notices_after (list_of calls i))) (segments_of settings)
+
+  -- what a count answers: a sum over all segments, at most the greatest number; none for any other call
+  abbrev pub total_in : List (Call K V) → Call K V → Option ℕ
+  total_in calls EntryCount = Some (min (entries_in calls) greatest_number)
+  total_in calls WeightedSize = Some (min (weight_in calls) greatest_number)
+  total_in calls call = None
+
+  -- What a call answers after others, none where it is refused by its name: a count its total, and any other call what the
+  -- segment that is asked answers, as a cache of its share that was given its own list alone.
+  abbrev pub answer_in : List (Call K V) → Call K V → Option (Answer K V E)
+  answer_in calls call =
+      answer_by (total_in calls call)
+      (answer_of (accepted eq (share_settings settings) (steps_in calls (asked (place_of calls call))) call))
+
+-- What the states of a cache of several segments are to the definitions.
+pub record SegmentedView (K V : Type 0) : Type 0 where
+  pub settings : SegmentedSettings K V
+  pub segments : List (View K V)
+
+-- They stand for a list of calls under these settings where the cache was built with them, and each segment's state stands for
+-- its own list, under its share.
+pub record AllStandFor {K V : Type 0} (E : Type 0) (eq : K → K → Bool) (given : SegmentedSettings K V) (view : SegmentedView K V)
+    (calls : List (Call K V)) : Type 0 where
+  pub settings : view.settings ≡ given
+  pub count : length view.segments ≡ segments_of given
+  pub each : (i : ℕ) →
+      IfSome (slice_get view.segments i) (λ one. StandsFor {E = E} eq (share_settings given) one (steps_in E eq given calls i))
+
+module _ {K V : Type 0} (E : Type 0) (eq : K → K → Bool) where
+  -- P holds of whatever settings and calls the states stand for.
+  abbrev pub AtEachList : SegmentedView K V → (SegmentedSettings K V → List (Call K V) → Type 0) → Type 0
+  AtEachList view P = (settings : SegmentedSettings K V) (calls : List (Call K V)) → AllStandFor E eq settings view calls → P settings calls
+
+  -- Whatever calls the old states stood for, the new ones stand for those followed by this one.
+  abbrev pub FollowsIn : SegmentedView K V → Call K V → SegmentedView K V → Type 0
+  FollowsIn old call new = AtEachList old (λ settings calls. AllStandFor E eq settings new (call ∷ calls))
+
+abbrev pub IsAnswerIn : {K V E : Type 0} → (V → V → Type 0) → Option (Answer K V E) → Answer K V E → Type 0  -- an answer that is handed out
+IsAnswerIn is_clone None answer = ⊥
+IsAnswerIn is_clone (Some it) answer = IsAnswer is_clone it answer
+
+-- What is handed out is the answer to the call, after whatever calls the states stand for.
+abbrev pub AnswersIn : {K V : Type 0} (E : Type 0) → (K → K → Bool) → (V → V → Type 0) → SegmentedView K V → Call K V →
+    Answer K V E → Type 0
+AnswersIn E eq is_clone view call answer =
+    AtEachList E eq view (λ settings calls. IsAnswerIn is_clone (answer_in E eq settings calls call) answer)

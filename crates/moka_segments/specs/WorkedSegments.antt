@@ -1,0 +1,47 @@
+-- The settings and the calls of the worked cases of segments. Keys and values are numbers, and each key is its own hash.
+use Rattle.std.specs.Prelude.{ℕ, ◌*◌, ◌+◌, ◌^◌, true, Option, Some, None, List, [], ◌∷◌, nat_eq}
+use Rattle.moka_model.specs.Lives.{Settings, Behaviour, no_lifetimes}
+use Rattle.moka_model.specs.Calls.{Call, Answer, Get, Insert, Invalidate, InvalidateAll, RunPendingTasks, EntryCount, TakeNotice}
+use Rattle.moka_segments.specs.Segments.{SegmentedSettings, answer_in}
+
+-- some seconds, in nanoseconds
+abbrev pub seconds : ℕ → ℕ
+seconds n = n * 1_000_000_000
+
+-- Least recently used, each weight one, ten seconds to live; of 2 ^ bits segments, at a capacity.
+abbrev pub of_segments : ℕ → ℕ → SegmentedSettings ℕ ℕ
+of_segments bits capacity = record {
+  bits = bits;
+  whole = record {
+    time_to_live = Some (seconds 10);
+    time_to_idle = None;
+    max_capacity = Some capacity;
+    first_number = 0;
+    supports_closures = true;
+    behaviour = record { is_lru = true; hash = λ k. k; weight = λ k v. 1; lifetimes = no_lifetimes };
+    frequency = λ noted hash. 0;
+  };
+}
+
+-- a key of the upper half of two segments
+abbrev pub upper : ℕ
+upper = 2 ^ 63
+
+-- what calls are answered, in order, after some calls
+abbrev pub answers_in : SegmentedSettings ℕ ℕ → List (Call ℕ ℕ) → List (Call ℕ ℕ) → List (Option (Answer ℕ ℕ ℕ))
+answers_in settings [] before = []
+answers_in settings (call ∷ calls) before = answer_in ℕ nat_eq settings before call ∷ answers_in settings calls (call ∷ before)
+
+-- two keys come into the lower segment of two, and one into the upper; of the lower ones one leaves
+abbrev pub two_and_one : List (Call ℕ ℕ)
+two_and_one =
+    Insert 1 10 0 ∷ Insert upper 20 0 ∷ Insert 2 30 0 ∷ RunPendingTasks 0 ∷ TakeNotice ∷ TakeNotice ∷ EntryCount
+    ∷ Get upper (seconds 10) ∷ Get 2 (seconds 9) ∷ []
+
+-- the upper segment gives its notice behind the lower one's, whichever came first
+abbrev pub upper_first : List (Call ℕ ℕ)
+upper_first = Insert upper 20 0 ∷ Insert 1 10 0 ∷ Invalidate upper 1 ∷ Invalidate 1 2 ∷ TakeNotice ∷ TakeNotice ∷ TakeNotice ∷ []
+
+-- all is hidden, in both
+abbrev pub both_hidden : List (Call ℕ ℕ)
+both_hidden = Insert 1 10 0 ∷ Insert upper 20 0 ∷ InvalidateAll ∷ Get 1 0 ∷ Get upper 0 ∷ EntryCount ∷ []

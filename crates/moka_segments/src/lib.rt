@@ -1,0 +1,5 @@
+//! The definitions of a cache of several segments, and their laws. It has no code.
+#![tactic(auto)]
+
+pub mod segment_laws;
+pub mod worked_segments;

@@ -1,0 +1,108 @@
+//! The laws of segments: what each is given, that it answers as a cache of its own, and that none
+//! depends on another.
+ghost use Rattle.std.specs.Prelude.{◌≡◌, ◌≢◌, ◌⊎◌, ℕ, ◌*◌, ◌^◌, ◌-◌, ◌≤◌, ◌<◌, ◌+◌, true, Bool, Some, None, List, [], ◌∷◌};
+ghost use Rattle.moka_model.specs.Calls.{Call, InvalidateAll, InvalidateIf, RunPendingTasks, TakeNotice, Done, Noticed, accepted, answer_of, IsLegal};
+ghost use Rattle.moka_model.specs.Events.{latest};
+ghost use Rattle.moka_model.specs.Lives.{Write, is_live};
+ghost use Rattle.moka_model.specs.Numbers.{entry_count, weighted_size, flush_point};
+ghost use Rattle.moka_model.specs.Orders.{standing};
+ghost use Rattle.moka_model.specs.SizeLaws.{WeighsOnes};
+ghost use Rattle.moka_conserved.specs.Conserved.{SeesKeysAlike};
+ghost use Rattle.moka_segments.specs.Segments.{SegmentedSettings, segments_of, bits_for, share, share_settings, segment_of, segment_of_key, key_in, One, Each, Nowhere, goes_to, place_of, list_of, steps_after, steps_in, events_of, answer_in};
+ghost use Rattle.moka_segments.specs.SegmentLaws.{pairs_written, pairs_standing, pairs_waiting, pairs_given};
+
+/// A share, taken as many times as there are segments, is at least the whole, and no smaller number is. The share of
+/// one segment is the whole, and the share of nothing is nothing, and of no other whole.
+pub fn a_share_is_the_least()
+    ensures enough { (segments whole : ℕ) → 0 < segments → whole ≤ share segments whole * segments }
+    ensures least { (segments whole less : ℕ) → 0 < segments → whole ≤ less * segments → share segments whole ≤ less }
+    ensures alone { (whole : ℕ) → share 1 whole ≡ whole }
+    ensures nothing { (segments : ℕ) → 0 < segments → share segments 0 ≡ 0 }
+    ensures something { (segments whole : ℕ) → 0 < segments → 0 < whole → 0 < share segments whole }
+{}
+
+/// A hash is of one of the segments. They part the hashes by their highest bits: into as many runs
+/// of hashes, in order, each as long as the others. Of one segment are all.
+pub fn a_segment_has_the_hashes_of_its_highest_bits()
+    ensures within { (bits hash : ℕ) → bits < 64 → hash < 2 ^ 64 → segment_of bits hash < 2 ^ bits }
+    ensures from { (bits hash : ℕ) → segment_of bits hash * 2 ^ (64 - bits) ≤ hash }
+    ensures to { (bits hash : ℕ) → hash < (segment_of bits hash + 1) * 2 ^ (64 - bits) }
+    ensures one { (hash : ℕ) → hash < 2 ^ 64 → segment_of 0 hash ≡ 0 }
+{}
+
+/// A wanted number of segments is rounded up to a power of two, and no further than need be.
+pub fn segments_are_rounded_up_to_a_power_of_two()
+    ensures enough { (segments : ℕ) → segments ≤ 2 ^ 63 → segments ≤ 2 ^ bits_for segments }
+    ensures least { (segments bits : ℕ) → bits < 64 → segments ≤ 2 ^ bits → bits_for segments ≤ bits }
+    ensures few { (segments : ℕ) → bits_for segments < 64 }
+{}
+
+/// A segment's list of accepted steps is legal: those of a cache of its share.
+pub fn a_segments_list_is_legal<K: Eq, V, E>()
+    ensures { (settings : SegmentedSettings K V) (calls : List (Call K V)) (i : ℕ)
+        → IsLegal K.eq (share_settings settings) (steps_in E K.eq settings calls i) }
+{}
+
+/// What one segment does changes no reply of another: a call of a key is answered alike whether or
+/// not calls to another segment came before it, since they stand in no other list.
+pub fn what_one_segment_does_changes_no_reply_of_another<K: Eq, V, E>()
+    ensures list { (settings : SegmentedSettings K V) (calls : List (Call K V)) (between : Call K V) (i j : ℕ)
+        → place_of E K.eq settings calls between ≡ One j → i ≢ j
+        → list_of E K.eq settings (between ∷ calls) i ≡ list_of E K.eq settings calls i }
+    ensures answer { (settings : SegmentedSettings K V) (calls : List (Call K V)) (between call : Call K V) (j : ℕ) (k : K)
+        → place_of E K.eq settings calls between ≡ One j → key_in call ≡ Some k → segment_of_key settings k ≢ j
+        → answer_in E K.eq settings (between ∷ calls) call ≡ answer_in E K.eq settings calls call }
+    ensures by_its_list { (settings : SegmentedSettings K V) (calls others : List (Call K V)) (call : Call K V) (k : K) → key_in call ≡ Some k
+        → list_of E K.eq settings calls (segment_of_key settings k) ≡ list_of E K.eq settings others (segment_of_key settings k)
+        → answer_in E K.eq settings calls call ≡ answer_in E K.eq settings others call }
+{}
+
+/// A call that goes to each segment is answered alike by all of them, and so is a taking that finds
+/// no notice.
+pub fn all_segments_answer_a_broadcast_alike<K: Eq, V, E>()
+    ensures each { (settings : SegmentedSettings K V) (calls : List (Call K V)) (call : Call K V) (i : ℕ)
+        → place_of E K.eq settings calls call ≡ Each
+        → answer_in E K.eq settings calls call ≡ answer_of (accepted K.eq (share_settings settings) (steps_in E K.eq settings calls i) call) }
+    ensures none { (settings : SegmentedSettings K V) (calls : List (Call K V)) → place_of E K.eq settings calls TakeNotice ≡ Nowhere
+        → answer_in E K.eq settings calls TakeNotice ≡ Some (Noticed None) }
+{}
+
+/// A cache of one segment answers as a state: its share is the whole, and each call is answered as a
+/// state does that was given the same list. Calls that count, and takings that find no notice, are
+/// left out of it, since they change nothing.
+pub fn one_segment_answers_as_a_state<K: Eq, V, E>()
+    ensures settings { (settings : SegmentedSettings K V) → settings.bits ≡ 0 → share_settings settings ≡ settings.whole }
+    ensures list { (settings : SegmentedSettings K V) (calls : List (Call K V)) (call : Call K V)
+        → settings.bits ≡ 0 → ((k : K) → settings.whole.behaviour.hash k < 2 ^ 64)
+        → (place_of E K.eq settings calls call ≡ Nowhere) ⊎ (list_of E K.eq settings (call ∷ calls) 0 ≡ call ∷ list_of E K.eq settings calls 0) }
+    ensures answer { (settings : SegmentedSettings K V) (calls : List (Call K V)) (call : Call K V)
+        → settings.bits ≡ 0 → ((k : K) → settings.whole.behaviour.hash k < 2 ^ 64)
+        → answer_in E K.eq settings calls call ≡ answer_of (accepted K.eq settings.whole (steps_after K.eq settings.whole (list_of E K.eq settings calls 0)) call) }
+{}
+
+/// With a capacity, and where each key weighs one, at most its share and the flush point stand in
+/// each segment; after a maintenance no more than its share, by weight in any case, and all of it is
+/// live.
+pub fn each_segment_stays_within_its_share<K: Eq, V, E>()
+    ensures always { (settings : SegmentedSettings K V) (calls : List (Call K V)) (i capacity : ℕ)
+        → WeighsOnes settings.whole → settings.whole.max_capacity ≡ Some capacity
+        → entry_count K.eq (share_settings settings) (events_of E K.eq settings calls i) ≤ share (segments_of settings) capacity + flush_point }
+    ensures weight { (settings : SegmentedSettings K V) (calls : List (Call K V)) (at i capacity : ℕ) → settings.whole.max_capacity ≡ Some capacity
+        → weighted_size K.eq (share_settings settings) (events_of E K.eq settings (RunPendingTasks at ∷ calls) i) ≤ share (segments_of settings) capacity }
+    ensures count { (settings : SegmentedSettings K V) (calls : List (Call K V)) (at i capacity : ℕ)
+        → WeighsOnes settings.whole → settings.whole.max_capacity ≡ Some capacity
+        → entry_count K.eq (share_settings settings) (events_of E K.eq settings (RunPendingTasks at ∷ calls) i) ≤ share (segments_of settings) capacity }
+    ensures live { (settings : SegmentedSettings K V) (calls : List (Call K V)) (at i : ℕ) (k : K) (w : Write K V)
+        → standing K.eq (share_settings settings) k (events_of E K.eq settings (RunPendingTasks at ∷ calls) i) ≡ Some w
+        → is_live (share_settings settings) w (latest (events_of E K.eq settings (RunPendingTasks at ∷ calls) i)) ≡ true }
+{}
+
+/// Over all segments nothing is lost or doubled: of the pairs that were written as many pass each test
+/// that does not tell equal keys apart as of those that stand, whose notices wait, and whose notices
+/// were taken.
+pub fn no_segment_loses_or_doubles_a_pair<K: Eq, V, E>()
+    ensures { (settings : SegmentedSettings K V) (calls : List (Call K V)) (test : K → V → Bool)
+        → settings.bits < 64 → ((k : K) → settings.whole.behaviour.hash k < 2 ^ 64) → SeesKeysAlike K.eq test
+        → pairs_written E K.eq settings test calls ≡ pairs_standing E K.eq settings test calls
+        + (pairs_waiting E K.eq settings test calls + pairs_given E K.eq settings test calls) }
+{}

@@ -1,0 +1,45 @@
+//! Worked cases of segments. Each computes.
+ghost use Rattle.std.specs.Prelude.{◌≡◌, ◌+◌, ◌^◌, ◌-◌, Some, None, [], ◌∷◌, nat_eq};
+ghost use Rattle.moka_model.specs.declared.notification.RemovalCause.TheVariants.{Explicit, Size};
+ghost use Rattle.moka_model.specs.Calls.{Done, Found, Counted, Noticed};
+ghost use Rattle.moka_segments.specs.Segments.{share, segment_of, bits_for};
+ghost use Rattle.moka_segments.specs.WorkedSegments.{of_segments, upper, answers_in, two_and_one, upper_first, both_hidden};
+
+/// Of eight segments at a capacity of a hundred each has thirteen. The hashes of the second begin
+/// where an eighth of all hashes is passed. Five segments are rounded up to eight.
+pub fn shares_and_segments()
+    ensures thirteen { share 8 100 ≡ 13 }
+    ensures above_the_middle { share 2 9007199254740993 ≡ 4503599627370497 }
+    ensures none { share 4 0 ≡ 0 }
+    ensures second { segment_of 3 2305843009213693952 ≡ 1 }
+    ensures before_it { segment_of 3 2305843009213693951 ≡ 0 }
+    ensures last { segment_of 3 18446744073709551615 ≡ 7 }
+    ensures first { segment_of 3 5 ≡ 0 }
+    ensures eight { bits_for 5 ≡ 3 }
+    ensures thirty_two { bits_for 24 ≡ 5 }
+    ensures sixteen { bits_for 16 ≡ 4 }
+    ensures one { bits_for 1 ≡ 0 }
+    ensures most { bits_for 9223372036854775808 ≡ 63 }
+    ensures alone { segment_of 0 18446744073709551615 ≡ 0 }
+{}
+
+/// Two segments at a capacity of two: each may keep one. The moment of a look at one does not pass in
+/// the other.
+pub fn each_segment_has_its_share_and_its_moment()
+    ensures { answers_in (of_segments 1 2) two_and_one [] ≡ Some Done ∷ Some Done ∷ Some Done ∷ Some Done
+        ∷ Some (Noticed (Some (record { key = 1; value = 10; cause = Size }))) ∷ Some (Noticed None) ∷ Some (Counted 2)
+        ∷ Some (Found None) ∷ Some (Found (Some 30)) ∷ [] }
+{}
+
+/// Notices come segment by segment.
+pub fn notices_come_segment_by_segment()
+    ensures { answers_in (of_segments 1 2) upper_first [] ≡ Some Done ∷ Some Done ∷ Some Done ∷ Some Done
+        ∷ Some (Noticed (Some (record { key = 1; value = 10; cause = Explicit })))
+        ∷ Some (Noticed (Some (record { key = upper; value = 20; cause = Explicit }))) ∷ Some (Noticed None) ∷ [] }
+{}
+
+/// What goes to each segment goes to the last too.
+pub fn all_segments_are_hidden()
+    ensures { answers_in (of_segments 1 2) both_hidden [] ≡ Some Done ∷ Some Done ∷ Some Done ∷ Some (Found None)
+        ∷ Some (Found None) ∷ Some (Counted 2) ∷ [] }
+{}
