@@ -1,15 +1,15 @@
 -- Sums over segments, and the first that has a notice.
-use Rattle.std.proofs.Common.{◌≡◌, ◌≢◌, ◌⊎◌, inl, inr, ◌==◌, ℕ, zero, suc, ◌+◌, ◌-◌, ◌<◌, ◌≤◌, ◌^◌, min, Bool, true, false, not, cond, Option, Some, None, IfSome, List, [], ◌∷◌, ◌++◌, length, map, option_map, refl, sym, ap, ◌∙◌, subst, ⊎_elim, arith}
+use Rattle.std.proofs.Common.{◌≡◌, ◌≢◌, ◌⊎◌, inl, inr, ◌==◌, ℕ, zero, suc, ◌+◌, ◌-◌, ◌<◌, ◌≤◌, Bool, true, false, not, cond, Option, Some, None, List, [], ◌∷◌, ◌++◌, length, refl, sym, ap, ◌∙◌, ⊎_elim, arith}
 use Rattle.std.specs.List.{slice_get}
 use Rattle.std.proofs.lemmas.Nat.{pow_pos}
 use Rattle.std.proofs.lemmas.Bool.Decides.{eqb_tells}
-use Rattle.moka_model.specs.Lives.{Settings, Write}
+use Rattle.moka_model.specs.Lives.{Write}
 use Rattle.moka_model.specs.Maintenance.{total}
 use Rattle.moka_model.specs.Numbers.{entry_count, weighted_size}
 use Rattle.moka_model.specs.Removals.{Removal}
 use Rattle.moka_model.specs.Calls.{Call, TakeNotice, Answer, Noticed, accepted, answer_of}
 use Rattle.moka_model.specs.StandsFor.{Books, View, StandsFor}
-use Rattle.moka_segments.specs.Segments.{SegmentedSettings, SegmentedView, share_settings, segments_of, One, Nowhere, asked, at_first, place_of, answer_in, IsAnswerIn, sum_below, first_from, first_noticed, notices_after, is_empty, list_of, events_of, entries_in, weight_in, notices_in, steps_in, AllStandFor}
+use Rattle.moka_segments.specs.Segments.{SegmentedSettings, SegmentedView, share_settings, segments_of, One, Nowhere, asked, at_first, place_of, answer_in, sum_below, first_from, first_noticed, notices_after, is_empty, list_of, events_of, entries_in, weight_in, notices_in, steps_in, AllStandFor}
 use Rattle.moka_segments.proofs.Lists.{there, at_or}
 
 -- a sum depends on what is below alone
@@ -71,6 +71,7 @@ first_from-least test i (suc more) j le lt passes = by (λ on. first_from-least 
     after : test i ≡ false → (((i == j) ≡ true) × (i ≡ j)) ⊎ (((i == j) ≡ false) × (i ≢ j)) → suc i ≤ j
     after here (inl same) = absurd (let no : true ≡ false = sym passes ∙ ap test (sym same.1) ∙ here in cc)
     after here (inr other) = omega (arith, le, other.1)
+
     by : (suc i ≤ j → (k : ℕ) × (first_from test (suc i) more ≡ Some k) × (k ≤ j)) → (b : Bool) → test i ≡ b → (k : ℕ) × (first_from test i (suc more) ≡ Some k) × (k ≤ j)
     by later true here = (i, ap (λ b. cond b (Some i) (first_from test (suc i) more)) here, le)
     by later false here = let it = later (after here (eqb_tells i j)) in (it.0, ap (λ b. cond b (Some i) (first_from test (suc i) more)) here ∙ it.1, it.2)
@@ -107,31 +108,31 @@ module _ {K V : Type 0} (E : Type 0) (eq : K → K → Bool) (given : SegmentedS
   noticed-same =
       first_from-same (λ i. not (is_empty (notices_after E eq given (list_of E eq given calls i)))) (λ i. at_or (λ (v : View K V). not (is_empty v.books.notices)) false (slice_get view.segments i)) 0 (segments_of given)
       (λ j lt.
-          let it = one-stands j (omega (arith, lt)) in
-          ap (λ (b : Books K V). not (is_empty b.notices)) (sym it.2.books) ∙ sym (ap (λ o. at_or (λ (v : View K V). not (is_empty v.books.notices)) false o) it.1))
+      let it = one-stands j (omega (arith, lt)) in
+      ap (λ (b : Books K V). not (is_empty b.notices)) (sym it.2.books) ∙ sym (ap (λ o. at_or (λ (v : View K V). not (is_empty v.books.notices)) false o) it.1))
 
   -- the sum of what the states store, and of what that weighs
   pub entries-same : entries_in E eq given calls ≡ sum_below (λ i. at_or (λ (v : View K V). length (writes_of v)) 0 (slice_get view.segments i)) (segments_of given)
   entries-same =
       sum_below-same (λ i. entry_count eq (share_settings given) (events_of E eq given calls i)) (λ i. at_or (λ (v : View K V). length (writes_of v)) 0 (slice_get view.segments i)) (segments_of given)
       (λ j lt.
-          let it = one-stands j lt in
-          ap (λ (b : Books K V). length (b.orders.admitted ++ b.orders.waiting)) (sym it.2.books) ∙ sym (ap (λ o. at_or (λ (v : View K V). length (writes_of v)) 0 o) it.1))
+      let it = one-stands j lt in
+      ap (λ (b : Books K V). length (b.orders.admitted ++ b.orders.waiting)) (sym it.2.books) ∙ sym (ap (λ o. at_or (λ (v : View K V). length (writes_of v)) 0 o) it.1))
 
   -- and of how many notices they hold
   pub notices-same : notices_in E eq given calls ≡ sum_below (λ i. at_or (λ (v : View K V). length v.books.notices) 0 (slice_get view.segments i)) (segments_of given)
   notices-same =
       sum_below-same (λ i. length (notices_after E eq given (list_of E eq given calls i))) (λ i. at_or (λ (v : View K V). length v.books.notices) 0 (slice_get view.segments i)) (segments_of given)
       (λ j lt.
-          let it = one-stands j lt in
-          ap (λ (b : Books K V). length b.notices) (sym it.2.books) ∙ sym (ap (λ o. at_or (λ (v : View K V). length v.books.notices) 0 o) it.1))
+      let it = one-stands j lt in
+      ap (λ (b : Books K V). length b.notices) (sym it.2.books) ∙ sym (ap (λ o. at_or (λ (v : View K V). length v.books.notices) 0 o) it.1))
 
   pub weight-same : weight_in E eq given calls ≡ sum_below (λ i. at_or (λ (v : View K V). total (λ (w : Write K V). w.policy_weight) (writes_of v)) 0 (slice_get view.segments i)) (segments_of given)
   weight-same =
       sum_below-same (λ i. weighted_size eq (share_settings given) (events_of E eq given calls i)) (λ i. at_or (λ (v : View K V). total (λ (w : Write K V). w.policy_weight) (writes_of v)) 0 (slice_get view.segments i)) (segments_of given)
       (λ j lt.
-          let it = one-stands j lt in
-          ap (λ (b : Books K V). total (λ (w : Write K V). w.policy_weight) (b.orders.admitted ++ b.orders.waiting)) (sym it.2.books) ∙ sym (ap (λ o. at_or (λ (v : View K V). total (λ (w : Write K V). w.policy_weight) (writes_of v)) 0 o) it.1))
+      let it = one-stands j lt in
+      ap (λ (b : Books K V). total (λ (w : Write K V). w.policy_weight) (b.orders.admitted ++ b.orders.waiting)) (sym it.2.books) ∙ sym (ap (λ o. at_or (λ (v : View K V). total (λ (w : Write K V). w.policy_weight) (writes_of v)) 0 o) it.1))
 
 module _ {K V : Type 0} (E : Type 0) (eq : K → K → Bool) (given : SegmentedSettings K V) (calls : List (Call K V)) where
   -- where a notice is taken, and what is answered; and where there is none

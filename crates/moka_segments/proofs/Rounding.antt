@@ -1,5 +1,5 @@
 -- How many bits name so many segments.
-use Rattle.std.proofs.Common.{◌≡◌, ℕ, suc, ◌+◌, ◌<◌, ◌≤◌, ◌^◌, nat_le, Bool, true, false, ◌⊎◌, inl, inr, Option, Some, None, unwrap_or, refl, sym, ap, ◌∙◌, subst, ⊎_elim, arith}
+use Rattle.std.proofs.Common.{◌≡◌, ℕ, ◌<◌, ◌≤◌, ◌^◌, nat_le, Bool, true, false, ◌⊎◌, inl, inr, Option, Some, None, unwrap_or, refl, sym, ◌∙◌, subst, ⊎_elim, arith}
 use Rattle.moka_segments.specs.Segments.{first_from, bits_for}
 use Rattle.moka_segments.proofs.Counts.{first_from-passes, first_from-least}
 use Rattle.std.proofs.lemmas.Bool.Decides.{eqb_tells, leb_tells}
@@ -37,6 +37,7 @@ module _ (segments : ℕ) where
     where
       last : (bits : ℕ) → bits < 64 → (bits ≡ 63) ⊎ (bits < 63)
       last bits few = ⊎_elim (λ same. inl same.1) (λ other. inr (omega (arith, few, other.1))) (eqb_tells bits 63)
+
       below : bits < 63 → bits_for segments ≤ bits
       below lt =
           let it = first_from-least (enough segments) 0 63 bits (omega arith) (omega (arith, lt)) (is-enough segments bits le) in

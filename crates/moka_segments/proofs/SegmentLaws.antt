@@ -1,21 +1,24 @@
 -- The proofs of the laws of segments.
-use Rattle.std.proofs.Common.{◌≡◌, ◌≢◌, ℕ, zero, suc, ◌+◌, ◌-◌, ◌*◌, ◌/◌, ◌<◌, ◌≤◌, ◌^◌, ◌==◌, min, Bool, true, false, not, ◌&&◌, cond, Option, Some, None, List, [], ◌∷◌, ◌++◌, length, option_map, refl, sym, ap, ◌∙◌, subst, ⊎_elim, arith}
+use Rattle.std.proofs.Common.{◌≡◌, ◌≢◌, ℕ, zero, suc, ◌+◌, ◌-◌, ◌*◌, ◌/◌, ◌<◌, ◌^◌, ◌==◌, min, Bool, true, false, not, ◌&&◌, ◌||◌, cond, Option, Some, None, List, [], ◌∷◌, ◌++◌, length, filter, option_map, refl, sym, ap, ◌∙◌, ⊎_elim, arith}
 use Rattle.std.specs.Cmp.{IsEquivalence}
 use Rattle.std.proofs.Math.Nat.{div-eq_of_lt, div-lt_iff_lt-mul, div-one}
 use Rattle.std.proofs.lemmas.Nat.{pow_pos}
 use Rattle.std.proofs.lemmas.Bool.Decides.{eqb_tells}
-use Rattle.moka_model.specs.Lives.{Settings}
+use Rattle.std.specs.List.{AllByRecursion}
+use Rattle.moka_model.specs.Lives.{Settings, Write}
+use Rattle.moka_model.specs.Maintenance.{Queues}
+use Rattle.moka_model.specs.MaintenanceLaws.{count, everything}
 use Rattle.moka_model.specs.Events.{Event, Written, Passed, Maintained}
-use Rattle.moka_model.specs.Numbers.{entry_count, weighted_size, greatest_number, stores_nothing, is_flush_due}
-use Rattle.moka_model.specs.Orders.{orders}
+use Rattle.moka_model.specs.Numbers.{entry_count, weighted_size, greatest_number, stores_nothing, is_flush_due, all_standing}
+use Rattle.moka_model.specs.Orders.{orders, is_left_at}
 use Rattle.moka_model.specs.Removals.{notices_left}
 use Rattle.moka_model.specs.Steps.{AcceptedStep, events_in}
 use Rattle.moka_model.specs.Calls.{Call, Answer, Counted, accepted, answer_of, after, with_step, without_move, Done, IsLegal}
-use Rattle.moka_model.specs.Calls.{Get, ContainsKey, Insert, Invalidate, Remove, InvalidateAll, InvalidateIf, RunPendingTasks, EntryCount, WeightedSize, TakeNotice}
+use Rattle.moka_model.specs.Calls.{Get, ContainsKey, Insert, Invalidate, Remove, InvalidateAll, InvalidateIf, RunPendingTasks, RunPendingTasksUpTo, EntryCount, WeightedSize, TakeNotice, Left}
 use Rattle.moka_model.proofs.Callers.{IsLegal-after}
 use Rattle.moka_conserved.specs.Conserved.{SeesKeysAlike, count_written, count_standing, count_left, given_out}
 use Rattle.moka_conserved.proofs.Callers.{is_conserved}
-use Rattle.moka_segments.specs.Segments.{SegmentedSettings, segments_of, share, share_settings, segment_of, segment_of_key, Place, One, Each, Nowhere, goes_to, at_first, asked, place_of, first_from, first_noticed, list_of, steps_after, steps_in, events_of, sum_below, total_in, answer_by, answer_in}
+use Rattle.moka_segments.specs.Segments.{SegmentedSettings, segments_of, share, share_settings, segment_of, segment_of_key, goes_to, at_first, asked, place_of, first_noticed, list_of, steps_after, steps_in, events_of, sum_below, any_below, joint_in, answer_by, answer_in}
 use Rattle.moka_segments.specs.SegmentLaws.{pairs_written, pairs_standing, pairs_waiting, pairs_given}
 use Rattle.moka_segments.proofs.Lists.{segment-within, eqb_refl}
 use Rattle.moka_segments.proofs.Counts.{sum_below-same, first_from-passes}
@@ -31,17 +34,18 @@ sum_below-one f g zero j more lt here others = absurd (let no : ⊥ = omega (ari
 sum_below-one f g (suc n) j more lt here others =
     ⊎_elim
     (λ same.
-        let below : sum_below g n ≡ sum_below f n = sum_below-same g f n (λ i below. others i (apart i below same.1)) in
-        let it : g n ≡ f n + more = ap g same.1 ∙ here ∙ ap (λ i. f i + more) (sym same.1) in
-        omega (arith, below, it))
+    let below : sum_below g n ≡ sum_below f n = sum_below-same g f n (λ i below. others i (apart i below same.1)) in
+    let it : g n ≡ f n + more = ap g same.1 ∙ here ∙ ap (λ i. f i + more) (sym same.1) in
+    omega (arith, below, it))
     (λ other.
-        let below = sum_below-one f g n j more (less other.1) here others in
-        let it = others n other.0 in
-        omega (arith, below, it))
+    let below = sum_below-one f g n j more (less other.1) here others in
+    let it = others n other.0 in
+    omega (arith, below, it))
     (eqb_tells n j)
   where
     less : n ≢ j → j < n
     less ne = omega (arith, lt, ne)
+
     apart : (i : ℕ) → i < n → n ≡ j → (i == j) ≡ false
     apart i below e = ⊎_elim (λ same. absurd (let no : ⊥ = omega (arith, below, e, same.1) in no)) (λ other. other.0) (eqb_tells i j)
 
@@ -51,7 +55,7 @@ sum_below-plus f g h (suc n) = let before = sum_below-plus f g h n in omega (ari
 
 module _ {K V : Type 0} (E : Type 0) (eq : K → K → Bool) (settings : Settings K V) (test : K → V → Bool) where
   written-or : (k : K) (v : V) (at : ℕ) (h : List (Event K V)) (nothing due : Bool)
-      → count_written test (cond nothing (Passed at ∷ []) (Written k v at ∷ cond due (Maintained None at ∷ []) []) ++ h) ≡ cond (not nothing && test k v) (suc (count_written test h)) (count_written test h)
+      → count_written test (cond nothing (Passed at ∷ []) (Written k v at ∷ cond due (Maintained settings.flush_limit at ∷ []) []) ++ h) ≡ cond (not nothing && test k v) (suc (count_written test h)) (count_written test h)
   written-or k v at h true due = refl
   written-or k v at h false true = refl
   written-or k v at h false false = refl
@@ -78,8 +82,10 @@ share-nothing segments some (Some c) = by c
     share-some c =
         let no : share segments (suc c) < 1 → suc c + (segments - 1) < 1 * segments = λ lt. (div-lt_iff_lt-mul {k = segments} {x = suc c + (segments - 1)} {y = 1} some).0 lt in
         ⊎_elim (λ same. absurd (let it = no (omega (arith, same.1)) in omega (arith, it, some))) (λ other. omega (arith, other.1)) (eqb_tells (share segments (suc c)) 0)
+
     unlike : (n : ℕ) → 0 < n → (n == 0) ≡ false
     unlike n more = ⊎_elim (λ same. absurd (let no : ⊥ = omega (arith, more, same.1) in no)) (λ other. other.0) (eqb_tells n 0)
+
     by : (c : ℕ) → (share segments c == 0) ≡ (c == 0)
     by zero = ap (λ n. n == 0) (div-eq_of_lt {n = 0 + (segments - 1)} {m = segments} (let few : 0 + (segments - 1) < segments = omega (arith, some) in few))
     by (suc c) = unlike (share segments (suc c)) (share-some c) ∙ sym (unlike (suc c) (omega arith))
@@ -109,15 +115,19 @@ module _ {K V : Type 0} (E : Type 0) (eq : K → K → Bool) (given : SegmentedS
       where
         j : ℕ
         j = segment_of_key given k
+
         within : j < segments_of given
         within = segment-within given.bits (given.whole.behaviour.hash k) few (fits k)
+
         others : (i : ℕ) → (i == j) ≡ false → written-of (Insert k v at ∷ calls) i ≡ written-of calls i
         others i other = ap (λ b. count_written test (events_in (steps_after {E = E} eq (share_settings given) (cond b (Insert k v at ∷ list_of E eq given calls i) (list_of E eq given calls i))))) other
+
         here : written-of (Insert k v at ∷ calls) j ≡ cond (not (stores_nothing given.whole.max_capacity) && test k v) (suc (written-of calls j)) (written-of calls j)
         here =
             ap (λ b. count_written test (events_in (steps_after {E = E} eq (share_settings given) (cond b (Insert k v at ∷ list_of E eq given calls j) (list_of E eq given calls j))))) (eqb_refl j)
             ∙ written-more E eq (share_settings given) test k v at (steps_in E eq given calls j)
             ∙ ap (λ b. cond (not b && test k v) (suc (written-of calls j)) (written-of calls j)) (share-nothing (segments_of given) some-segments given.whole.max_capacity)
+
         by : (b : Bool) → (not (stores_nothing given.whole.max_capacity) && test k v) ≡ b → sum_below (written-of (Insert k v at ∷ calls)) (segments_of given) ≡ pairs_written E eq given test (Insert k v at ∷ calls)
         by true e =
             sum_below-one (written-of calls) (written-of (Insert k v at ∷ calls)) (segments_of given) j 1 within
@@ -144,6 +154,7 @@ module _ {K V : Type 0} (E : Type 0) (eq : K → K → Bool) (given : SegmentedS
     written-in (InvalidateAll ∷ calls) = written-same InvalidateAll calls (λ steps. refl) ∙ written-in calls
     written-in (InvalidateIf hide ∷ calls) = written-same (InvalidateIf hide) calls (hidden-none E eq (share_settings given) test hide) ∙ written-in calls
     written-in (RunPendingTasks at ∷ calls) = written-same (RunPendingTasks at) calls (λ steps. refl) ∙ written-in calls
+    written-in (RunPendingTasksUpTo limit at ∷ calls) = written-same (RunPendingTasksUpTo limit at) calls (λ steps. refl) ∙ written-in calls
     written-in (EntryCount ∷ calls) = written-same EntryCount calls (λ steps. refl) ∙ written-in calls
     written-in (WeightedSize ∷ calls) = written-same WeightedSize calls (λ steps. refl) ∙ written-in calls
     written-in (TakeNotice ∷ calls) = written-same TakeNotice calls (λ steps. refl) ∙ written-in calls
@@ -158,6 +169,107 @@ module _ {K V : Type 0} (E : Type 0) (eq : K → K → Bool) (given : SegmentedS
         sym (written-in calls)
         ∙ sum_below-same (written-of calls) (λ i. standing_of i + (waiting_of i + given_of i)) (segments_of given) (λ i lt. (is_conserved eq (share_settings given) laws (events_of E eq given calls i)).pairs test alike)
         ∙ sum_below-plus standing_of waiting_of given_of (segments_of given)
+
+-- where nothing passes a test, each fails it
+count-none : {X : Type 0} (test : X → Bool) (xs : List X) → count test xs ≡ 0 → AllByRecursion (λ x. test x ≡ false) xs
+count-none test [] none = tt
+count-none test (x ∷ xs) none = by (λ fails. count-none test xs (sym (ap counted fails) ∙ none)) (test x) refl
+  where
+    counted : Bool → ℕ
+    counted b = length (cond b (x ∷ filter test xs) (filter test xs))
+
+    by : (test x ≡ false → AllByRecursion (λ x. test x ≡ false) xs) → (b : Bool) → test x ≡ b → AllByRecursion (λ x. test x ≡ false) (x ∷ xs)
+    by rest true e = absurd (let more : suc (count test xs) ≡ 0 = sym (ap counted e) ∙ none in omega (arith, more))
+    by rest false e = (e, rest e)
+
+module _ {K V : Type 0} (E : Type 0) (eq : K → K → Bool) (given : SegmentedSettings K V) (i : ℕ) where
+  -- whether a pair's key is of another segment
+  abbrev elsewhere : K → V → Bool
+  elsewhere k v = not (i == segment_of_key given k)
+
+  abbrev from_elsewhere : List (Call K V) → ℕ
+  from_elsewhere calls = count_written elsewhere (events_of E eq given calls i)
+
+  -- a call that writes nothing adds none
+  adds-none : (call : Call K V) (calls : List (Call K V))
+      → ((steps : List (AcceptedStep K V E)) → count_written elsewhere (events_in (after eq (share_settings given) call steps)) ≡ count_written elsewhere (events_in steps))
+      → from_elsewhere calls ≡ 0 → from_elsewhere (call ∷ calls) ≡ 0
+  adds-none call calls none before = by (goes_to i (place_of E eq given calls call)) ∙ before
+    where
+      by : (b : Bool) → count_written elsewhere (events_in (steps_after {E = E} eq (share_settings given) (cond b (call ∷ list_of E eq given calls i) (list_of E eq given calls i)))) ≡ from_elsewhere calls
+      by true = none (steps_in E eq given calls i)
+      by false = refl
+
+  -- nor does a write, since it goes to the segment of its key alone
+  write-none : (k : K) (v : V) (at : ℕ) (calls : List (Call K V)) → from_elsewhere calls ≡ 0 → from_elsewhere (Insert k v at ∷ calls) ≡ 0
+  write-none k v at calls before = by (i == segment_of_key given k) refl ∙ before
+    where
+      by : (b : Bool) → (i == segment_of_key given k) ≡ b
+          → count_written elsewhere (events_in (steps_after {E = E} eq (share_settings given) (cond b (Insert k v at ∷ list_of E eq given calls i) (list_of E eq given calls i)))) ≡ from_elsewhere calls
+      by true here =
+          written-more E eq (share_settings given) elsewhere k v at (steps_in E eq given calls i)
+          ∙ ap (λ b. cond (not (stores_nothing (share_settings given).max_capacity) && not b) (suc (from_elsewhere calls)) (from_elsewhere calls)) here
+          ∙ none (not (stores_nothing (share_settings given).max_capacity))
+        where
+          none : (b : Bool) → cond (b && false) (suc (from_elsewhere calls)) (from_elsewhere calls) ≡ from_elsewhere calls
+          none true = refl
+          none false = refl
+      by false apart = refl
+
+  none-elsewhere : (calls : List (Call K V)) → from_elsewhere calls ≡ 0
+  none-elsewhere [] = refl
+  none-elsewhere (Insert k v at ∷ calls) = write-none k v at calls (none-elsewhere calls)
+  none-elsewhere (Get k at ∷ calls) = adds-none (Get k at) calls (λ steps. refl) (none-elsewhere calls)
+  none-elsewhere (ContainsKey k at ∷ calls) = adds-none (ContainsKey k at) calls (λ steps. refl) (none-elsewhere calls)
+  none-elsewhere (Invalidate k at ∷ calls) = adds-none (Invalidate k at) calls (λ steps. refl) (none-elsewhere calls)
+  none-elsewhere (Remove k at ∷ calls) = adds-none (Remove k at) calls (λ steps. refl) (none-elsewhere calls)
+  none-elsewhere (InvalidateAll ∷ calls) = adds-none InvalidateAll calls (λ steps. refl) (none-elsewhere calls)
+  none-elsewhere (InvalidateIf hide ∷ calls) = adds-none (InvalidateIf hide) calls (hidden-none E eq (share_settings given) elsewhere hide) (none-elsewhere calls)
+  none-elsewhere (RunPendingTasks at ∷ calls) = adds-none (RunPendingTasks at) calls (λ steps. refl) (none-elsewhere calls)
+  none-elsewhere (RunPendingTasksUpTo limit at ∷ calls) = adds-none (RunPendingTasksUpTo limit at) calls (λ steps. refl) (none-elsewhere calls)
+  none-elsewhere (EntryCount ∷ calls) = adds-none EntryCount calls (λ steps. refl) (none-elsewhere calls)
+  none-elsewhere (WeightedSize ∷ calls) = adds-none WeightedSize calls (λ steps. refl) (none-elsewhere calls)
+  none-elsewhere (TakeNotice ∷ calls) = adds-none TakeNotice calls (λ steps. refl) (none-elsewhere calls)
+
+  -- so what stands in a segment is of keys of that segment
+  pub stands-at-home : IsEquivalence eq → ((k q : K) → eq k q ≡ true → given.whole.behaviour.hash k ≡ given.whole.behaviour.hash q) → (calls : List (Call K V))
+      → AllByRecursion (λ (w : Write K V). segment_of_key given w.key ≡ i) (all_standing eq (share_settings given) (events_of E eq given calls i))
+  stands-at-home laws alike calls = at (everything q) (count-none (λ (w : Write K V). elsewhere w.key w.value) (everything q) none)
+    where
+      q : Queues (Write K V)
+      q = orders eq (share_settings given) (events_of E eq given calls i)
+
+      sees : SeesKeysAlike eq elsewhere
+      sees a b v same = ap (λ hash. not (i == segment_of given.bits hash)) (alike a b same)
+
+      none : count_standing elsewhere q ≡ 0
+      none = let all = (is_conserved eq (share_settings given) laws (events_of E eq given calls i)).pairs elsewhere sees in omega (arith, all, none-elsewhere calls)
+
+      here : (k : K) → not (i == segment_of_key given k) ≡ false → segment_of_key given k ≡ i
+      here k e = ⊎_elim (λ same. sym same.1) (λ other. let no : not (i == segment_of_key given k) ≡ true = ap not other.0 in let wrong : true ≡ false = sym no ∙ e in cc) (eqb_tells i (segment_of_key given k))
+
+      at : (ws : List (Write K V)) → AllByRecursion (λ w. elsewhere w.key w.value ≡ false) ws → AllByRecursion (λ (w : Write K V). segment_of_key given w.key ≡ i) ws
+      at [] all = tt
+      at (w ∷ ws) all = (here w.key all.0, at ws all.1)
+
+-- where any number passes a test so does the whole, and where none does it does not
+pub any_below-some : (test : ℕ → Bool) (n i : ℕ) → i < n → test i ≡ true → any_below test n ≡ true
+any_below-some test zero i lt passes = absurd (let no : ⊥ = omega (arith, lt) in no)
+any_below-some test (suc n) i lt passes =
+    ⊎_elim (λ same. last (any_below test n) (ap test (sym same.1) ∙ passes)) (λ other. ap (λ b. b || test n) (any_below-some test n i (omega (arith, lt, other.1)) passes)) (eqb_tells i n)
+  where
+    last : (b : Bool) → test n ≡ true → (b || test n) ≡ true
+    last true e = refl
+    last false e = e
+
+pub any_below-none : (test : ℕ → Bool) (n : ℕ) → ((i : ℕ) → i < n → test i ≡ false) → any_below test n ≡ false
+any_below-none test zero none = refl
+any_below-none test (suc n) none = ap (λ b. b || test n) (any_below-none test n (λ i lt. none i (omega (arith, lt)))) ∙ none n (omega arith)
+
+pub any_below-same : (f g : ℕ → Bool) (n : ℕ) → ((i : ℕ) → i < n → f i ≡ g i) → any_below f n ≡ any_below g n
+any_below-same f g zero same = refl
+any_below-same f g (suc n) same =
+    ap (λ b. b || f n) (any_below-same f g n (λ i lt. same i (omega (arith, lt)))) ∙ ap (λ b. any_below g n || b) (same n (omega arith))
 
 module _ {K V : Type 0} (E : Type 0) (eq : K → K → Bool) (given : SegmentedSettings K V) (one : given.bits ≡ 0) where
   -- one segment has the settings of the whole
@@ -185,18 +297,22 @@ module _ {K V : Type 0} (E : Type 0) (eq : K → K → Bool) (given : SegmentedS
     alone-asked calls InvalidateAll = refl
     alone-asked calls (InvalidateIf test) = refl
     alone-asked calls (RunPendingTasks at) = refl
+    alone-asked calls (RunPendingTasksUpTo limit at) = refl
     alone-asked calls EntryCount = refl
     alone-asked calls WeightedSize = refl
     alone-asked calls TakeNotice = alone-first (first_noticed E eq given (list_of E eq given calls)) (list_of E eq given calls) refl
 
     -- it answers what a cache does that was given its list
-    alone-share : (calls : List (Call K V)) (call : Call K V) → answer_in E eq given calls call ≡ answer_by (total_in E eq given calls call) (answer_of (accepted eq (share_settings given) (steps_in E eq given calls 0) call))
-    alone-share calls call = ap (λ i. answer_by (total_in E eq given calls call) (answer_of (accepted eq (share_settings given) (steps_in E eq given calls i) call))) (alone-asked calls call)
+    alone-share : (calls : List (Call K V)) (call : Call K V) → answer_in E eq given calls call ≡ answer_by (joint_in E eq given calls call) (answer_of (accepted eq (share_settings given) (steps_in E eq given calls 0) call))
+    alone-share calls call = ap (λ i. answer_by (joint_in E eq given calls call) (answer_of (accepted eq (share_settings given) (steps_in E eq given calls i) call))) (alone-asked calls call)
 
     alone-sum : (f : ℕ → ℕ) → sum_below f (segments_of given) ≡ f 0
     alone-sum f = ap (λ b. sum_below f (2 ^ b)) one ∙ (let all : 0 + f 0 ≡ f 0 = omega arith in all)
 
-    alone-here : (calls : List (Call K V)) (call : Call K V) → answer_by (total_in E eq given calls call) (answer_of (accepted eq (share_settings given) (steps_in E eq given calls 0) call)) ≡ answer_of (accepted eq (share_settings given) (steps_in E eq given calls 0) call)
+    alone-any : (f : ℕ → Bool) → any_below f (segments_of given) ≡ f 0
+    alone-any f = ap (λ b. any_below f (2 ^ b)) one
+
+    alone-here : (calls : List (Call K V)) (call : Call K V) → answer_by (joint_in E eq given calls call) (answer_of (accepted eq (share_settings given) (steps_in E eq given calls 0) call)) ≡ answer_of (accepted eq (share_settings given) (steps_in E eq given calls 0) call)
     alone-here calls (Get k at) = refl
     alone-here calls (ContainsKey k at) = refl
     alone-here calls (Insert k v at) = refl
@@ -205,6 +321,7 @@ module _ {K V : Type 0} (E : Type 0) (eq : K → K → Bool) (given : SegmentedS
     alone-here calls InvalidateAll = refl
     alone-here calls (InvalidateIf test) = refl
     alone-here calls (RunPendingTasks at) = refl
+    alone-here calls (RunPendingTasksUpTo limit at) = ap (λ b. let a : Option (Answer K V E) = Some (Left b) in a) (alone-any (λ i. is_left_at eq (share_settings given) (Some limit) at (events_of E eq given calls i)))
     alone-here calls EntryCount = ap (λ n. let a : Option (Answer K V E) = Some (Counted (min n greatest_number)) in a) (alone-sum (λ i. entry_count eq (share_settings given) (events_of E eq given calls i)))
     alone-here calls WeightedSize = ap (λ n. let a : Option (Answer K V E) = Some (Counted (min n greatest_number)) in a) (alone-sum (λ i. weighted_size eq (share_settings given) (events_of E eq given calls i)))
     alone-here calls TakeNotice = refl

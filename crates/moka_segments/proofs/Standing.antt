@@ -1,14 +1,13 @@
 -- What the states of segments stand for after a call, and what they answer.
-use Rattle.std.proofs.Common.{◌≡◌, ℕ, zero, suc, ◌^◌, ◌==◌, Bool, true, false, cond, Option, Some, None, IfSome, List, [], ◌∷◌, length, refl, sym, ap, ◌∙◌, subst, ⊎_elim, set}
+use Rattle.std.proofs.Common.{◌≡◌, ℕ, ◌==◌, Bool, true, false, cond, Option, Some, None, IfSome, List, ◌∷◌, length, refl, sym, ap, ◌∙◌, subst, ⊎_elim, set}
 use Rattle.std.specs.List.{slice_get}
 use Rattle.std.proofs.lemmas.Bool.Decides.{eqb_tells}
 use Rattle.moka_segments.proofs.Lists.{eqb_refl}
-use Rattle.moka_model.specs.Lives.{Settings}
 use Rattle.moka_model.specs.Steps.{AcceptedStep}
 use Rattle.moka_model.specs.Calls.{Call, Answer, Accepted, accepted, answer_of, after}
 use Rattle.moka_model.specs.StandsFor.{View, StandsFor, Follows, Answers, IsAnswerOf}
-use Rattle.moka_model.specs.Calls.{Get, ContainsKey, Insert, Invalidate, Remove, InvalidateAll, InvalidateIf, RunPendingTasks, EntryCount, WeightedSize, TakeNotice}
-use Rattle.moka_segments.specs.Segments.{SegmentedSettings, SegmentedView, share_settings, segment_of_key, key_in, Place, One, Each, Nowhere, goes_to, place_of, steps_after, list_of, steps_in, total_in, answer_by, answer_in, asked, IsAnswerIn, AllStandFor}
+use Rattle.moka_model.specs.Calls.{Get, ContainsKey, Insert, Invalidate, Remove, InvalidateAll, InvalidateIf, RunPendingTasks, RunPendingTasksUpTo, EntryCount, WeightedSize, TakeNotice}
+use Rattle.moka_segments.specs.Segments.{SegmentedSettings, SegmentedView, share_settings, segment_of_key, key_in, Place, One, Each, Nowhere, goes_to, place_of, steps_after, list_of, steps_in, joint_in, answer_by, answer_in, asked, IsAnswerIn, AllStandFor}
 use Rattle.moka_segments.proofs.Lists.{slice_get-set_same, slice_get-set_other, length-set}
 
 -- one state follows a call, where there is one
@@ -45,8 +44,8 @@ module _ {K V : Type 0} (E : Type 0) (eq : K → K → Bool) (given : SegmentedS
         let StandsAt : Option (View K V) → List (AcceptedStep K V E) → Type 0 = λ o steps. IfSome o (λ one. StandsFor eq (share_settings given) one steps) in
         ⊎_elim
         (λ same.
-            let it : slice_get (set view.segments j w) i ≡ Some w = ap (slice_get (set view.segments j w)) same.1 ∙ slice_get-set_same view.segments j w v here in
-            rw it (subst (λ n. StandsFor {E = E} eq (share_settings given) w (steps_in E eq given later n)) (sym same.1) stands))
+        let it : slice_get (set view.segments j w) i ≡ Some w = ap (slice_get (set view.segments j w)) same.1 ∙ slice_get-set_same view.segments j w v here in
+        rw it (subst (λ n. StandsFor {E = E} eq (share_settings given) w (steps_in E eq given later n)) (sym same.1) stands))
         (λ other. rw (slice_get-set_other view.segments j i w other.1) (subst (StandsAt (slice_get view.segments i)) (sym (others i other.0)) (stand.each i)))
         (eqb_tells i j);
   }
@@ -100,30 +99,31 @@ module _ {K V : Type 0} (E : Type 0) (eq : K → K → Bool) (given : SegmentedS
   answer-at is_clone view calls j v call answer here answers stand =
       answered-of is_clone (accepted eq (share_settings given) (steps_in E eq given calls j) call) answer (answers _ _ (stand-here view calls j v here stand))
 
--- A call of a key goes to the segment of its key, and is no count.
+-- A call of a key goes to the segment of its key, which answers it alone.
 pub record IsRouted {K V : Type 0} (E : Type 0) (eq : K → K → Bool) (given : SegmentedSettings K V) (k : K) (call : Call K V) (calls : List (Call K V)) : Type 0 where
   pub place : place_of E eq given calls call ≡ One (segment_of_key given k)
-  pub total : total_in E eq given calls call ≡ None
+  pub joint : joint_in E eq given calls call ≡ None
 
 pub routed : {K V : Type 0} (E : Type 0) (eq : K → K → Bool) (given : SegmentedSettings K V) (k : K) (call : Call K V) (calls : List (Call K V)) → key_in call ≡ Some k → IsRouted E eq given k call calls
-routed E eq given k (Get q at) calls e = let same : q ≡ k = cc in rw same (record { place = refl; total = refl })
-routed E eq given k (ContainsKey q at) calls e = let same : q ≡ k = cc in rw same (record { place = refl; total = refl })
-routed E eq given k (Insert q v at) calls e = let same : q ≡ k = cc in rw same (record { place = refl; total = refl })
-routed E eq given k (Invalidate q at) calls e = let same : q ≡ k = cc in rw same (record { place = refl; total = refl })
-routed E eq given k (Remove q at) calls e = let same : q ≡ k = cc in rw same (record { place = refl; total = refl })
+routed E eq given k (Get q at) calls e = let same : q ≡ k = cc in rw same (record { place = refl; joint = refl })
+routed E eq given k (ContainsKey q at) calls e = let same : q ≡ k = cc in rw same (record { place = refl; joint = refl })
+routed E eq given k (Insert q v at) calls e = let same : q ≡ k = cc in rw same (record { place = refl; joint = refl })
+routed E eq given k (Invalidate q at) calls e = let same : q ≡ k = cc in rw same (record { place = refl; joint = refl })
+routed E eq given k (Remove q at) calls e = let same : q ≡ k = cc in rw same (record { place = refl; joint = refl })
 routed E eq given k InvalidateAll calls e = cc
 routed E eq given k (InvalidateIf test) calls e = cc
 routed E eq given k (RunPendingTasks at) calls e = cc
+routed E eq given k (RunPendingTasksUpTo limit at) calls e = cc
 routed E eq given k EntryCount calls e = cc
 routed E eq given k WeightedSize calls e = cc
 routed E eq given k TakeNotice calls e = cc
 
 module _ {K V : Type 0} (E : Type 0) (eq : K → K → Bool) (given : SegmentedSettings K V) where
-  -- no count is answered by the segment that is asked
-  pub answer-asked : (calls : List (Call K V)) (call : Call K V) (place : Place) → place_of E eq given calls call ≡ place → total_in E eq given calls call ≡ None
+  -- what is not answered by all together is answered by the segment that is asked
+  pub answer-asked : (calls : List (Call K V)) (call : Call K V) (place : Place) → place_of E eq given calls call ≡ place → joint_in E eq given calls call ≡ None
       → answer_in E eq given calls call ≡ answer_of (accepted eq (share_settings given) (steps_in E eq given calls (asked place)) call)
   answer-asked calls call place is none =
-      ap (λ total. answer_by total (answer_of (accepted eq (share_settings given) (steps_in E eq given calls (asked (place_of E eq given calls call))) call))) none
+      ap (λ joint. answer_by joint (answer_of (accepted eq (share_settings given) (steps_in E eq given calls (asked (place_of E eq given calls call))) call))) none
       ∙ ap (λ p. answer_of (accepted eq (share_settings given) (steps_in E eq given calls (asked p)) call)) is
 
   -- a cache hashes as it was built to

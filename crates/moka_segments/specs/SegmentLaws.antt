@@ -1,11 +1,11 @@
 -- The words of the laws of segments.
-use Rattle.std.specs.Prelude.{ℕ, suc, Bool, ◌&&◌, not, if◌then◌else◌, List, [], ◌∷◌, ◌++◌, option_to_list, slice_get}
-use Rattle.moka_model.specs.Calls.{Call, Insert, TakeNotice}
+use Rattle.std.specs.Prelude.{ℕ, suc, Bool, ◌&&◌, not, if◌then◌else◌, List, [], ◌∷◌}
+use Rattle.moka_model.specs.Calls.{Call, Insert}
 use Rattle.moka_model.specs.Numbers.{stores_nothing}
-use Rattle.moka_model.specs.Removals.{Removal, notices_left}
-use Rattle.moka_conserved.specs.Conserved.{count_written, count_standing, count_left, given_out}
+use Rattle.moka_model.specs.Removals.{notices_left}
+use Rattle.moka_conserved.specs.Conserved.{count_standing, count_left, given_out}
 use Rattle.moka_model.specs.Orders.{orders}
-use Rattle.moka_segments.specs.Segments.{SegmentedSettings, share_settings, segments_of, sum_below, events_of, answer_in}
+use Rattle.moka_segments.specs.Segments.{SegmentedSettings, share_settings, segments_of, sum_below, events_of}
 
 module _ {K V : Type 0} (E : Type 0) (eq : K → K → Bool) (settings : SegmentedSettings K V) (test : K → V → Bool) where
   -- how many of the pairs that calls write pass a test: none where nothing is stored

@@ -1,13 +1,14 @@
 -- A cache of several segments: where each call goes, what list each segment so has, and what is answered.
-use Rattle.std.specs.Prelude.{◌≡◌, ◌==◌, ℕ, zero, suc, ◌+◌, ◌-◌, ◌/◌, ◌^◌, min, Bool, true, false, not, if◌then◌else◌, Option, Some, None}
+use Rattle.std.specs.Prelude.{◌≡◌, ◌==◌, ℕ, zero, suc, ◌+◌, ◌-◌, ◌/◌, ◌^◌, min, Bool, true, false, not, ◌||◌, if◌then◌else◌, Option, Some, None}
 use Rattle.std.specs.Prelude.{IfSome, List, [], ◌∷◌, length, option_map, unwrap_or, nat_le, slice_get}
 use Rattle.moka_model.specs.Lives.{Settings, Write}
+use Rattle.moka_model.specs.Orders.{is_left_at}
 use Rattle.moka_model.specs.Removals.{Removal, notices_left}
 use Rattle.moka_model.specs.Numbers.{entry_count, weighted_size, greatest_number}
 use Rattle.moka_model.specs.Events.{Event}
 use Rattle.moka_model.specs.Steps.{AcceptedStep, events_in}
 use Rattle.moka_model.specs.Calls.{Call, Get, ContainsKey, Insert, Invalidate, Remove, EntryCount, WeightedSize, TakeNotice}
-use Rattle.moka_model.specs.Calls.{Answer, Counted, accepted, answer_of, after, live_at, IsAnswer}
+use Rattle.moka_model.specs.Calls.{RunPendingTasksUpTo, Answer, Counted, Left, accepted, answer_of, after, live_at, IsAnswer}
 use Rattle.moka_model.specs.StandsFor.{View, StandsFor}
 
 -- the segment of a hash, of 2 ^ bits segments: the number that the hash's highest bits are
@@ -55,21 +56,32 @@ abbrev pub at_first : Option ℕ → Place  -- at the first segment of some kind
 at_first None = Nowhere
 at_first (Some i) = One i
 
--- the segment that is asked; where a call goes to each or to none, all of them answer alike
+-- the segment that is asked; where a call goes to each or to none, all of them answer alike, or they answer together
 abbrev pub asked : Place → ℕ
 asked (One i) = i
 asked Each = 0
 asked Nowhere = 0
 
--- the answer to a count by its total, and to any other call by another one
-abbrev pub answer_by : {K V E : Type 0} → Option ℕ → Option (Answer K V E) → Option (Answer K V E)
-answer_by (Some total) other = Some (Counted total)
+-- what all segments answer together: the total of a count, or whether any of them left a part of a maintenance undone
+pub data Joint : Type 0 where
+  Total : ℕ → Joint
+  AnyLeft : Bool → Joint
+
+-- the answer to what they answer together, and to any other call another one
+abbrev pub answer_by : {K V E : Type 0} → Option Joint → Option (Answer K V E) → Option (Answer K V E)
+answer_by (Some (Total total)) other = Some (Counted total)
+answer_by (Some (AnyLeft left)) other = Some (Left left)
 answer_by None other = other
 
 -- the sum of what a function gives for each number below another
 abbrev pub sum_below : (ℕ → ℕ) → ℕ → ℕ
 sum_below f zero = 0
 sum_below f (suc n) = sum_below f n + f n
+
+-- whether a test holds of any number below another
+abbrev pub any_below : (ℕ → Bool) → ℕ → Bool
+any_below test zero = false
+any_below test (suc n) = any_below test n || test n
 
 -- the first of so many numbers, from one on, that passes a test
 abbrev pub first_from : (ℕ → Bool) → ℕ → ℕ → Option ℕ
@@ -143,17 +155,24 @@ module _ {K V : Type 0} (E : Type 0) (eq : K → K → Bool) (settings : Segment
   abbrev pub notices_in : List (Call K V) → ℕ  -- how many notices of all segments were not taken
   notices_in calls = sum_below (λ i. length (notices_after (list_of calls i))) (segments_of settings)
 
-  -- what a count answers: a sum over all segments, at most the greatest number; none for any other call
-  abbrev pub total_in : List (Call K V) → Call K V → Option ℕ
-  total_in calls EntryCount = Some (min (entries_in calls) greatest_number)
-  total_in calls WeightedSize = Some (min (weight_in calls) greatest_number)
-  total_in calls call = None
+  -- whether a maintenance in which so many may leave each segment would leave a part undone in any of them
+  abbrev pub left_in : List (Call K V) → ℕ → ℕ → Bool
+  left_in calls limit at =
+      any_below (λ i. is_left_at eq (share_settings settings) (Some limit) at (events_of calls i)) (segments_of settings)
 
-  -- What a call answers after others, none where it is refused by its name: a count its total, and any other call what the
-  -- segment that is asked answers, as a cache of its share that was given its own list alone.
+  -- What all segments answer together: to a count a sum, at most the greatest number, and to a maintenance within a limit
+  -- whether any of them leaves a part; none for any other call.
+  abbrev pub joint_in : List (Call K V) → Call K V → Option Joint
+  joint_in calls EntryCount = Some (Total (min (entries_in calls) greatest_number))
+  joint_in calls WeightedSize = Some (Total (min (weight_in calls) greatest_number))
+  joint_in calls (RunPendingTasksUpTo limit at) = Some (AnyLeft (left_in calls limit at))
+  joint_in calls call = None
+
+  -- What a call answers after others, none where it is refused by its name: what all segments answer together, and else what
+  -- the segment that is asked answers, as a cache of its share that was given its own list alone.
   abbrev pub answer_in : List (Call K V) → Call K V → Option (Answer K V E)
   answer_in calls call =
-      answer_by (total_in calls call)
+      answer_by (joint_in calls call)
       (answer_of (accepted eq (share_settings settings) (steps_in calls (asked (place_of calls call))) call))
 
 -- What the states of a cache of several segments are to the definitions.

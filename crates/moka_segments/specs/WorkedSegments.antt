@@ -1,7 +1,7 @@
 -- The settings and the calls of the worked cases of segments. Keys and values are numbers, and each key is its own hash.
-use Rattle.std.specs.Prelude.{ℕ, ◌*◌, ◌+◌, ◌^◌, true, Option, Some, None, List, [], ◌∷◌, nat_eq}
-use Rattle.moka_model.specs.Lives.{Settings, Behaviour, no_lifetimes}
-use Rattle.moka_model.specs.Calls.{Call, Answer, Get, Insert, Invalidate, InvalidateAll, RunPendingTasks, EntryCount, TakeNotice}
+use Rattle.std.specs.Prelude.{ℕ, ◌*◌, ◌^◌, true, Option, Some, None, List, [], ◌∷◌, nat_eq}
+use Rattle.moka_model.specs.Lives.{no_lifetimes}
+use Rattle.moka_model.specs.Calls.{Call, Answer, Get, Insert, Invalidate, InvalidateAll, RunPendingTasks, RunPendingTasksUpTo, EntryCount, TakeNotice}
 use Rattle.moka_segments.specs.Segments.{SegmentedSettings, answer_in}
 
 -- some seconds, in nanoseconds
@@ -18,6 +18,7 @@ of_segments bits capacity = record {
     max_capacity = Some capacity;
     first_number = 0;
     supports_closures = true;
+    flush_limit = None;
     behaviour = record { is_lru = true; hash = λ k. k; weight = λ k v. 1; lifetimes = no_lifetimes };
     frequency = λ noted hash. 0;
   };
@@ -45,3 +46,9 @@ upper_first = Insert upper 20 0 ∷ Insert 1 10 0 ∷ Invalidate upper 1 ∷ Inv
 -- all is hidden, in both
 abbrev pub both_hidden : List (Call ℕ ℕ)
 both_hidden = Insert 1 10 0 ∷ Insert upper 20 0 ∷ InvalidateAll ∷ Get 1 0 ∷ Get upper 0 ∷ EntryCount ∷ []
+
+-- all is hidden, and leaves by maintenances within a limit of one
+abbrev pub one_by_one : List (Call ℕ ℕ)
+one_by_one =
+    Insert 1 10 0 ∷ Insert 2 20 0 ∷ Insert upper 30 0 ∷ InvalidateAll ∷ RunPendingTasksUpTo 1 0 ∷ EntryCount
+    ∷ RunPendingTasksUpTo 1 0 ∷ EntryCount ∷ []

@@ -1,14 +1,15 @@
 //! The laws of segments: what each is given, that it answers as a cache of its own, and that none
 //! depends on another.
-ghost use Rattle.std.specs.Prelude.{◌≡◌, ◌≢◌, ◌⊎◌, ℕ, ◌*◌, ◌^◌, ◌-◌, ◌≤◌, ◌<◌, ◌+◌, true, Bool, Some, None, List, [], ◌∷◌};
-ghost use Rattle.moka_model.specs.Calls.{Call, InvalidateAll, InvalidateIf, RunPendingTasks, TakeNotice, Done, Noticed, accepted, answer_of, IsLegal};
+ghost use Rattle.std.specs.Prelude.{◌≡◌, ◌≢◌, ◌⊎◌, ℕ, ◌*◌, ◌^◌, ◌-◌, ◌≤◌, ◌<◌, ◌+◌, true, false, Bool, Some, None, List, [], ◌∷◌};
+ghost use Rattle.std.specs.List.{AllByRecursion};
+ghost use Rattle.moka_model.specs.Calls.{Call, InvalidateAll, InvalidateIf, RunPendingTasks, RunPendingTasksUpTo, TakeNotice, Done, Left, Noticed, accepted, answer_of, IsLegal};
 ghost use Rattle.moka_model.specs.Events.{latest};
 ghost use Rattle.moka_model.specs.Lives.{Write, is_live};
-ghost use Rattle.moka_model.specs.Numbers.{entry_count, weighted_size, flush_point};
+ghost use Rattle.moka_model.specs.Numbers.{entry_count, weighted_size, flush_point, all_standing};
 ghost use Rattle.moka_model.specs.Orders.{standing};
-ghost use Rattle.moka_model.specs.SizeLaws.{WeighsOnes};
+ghost use Rattle.moka_model.specs.SizeLaws.{WeighsOnes, LimitsSome};
 ghost use Rattle.moka_conserved.specs.Conserved.{SeesKeysAlike};
-ghost use Rattle.moka_segments.specs.Segments.{SegmentedSettings, segments_of, bits_for, share, share_settings, segment_of, segment_of_key, key_in, One, Each, Nowhere, goes_to, place_of, list_of, steps_after, steps_in, events_of, answer_in};
+ghost use Rattle.moka_segments.specs.Segments.{SegmentedSettings, segments_of, bits_for, share, share_settings, segment_of, segment_of_key, key_in, One, Each, Nowhere, goes_to, place_of, list_of, steps_after, steps_in, events_of, joint_in, answer_in};
 ghost use Rattle.moka_segments.specs.SegmentLaws.{pairs_written, pairs_standing, pairs_waiting, pairs_given};
 
 /// A share, taken as many times as there are segments, is at least the whole, and no smaller number is. The share of
@@ -57,14 +58,28 @@ pub fn what_one_segment_does_changes_no_reply_of_another<K: Eq, V, E>()
         → answer_in E K.eq settings calls call ≡ answer_in E K.eq settings others call }
 {}
 
-/// A call that goes to each segment is answered alike by all of them, and so is a taking that finds
-/// no notice.
+/// A call that goes to each segment is answered alike by all of them, where they do not answer it
+/// together, and so is a taking that finds no notice.
 pub fn all_segments_answer_a_broadcast_alike<K: Eq, V, E>()
     ensures each { (settings : SegmentedSettings K V) (calls : List (Call K V)) (call : Call K V) (i : ℕ)
-        → place_of E K.eq settings calls call ≡ Each
+        → place_of E K.eq settings calls call ≡ Each → joint_in E K.eq settings calls call ≡ None
         → answer_in E K.eq settings calls call ≡ answer_of (accepted K.eq (share_settings settings) (steps_in E K.eq settings calls i) call) }
     ensures none { (settings : SegmentedSettings K V) (calls : List (Call K V)) → place_of E K.eq settings calls TakeNotice ≡ Nowhere
         → answer_in E K.eq settings calls TakeNotice ≡ Some (Noticed None) }
+{}
+
+/// A maintenance within a limit runs in each segment with the whole limit, and answers that a part
+/// is left undone exactly where one of the segments, by itself, answers so.
+pub fn a_maintenance_within_a_limit_leaves_what_any_segment_leaves<K: Eq, V, E>()
+    ensures each { (settings : SegmentedSettings K V) (calls : List (Call K V)) (limit at : ℕ)
+        → place_of E K.eq settings calls (RunPendingTasksUpTo limit at) ≡ Each }
+    ensures some { (settings : SegmentedSettings K V) (calls : List (Call K V)) (limit at i : ℕ) → i < segments_of settings
+        → answer_of (accepted K.eq (share_settings settings) (steps_in E K.eq settings calls i) (RunPendingTasksUpTo limit at)) ≡ Some (Left true)
+        → answer_in E K.eq settings calls (RunPendingTasksUpTo limit at) ≡ Some (Left true) }
+    ensures none { (settings : SegmentedSettings K V) (calls : List (Call K V)) (limit at : ℕ)
+        → ((i : ℕ) → i < segments_of settings
+        → answer_of (accepted K.eq (share_settings settings) (steps_in E K.eq settings calls i) (RunPendingTasksUpTo limit at)) ≡ Some (Left false))
+        → answer_in E K.eq settings calls (RunPendingTasksUpTo limit at) ≡ Some (Left false) }
 {}
 
 /// A cache of one segment answers as a state: its share is the whole, and each call is answered as a
@@ -80,12 +95,21 @@ pub fn one_segment_answers_as_a_state<K: Eq, V, E>()
         → answer_in E K.eq settings calls call ≡ answer_of (accepted K.eq settings.whole (steps_after K.eq settings.whole (list_of E K.eq settings calls 0)) call) }
 {}
 
+/// Where equal keys hash alike, each key that stands in a segment is of that segment: so no key
+/// stands in two.
+pub fn each_key_stands_in_its_own_segment<K: Eq, V, E>()
+    ensures { (settings : SegmentedSettings K V) (calls : List (Call K V)) (i : ℕ)
+        → ((k q : K) → K.eq k q ≡ true → settings.whole.behaviour.hash k ≡ settings.whole.behaviour.hash q)
+        → AllByRecursion (λ w. segment_of_key settings w.key ≡ i)
+        (all_standing K.eq (share_settings settings) (events_of E K.eq settings calls i)) }
+{}
+
 /// With a capacity, and where each key weighs one, at most its share and the flush point stand in
-/// each segment; after a maintenance no more than its share, by weight in any case, and all of it is
+/// each segment, where a flush limit is not 0; after a maintenance no more than its share, by weight in any case, and all of it is
 /// live.
 pub fn each_segment_stays_within_its_share<K: Eq, V, E>()
     ensures always { (settings : SegmentedSettings K V) (calls : List (Call K V)) (i capacity : ℕ)
-        → WeighsOnes settings.whole → settings.whole.max_capacity ≡ Some capacity
+        → WeighsOnes settings.whole → LimitsSome settings.whole.flush_limit → settings.whole.max_capacity ≡ Some capacity
         → entry_count K.eq (share_settings settings) (events_of E K.eq settings calls i) ≤ share (segments_of settings) capacity + flush_point }
     ensures weight { (settings : SegmentedSettings K V) (calls : List (Call K V)) (at i capacity : ℕ) → settings.whole.max_capacity ≡ Some capacity
         → weighted_size K.eq (share_settings settings) (events_of E K.eq settings (RunPendingTasks at ∷ calls) i) ≤ share (segments_of settings) capacity }

@@ -1,9 +1,9 @@
 //! Worked cases of segments. Each computes.
-ghost use Rattle.std.specs.Prelude.{◌≡◌, ◌+◌, ◌^◌, ◌-◌, Some, None, [], ◌∷◌, nat_eq};
+ghost use Rattle.std.specs.Prelude.{◌≡◌, ◌+◌, ◌^◌, ◌-◌, true, false, Some, None, [], ◌∷◌, nat_eq};
 ghost use Rattle.moka_model.specs.declared.notification.RemovalCause.TheVariants.{Explicit, Size};
-ghost use Rattle.moka_model.specs.Calls.{Done, Found, Counted, Noticed};
+ghost use Rattle.moka_model.specs.Calls.{Done, Found, Counted, Left, Noticed};
 ghost use Rattle.moka_segments.specs.Segments.{share, segment_of, bits_for};
-ghost use Rattle.moka_segments.specs.WorkedSegments.{of_segments, upper, answers_in, two_and_one, upper_first, both_hidden};
+ghost use Rattle.moka_segments.specs.WorkedSegments.{of_segments, upper, answers_in, two_and_one, upper_first, both_hidden, one_by_one};
 
 /// Of eight segments at a capacity of a hundred each has thirteen. The hashes of the second begin
 /// where an eighth of all hashes is passed. Five segments are rounded up to eight.
@@ -42,4 +42,12 @@ pub fn notices_come_segment_by_segment()
 pub fn all_segments_are_hidden()
     ensures { answers_in (of_segments 1 2) both_hidden [] ≡ Some Done ∷ Some Done ∷ Some Done ∷ Some (Found None)
         ∷ Some (Found None) ∷ Some (Counted 2) ∷ [] }
+{}
+
+/// Each segment is given the whole limit, and something is left where one of them leaves something:
+/// three values are hidden, two of them in one segment, and a maintenance within a limit of one lets
+/// one leave in each.
+pub fn each_segment_is_given_the_whole_limit()
+    ensures { answers_in (of_segments 1 4) one_by_one [] ≡ Some Done ∷ Some Done ∷ Some Done ∷ Some Done
+        ∷ Some (Left true) ∷ Some (Counted 1) ∷ Some (Left false) ∷ Some (Counted 0) ∷ [] }
 {}

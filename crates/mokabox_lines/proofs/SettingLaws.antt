@@ -10,7 +10,7 @@ use Rattle.std.proofs.lemmas.Str.Pattern.{IsSplitOnceResult, split_parts}
 use Rattle.mokabox_lines.specs.declared.settings.Eviction.{Eviction}
 use Rattle.mokabox_lines.specs.declared.settings.Eviction.TheVariants.{Lru, TinyLfu}
 use Rattle.mokabox_lines.specs.declared.settings.Setting.{Setting}
-use Rattle.mokabox_lines.specs.declared.settings.Setting.TheVariants.{TimeToLive, TimeToIdle, FirstNumber, Capacity, InitialCapacity, Policy, Weigher, Closures, FlushLimit}
+use Rattle.mokabox_lines.specs.declared.settings.Setting.TheVariants.{TimeToLive, TimeToIdle, FirstNumber, Capacity, InitialCapacity, Segments, Policy, Weigher, Closures, FlushLimit}
 use Rattle.mokabox_lines.specs.declared.settings.Settings.{Settings}
 use Rattle.mokabox_lines.specs.declared.settings.Weighing.{Weighing}
 use Rattle.mokabox_lines.specs.declared.settings.Weighing.TheVariants.{Bytes}
@@ -100,10 +100,13 @@ names_take = (
         (
           numbered (codes "initial") InitialCapacity (λ n. refl) (λ n small. small),
           (
-            policy_takes,
+            numbered (codes "segments") Segments (λ n. refl) (λ n small. small),
             (
-              weigher_takes,
-              (numbered (codes "flush") FlushLimit (λ n. refl) (λ n small. small), tt),
+              policy_takes,
+              (
+                weigher_takes,
+                (numbered (codes "flush") FlushLimit (λ n. refl) (λ n small. small), tt),
+              ),
             ),
           ),
         ),
@@ -141,6 +144,7 @@ setting_again (TimeToIdle seconds) small = rw (number_again seconds small) refl
 setting_again (FirstNumber number) small = rw (number_again number small) refl
 setting_again (Capacity most) small = rw (number_again most small) refl
 setting_again (InitialCapacity count) small = rw (number_again count small) refl
+setting_again (Segments count) small = rw (number_again count small) refl
 setting_again (Policy Lru) givable = refl
 setting_again (Policy TinyLfu) givable = refl
 setting_again (Weigher Bytes) givable = refl
@@ -179,6 +183,7 @@ setting_field (TimeToIdle seconds) small = joined_field (codes "tti=") (decimal 
 setting_field (FirstNumber number) small = joined_field (codes "first=") (decimal number) (word_field (codes "first=") refl) (number_field number small)
 setting_field (Capacity most) small = joined_field (codes "capacity=") (decimal most) (word_field (codes "capacity=") refl) (number_field most small)
 setting_field (InitialCapacity count) small = joined_field (codes "initial=") (decimal count) (word_field (codes "initial=") refl) (number_field count small)
+setting_field (Segments count) small = joined_field (codes "segments=") (decimal count) (word_field (codes "segments=") refl) (number_field count small)
 setting_field (Policy Lru) givable = word_field (codes "policy=lru") refl
 setting_field (Policy TinyLfu) givable = word_field (codes "policy=tinylfu") refl
 setting_field (Weigher Bytes) givable = word_field (codes "weigher=bytes") refl

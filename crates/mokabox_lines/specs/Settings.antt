@@ -9,7 +9,7 @@ use Rattle.mokabox_lines.specs.declared.settings.Eviction.{Eviction}
 use Rattle.mokabox_lines.specs.declared.settings.Eviction.TheVariants.{Lru, TinyLfu}
 use Rattle.mokabox_lines.specs.declared.settings.Setting.{Setting}
 use Rattle.mokabox_lines.specs.declared.settings.Setting.TheVariants.{TimeToLive, TimeToIdle, FirstNumber, Capacity}
-use Rattle.mokabox_lines.specs.declared.settings.Setting.TheVariants.{InitialCapacity, Policy, Weigher, Closures, FlushLimit}
+use Rattle.mokabox_lines.specs.declared.settings.Setting.TheVariants.{InitialCapacity, Segments, Policy, Weigher, Closures, FlushLimit}
 use Rattle.mokabox_lines.specs.declared.settings.Settings.{Settings}
 use Rattle.mokabox_lines.specs.declared.settings.Weighing.{Weighing}
 use Rattle.mokabox_lines.specs.declared.settings.Weighing.TheVariants.{Bytes}
@@ -34,6 +34,7 @@ setting_text (TimeToIdle seconds) = codes "tti=" ++ decimal seconds
 setting_text (FirstNumber number) = codes "first=" ++ decimal number
 setting_text (Capacity most) = codes "capacity=" ++ decimal most
 setting_text (InitialCapacity count) = codes "initial=" ++ decimal count
+setting_text (Segments count) = codes "segments=" ++ decimal count
 setting_text (Policy eviction) = codes "policy=" ++ eviction_text eviction
 setting_text (Weigher weighing) = codes "weigher=" ++ weighing_text weighing
 setting_text Closures = codes "closures"
@@ -50,6 +51,7 @@ IsGivable (TimeToIdle seconds) = seconds < 2 ^ 64
 IsGivable (FirstNumber number) = number < 2 ^ 64
 IsGivable (Capacity most) = most < 2 ^ 64
 IsGivable (InitialCapacity count) = count < 2 ^ 64
+IsGivable (Segments count) = count < 2 ^ 64
 IsGivable (Policy eviction) = Unit {0}
 IsGivable (Weigher weighing) = Unit {0}
 IsGivable Closures = Unit {0}
@@ -63,6 +65,7 @@ none_given = record {
   first_number = None;
   capacity = None;
   initial_capacity = None;
+  segments = None;
   policy = None;
   weigher = None;
   closures = false;
@@ -80,6 +83,7 @@ with_setting settings (FirstNumber number) =
 with_setting settings (Capacity most) = if is_some settings.capacity then None else Some (record settings { capacity = Some most })
 with_setting settings (InitialCapacity count) =
     if is_some settings.initial_capacity then None else Some (record settings { initial_capacity = Some count })
+with_setting settings (Segments count) = if is_some settings.segments then None else Some (record settings { segments = Some count })
 with_setting settings (Policy eviction) = if is_some settings.policy then None else Some (record settings { policy = Some eviction })
 with_setting settings (Weigher weighing) = if is_some settings.weigher then None else Some (record settings { weigher = Some weighing })
 with_setting settings Closures = if settings.closures then None else Some (record settings { closures = true })
@@ -115,6 +119,7 @@ names = (codes "ttl", λ value. option_map TimeToLive (number_of value))
     ∷ (codes "first", λ value. option_map FirstNumber (number_of value))
     ∷ (codes "capacity", λ value. option_map Capacity (number_of value))
     ∷ (codes "initial", λ value. option_map InitialCapacity (number_of value))
+    ∷ (codes "segments", λ value. option_map Segments (number_of value))
     ∷ (codes "policy", λ value. option_map Policy (eviction_of value))
     ∷ (codes "weigher", λ value. option_map Weigher (weighing_of value))
     ∷ (codes "flush", λ value. option_map FlushLimit (number_of value))

@@ -20,6 +20,8 @@ pub struct Settings {
     pub capacity: Option<u64>,
     /// How many keys there is room for from the start.
     pub initial_capacity: Option<u64>,
+    /// How many segments the cache has at least.
+    pub segments: Option<u64>,
     /// Which keys leave where the capacity is passed, and which are admitted.
     pub policy: Option<Eviction>,
     /// How values are weighed.
@@ -59,6 +61,8 @@ pub enum Setting {
     Capacity(u64),
     /// How many keys there is room for from the start.
     InitialCapacity(u64),
+    /// How many segments the cache has at least.
+    Segments(u64),
     /// Which keys leave where the capacity is passed, and which are admitted.
     Policy(Eviction),
     /// How values are weighed.
@@ -81,6 +85,7 @@ impl Settings {
             Setting::FirstNumber(number) => give(&mut settings.first_number, number)?,
             Setting::Capacity(most) => give(&mut settings.capacity, most)?,
             Setting::InitialCapacity(count) => give(&mut settings.initial_capacity, count)?,
+            Setting::Segments(count) => give(&mut settings.segments, count)?,
             Setting::Policy(eviction) => give(&mut settings.policy, eviction)?,
             Setting::Weigher(weighing) => give(&mut settings.weigher, weighing)?,
             Setting::Closures => set(&mut settings.closures)?,
@@ -160,6 +165,7 @@ fn read_setting(field: &str) -> Option<Setting>
         "first" => Some(Setting::FirstNumber(number(value)?)),
         "capacity" => Some(Setting::Capacity(number(value)?)),
         "initial" => Some(Setting::InitialCapacity(number(value)?)),
+        "segments" => Some(Setting::Segments(number(value)?)),
         "policy" => Some(Setting::Policy(read_eviction(value)?)),
         "weigher" => Some(Setting::Weigher(read_weighing(value)?)),
         "flush" => Some(Setting::FlushLimit(number(value)?)),

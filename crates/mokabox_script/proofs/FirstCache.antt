@@ -7,9 +7,10 @@ use Rattle.std.specs.Hash.BuildHasherDefault.{initial_hasher}
 use Rattle.std.specs.String.{string_bytes}
 use Rattle.moka_policy.proofs.Callers.{number_hash-remainder}
 use Rattle.moka_policy.specs.Frequency.{none_noted, noted, estimated, estimate_after}
-use Rattle.moka_model.specs.Lives.{Lifetimes, no_lifetimes}
+use Rattle.moka_model.specs.Lives.{Settings as WholeSettings, Lifetimes, no_lifetimes}
 use Rattle.moka_policy.specs.declared.expiry.NoExpiry.{NoExpiry}
-use Rattle.moka_model.specs.StandsFor.{StandsFor}
+use Rattle.moka_segments.specs.Segments.{SegmentedSettings, bits_for, AllStandFor}
+use Rattle.moka_segmented.specs.SegmentedData.{segmented_settings_by}
 use Rattle.moka_state.specs.Behaviour as behaviours
 use Rattle.moka_state.specs.StateData.{SettingsData, estimates, settings_by}
 use Rattle.moka_sync.specs.Builder.{settings_built}
@@ -18,7 +19,7 @@ use Rattle.mokabox_lines.specs.declared.settings.Weighing.{Weighing}
 use Rattle.mokabox_lines.specs.declared.settings.Weighing.TheVariants as weighings
 use Rattle.mokabox_lines.specs.Settings.{byte_weight}
 use Rattle.mokabox_script.specs.declared.session.Bytes.{Bytes}
-use Rattle.mokabox_script.specs.Script.{Text, CacheSettings, beginning, is_lru_by, weight_by, cache_settings}
+use Rattle.mokabox_script.specs.Script.{Text, CacheSettings, beginning, is_lru_by, weight_by, whole_settings, wanted_segments, cache_settings}
 use Rattle.mokabox_script.specs.Session.{CacheData, CacheHasher, cache_hash, cache_behaviour, view, IsAt, Told, IsTold}
 
 -- the weight of a text, by the weigher of a cache
@@ -44,7 +45,7 @@ hashed_by : (hasher : CacheHasher) → (initial_hasher hasher).hash < 2 ^ 64 →
 hashed_by hasher small = fun_ext (λ key. number_hash-remainder (initial_hasher hasher).hash key small)
 
 -- what a cache of texts is built with
-abbrev settings_with : Option ℕ → Option ℕ → Option ℕ → ℕ → Bool → Option ℕ → Bool → (ℕ → ℕ) → (ℕ → Text → ℕ) → Lifetimes ℕ Text → CacheSettings
+abbrev settings_with : Option ℕ → Option ℕ → Option ℕ → ℕ → Bool → Option ℕ → Bool → (ℕ → ℕ) → (ℕ → Text → ℕ) → Lifetimes ℕ Text → WholeSettings ℕ Text
 settings_with live idle capacity first closures flush is_lru hash weight own = record {
   time_to_live = live;
   time_to_idle = idle;
@@ -57,13 +58,13 @@ settings_with live idle capacity first closures flush is_lru hash weight own = r
 }
 
 -- what the data of a cache's settings mean
-abbrev meant : SettingsData CacheHasher Bytes NoExpiry → CacheSettings
+abbrev meant : SettingsData CacheHasher Bytes NoExpiry → WholeSettings ℕ Text
 meant kept = settings_by cache_behaviour (estimates (noted 6) (estimated 6) (none_noted 6)) kept
 
 -- a cache whose builder was told these settings has them
-built_so : (given : Settings) (told : Told) (hasher : CacheHasher) → IsTold given told → (initial_hasher hasher).hash < 2 ^ 64 → meant (settings_built told hasher) ≡ cache_settings given
+built_so : (given : Settings) (told : Told) (hasher : CacheHasher) → IsTold given told → (initial_hasher hasher).hash < 2 ^ 64 → meant (settings_built told hasher) ≡ whole_settings given
 built_so given told hasher is small =
-    let wanted : CacheSettings = cache_settings given in
+    let wanted : WholeSettings ℕ Text = whole_settings given in
     let live : Option ℕ = option_map as_nanos told.time_to_live in
     let idle : Option ℕ = option_map as_nanos told.time_to_idle in
     let hash : ℕ → ℕ = λ key. key % 2 ^ 64 in
@@ -80,8 +81,10 @@ built_so given told hasher is small =
     ∙ ap (λ e. settings_with wanted.time_to_live wanted.time_to_idle given.capacity wanted.first_number given.closures given.flush_limit (is_lru_by given.policy) hash weight (own_lives e)) is.expiry
 
 -- the cache of a session that was just built
-pub begins : (given : Settings) (cache : CacheData) (told : Told) (hasher : CacheHasher) → IsTold given told → (initial_hasher hasher).hash < 2 ^ 64 → cache.settings ≡ settings_built told hasher
-    → StandsFor {E = Infallible} nat_eq (meant cache.settings) (view cache) [] → IsAt cache 0 (cache_settings given) beginning
-begins given cache told hasher is small built stands =
-    let same : meant cache.settings ≡ cache_settings given = ap meant built ∙ built_so given told hasher is small in
-    record { stands = subst (λ settings. StandsFor {E = Infallible} nat_eq settings (view cache) []) same stands; now = refl }
+pub begins : (given : Settings) (cache : CacheData) (told : Told) (hasher : CacheHasher) → IsTold given told → (initial_hasher hasher).hash < 2 ^ 64 → cache.settings ≡ settings_built told hasher → cache.bits ≡ bits_for (wanted_segments given)
+    → AllStandFor Infallible nat_eq (segmented_settings_by cache_behaviour (estimates (noted 6) (estimated 6) (none_noted 6)) cache) (view cache) [] → IsAt cache 0 (cache_settings given) beginning
+begins given cache told hasher is small built parted stands =
+    let same : segmented_settings_by cache_behaviour (estimates (noted 6) (estimated 6) (none_noted 6)) cache ≡ cache_settings given =
+    ap (λ b. let s : CacheSettings = record { bits = b; whole = meant cache.settings } in s) parted
+    ∙ ap (λ w. let s : CacheSettings = record { bits = bits_for (wanted_segments given); whole = w } in s) (ap meant built ∙ built_so given told hasher is small) in
+    record { stands = subst (λ settings. AllStandFor Infallible nat_eq settings (view cache) []) same stands; now = refl }

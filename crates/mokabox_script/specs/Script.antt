@@ -1,7 +1,6 @@
 -- What a script prints, by the calls of its cache.
-use Rattle.std.specs.Prelude.{◌≡◌, ℕ, ◌+◌, ◌*◌, ◌/◌, ◌%◌, ◌^◌, Bool, true, false, ◌||◌, List, [], ◌∷◌, ◌++◌, length}
-use Rattle.std.specs.Prelude.{flat_map, replicate, Option, Some, None, IsSome, String, option_map, unwrap_or, nat_eq, codes, ◌⊎◌}
-use Rattle.std.specs.Prelude.{if◌then◌else◌, is_some}
+use Rattle.std.specs.Prelude.{◌≡◌, ℕ, ◌+◌, ◌*◌, ◌/◌, ◌%◌, ◌^◌, Bool, true, false, ◌||◌, List, [], ◌∷◌, ◌++◌, flat_map, replicate}
+use Rattle.std.specs.Prelude.{Option, Some, None, IsSome, String, option_map, unwrap_or, nat_eq, codes, ◌⊎◌, if◌then◌else◌, is_some}
 use Rattle.std.specs.Arc.{arc_value}
 use Rattle.std.specs.Fmt.{decimal}
 use Rattle.std.specs.List.{onto_first, All}
@@ -13,15 +12,15 @@ use Rattle.std.specs.declared.convert.Infallible.{Infallible}
 use Rattle.moka_model.specs.Lives as lives
 use Rattle.moka_model.specs.Lives.{no_lifetimes}
 use Rattle.moka_model.specs.MaintenanceLaws.{count}
-use Rattle.moka_model.specs.Removals.{notices_left}
-use Rattle.moka_model.specs.Steps.{AcceptedStep, events_in}
 use Rattle.moka_model.specs.Calls as calls
-use Rattle.moka_model.specs.Calls.{Call, live_at, IsCopyOf}
+use Rattle.moka_model.specs.Calls.{Call, IsCopyOf}
 use Rattle.moka_policy.specs.Frequency.{estimate_after}
-use Rattle.moka_state.specs.Step.{IsReplyTo, after_reply}
+use Rattle.moka_segments.specs.Segments.{SegmentedSettings, segments_of, bits_for, live_in, notices_in}
+use Rattle.moka_segmented.specs.Step.{IsReplyIn, after_reply_in}
 use Rattle.moka_state.specs.declared.step.Reply.{Reply}
 use Rattle.moka_state.specs.declared.step.Reply.TheVariants as replies
 use Rattle.moka_policy.specs.Building.{too_long_of, flush_refused_of}
+use Rattle.moka_sync.specs.Builder.{segments_refused}
 use Rattle.moka_policy.specs.declared.builder_utils.BuildError.{BuildError}
 use Rattle.moka_policy.specs.declared.builder_utils.BuildError.TheVariants.{OutOfMemory}
 use Rattle.mokabox_lines.specs.Answer.{answer_text, measure_text, pairs_text}
@@ -50,17 +49,13 @@ is_copy text copy = string_bytes copy ≡ string_bytes text
 abbrev pub is_surely_copied : Text → Type 0
 is_surely_copied text = ⊥
 
--- what the script's cache is built with
+-- what the script's cache is built with: the settings of the whole, and how many segments it has
 abbrev pub CacheSettings : Type 0
-CacheSettings = lives.Settings ℕ Text
+CacheSettings = SegmentedSettings ℕ Text
 
--- an accepted step of the script's cache, which computes no value
-abbrev pub CacheStep : Type 0
-CacheStep = AcceptedStep ℕ Text Infallible
-
--- how far a script has come: the accepted steps of its cache, the newest first, and the moment of its commands
+-- how far a script has come: the calls of its cache that were not refused, the newest first, and the moment of its commands
 pub record Course : Type 0 where
-  pub steps : List CacheStep
+  pub done : List (Call ℕ Text)
   pub moment : ℕ
 
 -- whether the bytes of a text are those of one of the texts that stand with one space between each two
@@ -104,26 +99,28 @@ answer_of (replies.Noticed (Some notice)) = answers.Left (arc_value notice.key) 
 answer_of (replies.Refused cause) = answers.Refused cause
 answer_of (replies.PredicateRefused cause) = answers.NotHidden cause
 
--- What calls print, a line for the reply to each, and the accepted steps after them: a refused call leaves them as they are.
-abbrev pub CallsPrint : CacheSettings → List CacheStep → List (Call ℕ Text) → List (List ℕ) → List CacheStep → Type 0
-CallsPrint settings steps [] printed after = (printed ≡ []) × (after ≡ steps)
-CallsPrint settings steps (call ∷ more) printed after =
-    (reply : Reply ℕ Text) × (rest : List (List ℕ)) × IsReplyTo nat_eq is_copy is_surely_copied settings steps call reply
-    × (printed ≡ answer_text (answer_of reply) ∷ rest) × CallsPrint settings (after_reply nat_eq settings call reply steps) more rest after
+-- What calls print, a line for the reply to each, and the calls done after them: a refused call leaves them as they are.
+abbrev pub CallsPrint : CacheSettings → List (Call ℕ Text) → List (Call ℕ Text) → List (List ℕ) → List (Call ℕ Text) → Type 0
+CallsPrint settings done [] printed after = (printed ≡ []) × (after ≡ done)
+CallsPrint settings done (call ∷ more) printed after =
+    (reply : Reply ℕ Text) × (rest : List (List ℕ)) × IsReplyIn Infallible nat_eq is_copy is_surely_copied settings done call reply
+    × (printed ≡ answer_text (answer_of reply) ∷ rest) × CallsPrint settings (after_reply_in call reply done) more rest after
 
 -- a moment in whole seconds
 abbrev pub in_seconds : Option ℕ → Option ℕ
 in_seconds nanos = option_map (λ n. n / 1_000_000_000) nanos
 
--- The policy of a cache, its lives in seconds. It is one segment.
+-- The policy of a cache, its lives in seconds, and how many segments it has.
 abbrev pub policy_line : CacheSettings → List ℕ
 policy_line settings =
-    codes "policy capacity " ++ (measure_text settings.max_capacity ++ (codes " ttl " ++ (measure_text (in_seconds settings.time_to_live)
-    ++ (codes " tti " ++ (measure_text (in_seconds settings.time_to_idle) ++ (codes " segments " ++ decimal 1))))))
+    codes "policy capacity " ++ (measure_text settings.whole.max_capacity
+    ++ (codes " ttl " ++ (measure_text (in_seconds settings.whole.time_to_live)
+    ++ (codes " tti " ++ (measure_text (in_seconds settings.whole.time_to_idle)
+    ++ (codes " segments " ++ decimal (segments_of settings)))))))
 
 -- the value that is live for a key where a script has come
 abbrev pub live_value : CacheSettings → Course → ℕ → Option Text
-live_value settings before key = option_map (λ w. w.value) (live_at nat_eq settings key before.moment (events_in before.steps))
+live_value settings before key = option_map (λ w. w.value) (live_in Infallible nat_eq settings before.done key before.moment)
 
 -- All that is live there, by rising key: each key that is live once, with a copy of its value, and no other.
 pub record AreTheLive (settings : CacheSettings) (before : Course) (pairs : List (ℕ × Text)) : Type 0 where
@@ -144,8 +141,8 @@ Tells settings before command lines = lines ≡ []
 abbrev pub CommandPrints : CacheSettings → Course → PlainCommand → List (List ℕ) → Course → Type 0
 CommandPrints settings before command printed after =
     (made : List (Call ℕ Text)) × (answers : List (List ℕ)) × (own : List (List ℕ))
-    × Makes (length (notices_left nat_eq settings (events_in before.steps))) before.moment command made
-    × CallsPrint settings before.steps made answers after.steps × Tells settings before command own × (printed ≡ own ++ answers)
+    × Makes (notices_in Infallible nat_eq settings before.done) before.moment command made
+    × CallsPrint settings before.done made answers after.done × Tells settings before command own × (printed ≡ own ++ answers)
     × (after.moment ≡ moment_after command before.moment)
 
 -- What a line prints, how far the script has come then, and whether the line is bad.
@@ -173,8 +170,8 @@ weight_by None value = 1
 weight_by (Some Bytes) value = byte_weight value
 
 -- What these settings build a cache with, in nanoseconds. A key is its own hash, its keys being below 2 ^ 64.
-abbrev pub cache_settings : Settings → CacheSettings
-cache_settings settings = record {
+abbrev pub whole_settings : Settings → lives.Settings ℕ Text
+whole_settings settings = record {
   time_to_live = option_map (λ seconds. seconds * 1_000_000_000) settings.time_to_live;
   time_to_idle = option_map (λ seconds. seconds * 1_000_000_000) settings.time_to_idle;
   max_capacity = settings.capacity;
@@ -190,11 +187,21 @@ cache_settings settings = record {
   frequency = estimate_after 6;
 }
 
--- Why a cache is not built with these settings: for a life that is too long, or else for its flush limit.
+-- the number of segments that is wanted: one, where the settings don't say otherwise
+abbrev pub wanted_segments : Settings → ℕ
+wanted_segments settings = unwrap_or settings.segments 1
+
+-- and how many bits of a hash name one of them, the next power of two
+abbrev pub cache_settings : Settings → CacheSettings
+cache_settings settings = record { bits = bits_for (wanted_segments settings); whole = whole_settings settings }
+
+-- Why a cache is not built with these settings: for its number of segments, else for a life that is too long, or else for its
+-- flush limit.
 abbrev pub settings_refused : Settings → Option BuildError
 settings_refused settings =
-    option_or (too_long_of (cache_settings settings).time_to_live (cache_settings settings).time_to_idle)
-    (flush_refused_of settings.flush_limit (is_some settings.weigher))
+    option_or (segments_refused (wanted_segments settings))
+    (option_or (too_long_of (whole_settings settings).time_to_live (whole_settings settings).time_to_idle)
+    (flush_refused_of settings.flush_limit (is_some settings.weigher)))
 
 -- what is printed where a cache is not built
 abbrev pub not_built : BuildError → List ℕ
@@ -202,7 +209,7 @@ not_built cause = answer_text (answers.NotBuilt cause)
 
 -- where a script begins
 abbrev pub beginning : Course
-beginning = record { steps = []; moment = 0 }
+beginning = record { done = []; moment = 0 }
 
 abbrev pub status_of : Bool → ℕ
 status_of bad = if bad then 2 else 0

@@ -1,5 +1,5 @@
 -- How far a script has come where its session is, and what the session prints.
-use Rattle.std.specs.Prelude.{◌≡◌, ℕ, Bool, List, [], ◌∷◌, Option, None, is_some, option_map, unwrap_or, nat_eq}
+use Rattle.std.specs.Prelude.{◌≡◌, ℕ, Bool, List, Option, None, is_some, option_map, unwrap_or, nat_eq}
 use Rattle.std.specs.Duration.{as_nanos}
 use Rattle.std.specs.Hash.{u64 as number_writes}
 use Rattle.std.specs.Hash.BuildHasherDefault.{initial_hasher}
@@ -13,16 +13,20 @@ use Rattle.moka_policy.specs.Frequency.{Counts, none_noted, noted, estimated}
 use Rattle.moka_policy.specs.NumberHash.{number_hash}
 use Rattle.moka_model.specs.Lives.{Behaviour, no_lifetimes}
 use Rattle.moka_model.specs.StandsFor.{View, StandsFor}
+use Rattle.std.specs.declared.convert.Infallible.{Infallible}
+use Rattle.moka_segments.specs.Segments.{SegmentedView, AllStandFor}
+use Rattle.moka_segmented.specs.SegmentedData.{SegmentedData, segmented_view_by}
 use Rattle.moka_state.specs.Behaviour.{BehaviourData, hash_by, behaviour_by}
 use Rattle.moka_state.specs.StateData.{StateData, estimates, view_by}
 use Rattle.mokabox_lines.specs.Command.{PlainCommand, command_by_line}
 use Rattle.moka_sync.specs.Builder.{BuilderData}
 use Rattle.mokabox_lines.specs.Settings.{byte_weight}
 use Rattle.mokabox_lines.specs.declared.settings.Settings.{Settings}
+use Rattle.moka_walks.specs.Histories.{History, AllStandFor as AllHaveHistories}
 use Rattle.moka_walks.specs.Walks.{start}
 use Rattle.moka_walks.specs.WalkLaws.{YieldsJust}
-use Rattle.mokabox_script.specs.Script.{Text, is_copy, is_surely_copied, is_among}
-use Rattle.mokabox_script.specs.Script.{CacheSettings, CacheStep, Course, CommandPrints, LinePrints, cache_settings}
+use Rattle.mokabox_script.specs.Script.{Text, is_copy, is_surely_copied, is_among, CacheSettings, Course, CommandPrints, LinePrints}
+use Rattle.mokabox_script.specs.Script.{whole_settings}
 use Rattle.mokabox_script.specs.Script.{is_lru_by, lines_text}
 use Rattle.mokabox_script.specs.declared.one_of.OneOf.{OneOf}
 use Rattle.mokabox_script.specs.declared.session.Bytes.{Bytes}
@@ -33,7 +37,7 @@ CacheHasher = BuildHasherDefault NumberHash
 
 -- what a script's cache keeps
 abbrev pub CacheData : Type 0
-CacheData = StateData ℕ Text CacheHasher Bytes NoExpiry Counts
+CacheData = SegmentedData ℕ Text CacheHasher Bytes NoExpiry Counts
 
 -- the hash of a key
 abbrev pub cache_hash : CacheHasher → ℕ → ℕ
@@ -44,8 +48,12 @@ abbrev pub cache_behaviour : BehaviourData CacheHasher Bytes NoExpiry → Behavi
 cache_behaviour = behaviour_by cache_hash (λ weigher key text. byte_weight (string_bytes text)) (λ expiry. no_lifetimes)
 
 -- what a script's cache is, by what it keeps
-abbrev pub view : CacheData → View ℕ Text
-view = view_by cache_behaviour (estimates (noted 6) (estimated 6)) (none_noted 6)
+abbrev pub view : CacheData → SegmentedView ℕ Text
+view = segmented_view_by cache_behaviour (estimates (noted 6) (estimated 6)) (none_noted 6)
+
+-- what one of its segments is, by what it keeps
+abbrev pub segment_view : StateData ℕ Text CacheHasher Bytes NoExpiry Counts → View ℕ Text
+segment_view = view_by cache_behaviour (estimates (noted 6) (estimated 6)) (none_noted 6)
 
 -- what the builder of a script's cache was told
 abbrev pub Told : Type 0
@@ -59,8 +67,8 @@ holds_of it key text = is_among (string_bytes it.texts) text
 pub record IsTold (given : Settings) (told : Told) : Type 0 where
   pub name : told.name ≡ None
   pub max_capacity : told.max_capacity ≡ given.capacity
-  pub time_to_live : option_map as_nanos told.time_to_live ≡ (cache_settings given).time_to_live
-  pub time_to_idle : option_map as_nanos told.time_to_idle ≡ (cache_settings given).time_to_idle
+  pub time_to_live : option_map as_nanos told.time_to_live ≡ (whole_settings given).time_to_live
+  pub time_to_idle : option_map as_nanos told.time_to_idle ≡ (whole_settings given).time_to_idle
   pub is_lru : told.is_lru ≡ is_lru_by given.policy
   pub weigher : is_some told.weigher ≡ is_some given.weigher
   pub expiry : told.expiry ≡ None
@@ -68,9 +76,9 @@ pub record IsTold (given : Settings) (told : Told) : Type 0 where
   pub flush_limit : told.flush_limit ≡ given.flush_limit
   pub first_number : told.first_number ≡ unwrap_or given.first_number 0
 
--- A session is where the script has come: its cache stands for the accepted steps, and its moment is the script's.
+-- A session is where the script has come: its cache stands for the calls done, and its moment is the script's.
 pub record IsAt (cache : CacheData) (moment : ℕ) (settings : CacheSettings) (course : Course) : Type 0 where
-  pub stands : StandsFor nat_eq settings (view cache) course.steps
+  pub stands : AllStandFor Infallible nat_eq settings (view cache) course.done
   pub now : moment ≡ course.moment
 
 -- Wherever the script has come, the command prints these lines, and the session is where it comes.
@@ -82,8 +90,9 @@ Prints cache moment command printed cache_after moment_after =
 -- A walk of the cache at a moment, of which nothing is refused, yields these pairs, and then it ends.
 abbrev pub IsWholeWalk : CacheData → ℕ → List (ℕ × Text) → Type 0
 IsWholeWalk cache moment pairs =
-    (settings : CacheSettings) (steps : List CacheStep) → StandsFor nat_eq settings (view cache) steps
-    → YieldsJust nat_eq is_copy is_surely_copied (record { settings = settings; steps = steps } ∷ []) moment start pairs
+    (histories : List (History ℕ Text Infallible))
+    → AllHaveHistories (λ settings state steps. StandsFor nat_eq settings (segment_view state) steps) cache.segments histories
+    → YieldsJust nat_eq is_copy is_surely_copied histories moment start pairs
 
 -- Wherever the script has come, the line prints what is written, and the session is where it comes.
 abbrev pub DoesLine : CacheData → ℕ → List ℕ → Bool → CacheData → ℕ → Option (List ℕ) → Option (List ℕ) → Type 0

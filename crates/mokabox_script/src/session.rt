@@ -19,9 +19,10 @@ use moka::policy::{
     CacheTypes, CountTable, EvictionPolicy, ManualClock, NoExpiry, NoListener, NumberHash, Refused,
     Weigher,
 };
-use moka::state::{CacheState, Reply, Step};
+use moka::state::{Reply, Step};
 use moka::sync::CacheBuilder;
 use moka::sync::builder::Single;
+use moka::sync::segment::SegmentedState;
 use mokabox_lines::answer::{Answer, Measure, Pairs};
 use mokabox_lines::command::Command;
 use mokabox_lines::settings;
@@ -29,7 +30,6 @@ use mokabox_lines::settings::{Eviction, Weighing};
 use std::alloc::{AllocError, Global};
 use std::convert::Infallible;
 use std::hash::BuildHasherDefault;
-use std::slice;
 use std::sync::Arc;
 use std::time::Duration;
 
@@ -86,19 +86,21 @@ impl Weigher<u64, String> for Bytes {
 #[derive(Drop)]
 pub struct Session {
     alloc: Global,
-    cache: CacheState<u64, String, ScriptTypes>,
+    cache: SegmentedState<u64, String, ScriptTypes>,
     moment: u64,
 }
 
 impl Session {
-    /// A cache with these settings, at moment 0. Refused where a life is too long or the flush limit does
-    /// not serve, and else for want of memory alone.
+    /// A cache with these settings, at moment 0. Refused for its number of segments, where a life is too long or
+    /// where the flush limit does not serve, and else for want of memory alone.
     pub fn new(alloc: Global, settings: settings::Settings) -> Result<Self, BuildError>
         ensures begun { IfOk result (λ session. IsAt session.cache session.moment (cache_settings settings) beginning) }
         ensures accepted { OnOk result (settings_refused settings ≡ None) }
         ensures refused { IfErr result (λ cause. cause ≡ unwrap_or (settings_refused settings) BuildError.OutOfMemory) }
     {
-        let cache = builder_of(settings).build_state(alloc, BuildHasherDefault::default())?;
+        let wanted = settings.segments.unwrap_or(1) as usize;
+        let builder = builder_of(settings).segments(wanted)?;
+        let cache = builder.build_segmented_state(alloc, BuildHasherDefault::default())?;
         Ok(Session {
             alloc,
             cache,
@@ -190,7 +192,7 @@ impl Session {
             IsWholeWalk self.now.cache self.now.moment pairs.items)) }
         ensures cause { IfOk result (λ walked. IfErr walked (λ cause. cause ≡ Refused.OutOfMemory)) }
     {
-        let states = slice::from_ref(&self.cache);
+        let states = self.cache.segments();
         let mut cursor = WalkCursor::new();
         let mut pairs = Vec::new(self.alloc);
         while let Some(pair) = cursor.next(states, self.moment) {
@@ -223,11 +225,11 @@ impl Session {
             (map answer_text answers.items) self.new.cache self.new.moment) }
     {
         let mut answers = Vec::new(self.alloc);
-        for _ in 0..self.cache.notice_count() {
-            let answer = answer_of(self.cache.step(Step::TakeNotice));
+        while let Some(notice) = self.cache.take_notice() {
+            let answer = answer_of(Reply::Noticed(Some(notice)));
             answers.push(answer)?;
         }
-        let last = answer_of(self.cache.step(Step::TakeNotice));
+        let last = answer_of(Reply::Noticed(None));
         answers.push(last)?;
         Ok(answers)
     }

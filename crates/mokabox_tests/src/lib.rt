@@ -17,3 +17,5 @@ mod lines;
 mod runs;
 #[cfg(test)]
 mod scripts;
+#[cfg(test)]
+mod segments;

@@ -5,8 +5,8 @@ use Rattle.moka_segments.proofs.SegmentLaws.{legal-calls}
 use Rattle.moka_segments.proofs.segment_laws.each_segment_stays_within_its_share.Goals as goal
 
 pub returns-clause-always : goal.returns-clause-always
-returns-clause-always g c settings calls i capacity ones some =
-    entry_count-le g.K.PartialEq.eq (share_settings settings) ones (steps_in g.row.E.Denot g.K.PartialEq.eq settings calls i) (share (segments_of settings) capacity) (ap (option_map (share (segments_of settings))) some)
+returns-clause-always g c settings calls i capacity ones limits some =
+    entry_count-le g.K.PartialEq.eq (share_settings settings) ones limits (steps_in g.row.E.Denot g.K.PartialEq.eq settings calls i) (share (segments_of settings) capacity) (ap (option_map (share (segments_of settings))) some)
     (legal-calls g.row.E.Denot g.K.PartialEq.eq (share_settings settings) (list_of g.row.E.Denot g.K.PartialEq.eq settings calls i))
 
 pub returns-clause-weight : goal.returns-clause-weight
