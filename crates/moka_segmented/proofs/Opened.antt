@@ -1,11 +1,11 @@
 -- Segments that were just opened.
-use Rattle.std.proofs.Common.{◌≡◌, ℕ, zero, suc, ◌+◌, ◌-◌, ◌*◌, ◌/◌, ◌%◌, ◌<◌, ◌^◌, min, Bool, Option, Some, None, IfSome, List, [], ◌∷◌, ◌++◌, subst, length, map, option_map, refl, sym, ap, ◌∙◌, arith}
+use Rattle.std.proofs.Common.{◌≡◌, ◌≢◌, ℕ, zero, suc, ◌+◌, ◌-◌, ◌*◌, ◌/◌, ◌%◌, ◌<◌, ◌^◌, min, Bool, Option, Some, None, IfSome, List, [], ◌∷◌, ◌++◌, subst, length, map, option_map, refl, sym, ap, ◌∙◌, arith}
 use Rattle.std.specs.List.{slice_get, AllByRecursion}
 use Rattle.std.proofs.Math.Nat.{div-eq_of_lt, mul-add-div_right, mod-eq-sub-div-mul, div-mul-le_self, mod-lt}
 use Rattle.std.proofs.lemmas.List.{length-map}
-use Rattle.std.proofs.lemmas.Option.{slice_get-map}
-use Rattle.moka_model.specs.Lives.{Behaviour, Settings}
-use Rattle.moka_model.specs.StandsFor.{View, StandsFor}
+use Rattle.moka_model.specs.Lives.{Behaviour}
+use Rattle.moka_model.specs.SizeLaws.{LimitsSome}
+use Rattle.moka_model.specs.StandsFor.{StandsFor}
 use Rattle.moka_ways.specs.Behaviour.{BehaviourData}
 use Rattle.moka_ways.specs.StateData.{SettingsData, StateData, settings_by, view_by}
 use Rattle.moka_segments.specs.Segments.{share, share_settings, AllStandFor}
@@ -22,6 +22,17 @@ share-ceil whole count some =
     by (suc r) less =
         let one : suc r + (count - 1) ≡ 1 * count + r = omega (arith, some) in
         ap (λ n. n / count) one ∙ mul-add-div_right some 1 r ∙ ap (λ n. 1 + n) (div-eq_of_lt (let lt : r < count = omega (arith, less) in lt)) ∙ (let least : 1 + 0 ≡ min 1 (suc r) = omega arith in least)
+
+-- a limit that is not 0
+pub limits-some : (limit : Option ℕ) → limit ≢ Some 0 → LimitsSome limit
+limits-some None not_none = tt
+limits-some (Some zero) not_none = absurd (not_none refl)
+limits-some (Some (suc n)) not_none = omega arith
+
+-- what holds of all, and of one more, holds of all with it
+pub all-more : {X : Type 0} (P : X → Type 0) (xs : List X) (x : X) → P x → AllByRecursion P xs → AllByRecursion P (xs ++ x ∷ [])
+all-more P [] x here all = (here, tt)
+all-more P (y ∷ ys) x here all = (all.0, all-more P ys x here all.1)
 
 module _ {K V H W X F : Type 0} (E : Type 0) (eq : K → K → Bool) (behaviour : BehaviourData H W X → Behaviour K V) (frequency : F → List ℕ → ℕ → ℕ) (opened : F) (cache : SegmentedData K V H W X F) where
   -- where each state stands for no steps, with its share, the cache stands for no calls
@@ -46,7 +57,8 @@ module _ {K V H W X F : Type 0} (E : Type 0) (eq : K → K → Bool) (behaviour 
       → StandsFor {E = E} eq (settings_by behaviour (frequency opened) state.settings) (view_by behaviour frequency opened state) []
       → AllByRecursion (λ s. StandsFor {E = E} eq (share_settings (record { bits = bits; whole = settings_by behaviour (frequency opened) whole })) (view_by behaviour frequency opened s) []) states
       → AllByRecursion (λ s. StandsFor {E = E} eq (share_settings (record { bits = bits; whole = settings_by behaviour (frequency opened) whole })) (view_by behaviour frequency opened s) []) (states ++ state ∷ [])
-  opened-more states state count is settings empty all = at states all
+  opened-more states state count is settings empty all =
+      all-more (λ s. StandsFor {E = E} eq (share_settings (record { bits = bits; whole = settings_by behaviour (frequency opened) whole })) (view_by behaviour frequency opened s) []) states state here all
     where
       here : StandsFor {E = E} eq (share_settings (record { bits = bits; whole = settings_by behaviour (frequency opened) whole })) (view_by behaviour frequency opened state) []
       here =
@@ -54,7 +66,3 @@ module _ {K V H W X F : Type 0} (E : Type 0) (eq : K → K → Bool) (behaviour 
           (ap (settings_by behaviour (frequency opened)) settings
           ∙ ap (λ n. settings_by behaviour (frequency opened) (record whole { name = None; max_capacity = option_map (share n) whole.max_capacity })) is)
           empty
-      at : (ss : List (StateData K V H W X F)) → AllByRecursion (λ s. StandsFor {E = E} eq (share_settings (record { bits = bits; whole = settings_by behaviour (frequency opened) whole })) (view_by behaviour frequency opened s) []) ss
-          → AllByRecursion (λ s. StandsFor {E = E} eq (share_settings (record { bits = bits; whole = settings_by behaviour (frequency opened) whole })) (view_by behaviour frequency opened s) []) (ss ++ state ∷ [])
-      at [] all = (here, tt)
-      at (s ∷ ss) all = (all.0, at ss all.1)

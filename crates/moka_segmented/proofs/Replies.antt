@@ -1,5 +1,5 @@
 -- What a step of a key replies, and what the states stand for then.
-use Rattle.std.proofs.Common.{◌≡◌, ℕ, ◌==◌, ◌<◌, true, false, cond, arith, Bool, Option, Some, None, option_map, List, [], ◌∷◌, refl, sym, ap, ◌∙◌, subst, set}
+use Rattle.std.proofs.Common.{◌≡◌, ℕ, ◌<◌, true, false, cond, arith, Bool, Option, Some, None, option_map, List, [], ◌∷◌, refl, sym, ap, subst, set}
 use Rattle.moka_model.specs.Lives.{Behaviour, Settings}
 use Rattle.moka_model.specs.Steps.{AcceptedStep, events_in}
 use Rattle.moka_model.specs.Events.{Hidden}
@@ -8,15 +8,15 @@ use Rattle.moka_model.specs.Calls as answers
 use Rattle.moka_model.specs.Calls.{Call, InvalidateIf, TakeNotice, Accepted, without_move, drawn_by}
 use Rattle.moka_predicate_ids.specs.declared.predicate_error.PredicateError.{PredicateError}
 use Rattle.moka_predicate_ids.specs.declared.predicate_error.PredicateError.TheVariants.{InvalidationClosuresDisabled}
-use Rattle.moka_model.specs.StandsFor.{View, StandsFor, IsAnswerOf}
+use Rattle.moka_model.specs.StandsFor.{StandsFor, IsAnswerOf}
 use Rattle.moka_ways.specs.Behaviour.{BehaviourData}
 use Rattle.moka_ways.specs.StateData.{StateData, view_by}
 use Rattle.moka_model.specs.declared.notification.Notice.{Notice}
 use Rattle.moka_table.specs.Table.{removal_of}
 use Rattle.moka_state.specs.declared.step.Reply.{Reply}
-use Rattle.moka_state.specs.declared.step.Reply.TheVariants.{Found, Contains, Done, Counted, Noticed, Refused, PredicateRefused}
+use Rattle.moka_state.specs.declared.step.Reply.TheVariants.{Found, Contains, Done, Counted, Left, Noticed, Refused, PredicateRefused}
 use Rattle.moka_state.specs.Step.{IsReplyTo, after_reply}
-use Rattle.moka_segments.specs.Segments.{SegmentedSettings, One, asked, segment_of_key, steps_in, place_of, total_in, share_settings, AllStandFor, AtEachList, answer_in, IsAnswerIn, key_in}
+use Rattle.moka_segments.specs.Segments.{SegmentedSettings, asked, steps_in, place_of, share_settings, AllStandFor, AtEachList, answer_in, IsAnswerIn, key_in}
 use Rattle.moka_segments.proofs.Callers.{routed}
 use Rattle.moka_segmented.specs.SegmentedData.{SegmentedData, segmented_settings_by, segmented_view_by}
 use Rattle.moka_segmented.specs.Step.{IsReplyBy, IsReplyIn, after_reply_in}
@@ -30,7 +30,7 @@ module _ {K V H W X F : Type 0} (E : Type 0) (eq : K → K → Bool) (behaviour 
       → AtEachList E eq (segmented_view_by behaviour frequency opened cache) (λ given calls. IsReplyIn E eq is_clone is_infallible given calls call reply)
   routed-replies is_clone is_infallible replies given calls stand =
       let it = routed E eq given k call calls key in
-      subst (λ total. IsReplyBy total (IsReplyTo eq is_clone is_infallible (share_settings given) (steps_in E eq given calls (asked (place_of E eq given calls call))) call reply) reply) (sym it.total)
+      subst (λ joint. IsReplyBy joint (IsReplyTo eq is_clone is_infallible (share_settings given) (steps_in E eq given calls (asked (place_of E eq given calls call))) call reply) reply) (sym it.joint)
       (subst (λ place. IsReplyTo eq is_clone is_infallible (share_settings given) (steps_in E eq given calls (asked place)) call reply) (sym it.place)
       (routed-history E eq behaviour frequency opened cache here index k routing (λ s steps. IsReplyTo eq is_clone is_infallible s steps call reply) replies given calls stand))
 
@@ -47,12 +47,14 @@ module _ {K V H W X F : Type 0} (E : Type 0) (eq : K → K → Bool) (behaviour 
           (subst (λ j. StandsFor {E = E} eq (share_settings given) (view_by behaviour frequency opened new) (steps_in E eq given calls j)) (sym (index-is E eq behaviour frequency opened cache here index k routing given calls stand))
           (routed-history E eq behaviour frequency opened cache here index k routing (λ s steps. StandsFor eq s (view_by behaviour frequency opened new) steps) same given calls stand))
           (λ i other. refl) stand
+
       by : (it : Reply K V) → ((s : Settings K V) (steps : List (AcceptedStep K V E)) → StandsFor eq s (view_by behaviour frequency opened here) steps → StandsFor eq s (view_by behaviour frequency opened new) (after_reply eq s call it steps))
           → AtEachList E eq (segmented_view_by behaviour frequency opened cache) (λ given calls. AllStandFor E eq given (segmented_view_by behaviour frequency opened (record cache { segments = set cache.segments index new })) (after_reply_in call it calls))
       by (Found v) follows = routed-follows E eq behaviour frequency opened cache here index k routing call new key follows
       by (Contains b) follows = routed-follows E eq behaviour frequency opened cache here index k routing call new key follows
       by Done follows = routed-follows E eq behaviour frequency opened cache here index k routing call new key follows
       by (Counted n) follows = routed-follows E eq behaviour frequency opened cache here index k routing call new key follows
+      by (Left b) follows = routed-follows E eq behaviour frequency opened cache here index k routing call new key follows
       by (Noticed n) follows = routed-follows E eq behaviour frequency opened cache here index k routing call new key follows
       by (Refused cause) same = refused same
       by (PredicateRefused cause) same = refused same

@@ -1,15 +1,15 @@
 -- A call of a key, to one state of a vector.
-use Rattle.std.proofs.Common.{◌≡◌, ℕ, zero, suc, ◌<◌, ◌^◌, ◌==◌, false, Bool, Option, Some, None, Result, Ok, Err, IsOk, IsErr, IfOk, IfSome, OnOk, OnErr, List, [], ◌∷◌, length, map, option_map, refl, sym, ap, ◌∙◌, subst, get_or, set, arith}
+use Rattle.std.proofs.Common.{◌≡◌, ℕ, zero, suc, ◌<◌, ◌==◌, false, Bool, Option, Some, None, Result, Ok, Err, IsOk, IsErr, IfOk, IfSome, OnOk, OnErr, List, [], ◌∷◌, length, map, option_map, refl, sym, ap, ◌∙◌, subst, get_or, set}
 use Rattle.std.specs.List.{slice_get}
 use Rattle.std.proofs.lemmas.List.{set-get_or}
 use Rattle.std.proofs.lemmas.Option.{slice_get_read, slice_get-map}
 use Rattle.moka_model.specs.Lives.{Behaviour, Settings}
 use Rattle.moka_model.specs.Steps.{AcceptedStep}
 use Rattle.moka_model.specs.Calls.{Call, Answer, accepted, answer_of}
-use Rattle.moka_model.specs.StandsFor.{View, StandsFor, Follows, Answers}
+use Rattle.moka_model.specs.StandsFor.{StandsFor, Follows, Answers}
 use Rattle.moka_ways.specs.Behaviour.{BehaviourData}
 use Rattle.moka_ways.specs.StateData.{SettingsData, StateData, view_by}
-use Rattle.moka_segments.specs.Segments.{SegmentedSettings, SegmentedView, One, segment_of_key, steps_in, place_of, share_settings, AllStandFor, AtEachList, AnswersIn, FollowsIn, IsAnswerIn, key_in}
+use Rattle.moka_segments.specs.Segments.{SegmentedSettings, One, segment_of_key, steps_in, place_of, share_settings, AllStandFor, AtEachList, AnswersIn, FollowsIn, IsAnswerIn, key_in}
 use Rattle.moka_segments.proofs.Callers.{routed, answer-at, answer-asked, hash-at, stand-set, stand-one, stand-here}
 use Rattle.moka_segmented.specs.SegmentedData.{SegmentedData, segmented_settings_by, segmented_view_by}
 
@@ -85,7 +85,7 @@ module _ {K V H W X F : Type 0} (E : Type 0) (eq : K → K → Bool) (behaviour 
       → AnswersIn E eq is_clone (segmented_view_by behaviour frequency opened cache) call answer
   routed-answers is_clone call answer key answers given calls stand =
       let it = routed E eq given k call calls key in
-      subst (λ o. IsAnswerIn is_clone o answer) (sym (answer-asked E eq given calls call (One (segment_of_key given k)) it.place it.total))
+      subst (λ o. IsAnswerIn is_clone o answer) (sym (answer-asked E eq given calls call (One (segment_of_key given k)) it.place it.joint))
       (subst (λ j. IsAnswerIn is_clone (answer_of (accepted eq (share_settings given) (steps_in E eq given calls j) call)) answer) (index-is given calls stand)
       (answer-at E eq given is_clone (segmented_view_by behaviour frequency opened cache) calls index (view_by behaviour frequency opened here) call answer here-view answers stand))
 

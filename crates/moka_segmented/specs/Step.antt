@@ -1,23 +1,24 @@
 -- What a step of a cache of several segments replies, and what a run of steps does.
-use Rattle.std.specs.Prelude.{⊤, ◌≡◌, ℕ, Bool, Option, Some, None, List, [], ◌∷◌}
+use Rattle.std.specs.Prelude.{⊤, ◌≡◌, Bool, Option, Some, None, List, [], ◌∷◌}
 use Rattle.moka_model.specs.Calls.{Call}
 use Rattle.moka_state.specs.declared.step.Step.{Step}
 use Rattle.moka_state.specs.declared.step.Reply.{Reply}
-use Rattle.moka_state.specs.declared.step.Reply.TheVariants.{Counted, Refused, PredicateRefused}
+use Rattle.moka_state.specs.declared.step.Reply.TheVariants.{Counted, Left, Refused, PredicateRefused}
 use Rattle.moka_state.specs.Step.{call_of, IsReplyTo}
-use Rattle.moka_segments.specs.Segments.{SegmentedSettings, share_settings, steps_in, asked, place_of, total_in}
+use Rattle.moka_segments.specs.Segments.{SegmentedSettings, share_settings, steps_in, asked, place_of, Joint, Total, AnyLeft, joint_in}
 
--- a reply to a count is its total, and to any other call it is such as is said
-abbrev pub IsReplyBy : {K V : Type 0} → Option ℕ → Type 0 → Reply K V → Type 0
-IsReplyBy (Some total) Otherwise reply = reply ≡ Counted total
+-- a reply to what all segments answer together is that, and to any other call it is such as is said
+abbrev pub IsReplyBy : {K V : Type 0} → Option Joint → Type 0 → Reply K V → Type 0
+IsReplyBy (Some (Total total)) Otherwise reply = reply ≡ Counted total
+IsReplyBy (Some (AnyLeft left)) Otherwise reply = reply ≡ Left left
 IsReplyBy None Otherwise reply = Otherwise
 
--- What a call replies after others: a count its total, and any other call what the segment that is asked replies, as a state
--- of its share that was given its own list alone.
+-- What a call replies after others: what all segments answer together, and else what the segment that is asked replies, as a
+-- state of its share that was given its own list alone.
 abbrev pub IsReplyIn : {K V : Type 0} (E : Type 0) → (K → K → Bool) → (V → V → Type 0) → (V → Type 0) → SegmentedSettings K V →
     List (Call K V) → Call K V → Reply K V → Type 0
 IsReplyIn E eq is_clone is_infallible settings calls call reply =
-    IsReplyBy (total_in E eq settings calls call)
+    IsReplyBy (joint_in E eq settings calls call)
     (IsReplyTo eq is_clone is_infallible (share_settings settings)
     (steps_in E eq settings calls (asked (place_of E eq settings calls call))) call reply)
     reply

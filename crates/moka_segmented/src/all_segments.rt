@@ -1,7 +1,7 @@
 //! The calls that go to all segments, and the questions that ask all of them.
 ghost use Rattle.std.specs.Prelude.{◌≡◌, ◌↔◌, ℕ, true, min, length, slice_get, IsOk, IfErr, IfSome, OnOk, OnErr};
 ghost use Rattle.std.specs.Arc.{arc_value};
-ghost use Rattle.moka_model.specs.Calls.{InvalidateAll, InvalidateIf, RunPendingTasks, EntryCount, WeightedSize, Counted};
+ghost use Rattle.moka_model.specs.Calls.{InvalidateAll, InvalidateIf, RunPendingTasks, RunPendingTasksUpTo, EntryCount, WeightedSize, Counted, Left};
 ghost use Rattle.moka_model.specs.Numbers.{greatest_number};
 ghost use Rattle.moka_segments.specs.Segments.{sum_below};
 ghost use Rattle.moka_segmented.specs.SegmentedData.{stored_at, weight_at, notices_kept};
@@ -33,6 +33,22 @@ impl<K: Hash + Drop, V: Clone, C: CacheTypes<K, V>, R: RowStore<K, V>> Segmented
         for index in 0..self.segments.len() {
             self.segments[index].run_pending_tasks(now);
         }
+    }
+
+    /// Runs a maintenance within a limit in each segment, in order, at one moment: in each of them at
+    /// most as many values leave as the limit says. Answers whether some segment left a part of it
+    /// undone. It takes no memory.
+    pub fn run_pending_tasks_up_to(&mut self, limit: u64, now: u64) -> bool
+        ensures reply { ⟦<C as SegmentedStateView<K, V>>⟧.answers_in
+            self.old (RunPendingTasksUpTo limit now) (Left result) }
+        ensures stands { ⟦<C as SegmentedStateView<K, V>>⟧.follows_in
+            self.old (RunPendingTasksUpTo limit now) self.new }
+    {
+        let mut is_left = false;
+        for index in 0..self.segments.len() {
+            is_left |= self.segments[index].run_pending_tasks_up_to(limit, now);
+        }
+        is_left
     }
 
     /// How many keys are stored in all segments together, with those that wait and those whose

@@ -1,6 +1,7 @@
 //! Opens the segments of a cache.
 ghost use Rattle.std.specs.Prelude.{◌≡◌, ◌≢◌, ◌<◌, ◌≤◌, ◌^◌, [], Some, None, option_map, IfSome, IfOk, IfErr, IsSome};
 ghost use Rattle.std.specs.Arc.{arc_value};
+ghost use Rattle.std.specs.List.{AllByRecursion};
 ghost use Rattle.moka_segments.specs.Segments.{share, bits_for};
 ghost use Rattle.moka_segmented.specs.SegmentedData.{data_of};
 
@@ -32,6 +33,8 @@ pub fn opened<K: Hash + Drop, V: Clone, C: CacheTypes<K, V>, R: RowStore<K, V>>(
     ensures settings { IfOk result (λ cache. cache.settings ≡ data_of settings) }
     ensures empty { IfOk result (λ cache. ⟦<C as SegmentedStateView<K, V>>⟧.all_stand_for
         (⟦<C as SegmentedStateView<K, V>>⟧.segmented_settings cache) cache []) }
+    ensures room { IfOk result (λ cache. AllByRecursion
+        (λ state. share (2 ^ bits) settings.initial_capacity ≤ state.initial_room) cache.segments) }
     ensures cause { IfErr result (λ cause. cause ≡ Refused.OutOfMemory) }
 {
     let count = count_of(bits);
@@ -89,6 +92,8 @@ fn share_of<K: Hash + Drop, V: Clone, C: CacheTypes<K, V>>(
       name = None;
       max_capacity = option_map (share count) settings.now.max_capacity;
     }) }
+    ensures room { IfOk result (λ one.
+        one.initial_capacity ≡ share count settings.now.initial_capacity) }
     ensures weighs { IfOk result (λ one. IfSome one.weigher (λ weigher.
         C.Weigher.weighs (arc_value weigher) (C.weight (arc_value weigher)))) }
     ensures gives { IfOk result (λ one. IfSome one.expiry (λ expiry.

@@ -5,6 +5,7 @@ ghost use Rattle.std.specs.Arc.{arc_value};
 ghost use Rattle.std.specs.Duration.{as_nanos};
 ghost use Rattle.moka_model.specs.Calls.{Get, ContainsKey, Insert, Invalidate, Remove, TakeNotice, Found, Contains, Noticed, IsOutOfNumbers};
 ghost use Rattle.moka_model.specs.Numbers.{stores_nothing};
+ghost use Rattle.moka_model.specs.SizeLaws.{LimitsSome};
 ghost use Rattle.moka_table.specs.Table.{removal_of};
 ghost use Rattle.moka_segments.specs.Segments.{segment_of, segment_of_key, first_from, share_settings, steps_in, live_in};
 ghost use Rattle.moka_segmented.specs.SegmentedData.{SegmentedData, data_of, has_notice, notices_kept};
@@ -32,7 +33,8 @@ pub struct Segmented<K: Hash + Drop, V: Clone, C: CacheTypes<K, V>, R: RowStore<
 /// with its share of the capacity. What happens in one changes no answer of another.
 pub type SegmentedState<K, V, C> = Segmented<K, V, C, DueRows<K, V>>;
 
-impl<K: Hash + Drop, V: Clone, C: CacheTypes<K, V>, R: RowStore<K, V>> Model for Segmented<K, V, C, R> {
+impl<K: Hash + Drop, V: Clone, C: CacheTypes<K, V>, R: RowStore<K, V>> Model
+    for Segmented<K, V, C, R> {
     ghost Value = { SegmentedData K V C.Hasher C.Weigher C.Expiry C.Frequency };
 
     ghost view = { λ it. record {
@@ -41,7 +43,8 @@ impl<K: Hash + Drop, V: Clone, C: CacheTypes<K, V>, R: RowStore<K, V>> Model for
       segments = it.segments.items;
     } };
 
-    ghost invariant = { λ it. (it.bits < 64) × (length it.segments.items ≡ 2 ^ it.bits) };
+    ghost invariant = { λ it. (it.bits < 64) × (length it.segments.items ≡ 2 ^ it.bits)
+        × LimitsSome it.settings.flush_limit };
 }
 
 impl<K: Hash + Drop, V: Clone, C: CacheTypes<K, V>, R: RowStore<K, V>> Segmented<K, V, C, R> {
@@ -193,6 +196,13 @@ impl<K: Hash + Drop, V: Clone, C: CacheTypes<K, V>, R: RowStore<K, V>> Segmented
         ensures { result.now ≡ self.now.segments }
     {
         &self.segments
+    }
+
+    // The allocator that it keeps. Its flush limit, if there is one, is not 0.
+    pub(crate) fn alloc(&self) -> Global
+        ensures { LimitsSome self.now.settings.flush_limit }
+    {
+        self.alloc
     }
 
     // The number of a key's segment: the highest bits of its hash.

@@ -64,6 +64,9 @@ impl<K: Hash + Drop, V: Clone, C: CacheTypes<K, V>, R: RowStore<K, V>> Segmented
                 self.run_pending_tasks(now);
                 Reply::Done
             }
+            Step::RunPendingTasksUpTo { limit, now } => {
+                Reply::Left(self.run_pending_tasks_up_to(limit, now))
+            }
             Step::EntryCount => Reply::Counted(self.entry_count()),
             Step::WeightedSize => Reply::Counted(self.weighted_size()),
             Step::TakeNotice => Reply::Noticed(self.take_notice()),
@@ -98,7 +101,7 @@ impl<K: Hash + Drop, V: Clone, C: CacheTypes<K, V>, R: RowStore<K, V>> Segmented
         ensures refused { OnErr result (self.new ≡ self.old) }
         ensures cause { IfErr result (λ cause. cause ≡ Refused.OutOfMemory) }
     {
-        let Ok(mut replies) = Vec::with_capacity(self.alloc, steps.len()) else {
+        let Ok(mut replies) = Vec::with_capacity(self.alloc(), steps.len()) else {
             return Err(Refused::OutOfMemory);
         };
         let mut left = VecDeque::from_vec(steps);

@@ -396,6 +396,9 @@ impl<K: Hash + Drop, V: Clone, C: CacheTypes<K, V>> CacheBuilder<K, V, C, Segmen
         ensures segments { IfOk result (λ cache. cache.bits ≡ bits_for self.num_segments) }
         ensures empty { IfOk result (λ cache. ⟦<C as SegmentedStateView<K, V>>⟧.all_stand_for
             (⟦<C as SegmentedStateView<K, V>>⟧.segmented_settings cache) cache []) }
+        ensures room { IfOk result (λ cache. AllByRecursion (λ state.
+            share (2 ^ bits_for self.num_segments) self.initial_capacity ≤ state.initial_room)
+            cache.segments) }
         ensures accepted { OnOk result (build_refused self ≡ None) }
         ensures refused { IfErr result (λ cause.
             cause ≡ unwrap_or (build_refused self) BuildError.OutOfMemory) }

@@ -46,5 +46,5 @@ returns-clause-nothing g c =
     record { here_is = c.index_mut.ensures.value; is = rw (← c.self.view_is) at c.segment_of-index.ensures.is; within = rw (← c.self.view_is) at c.segment_of-index.ensures.within } in
     rw (← c.self.view_is)
     (λ given calls stand none.
-        routed-history g.row.C-Error.Denot g.K.PartialEq.eq behaviour frequency g.C.Frequency.FrequencySource.opened cache _ _ c.args.key routing (λ s steps. stores_nothing s.max_capacity ≡ true → IsOk c.insert.result) (λ s steps stands. nothing-stored g.K.PartialEq.eq s _ steps stands (IsOk c.insert.result) c.insert.ensures.nothing)
-        given calls stand (nothing-shared given none))
+    routed-history g.row.C-Error.Denot g.K.PartialEq.eq behaviour frequency g.C.Frequency.FrequencySource.opened cache _ _ c.args.key routing (λ s steps. stores_nothing s.max_capacity ≡ true → IsOk c.insert.result) (λ s steps stands. nothing-stored g.K.PartialEq.eq s _ steps stands (IsOk c.insert.result) c.insert.ensures.nothing)
+    given calls stand (nothing-shared given none))

@@ -1,8 +1,8 @@
-use Rattle.std.proofs.Common.{◌≡◌, true, IsOk, ◌↔◌, refl}
+use Rattle.std.proofs.Common.{refl}
 use Rattle.moka_ways.specs.Behaviour.{hash_by, behaviour_by}
 use Rattle.moka_ways.specs.StateData.{estimates}
 use Rattle.moka_segmented.proofs.Broadcast.{supported-by}
-use Rattle.moka_segmented.proofs.Routed.{OnErr-all, not-both}
+use Rattle.moka_segmented.proofs.Routed.{not-both}
 use Rattle.moka_segmented.proofs.segment.Segmented.invalidate_entries_with_arc_fun.Goals as goal
 
 pub returns-in_err-room_in_all-clause-accepted : goal.returns-in_err-room_in_all-clause-accepted

@@ -1,8 +1,10 @@
-use Rattle.std.proofs.Common.{[], ◌∷◌, ◌++◌, sym, ap, ◌∙◌, arith, append_assoc}
+use Rattle.std.proofs.Common.{[], ◌∷◌, ◌++◌, sym, ap, ◌∙◌, subst, arith, append_assoc}
 use Rattle.std.proofs.lemmas.List.{append-nil}
 use Rattle.moka_ways.specs.Behaviour.{hash_by, behaviour_by}
 use Rattle.moka_ways.specs.StateData.{estimates}
 use Rattle.moka_ways.specs.Behaviour.{weight_by}
+use Rattle.moka_model.specs.SizeLaws.{LimitsSome}
+use Rattle.moka_segments.specs.Segments.{SegmentedSettings}
 use Rattle.moka_segmented.proofs.Bounds.{all-bounded}
 use Rattle.moka_segmented.proofs.Runs.{IsRunIn-more, all-stand-more, same_as_rest-empty}
 use Rattle.moka_segmented.proofs.segment.Segmented.run.Goals as goal
@@ -47,4 +49,5 @@ returns-clause-stands g c given before stands =
 pub returns-clause-bounded : goal.returns-clause-bounded
 returns-clause-bounded g c given before stands without =
     let was = c.loop-step.invariant.so_far given before stands in
-    all-bounded g.row.C-Error.Denot g.K.PartialEq.eq (behaviour_by (hash_by g.C.Hasher.BuildHasher.build_hasher g.C.Hasher.Hasher.Hasher.write g.C.Hasher.Hasher.Hasher.finish g.K.Hash.hash_input) g.C.CacheTypes.weight g.C.CacheTypes.lifetimes) (estimates g.C.Frequency.FrequencySource.noted g.C.Frequency.FrequencySource.count) g.C.Frequency.FrequencySource.opened c.loop-step.self given _ was.3 (λ k v. ap (λ it. weight_by g.C.CacheTypes.weight it k v) without)
+    let limits = subst (λ (s : SegmentedSettings _ _). LimitsSome s.whole.flush_limit) (stands.settings ∙ sym was.3.settings) c.alloc.ensures in
+    all-bounded g.row.C-Error.Denot g.K.PartialEq.eq (behaviour_by (hash_by g.C.Hasher.BuildHasher.build_hasher g.C.Hasher.Hasher.Hasher.write g.C.Hasher.Hasher.Hasher.finish g.K.Hash.hash_input) g.C.CacheTypes.weight g.C.CacheTypes.lifetimes) (estimates g.C.Frequency.FrequencySource.noted g.C.Frequency.FrequencySource.count) g.C.Frequency.FrequencySource.opened c.loop-step.self given _ was.3 (λ k v. ap (λ it. weight_by g.C.CacheTypes.weight it k v) without) limits

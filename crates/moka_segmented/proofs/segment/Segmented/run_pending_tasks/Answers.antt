@@ -1,4 +1,4 @@
-use Rattle.std.proofs.Common.{◌≡◌, ℕ, ◌<◌, length, map, ap, sym, ◌∙◌, refl, arith, Some}
+use Rattle.std.proofs.Common.{◌≡◌, ◌<◌, length, ap, refl, arith, Some}
 use Rattle.std.specs.List.{slice_get}
 use Rattle.std.proofs.lemmas.Option.{slice_get_read}
 use Rattle.moka_ways.specs.Behaviour.{hash_by, behaviour_by}

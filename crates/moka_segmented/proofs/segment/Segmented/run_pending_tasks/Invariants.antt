@@ -1,4 +1,4 @@
-use Rattle.std.proofs.Common.{◌≡◌, ℕ}
+use Rattle.std.proofs.Common.{◌≡◌}
 use Rattle.moka_ways.specs.Behaviour.{hash_by, behaviour_by}
 use Rattle.moka_ways.specs.StateData.{estimates, view_by}
 use Rattle.moka_model.specs.Calls.{RunPendingTasks}

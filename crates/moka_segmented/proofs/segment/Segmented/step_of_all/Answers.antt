@@ -25,5 +25,8 @@ returns-in-Err-clause-reply g c given calls stand =
 pub returns-in-RunPendingTasks-clause-stands : goal.returns-in-RunPendingTasks-clause-stands
 returns-in-RunPendingTasks-clause-stands g c given calls stand = rw c.in-RunPendingTasks.is (c.run_pending_tasks.ensures given calls stand)
 
+pub returns-in-RunPendingTasksUpTo-clause-stands : goal.returns-in-RunPendingTasksUpTo-clause-stands
+returns-in-RunPendingTasksUpTo-clause-stands g c given calls stand = rw c.in-RunPendingTasksUpTo.is (c.run_pending_tasks_up_to.ensures.stands given calls stand)
+
 pub returns-in-TakeNotice-clause-stands : goal.returns-in-TakeNotice-clause-stands
 returns-in-TakeNotice-clause-stands g c given calls stand = rw c.in-TakeNotice.is (c.take_notice.ensures.stands given calls stand)

@@ -1,9 +1,9 @@
-use Rattle.std.proofs.Common.{◌≡◌, ◌<◌, Some, None, length, ap, sym, refl, arith, option_map}
+use Rattle.std.proofs.Common.{◌≡◌, ◌<◌, Some, length, ap, sym, refl, arith, option_map}
 use Rattle.std.specs.List.{slice_get}
 use Rattle.std.proofs.lemmas.Option.{slice_get_read}
 use Rattle.moka_ways.specs.Behaviour.{hash_by, behaviour_by}
 use Rattle.moka_ways.specs.StateData.{estimates}
-use Rattle.moka_model.specs.Calls.{TakeNotice, Noticed}
+use Rattle.moka_model.specs.Calls.{Noticed}
 use Rattle.moka_table.specs.Table.{removal_of}
 use Rattle.moka_segments.specs.Segments.{first_from}
 use Rattle.moka_segments.proofs.Callers.{first_from-passes}

@@ -1,0 +1,15 @@
+use Rattle.std.proofs.Common.{◌≡◌}
+use Rattle.moka_ways.specs.Behaviour.{hash_by, behaviour_by}
+use Rattle.moka_ways.specs.StateData.{estimates, view_by}
+use Rattle.moka_model.specs.Calls.{RunPendingTasksUpTo}
+use Rattle.moka_segmented.specs.SegmentedData.{data_of}
+use Rattle.moka_segmented.proofs.Broadcast.{Together}
+use Rattle.moka_segmented.proofs.segment.Segmented.run_pending_tasks_up_to.Given as goal
+
+-- those before the index have followed the call, and it is known whether any of them left a part; the others are as they were
+abbrev pub invariant-loop-index : goal.invariant-loop-index
+invariant-loop-index g l = record {
+  bits : l.self-inside.bits ≡ l.fn.self.bits;
+  settings : data_of l.self-inside.settings ≡ l.fn.self.settings;
+  together : Together g.row.C-Error.Denot g.K.PartialEq.eq g.V.Clone.is_clone (view_by (behaviour_by (hash_by g.C.Hasher.BuildHasher.build_hasher g.C.Hasher.Hasher.Hasher.write g.C.Hasher.Hasher.Hasher.finish g.K.Hash.hash_input) g.C.CacheTypes.weight g.C.CacheTypes.lifetimes) (estimates g.C.Frequency.FrequencySource.noted g.C.Frequency.FrequencySource.count) g.C.Frequency.FrequencySource.opened) (RunPendingTasksUpTo l.fn.limit l.fn.now) l.fn.self.segments l.self-inside.segments.items l.is_left l.index;
+}
