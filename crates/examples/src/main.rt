@@ -7,6 +7,7 @@ mod found;
 mod limits;
 mod lines;
 mod memoizer;
+mod segments;
 mod sessions;
 mod temp_files;
 mod threads;
@@ -29,10 +30,11 @@ enum Example {
     TempFiles,
     Walks,
     Limits,
+    Segments,
 }
 
 impl Example {
-    const ALL: [Example; 10] = [
+    const ALL: [Example; 11] = [
         Example::Calls,
         Example::First,
         Example::Found,
@@ -43,6 +45,7 @@ impl Example {
         Example::TempFiles,
         Example::Walks,
         Example::Limits,
+        Example::Segments,
     ];
 
     fn name(self) -> &'static str {
@@ -57,6 +60,7 @@ impl Example {
             Example::TempFiles => "temp_files",
             Example::Walks => "walks",
             Example::Limits => "limits",
+            Example::Segments => "segments",
         }
     }
 
@@ -108,6 +112,7 @@ fn main(rt: HostRuntime) -> Result<ExitCode> {
             Example::TempFiles => temp_files::main(rt)?,
             Example::Walks => walks::main(rt)?,
             Example::Limits => limits::main(rt)?,
+            Example::Segments => segments::main(rt)?,
         }
     }
     Ok(ExitCode::SUCCESS)

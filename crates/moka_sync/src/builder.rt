@@ -1,11 +1,12 @@
 //! Builds caches.
-ghost use Rattle.std.specs.Prelude.{◌≡◌, ◌≢◌, ◌≤◌, true, Some, None, [], option_map, unwrap_or, IfSome, IfOk, IfErr, IsSome, OnOk};
+ghost use Rattle.std.specs.Prelude.{◌≡◌, ◌≢◌, ◌≤◌, ◌^◌, true, Some, None, [], option_map, unwrap_or, IfSome, IfOk, IfErr, IsSome, OnOk};
 ghost use Rattle.std.specs.Arc.{arc_value};
+ghost use Rattle.std.specs.List.{AllByRecursion};
 ghost use Rattle.std.specs.String.{string_bytes};
 ghost use Rattle.moka_policy.specs.Policy.{is_lru};
 ghost use Rattle.moka_sync.specs.Builder.{BuilderData, nothing_said, segments_refused, build_refused, settings_built};
 ghost use Rattle.moka_sync.specs.Cache.{IsBuilt};
-ghost use Rattle.moka_segments.specs.Segments.{bits_for};
+ghost use Rattle.moka_segments.specs.Segments.{share, bits_for};
 ghost use Rattle.moka_segmented.specs.SegmentedData.{data_of};
 
 use crate::cache::{Cache, Inside, Locked};

@@ -1,0 +1,33 @@
+//! A cache of several segments: each key is of one of them, and each of them is a cache of its share.
+
+use anyhow::Result;
+use moka::ready::{FoldState, Plain};
+use moka::sync::CacheBuilder;
+use moka::sync::segment::SegmentedState;
+use std::alloc::Global;
+
+type Names = SegmentedState<u64, String, Plain>;
+
+// Room for 1000 names in 8 segments: for 125 in each.
+fn opened(alloc: Global) -> Result<Names> {
+    let builder = CacheBuilder::new(1_000).segments(8)?;
+    Ok(builder.build_segmented_state(alloc, FoldState::default())?)
+}
+
+fn run(rt: &HostRuntime, names: &mut Names) -> Result<()> {
+    for number in 0..100 {
+        names.insert(number, String::from_str(rt.alloc(), "Alice")?, 0)?;
+    }
+    for (number, segment) in names.segments().iter().enumerate() {
+        println!(rt; "segment {number}: {} names", segment.entry_count())?;
+    }
+    names.invalidate(&7, 0);
+    names.run_pending_tasks(0);
+    println!(rt; "{} names in all, {} left", names.entry_count(), names.notice_count())?;
+    Ok(())
+}
+
+/// Runs the example.
+pub fn main(rt: HostRuntime) -> Result<()> {
+    run(&rt, &mut opened(rt.alloc())?)
+}

@@ -1,0 +1,13 @@
+//! The tests of caches of several segments, by calls and by runs.
+#![tactic(auto)]
+
+#[cfg(test)]
+mod caches;
+#[cfg(test)]
+mod calls;
+#[cfg(test)]
+mod refusals;
+#[cfg(test)]
+mod runs;
+#[cfg(test)]
+mod shares;

@@ -1,0 +1,101 @@
+//! How many segments there are, what the share of each is, and which keys are of it.
+use crate::caches::{Builder, Hasher, Texts, UPPER, builder, insert, opened};
+use moka::common::builder_utils::BuildError;
+use moka::policy::{EvictionPolicy, NoListener, Policy};
+use std::alloc::Global;
+use std::process::Abort;
+use std::test::Fail;
+use std::time::Duration;
+
+/// A capacity, a wanted number of segments, how many there are, and the share of each.
+const SHARES: [(u64, usize, usize, u64); 8] = [
+    (100, 1, 1, 100),
+    (100, 2, 2, 50),
+    (100, 5, 8, 13),
+    (100, 15, 16, 7),
+    (100, 24, 32, 4),
+    (0, 4, 4, 0),
+    (1, 4, 4, 1),
+    (9_007_199_254_740_993, 2, 2, 4_503_599_627_370_497),
+];
+
+#[test]
+fn each_segment_has_its_share(rt: HostRuntime) -> Result<(), Fail> {
+    for (capacity, wanted, segments, share) in SHARES {
+        let cache = opened(rt.alloc(), builder(capacity), wanted)?;
+        has_shares(&rt, &cache, Policy::new(Some(capacity), segments, None, None), share);
+    }
+    Ok(())
+}
+
+fn has_shares(rt: &impl Abort, cache: &Texts, policy: Policy, share: u64) {
+    assert_eq!(rt; cache.policy(), policy);
+    assert_eq!(rt; cache.segments().len(), policy.num_segments());
+    for segment in cache.segments() {
+        assert_eq!(rt; segment.policy(), Policy::new(Some(share), 1, None, None));
+    }
+}
+
+#[test]
+fn every_setting_is_kept(rt: HostRuntime) -> Result<(), Fail> {
+    let told: Builder = Builder::new(400)
+        .time_to_live(Duration::from_secs(2700))
+        .time_to_idle(Duration::from_secs(900))
+        .eviction_policy(EvictionPolicy::lru())
+        .eviction_listener(NoListener)
+        .name(rt.alloc(), "tracked_sessions")?;
+    let cache = opened(rt.alloc(), told, 24)?;
+    let (live, idle) = (Duration::from_secs(2700), Duration::from_secs(900));
+    assert_eq!(rt; cache.policy(), Policy::new(Some(400), 32, Some(live), Some(idle)));
+    assert_eq!(rt; cache.name(), Some("tracked_sessions"));
+    for segment in cache.segments() {
+        assert_eq!(rt; segment.policy(), Policy::new(Some(13), 1, Some(live), Some(idle)));
+    }
+    Ok(())
+}
+
+#[test]
+fn more_segments_than_memory_are_refused(rt: HostRuntime) -> Result<(), Fail> {
+    for (segments, rows) in [(1 << 63, 0), (1 << 50, 0), (4, usize::MAX)] {
+        let built = builder(100)
+            .initial_capacity(rows)
+            .segments(segments)?
+            .build_segmented_state(rt.alloc(), Hasher::default());
+        assert_eq!(rt; built.err(), Some(BuildError::OutOfMemory));
+    }
+    Ok(())
+}
+
+/// Keys, and the segments of eight in which they are.
+const PLACES: [(u64, usize); 6] = [
+    (5, 0),
+    (2_305_843_009_213_693_951, 0),
+    (2_305_843_009_213_693_952, 1),
+    (UPPER - 1, 3),
+    (UPPER, 4),
+    (u64::MAX, 7),
+];
+
+#[test]
+fn a_key_is_of_the_segment_of_its_highest_bits(rt: HostRuntime) -> Result<(), Fail> {
+    for (key, place) in PLACES {
+        let mut cache = opened(rt.alloc(), builder(100), 5)?;
+        is_of_segment(&rt, rt.alloc(), &mut cache, key, place)?;
+    }
+    Ok(())
+}
+
+fn is_of_segment(
+    rt: &impl Abort,
+    alloc: Global,
+    cache: &mut Texts,
+    key: u64,
+    place: usize,
+) -> Result<(), Fail> {
+    insert(cache, alloc, key, "a", 0)?;
+    for (number, segment) in cache.segments().iter().enumerate() {
+        assert_eq!(rt; segment.contains_key(&key, 0), number == place);
+        assert_eq!(rt; segment.entry_count(), u64::from(number == place));
+    }
+    Ok(())
+}
