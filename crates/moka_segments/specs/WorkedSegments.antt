@@ -1,7 +1,8 @@
 -- The settings and the calls of the worked cases of segments. Keys and values are numbers, and each key is its own hash.
 use Rattle.std.specs.Prelude.{ℕ, ◌*◌, ◌^◌, true, Option, Some, None, List, [], ◌∷◌, nat_eq}
 use Rattle.moka_model.specs.Lives.{no_lifetimes}
-use Rattle.moka_model.specs.Calls.{Call, Answer, Get, Insert, Invalidate, InvalidateAll, RunPendingTasks, RunPendingTasksUpTo, EntryCount, TakeNotice}
+use Rattle.moka_model.specs.Calls.{Call, Answer, Get, Insert, Invalidate, InvalidateAll}
+use Rattle.moka_model.specs.Calls.{RunPendingTasks, RunPendingTasksUpTo, EntryCount, TakeNotice}
 use Rattle.moka_segments.specs.Segments.{SegmentedSettings, answer_in}
 
 -- some seconds, in nanoseconds

@@ -68,6 +68,16 @@ module _ {K V E : Type 0} (eq : K → K → Bool) (laws : IsEquivalence eq) wher
       go None is = absurd (no-value V is)
       go (Some history) is = standing-count history k ∙ some history.settings _ (standing eq history.settings k (events_in history.steps)) is
 
+  -- where each key has its home, it is live there alone
+  pub live-at-home : (home : K → ℕ) → HasOneHome eq home → (histories : List (History K V E)) → AreAtHome eq home histories → (now i : ℕ) (k : K) → IsSome (live_in eq histories now i k) → i ≡ home k
+  live-at-home home homes histories at_home now i k live =
+      ⊎_elim (λ same. same)
+      (λ differ.
+          let one = live-stands histories now i k live in
+          let none = count-none (λ q. eq q k) (standing_in eq histories i) (away eq home homes k i (standing_in eq histories i) (at_home i) differ) in
+          absurd (let no : ⊥ = omega (arith, one, none) in no))
+      (same-or-not i (home k))
+
   -- it is in a segment that is there
   pub live-within : (histories : List (History K V E)) (now i : ℕ) (k : K) → IsSome (live_in eq histories now i k) → i < length histories
   live-within histories now i k live = go (slice_get histories i) refl live

@@ -1,6 +1,8 @@
 -- A cache that was just built is where a script begins.
 use Rattle.std.proofs.Common.{◌≡◌, ◌%◌, ◌^◌, ◌<◌, ℕ, Bool, is_some, [], Option, Some, None, option_map, nat_eq, refl, ap, ◌∙◌, subst}
+use Rattle.std.proofs.Math.Nat.{mod-lt}
 use Rattle.std.proofs.Math.Path.{fun_ext}
+use Rattle.std.proofs.lemmas.Nat.{pow_pos}
 use Rattle.std.specs.declared.convert.Infallible.{Infallible}
 use Rattle.std.specs.Duration.{as_nanos}
 use Rattle.std.specs.Hash.BuildHasherDefault.{initial_hasher}
@@ -10,6 +12,7 @@ use Rattle.moka_policy.specs.Frequency.{none_noted, noted, estimated, estimate_a
 use Rattle.moka_model.specs.Lives.{Settings as WholeSettings, Lifetimes, no_lifetimes}
 use Rattle.moka_policy.specs.declared.expiry.NoExpiry.{NoExpiry}
 use Rattle.moka_segments.specs.Segments.{SegmentedSettings, bits_for, AllStandFor}
+use Rattle.moka_segments.proofs.Rounding.{bits_for-few}
 use Rattle.moka_segmented.specs.SegmentedData.{segmented_settings_by}
 use Rattle.moka_state.specs.Behaviour as behaviours
 use Rattle.moka_state.specs.StateData.{SettingsData, estimates, settings_by}
@@ -87,4 +90,4 @@ begins given cache told hasher is small built parted stands =
     let same : segmented_settings_by cache_behaviour (estimates (noted 6) (estimated 6) (none_noted 6)) cache ≡ cache_settings given =
     ap (λ b. let s : CacheSettings = record { bits = b; whole = meant cache.settings } in s) parted
     ∙ ap (λ w. let s : CacheSettings = record { bits = bits_for (wanted_segments given); whole = w } in s) (ap meant built ∙ built_so given told hasher is small) in
-    record { stands = subst (λ settings. AllStandFor Infallible nat_eq settings (view cache) []) same stands; now = refl }
+    record { stands = subst (λ settings. AllStandFor Infallible nat_eq settings (view cache) []) same stands; parted = (bits_for-few (wanted_segments given), λ key. mod-lt key (pow_pos 64)); now = refl }

@@ -26,7 +26,7 @@ pub record Goes (old new : CacheData) (call : Call ℕ Text) (reply : Reply ℕ 
 -- the moment of what follows
 pub moved : (cache : CacheData) (moment later : ℕ) → Prints cache moment (commands.At later) [] cache later
 moved cache moment later settings before is =
-    (record before { moment = later }, ([], [], [], refl, (refl, refl), refl, refl, refl), record { stands = is.stands; now = refl })
+    (record before { moment = later }, ([], [], [], refl, (refl, refl), refl, refl, refl), record { stands = is.stands; parted = is.parted; now = refl })
 
 -- the policy, by the settings that the cache was built with
 pub policy_told : (cache : CacheData) (moment : ℕ) (lines : List (List ℕ)) → lines ≡ policy_line (view cache).settings ∷ [] → Prints cache moment commands.Policy lines cache moment
@@ -46,7 +46,7 @@ one_call old new moment command call reply answer items is_one goes is_answer ar
     let line : map answer_text items ≡ answer_text (answer_of reply) ∷ [] = ap (map answer_text) are ∙ ap (λ a. answer_text a ∷ []) is_answer in (
       record { done = after_reply_in call reply before.done; moment = before.moment },
       (call ∷ [], map answer_text items, [], made _, (reply, [], goes.reply_is settings before.done is.stands, line, (refl, refl)), is_one.tells_nothing settings before, refl, sym (is_one.stays before.moment)),
-      record { stands = goes.stands settings before.done is.stands; now = is.now },
+      record { stands = goes.stands settings before.done is.stands; parted = is.parted; now = is.now },
     )
 
 -- So many notices were taken, or it was seen that none is left, and these lines were printed.
@@ -90,7 +90,7 @@ all_taken old new moment printed has settings before is =
     let all : taken.0 ≡ notices_in Infallible nat_eq settings before.done + 1 = taken.1 ∙ ap (λ n. n + 1) (sym (notices-by Infallible nat_eq cache_behaviour (estimates (noted 6) (estimated 6)) (none_noted 6) old settings before.done is.stands)) in (
       record { done = taken.2.after; moment = before.moment },
       (replicate taken.0 calls.TakeNotice, printed, [], ap (λ n. replicate n calls.TakeNotice) all, taken.2.prints, refl, refl, refl),
-      record { stands = taken.2.stands; now = is.now },
+      record { stands = taken.2.stands; parted = is.parted; now = is.now },
     )
 
 -- a reply more, whose answer is put behind the others

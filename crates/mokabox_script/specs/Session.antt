@@ -1,5 +1,5 @@
 -- How far a script has come where its session is, and what the session prints.
-use Rattle.std.specs.Prelude.{◌≡◌, ℕ, Bool, List, Option, None, is_some, option_map, unwrap_or, nat_eq}
+use Rattle.std.specs.Prelude.{◌≡◌, ◌<◌, ◌^◌, ℕ, Bool, List, Option, None, is_some, option_map, unwrap_or, nat_eq}
 use Rattle.std.specs.Duration.{as_nanos}
 use Rattle.std.specs.Hash.{u64 as number_writes}
 use Rattle.std.specs.Hash.BuildHasherDefault.{initial_hasher}
@@ -11,7 +11,8 @@ use Rattle.moka_policy.specs.declared.listener.NoListener.{NoListener}
 use Rattle.moka_policy.specs.declared.policy.NumberHash.{NumberHash}
 use Rattle.moka_policy.specs.Frequency.{Counts, none_noted, noted, estimated}
 use Rattle.moka_policy.specs.NumberHash.{number_hash}
-use Rattle.moka_model.specs.Lives.{Behaviour, no_lifetimes}
+use Rattle.moka_model.specs.Lives.{Settings as Whole, Behaviour, no_lifetimes}
+use Rattle.moka_model.specs.Steps.{AcceptedStep}
 use Rattle.moka_model.specs.StandsFor.{View, StandsFor}
 use Rattle.std.specs.declared.convert.Infallible.{Infallible}
 use Rattle.moka_segments.specs.Segments.{SegmentedView, AllStandFor}
@@ -51,8 +52,12 @@ cache_behaviour = behaviour_by cache_hash (λ weigher key text. byte_weight (str
 abbrev pub view : CacheData → SegmentedView ℕ Text
 view = segmented_view_by cache_behaviour (estimates (noted 6) (estimated 6)) (none_noted 6)
 
+-- what one of its segments keeps
+abbrev pub SegmentState : Type 0
+SegmentState = StateData ℕ Text CacheHasher Bytes NoExpiry Counts
+
 -- what one of its segments is, by what it keeps
-abbrev pub segment_view : StateData ℕ Text CacheHasher Bytes NoExpiry Counts → View ℕ Text
+abbrev pub segment_view : SegmentState → View ℕ Text
 segment_view = view_by cache_behaviour (estimates (noted 6) (estimated 6)) (none_noted 6)
 
 -- what the builder of a script's cache was told
@@ -76,9 +81,14 @@ pub record IsTold (given : Settings) (told : Told) : Type 0 where
   pub flush_limit : told.flush_limit ≡ given.flush_limit
   pub first_number : told.first_number ≡ unwrap_or given.first_number 0
 
+-- Each key has one of the segments: they are named by some of the bits of a hash, and each hash has so many.
+abbrev pub PartsHashes : CacheSettings → Type 0
+PartsHashes settings = (settings.bits < 64) × ((key : ℕ) → settings.whole.behaviour.hash key < 2 ^ 64)
+
 -- A session is where the script has come: its cache stands for the calls done, and its moment is the script's.
 pub record IsAt (cache : CacheData) (moment : ℕ) (settings : CacheSettings) (course : Course) : Type 0 where
   pub stands : AllStandFor Infallible nat_eq settings (view cache) course.done
+  pub parted : PartsHashes settings
   pub now : moment ≡ course.moment
 
 -- Wherever the script has come, the command prints these lines, and the session is where it comes.
@@ -87,11 +97,15 @@ Prints cache moment command printed cache_after moment_after =
     (settings : CacheSettings) (before : Course) → IsAt cache moment settings before →
     (after : Course) × CommandPrints settings before command printed after × IsAt cache_after moment_after settings after
 
+-- for which steps a segment of a session's cache stands
+abbrev pub segment_stands_for : Whole ℕ Text → SegmentState → List (AcceptedStep ℕ Text Infallible) → Type 0
+segment_stands_for settings state steps = StandsFor nat_eq settings (segment_view state) steps
+
 -- A walk of the cache at a moment, of which nothing is refused, yields these pairs, and then it ends.
 abbrev pub IsWholeWalk : CacheData → ℕ → List (ℕ × Text) → Type 0
 IsWholeWalk cache moment pairs =
     (histories : List (History ℕ Text Infallible))
-    → AllHaveHistories (λ settings state steps. StandsFor nat_eq settings (segment_view state) steps) cache.segments histories
+    → AllHaveHistories segment_stands_for cache.segments histories
     → YieldsJust nat_eq is_copy is_surely_copied histories moment start pairs
 
 -- Wherever the script has come, the line prints what is written, and the session is where it comes.

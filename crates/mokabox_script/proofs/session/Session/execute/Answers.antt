@@ -12,6 +12,12 @@ use Rattle.mokabox_script.proofs.session.Session.execute.Goals.{in-Has+in_ok-sha
 pub returns-in-At : goal.returns-in-At
 returns-in-At c = rw (c.in-At.is, c.new.ensures.items) (moved _ _ c.in-At.moment)
 
+pub returns-in-Notices : goal.returns-in-Notices
+returns-in-Notices c = rw c.in-Notices.is c.notices.ensures
+
+pub returns-in-Policy : goal.returns-in-Policy
+returns-in-Policy c = rw c.in-Policy.is c.policy.ensures
+
 pub returns-in-Walk : goal.returns-in-Walk
 returns-in-Walk c = rw c.in-Walk.is c.walk.ensures
 

@@ -12,7 +12,7 @@ loop-notice-preserved c = (
       let was = c.loop-notice.invariant.0 settings steps stands in (
         was.0 + 1,
         omega (arith, was.1, c.in-Some.ensures.fewer),
-        answered_more _ _ settings steps was.0 _ _ _ _ was.2
+        answered_more _ _ settings steps was.0 _ _ _ (Noticed (Some c.in-Some.notice)) was.2
         (record { reply_is = λ s calls stand. taken-replies Infallible nat_eq is_copy is_surely_copied s calls (λ key text. true) (Some c.in-Some.notice) (c.in-Some.ensures.reply s calls stand); stands = c.in-Some.ensures.stands })
         c.answer_of-answer.ensures c.in_ok-push.ensures.items,
       )),
