@@ -1,9 +1,7 @@
 //! The caches under test: texts by numbers, each of which is its own hash, so its highest bits name its segment.
 ghost use Rattle.std.specs.Prelude.{◌≡◌, ◌%◌, nat_eq};
 
-use moka::policy::{
-    EvictionPolicy, ManualClock, NoExpiry, NoWeigher, NumberHash, Predicate,
-};
+use moka::policy::{EvictionPolicy, ManualClock, NoExpiry, NoWeigher, NumberHash, Predicate};
 use moka::ready::{ReadyTypes, SteadyPredicate};
 use moka::sync::CacheBuilder;
 use moka::sync::builder::Single;
@@ -48,9 +46,11 @@ pub(crate) fn builder(capacity: u64) -> Builder {
 
 /// A cache of so many segments, of a builder's settings.
 pub(crate) fn opened(alloc: Global, builder: Builder, segments: usize) -> Result<Texts, Fail> {
-    Ok(builder
-        .segments(segments)?
-        .build_segmented_state(alloc, Hasher::default())?)
+    Ok(
+        builder
+            .segments(segments)?
+            .build_segmented_state(alloc, Hasher::default())?,
+    )
 }
 
 pub(crate) fn text(alloc: Global, text: &str) -> Result<String, AllocError> {

@@ -11,7 +11,13 @@ use std::test::Fail;
 use std::time::Duration;
 
 /// What a look at a key finds.
-fn found(rt: &impl Abort, cache: &mut Texts, key: u64, now: u64, text: Option<&str>) -> Result<(), Fail> {
+fn found(
+    rt: &impl Abort,
+    cache: &mut Texts,
+    key: u64,
+    now: u64,
+    text: Option<&str>,
+) -> Result<(), Fail> {
     assert_eq!(rt; cache.contains_key(&key, now), text.is_some());
     assert_eq!(rt; cache.get(&key, now)?.as_deref(), text);
     Ok(())
@@ -20,9 +26,7 @@ fn found(rt: &impl Abort, cache: &mut Texts, key: u64, now: u64, text: Option<&s
 /// The next notice.
 fn left(rt: &impl Abort, cache: &mut Texts, expected: Option<(u64, &str, RemovalCause)>) {
     let notice = cache.take_notice();
-    let seen = notice
-        .as_ref()
-        .map(|notice| (*notice.key, notice.value.as_str(), notice.cause));
+    let seen = notice.as_ref().map(|notice| (*notice.key, notice.value.as_str(), notice.cause));
     assert_eq!(rt; seen, expected);
 }
 
@@ -33,7 +37,11 @@ fn each_segment_has_its_share_and_its_moment(rt: HostRuntime) -> Result<(), Fail
     has_its_share_and_its_moment(&rt, rt.alloc(), &mut cache)
 }
 
-fn has_its_share_and_its_moment(rt: &impl Abort, alloc: Global, cache: &mut Texts) -> Result<(), Fail> {
+fn has_its_share_and_its_moment(
+    rt: &impl Abort,
+    alloc: Global,
+    cache: &mut Texts,
+) -> Result<(), Fail> {
     insert(cache, alloc, 1, "a", 0)?;
     insert(cache, alloc, UPPER, "b", 0)?;
     insert(cache, alloc, 2, "c", 0)?;
@@ -111,7 +119,10 @@ fn goes_to_all(rt: &impl Abort, alloc: Global, cache: &mut Texts) -> Result<(), 
     cache.run_pending_tasks(0);
     assert_eq!(rt; (cache.entry_count(), cache.notice_count()), (0, 8));
     insert(cache, alloc, 1, "b", 0)?;
-    assert_eq!(rt; cache.invalidate_entries_with_arc_fun(Arc::new(alloc, Odd)?), Ok(()));
+    assert_eq!(rt;
+        cache.invalidate_entries_with_arc_fun(Arc::new(alloc, Odd)?),
+        Ok(())
+    );
     found(rt, cache, 1, 0, None)
 }
 
@@ -126,7 +137,10 @@ fn is_accepted_by_none(rt: &impl Abort, alloc: Global, cache: &mut Texts) -> Res
     let disabled = PredicateError::InvalidationClosuresDisabled;
     assert_eq!(rt; cache.invalidate_entries_if(Odd), Err(disabled));
     let shared = Arc::new(alloc, Odd)?;
-    assert_eq!(rt; cache.invalidate_entries_with_arc_fun(shared), Err(disabled));
+    assert_eq!(rt;
+        cache.invalidate_entries_with_arc_fun(shared),
+        Err(disabled)
+    );
     for key in KEYS {
         assert!(rt; cache.contains_key(&key, 0));
     }
@@ -161,9 +175,15 @@ fn each_segment_has_numbers_of_its_own(rt: HostRuntime) -> Result<(), Fail> {
 
 fn has_numbers_of_its_own(rt: &impl Abort, alloc: Global, cache: &mut Texts) -> Result<(), Fail> {
     insert(cache, alloc, 1, "a", 0)?;
-    let refused = cache.insert(2, text(alloc, "b")?, 0).err().ok_or("a refusal")?;
+    let refused = cache
+        .insert(2, text(alloc, "b")?, 0)
+        .err()
+        .ok_or("a refusal")?;
     let InsertRefused { key, value, cause } = refused;
-    assert_eq!(rt; (key, value.as_str(), cause), (2, "b", Refused::NumbersUsedUp));
+    assert_eq!(rt;
+        (key, value.as_str(), cause),
+        (2, "b", Refused::NumbersUsedUp)
+    );
     insert(cache, alloc, UPPER, "c", 0)?;
     found(rt, cache, UPPER, 0, Some("c"))
 }

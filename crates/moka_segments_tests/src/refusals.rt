@@ -39,14 +39,30 @@ fn given(alloc: Global, it: &str) -> Result<String, Fail> {
 }
 
 /// Writes a text. A refused write hands it back with its key and changes nothing, and is tried again.
-fn insert(rt: &impl Abort, cache: &mut Texts, alloc: Global, key: u64, it: &str) -> Result<(), Fail> {
+fn insert(
+    rt: &impl Abort,
+    cache: &mut Texts,
+    alloc: Global,
+    key: u64,
+    it: &str,
+) -> Result<(), Fail> {
     let (entries, notices) = (cache.entry_count(), cache.notice_count());
     let Err(refused) = cache.insert(key, given(alloc, it)?, 0) else {
         return Ok(());
     };
-    let InsertRefused { key: back, value, cause } = refused;
-    assert_eq!(rt; (back, value.as_str(), cause), (key, it, Refused::OutOfMemory));
-    assert_eq!(rt; (cache.entry_count(), cache.notice_count()), (entries, notices));
+    let InsertRefused {
+        key: back,
+        value,
+        cause,
+    } = refused;
+    assert_eq!(rt;
+        (back, value.as_str(), cause),
+        (key, it, Refused::OutOfMemory)
+    );
+    assert_eq!(rt;
+        (cache.entry_count(), cache.notice_count()),
+        (entries, notices)
+    );
     Ok(cache.insert(key, value, 0)?)
 }
 

@@ -14,26 +14,52 @@ fn all_steps(alloc: Global) -> Result<Steps, AllocError> {
     let key = |number: u64| Arc::new(alloc, number);
     let mut steps = Vec::with_capacity(alloc, 16)?;
     let now = 0;
-    steps.push(Step::Insert { key: key(1)?, value: text(alloc, "a")?, now })?;
-    steps.push(Step::Insert { key: key(UPPER)?, value: text(alloc, "b")?, now })?;
-    steps.push(Step::Get { key: key(1)?, now: 10 * SECOND })?;
-    steps.push(Step::ContainsKey { key: key(UPPER)?, now: 9 * SECOND })?;
+    steps.push(Step::Insert {
+        key: key(1)?,
+        value: text(alloc, "a")?,
+        now,
+    })?;
+    steps.push(Step::Insert {
+        key: key(UPPER)?,
+        value: text(alloc, "b")?,
+        now,
+    })?;
+    steps.push(Step::Get {
+        key: key(1)?,
+        now: 10 * SECOND,
+    })?;
+    steps.push(Step::ContainsKey {
+        key: key(UPPER)?,
+        now: 9 * SECOND,
+    })?;
     steps.push(Step::EntryCount)?;
     steps.push(Step::WeightedSize)?;
     steps.push(Step::RunPendingTasksUpTo { limit: 0, now })?;
     steps.push(Step::RunPendingTasks { now })?;
     steps.push(Step::TakeNotice)?;
-    steps.push(Step::Remove { key: key(UPPER)?, now })?;
+    steps.push(Step::Remove {
+        key: key(UPPER)?,
+        now,
+    })?;
     steps.push(Step::TakeNotice)?;
     steps.push(Step::TakeNotice)?;
-    steps.push(Step::Invalidate { key: key(UPPER)?, now })?;
-    steps.push(Step::InvalidateIf { predicate: Arc::new(alloc, Odd)? })?;
+    steps.push(Step::Invalidate {
+        key: key(UPPER)?,
+        now,
+    })?;
+    steps.push(Step::InvalidateIf {
+        predicate: Arc::new(alloc, Odd)?,
+    })?;
     steps.push(Step::InvalidateAll)?;
     Ok(steps)
 }
 
-/// What is replied to these, in words.
-const REPLIES: &str = "";
+/// What is replied to these.
+const REPLIES: &str =
+    "[Done, Done, Found(None), Contains(true), Counted(2), Counted(2), Left(true), Done, \
+    Noticed(Some(Notice { key: 1, value: \"a\", cause: Expired })), Found(Some(\"b\")), \
+    Noticed(Some(Notice { key: 9223372036854775808, value: \"b\", cause: Explicit })), Noticed(None), \
+    Done, PredicateRefused(InvalidationClosuresDisabled), Done]";
 
 #[test]
 fn a_run_replies_to_each_step(rt: HostRuntime) -> Result<(), Fail> {

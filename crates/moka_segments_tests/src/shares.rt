@@ -23,7 +23,12 @@ const SHARES: [(u64, usize, usize, u64); 8] = [
 fn each_segment_has_its_share(rt: HostRuntime) -> Result<(), Fail> {
     for (capacity, wanted, segments, share) in SHARES {
         let cache = opened(rt.alloc(), builder(capacity), wanted)?;
-        has_shares(&rt, &cache, Policy::new(Some(capacity), segments, None, None), share);
+        has_shares(
+            &rt,
+            &cache,
+            Policy::new(Some(capacity), segments, None, None),
+            share,
+        );
     }
     Ok(())
 }
@@ -46,10 +51,16 @@ fn every_setting_is_kept(rt: HostRuntime) -> Result<(), Fail> {
         .name(rt.alloc(), "tracked_sessions")?;
     let cache = opened(rt.alloc(), told, 24)?;
     let (live, idle) = (Duration::from_secs(2700), Duration::from_secs(900));
-    assert_eq!(rt; cache.policy(), Policy::new(Some(400), 32, Some(live), Some(idle)));
+    assert_eq!(rt;
+        cache.policy(),
+        Policy::new(Some(400), 32, Some(live), Some(idle))
+    );
     assert_eq!(rt; cache.name(), Some("tracked_sessions"));
     for segment in cache.segments() {
-        assert_eq!(rt; segment.policy(), Policy::new(Some(13), 1, Some(live), Some(idle)));
+        assert_eq!(rt;
+            segment.policy(),
+            Policy::new(Some(13), 1, Some(live), Some(idle))
+        );
     }
     Ok(())
 }

@@ -83,6 +83,7 @@ module _ (cache : CacheData) (settings : CacheSettings) (done : List (Call ℕ T
     where
       alike : (k q : ℕ) → nat_eq k q ≡ true → settings.whole.behaviour.hash k ≡ settings.whole.behaviour.hash q
       alike k q same = ap settings.whole.behaviour.hash (eqb-true k q same)
+
       by : (o : Option SegmentState) → AllByRecursion (λ key. home key ≡ i) (keys_of nat_eq (option_map (λ state. history_at settings done i) o))
       by None = tt
       by (Some state) = all-mapped (λ key. home key ≡ i) (λ (w : Write ℕ Text). w.key) (all_standing nat_eq (share_settings settings) (events_of Infallible nat_eq settings done i)) (stands-at-home Infallible nat_eq settings i nat_eq_equiv alike done)

@@ -5,8 +5,16 @@ use std::test::Fail;
 
 const BUILT: [Row; 8] = [
     ("new segments=0\n", "refused build 1\n", Status::Bad),
-    ("new ttl=31536000001 segments=0\nget 1\n", "refused build 1\n", Status::Bad),
-    ("new segments=9223372036854775809\n", "refused build 2\n", Status::Bad),
+    (
+        "new ttl=31536000001 segments=0\nget 1\n",
+        "refused build 1\n",
+        Status::Bad,
+    ),
+    (
+        "new segments=9223372036854775809\n",
+        "refused build 2\n",
+        Status::Bad,
+    ),
     ("new segments=2 segments=2\n", "bad line\n", Status::Bad),
     ("new segments=01\n", "bad line\n", Status::Bad),
     (
@@ -31,7 +39,7 @@ fn a_number_of_segments_is_rounded_up_or_refused(rt: HostRuntime) -> Result<(), 
     prints(&rt, rt.alloc(), &BUILT)
 }
 
-const SHARED: [Row; 4] = [
+const SHARED: [Row; 5] = [
     // Each of the two segments may keep one key, and a look at one passes no moment in the other.
     (
         "new capacity=2 segments=2 policy=lru ttl=10\ninsert 1 a\n\
@@ -53,6 +61,13 @@ const SHARED: [Row; 4] = [
     (
         "new segments=4\ninsert 1 a\ninvalidate-if a\ninvalidate-all\nhas 1\nweight\n",
         "ok\nok\nerror 1\nok\nfalse\n1\n",
+        Status::Done,
+    ),
+    // Each segment is given the whole limit, and a walk goes over all.
+    (
+        "new segments=2\ninsert 9223372036854775808 b\ninsert 1 a\nwalk\ninvalidate-all\n\
+         tasks-up-to 0\ncount\ntasks-up-to 1\ncount\nwalk\n",
+        "ok\nok\nok\nwalk 1=a 9223372036854775808=b\nok\nleft\n2\ndone\n0\nwalk\n",
         Status::Done,
     ),
     // Each segment has numbers of its own.
