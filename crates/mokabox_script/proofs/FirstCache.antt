@@ -12,7 +12,7 @@ use Rattle.moka_policy.specs.Frequency.{none_noted, noted, estimated, estimate_a
 use Rattle.moka_model.specs.Lives.{Settings as WholeSettings, Lifetimes, no_lifetimes}
 use Rattle.moka_policy.specs.declared.expiry.NoExpiry.{NoExpiry}
 use Rattle.moka_segments.specs.Segments.{bits_for, AllStandFor}
-use Rattle.moka_segments.proofs.Rounding.{bits_for-few}
+use Rattle.moka_segments.proofs.Callers.{bits_for-few}
 use Rattle.moka_segmented.specs.SegmentedData.{segmented_settings_by}
 use Rattle.moka_state.specs.Behaviour as behaviours
 use Rattle.moka_state.specs.StateData.{SettingsData, estimates, settings_by}
