@@ -23,7 +23,11 @@ fn run(rt: &HostRuntime, names: &mut Names) -> Result<()> {
     }
     names.invalidate(&7, 0);
     names.run_pending_tasks(0);
-    println!(rt; "{} names in all, {} left", names.entry_count(), names.notice_count())?;
+    println!(rt;
+        "{} names in all, {} left",
+        names.entry_count(),
+        names.notice_count()
+    )?;
     Ok(())
 }
 

@@ -73,9 +73,9 @@ module _ {K V E : Type 0} (eq : K → K → Bool) (laws : IsEquivalence eq) wher
   live-at-home home homes histories at_home now i k live =
       ⊎_elim (λ same. same)
       (λ differ.
-          let one = live-stands histories now i k live in
-          let none = count-none (λ q. eq q k) (standing_in eq histories i) (away eq home homes k i (standing_in eq histories i) (at_home i) differ) in
-          absurd (let no : ⊥ = omega (arith, one, none) in no))
+      let one = live-stands histories now i k live in
+      let none = count-none (λ q. eq q k) (standing_in eq histories i) (away eq home homes k i (standing_in eq histories i) (at_home i) differ) in
+      absurd (let no : ⊥ = omega (arith, one, none) in no))
       (same-or-not i (home k))
 
   -- it is in a segment that is there
