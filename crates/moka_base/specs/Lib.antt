@@ -11,6 +11,7 @@ pub use Rattle.moka_model.specs.Removals
 pub use Rattle.moka_model.specs.SizeLaws
 pub use Rattle.moka_model.specs.StandsFor
 pub use Rattle.moka_model.specs.Steps
+pub use Rattle.moka_model.specs.Turns
 pub use Rattle.moka_conserved.specs.Conserved
 pub use Rattle.moka_policy.specs.Building
 pub use Rattle.moka_policy.specs.Frequency
@@ -28,3 +29,5 @@ pub use Rattle.moka_laws.specs.WorkedExpiry
 pub use Rattle.moka_laws.specs.WorkedMaintenance
 pub use Rattle.moka_laws.specs.WorkedOrder
 pub use Rattle.moka_laws.specs.WorkedSize
+pub use Rattle.moka_turn_laws.specs.TurnLaws
+pub use Rattle.moka_turn_laws.specs.WorkedTurns

@@ -10,6 +10,7 @@ pub use moka_laws::{
 pub use moka_model::notification;
 pub use moka_policy::{clock, expiry, frequency, listener, predicate, weigher};
 pub use moka_sketch::frequency_sketch;
+pub use moka_turn_laws::{turn_laws, worked_turns};
 
 /// The types that a cache is made of, the hasher of number keys, and the refusals.
 pub mod policy {

@@ -1,18 +1,27 @@
 -- What was given out is the front of what left, and each call gives out what it answers.
-use Rattle.std.proofs.Common.{◌≡◌, ℕ, zero, suc, min, ◌+◌, ◌≤◌, Bool, true, false, cond, Option, Some, None, List, [], ◌∷◌, ◌++◌, length, take, drop, refl, sym, ap, ◌∙◌, subst, append-nil, slice_get, add-one, add_comm}
+use Rattle.std.proofs.Common.{◌≡◌, ℕ, zero, suc, min, ◌+◌, ◌≤◌, Bool, true, false, cond, option_map, Option, Some, None, List, [], ◌∷◌, ◌++◌, length, take, drop, refl, sym, ap, ◌∙◌, subst, append-nil, slice_get, add-one, add_comm}
 use Rattle.std.specs.Option.{option_to_list}
 use Rattle.std.specs.Cmp.{IsEquivalence}
+use Rattle.std.specs.List.{AllByRecursion}
+use Rattle.std.proofs.lemmas.Bool.{cond_both}
 use Rattle.std.proofs.lemmas.List.{take-append-le, take-append-drop, take_min, length-take-le}
-use Rattle.moka_model.specs.Lives.{Settings}
+use Rattle.moka_model.specs.Lives.{Settings, Write}
 use Rattle.moka_model.specs.Events.{Event, Looked, TurnedDown, Written, Invalidated, Hidden, Maintained, Passed, Drawn, Taken}
 use Rattle.moka_model.specs.Numbers.{stores_nothing, is_flush_due}
 use Rattle.moka_model.specs.Orders.{orders}
 use Rattle.moka_model.specs.Removals.{Removal, removals_at, removals, taken, notices_left}
-use Rattle.moka_model.specs.Steps.{AcceptedStep, events_in}
-use Rattle.moka_model.specs.Calls.{Call, Get, ContainsKey, Insert, Invalidate, Remove, InvalidateAll, InvalidateIf, RunPendingTasks, RunPendingTasksUpTo, EntryCount, WeightedSize, TakeNotice, Answer, Found, Contains, Done, Counted, Left, Noticed, Accepted, without_move, accepted, with_step, IsAnswer}
+use Rattle.moka_model.specs.Steps.{AcceptedStep, events_in, turns}
+use Rattle.moka_model.specs.Calls.{Call, Get, ContainsKey, Insert, Invalidate, Remove, InvalidateAll, InvalidateIf, RunPendingTasks, RunPendingTasksUpTo, EntryCount, WeightedSize, TakeNotice, OrInsert, Begin, BeginCompute, Finish, Abandon, Collect, Leave, Answer, Found, Contains, Done, Counted, Left, Noticed, Entered, Run, Unchanged, Inserted, ReplacedWith, Removed, Accepted, without_move, write_events, look_event, begun, begun_compute, or_inserted, put_by, removed_by, kept_by, answer_by, finished, collected, abandons, spends, acceptable, live_at, accepted, with_step, IsAnswer}
+use Rattle.moka_model.specs.declared.turns.Kind.{Kind}
+use Rattle.moka_model.specs.declared.turns.Kind.TheVariants.{With, Optionally, Try, Compute}
+use Rattle.moka_model.specs.declared.turns.Op.TheVariants as ops
+use Rattle.moka_model.specs.declared.turns.Outcome.{Outcome}
+use Rattle.moka_model.specs.declared.turns.Outcome.TheVariants as outcomes
+use Rattle.moka_model.specs.Turns.{Turn, Name, End, fits, found, is_open_for, is_open_as, has_ticket_as}
+use Rattle.moka_model.specs.Turns as turning
 use Rattle.moka_model.specs.StandsFor.{IsAnswerOf, books_of}
 use Rattle.moka_model.proofs.Callers.{taken-le}
-use Rattle.moka_conserved.specs.Conserved.{SeesKeysAlike, count_left, count_standing, given_out, IsConserved}
+use Rattle.moka_conserved.specs.Conserved.{SeesKeysAlike, count_left, count_standing, given_by, given_out, IsConserved}
 use Rattle.moka_conserved.proofs.Pairs.{count-append, pairs_conserved}
 
 module _ {K V : Type 0} where
@@ -80,16 +89,13 @@ module _ {K V E : Type 0} where
     -- what is handed out gives out that of the answer
     noticed-same : (a b : Answer K V E) → IsAnswer is_clone a b → noticed_by b ≡ noticed_by a
     noticed-same (Found v) (Found w) is = refl
-    noticed-same (Found v) (Contains b) is = ap noticed_by is
-    noticed-same (Found v) Done is = ap noticed_by is
-    noticed-same (Found v) (Counted n) is = ap noticed_by is
-    noticed-same (Found v) (Left b) is = ap noticed_by is
-    noticed-same (Found v) (Noticed o) is = ap noticed_by is
-    noticed-same (Contains b) answer is = ap noticed_by is
-    noticed-same Done answer is = ap noticed_by is
-    noticed-same (Counted n) answer is = ap noticed_by is
-    noticed-same (Left b) answer is = ap noticed_by is
-    noticed-same (Noticed o) answer is = ap noticed_by is
+    noticed-same (Entered a) (Entered b) is = refl
+    noticed-same (Run name a) (Run called b) is = refl
+    noticed-same (Unchanged a) (Unchanged b) is = refl
+    noticed-same (Inserted a) (Inserted b) is = refl
+    noticed-same (ReplacedWith a) (ReplacedWith b) is = refl
+    noticed-same (Removed a) (Removed b) is = refl
+    noticed-same a b is = ap noticed_by is
 
     module _ (eq : K → K → Bool) (settings : Settings K V) (steps : List (AcceptedStep K V E)) where
       abbrev h : List (Event K V)
@@ -99,8 +105,89 @@ module _ {K V E : Type 0} where
       Gives None = Unit {0}
       Gives (Some it) = given_out eq settings (it.step.events ++ h) ≡ given_out eq settings h ++ noticed_by it.answer
 
+      -- an event that takes no notice
+      abbrev IsQuiet : Event K V → Type 0
+      IsQuiet Taken = ⊥
+      IsQuiet e = Unit {0}
+
+      given_by-quiet : (e : Event K V) (before : List (Event K V)) → IsQuiet e → given_by eq settings e before ≡ []
+      given_by-quiet Taken before is = absurd is
+      given_by-quiet e before is = refl
+
+      -- such events give out none
+      quiet : (es : List (Event K V)) → AllByRecursion IsQuiet es → given_out eq settings (es ++ h) ≡ given_out eq settings h
+      quiet [] all = refl
+      quiet (e ∷ es) all = ap (λ l. given_out eq settings (es ++ h) ++ l) (given_by-quiet e (es ++ h) all.0) ∙ append-nil (given_out eq settings (es ++ h)) ∙ quiet es all.1
+
+      silent : (events : List (Event K V)) (answer : Answer K V E) → AllByRecursion IsQuiet events → noticed_by answer ≡ [] → given_out eq settings (events ++ h) ≡ given_out eq settings h ++ noticed_by answer
+      silent events answer all none = quiet events all ∙ sym (ap (λ l. given_out eq settings h ++ l) none ∙ append-nil (given_out eq settings h))
+
+      silent-one : (it : Accepted K V E) → AllByRecursion IsQuiet it.step.events → noticed_by it.answer ≡ [] → Gives (Some it)
+      silent-one it all none = silent it.step.events it.answer all none
+
+      quiet-write : (k : K) (v : V) (at : ℕ) (before later : List (Event K V)) → AllByRecursion IsQuiet later → AllByRecursion IsQuiet (write_events eq settings k v at before ++ later)
+      quiet-write k v at before later all = go (stores_nothing settings.max_capacity) (is_flush_due eq settings before)
+        where
+          go : (none due : Bool) → AllByRecursion IsQuiet (cond none (Passed at ∷ []) (Written k v at ∷ cond due (Maintained settings.flush_limit at ∷ []) []) ++ later)
+          go true due = (tt, all)
+          go false true = (tt, (tt, all))
+          go false false = (tt, all)
+
+      quiet-look : (replace : Option Bool) (k : K) (at : ℕ) → IsQuiet (look_event replace k at)
+      quiet-look None k at = tt
+      quiet-look (Some false) k at = tt
+      quiet-look (Some true) k at = tt
+
+      gives-begun : (k : K) (kind : Kind) (replace : Option Bool) (at : ℕ) (w : Option (Write K V)) (t : Option (Turn K V E)) → Gives (Some (begun eq settings h k kind replace at w t))
+      gives-begun k kind replace at (Some w) t = silent-one (begun eq settings h k kind replace at (Some w) t) (quiet-look replace k at, tt) refl
+      gives-begun k kind replace at None (Some t) = silent-one (begun eq settings h k kind replace at None (Some t)) (quiet-look replace k at, tt) refl
+      gives-begun k kind replace at None None = silent-one (begun eq settings h k kind replace at None None) (tt, (quiet-look replace k at, tt)) refl
+
+      gives-computes : (k : K) (keep : Bool) (at : ℕ) (t : Option (Turn K V E)) → Gives (Some (begun_compute eq settings h k keep at t))
+      gives-computes k keep at (Some t) = silent-one (begun_compute eq settings h k keep at (Some t)) (tt, tt) refl
+      gives-computes k keep at None = silent-one (begun_compute eq settings h k keep at None) (tt, (tt, tt)) refl
+
+      gives-or_inserted : (k : K) (v : V) (at : ℕ) (w : Option (Write K V)) → Gives (Some (or_inserted eq settings h k v at w))
+      gives-or_inserted k v at (Some w) = silent-one (or_inserted eq settings h k v at (Some w)) (tt, tt) refl
+      gives-or_inserted k v at None = silent-one (or_inserted eq settings h k v at None) (quiet-write k v at (Looked k at ∷ h) (Looked k at ∷ []) (tt, tt)) refl
+
+      gives-put : (name : Name K) (v : V) (shown : Bool) → noticed_by (put_by {E = E} name v shown) ≡ []
+      gives-put name v true = refl
+      gives-put name v false = refl
+
+      gives-removed : (name : Name K) (w : Option (Write K V)) → noticed_by (removed_by {E = E} name w) ≡ []
+      gives-removed name None = refl
+      gives-removed name (Some w) = refl
+
+      gives-kept : (name : Name K) (v : Option V) → noticed_by (kept_by {E = E} name v) ≡ []
+      gives-kept name None = refl
+      gives-kept name (Some v) = refl
+
+      gives-finished : (name : Name K) (at : ℕ) (outcome : Outcome V E) (t : Turn K V E) → Gives (Some (finished eq settings h name outcome at t))
+      gives-finished name at (outcomes.Value v) t = silent-one (finished eq settings h name (outcomes.Value v) at t) (rw (← append-nil (write_events eq settings name.key v at h)) (quiet-write name.key v at h [] tt)) refl
+      gives-finished name at outcomes.Nothing t = silent-one (finished eq settings h name outcomes.Nothing at t) (tt, tt) refl
+      gives-finished name at (outcomes.Failed e) t = silent-one (finished eq settings h name (outcomes.Failed e) at t) (tt, tt) refl
+      gives-finished name at (outcomes.Op (ops.Put v)) t = silent-one (finished eq settings h name (outcomes.Op (ops.Put v)) at t) (rw (← append-nil (write_events eq settings name.key v at h)) (quiet-write name.key v at h [] tt)) (gives-put name v t.shown)
+      gives-finished name at (outcomes.Op ops.Remove) t = silent-one (finished eq settings h name (outcomes.Op ops.Remove) at t) (tt, tt) (gives-removed name (live_at eq settings name.key at h))
+      gives-finished name at (outcomes.Op ops.Nop) t = silent-one (finished eq settings h name (outcomes.Op ops.Nop) at t) (tt, tt) (gives-kept name t.kept)
+
+      gives-answer_by : (name : Name K) (end : End V E) → noticed_by (answer_by name end) ≡ []
+      gives-answer_by name (turning.Value v replaced) = refl
+      gives-answer_by name turning.Nothing = refl
+      gives-answer_by name (turning.Failed e) = refl
+      gives-answer_by name turning.Computed = refl
+      gives-answer_by name turning.Abandoned = refl
+
+      gives-collected : (name : Name K) (number : ℕ) (end : Option (End V E)) → Gives (Some (collected name number end))
+      gives-collected name number None = silent-one (collected name number None) tt refl
+      gives-collected name number (Some end) = silent-one (collected name number (Some end)) tt (gives-answer_by name end)
+
+      gives-made : (make : Turn K V E → Accepted K V E) → ((t : Turn K V E) → Gives (Some (make t))) → (o : Option (Turn K V E)) → Gives (option_map make o)
+      gives-made make each None = tt
+      gives-made make each (Some t) = each t
+
       -- each call gives out what it answers
-      gives : (call : Call K V) → Gives (accepted eq settings steps call)
+      gives : (call : Call K V E) → Gives (accepted eq settings steps call)
       gives (Get k at) = refl
       gives (ContainsKey k at) = sym (append-nil (given_out eq settings h))
       gives (Insert k v at) = go (stores_nothing settings.max_capacity) (is_flush_due eq settings h)
@@ -126,12 +213,25 @@ module _ {K V E : Type 0} where
           go : (o : Option (Removal K V)) → given_out eq settings h ++ option_to_list o ≡ given_out eq settings h ++ noticed_by (Noticed o)
           go None = refl
           go (Some l) = refl
+      gives (OrInsert k v at) = gives-or_inserted k v at (live_at eq settings k at h)
+      gives (Begin k With replace at) = gives-begun k With replace at (acceptable replace (live_at eq settings k at h)) (found (is_open_for eq With k) (turns steps))
+      gives (Begin k Optionally replace at) = gives-begun k Optionally replace at (acceptable replace (live_at eq settings k at h)) (found (is_open_for eq Optionally k) (turns steps))
+      gives (Begin k Try replace at) = gives-begun k Try replace at (acceptable replace (live_at eq settings k at h)) (found (is_open_for eq Try k) (turns steps))
+      gives (Begin k Compute replace at) = gives-computes k false at (found (is_open_for eq Compute k) (turns steps))
+      gives (BeginCompute k keep at) = gives-computes k keep at (found (is_open_for eq Compute k) (turns steps))
+      gives (Finish name outcome at) =
+          cond_both (fits name.kind outcome) (option_map (finished eq settings h name outcome at) (found (is_open_as eq name) (turns steps))) None Gives
+          (λ _. gives-made (finished eq settings h name outcome at) (gives-finished name at outcome) (found (is_open_as eq name) (turns steps)))
+          (λ _. tt)
+      gives (Abandon name) = gives-made (λ t. abandons t.name.number) (λ t. silent-one (abandons t.name.number) tt refl) (found (is_open_as eq name) (turns steps))
+      gives (Collect name) = gives-made (λ t. collected name t.name.number t.end) (λ t. gives-collected name t.name.number t.end) (found (has_ticket_as eq name) (turns steps))
+      gives (Leave name) = gives-made (λ t. spends t.name.number) (λ t. silent-one (spends t.name.number) tt refl) (found (has_ticket_as eq name) (turns steps))
 
       answer-gives : (it : Option (Accepted K V E)) (answer : Answer K V E) → Gives it → IsAnswerOf is_clone it answer → given_out eq settings (events_in (with_step it steps)) ≡ given_out eq settings h ++ noticed_by answer
       answer-gives None answer gives is = absurd is
       answer-gives (Some it) answer gives is = gives ∙ ap (λ l. given_out eq settings h ++ l) (sym (noticed-same it.answer answer is))
 
       -- an accepted call gives out what it hands out
-      pub given-by_answer : (call : Call K V) (answer : Answer K V E) → IsAnswerOf is_clone (accepted eq settings steps call) answer
+      pub given-by_answer : (call : Call K V E) (answer : Answer K V E) → IsAnswerOf is_clone (accepted eq settings steps call) answer
           → given_out eq settings (events_in (with_step (accepted eq settings steps call) steps)) ≡ given_out eq settings h ++ noticed_by answer
       given-by_answer call answer is = answer-gives (accepted eq settings steps call) answer (gives call) is

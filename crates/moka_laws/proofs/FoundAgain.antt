@@ -9,7 +9,7 @@ use Rattle.moka_model.specs.Orders.{is_evicted, standing}
 use Rattle.moka_model.specs.Numbers.{stores_nothing}
 use Rattle.moka_model.specs.Steps.{AcceptedStep, events_in}
 use Rattle.moka_model.specs.Calls.{Get, Insert, Found, live_at, flush, after, IsCopyOf}
-use Rattle.moka_model.specs.StandsFor.{View, StandsFor, Follows, Answers}
+use Rattle.moka_model.specs.StandsFor.{WholeView, StandsFor, Follows, Answers}
 use Rattle.moka_laws.proofs.Written.{is_expired-after_write, after_write-shown, after_write-value}
 
 module _ {K V : Type 0} (eq : K → K → Bool) (settings : Settings K V) where
@@ -112,8 +112,8 @@ module _ {K V E : Type 0} (eq : K → K → Bool) (is_clone : V → V → Type 0
       ∙ ap (λ o. option_map (λ (w : Write K V). w.value) (live_one settings now_then o)) (cond-true (eq k q) (Some (after_write settings k v (latest (Written k v at ∷ behind)) (standing eq settings q behind))) (standing eq settings q behind) same)
       ∙ found_then eq settings plain k v (latest (Written k v at ∷ behind)) now_then (standing eq settings q behind) (stands-none eq settings plain q behind) b come_then
 
-  module _ (before after_it : View K V) (steps : List (AcceptedStep K V E)) (k q : K) (v : V) (at now : ℕ) (found : Option V)
-      (stands : StandsFor eq settings before steps) (follows : Follows E eq before (Insert k v at) after_it) (answers : Answers E eq is_clone after_it (Get q now) (Found found))
+  module _ (before after_it : WholeView K V E) (steps : List (AcceptedStep K V E)) (k q : K) (v : V) (at now : ℕ) (found : Option V)
+      (stands : StandsFor eq is_clone settings before steps) (follows : Follows eq is_clone before (Insert k v at) after_it) (answers : Answers eq is_clone after_it (Get q now) (Found found))
       (same : eq k q ≡ true) (plain : settings.behaviour.lifetimes ≡ no_lifetimes) (stores : stores_nothing settings.max_capacity ≡ false) where
     by_answer : IsCopyOf is_clone (option_map (λ (w : Write K V). w.value) (live_at eq settings q now (events_in (after eq settings (Insert k v at) steps)))) found
     by_answer = answers settings (after eq settings (Insert k v at) steps) (follows settings steps stands)

@@ -5,13 +5,13 @@ use Rattle.moka_model.specs.Lives.{Settings, no_lifetimes, earlier, ends_at, has
 use Rattle.moka_model.specs.Events.{Passed, Written, latest}
 use Rattle.moka_model.specs.Numbers.{stores_nothing}
 use Rattle.moka_model.specs.Calls.{Get, Insert, Found, IsCopyOf, flush}
-use Rattle.moka_model.specs.StandsFor.{View, StandsFor, Follows, Answers}
+use Rattle.moka_model.specs.StandsFor.{WholeView, StandsFor, Follows, Answers}
 use Rattle.moka_laws.proofs.FoundAgain.{end_of_lives, moment_of_write, found-after_insert, none-after_insert}
 
 module _ {K V E : Type 0} (eq : K → K → Bool) (is_clone : V → V → Type 0) (laws : IsEquivalence eq) (settings : Settings K V) (plain : settings.behaviour.lifetimes ≡ no_lifetimes)
     (life : ℕ) (live : settings.time_to_live ≡ Some life) (idle : settings.time_to_idle ≡ None) (stores : stores_nothing settings.max_capacity ≡ false)
-    (before after_it : View K V) (k q : K) (v : V) (now : ℕ) (found : Option V) (stands : StandsFor {E = E} eq settings before []) (follows : Follows E eq before (Insert k v 0) after_it)
-    (answers : Answers E eq is_clone after_it (Get q now) (Found found)) (same : eq k q ≡ true) where
+    (before after_it : WholeView K V E) (k q : K) (v : V) (now : ℕ) (found : Option V) (stands : StandsFor eq is_clone settings before []) (follows : Follows eq is_clone before (Insert k v 0) after_it)
+    (answers : Answers eq is_clone after_it (Get q now) (Found found)) (same : eq k q ≡ true) where
   abbrev moment : ℕ
   moment = moment_of_write {E = E} eq is_clone laws settings k v 0 []
 

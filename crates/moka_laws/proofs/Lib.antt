@@ -20,6 +20,7 @@ pub mod MaintenanceResumed
 pub mod MaintenanceShortest
 pub mod Memory
 pub mod Moves
+pub mod Names
 pub mod Noted
 pub mod Notices
 pub mod OwnLives

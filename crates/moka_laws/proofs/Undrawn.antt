@@ -1,30 +1,9 @@
--- With a capacity of 0 no call draws a number.
-use Rattle.std.proofs.Common.{◌≡◌, Bool, true, if◌then◌else◌, Some, None, List, [], ◌∷◌, ◌++◌, refl, ap, ◌∙◌, arith}
+-- With a capacity of 0 no write draws a number.
+use Rattle.std.proofs.Common.{◌≡◌, ℕ, Bool, true, if◌then◌else◌, List, [], ◌∷◌, ap}
 use Rattle.moka_model.specs.Lives.{Settings}
-use Rattle.moka_model.specs.Events.{Written, Hidden, Passed}
-use Rattle.moka_model.specs.Numbers.{next_number, stores_nothing}
-use Rattle.moka_model.specs.Steps.{AcceptedStep, events_in}
-use Rattle.moka_model.specs.Calls.{Call, Get, ContainsKey, Insert, Invalidate, Remove, InvalidateAll, InvalidateIf, RunPendingTasks, RunPendingTasksUpTo, EntryCount, WeightedSize, TakeNotice, Done, without_move, with_step, flush, after, IsLegal}
-use Rattle.std.proofs.lemmas.Bool.{cond_both}
-use Rattle.moka_model.proofs.Callers.{legal-by_calls}
+use Rattle.moka_model.specs.Events.{Event, Written, Passed}
+use Rattle.moka_model.specs.Numbers.{drawn_in, stores_nothing}
+use Rattle.moka_model.specs.Calls.{RunPendingTasksUpTo, flush, write_events}
 
-pub next_number-empty : {K V E : Type 0} (eq : K → K → Bool) (settings : Settings K V) → stores_nothing settings.max_capacity ≡ true → (steps : List (AcceptedStep K V E)) → IsLegal eq settings steps → next_number settings (events_in steps) ≡ settings.first_number
-next_number-empty {K} {V} {E} eq settings none = legal-by_calls eq settings (λ steps. next_number settings (events_in steps) ≡ settings.first_number) refl more
-  where
-    more : (call : Call K V) (steps : List (AcceptedStep K V E)) → IsLegal eq settings steps → next_number settings (events_in steps) ≡ settings.first_number → next_number settings (events_in (after eq settings call steps)) ≡ settings.first_number
-    more (Get k at) steps legal same = omega (arith, same)
-    more (ContainsKey k at) steps legal same = same
-    more (Insert k v at) steps legal same =
-        ap (λ t. next_number settings ((if t then Passed at ∷ [] else Written k v at ∷ flush eq settings at (events_in steps)) ++ events_in steps)) none ∙ (omega (arith, same))
-    more (Invalidate k at) steps legal same = omega (arith, same)
-    more (Remove k at) steps legal same = omega (arith, same)
-    more InvalidateAll steps legal same = omega (arith, same)
-    more (InvalidateIf test) steps legal same =
-        cond_both settings.supports_closures (Some (without_move Done (Hidden test ∷ []))) None (λ it. next_number settings (events_in (with_step it steps)) ≡ settings.first_number)
-        (λ _. omega (arith, same))
-        (λ _. same)
-    more (RunPendingTasks at) steps legal same = omega (arith, same)
-    more (RunPendingTasksUpTo limit at) steps legal same = omega (arith, same)
-    more EntryCount steps legal same = same
-    more WeightedSize steps legal same = same
-    more TakeNotice steps legal same = omega (arith, same)
+pub drawn-empty : {K V : Type 0} (eq : K → K → Bool) (settings : Settings K V) → stores_nothing settings.max_capacity ≡ true → (k : K) (v : V) (at : ℕ) (h : List (Event K V)) → drawn_in (write_events eq settings k v at h) ≡ 0
+drawn-empty eq settings none k v at h = ap (λ t. drawn_in (if t then Passed at ∷ [] else Written k v at ∷ flush eq settings at h)) none

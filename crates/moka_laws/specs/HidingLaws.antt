@@ -4,6 +4,7 @@ use Rattle.moka_model.specs.Lives.{Settings}
 use Rattle.moka_model.specs.Events.{Event, Hidden}
 use Rattle.moka_model.specs.Steps.{AcceptedStep}
 use Rattle.moka_model.specs.Calls.{Call, Get, ContainsKey, Invalidate, Remove, InvalidateAll, InvalidateIf, Found, Contains}
+use Rattle.moka_model.specs.Calls.{Finish, Abandon, Collect, Leave}
 use Rattle.moka_laws.specs.Laws.{answer}
 
 -- An event that hides a value under a key, at its place among some events.
@@ -22,9 +23,18 @@ IsNotFound eq settings k steps =
     × (answer eq settings (Remove k at) steps ≡ Some (Found None))
 
 -- a call that removes a key, or hides
-abbrev pub IsInvalidation : {K V : Type 0} → Call K V → Type 0
+abbrev pub IsInvalidation : {K V E : Type 0} → Call K V E → Type 0
 IsInvalidation (Invalidate k at) = ⊤
 IsInvalidation (Remove k at) = ⊤
 IsInvalidation InvalidateAll = ⊤
 IsInvalidation (InvalidateIf test) = ⊤
 IsInvalidation call = ⊥
+
+-- a call that may be refused by its name: it hides by a test, or names a turn
+abbrev pub IsByName : {K V E : Type 0} → Call K V E → Type 0
+IsByName (InvalidateIf test) = ⊤
+IsByName (Finish name outcome at) = ⊤
+IsByName (Abandon name) = ⊤
+IsByName (Collect name) = ⊤
+IsByName (Leave name) = ⊤
+IsByName call = ⊥

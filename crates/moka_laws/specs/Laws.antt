@@ -8,12 +8,12 @@ use Rattle.moka_model.specs.Events.{Event, Looked, Written, Invalidated, Hidden,
 use Rattle.moka_model.specs.Orders.{is_evicted, standing, live}
 use Rattle.moka_model.specs.Removals.{Removal}
 use Rattle.moka_model.specs.Steps.{AcceptedStep}
-use Rattle.moka_model.specs.Calls.{Call, Get, ContainsKey, Insert, Invalidate, Remove, EntryCount, WeightedSize}
-use Rattle.moka_model.specs.Calls.{RunPendingTasks, RunPendingTasksUpTo}
+use Rattle.moka_model.specs.Calls.{Call, Get, ContainsKey, Insert, Invalidate, Remove, EntryCount, WeightedSize, OrInsert, Begin}
+use Rattle.moka_model.specs.Calls.{BeginCompute, Finish, RunPendingTasks, RunPendingTasksUpTo}
 use Rattle.moka_model.specs.Calls.{Answer, accepted, answer_of}
 
 -- what a call is answered after some accepted steps
-abbrev pub answer : {K V E : Type 0} → (K → K → Bool) → Settings K V → Call K V → List (AcceptedStep K V E) → Option (Answer K V E)
+abbrev pub answer : {K V E : Type 0} → (K → K → Bool) → Settings K V → Call K V E → List (AcceptedStep K V E) → Option (Answer K V E)
 answer eq settings call steps = answer_of (accepted eq settings steps call)
 
 -- some accepted steps, and these events as one more
@@ -21,22 +21,36 @@ abbrev pub and_then : {K V E : Type 0} → List (Event K V) → List (AcceptedSt
 and_then events steps = record { events = events; move = None } ∷ steps
 
 -- the moment that a call hands in to be recorded, 0 where it hands in none
-abbrev pub moment_of : {K V : Type 0} → Call K V → ℕ
+abbrev pub moment_of : {K V E : Type 0} → Call K V E → ℕ
 moment_of (Get k at) = at
 moment_of (Insert k v at) = at
 moment_of (Invalidate k at) = at
 moment_of (Remove k at) = at
 moment_of (RunPendingTasks at) = at
 moment_of (RunPendingTasksUpTo limit at) = at
+moment_of (OrInsert k v at) = at
+moment_of (Begin k kind replace at) = at
+moment_of (BeginCompute k keep at) = at
+moment_of (Finish name outcome at) = at
 moment_of call = 0
 
--- a call that writes
-abbrev pub IsWrite : {K V : Type 0} → Call K V → Type 0
+-- a call that may write, or open a turn
+abbrev pub IsWrite : {K V E : Type 0} → Call K V E → Type 0
 IsWrite (Insert k v at) = ⊤
+IsWrite (OrInsert k v at) = ⊤
+IsWrite (Begin k kind replace at) = ⊤
+IsWrite (BeginCompute k keep at) = ⊤
+IsWrite (Finish name outcome at) = ⊤
 IsWrite call = ⊥
 
+-- a call that may open a turn
+abbrev pub IsBegin : {K V E : Type 0} → Call K V E → Type 0
+IsBegin (Begin k kind replace at) = ⊤
+IsBegin (BeginCompute k keep at) = ⊤
+IsBegin call = ⊥
+
 -- a call that only asks
-abbrev pub IsQuestion : {K V : Type 0} → Call K V → Type 0
+abbrev pub IsQuestion : {K V E : Type 0} → Call K V E → Type 0
 IsQuestion (ContainsKey k at) = ⊤
 IsQuestion EntryCount = ⊤
 IsQuestion WeightedSize = ⊤

@@ -60,11 +60,11 @@ abbrev pub stepped : List (Event ℕ ℕ) → List (AcceptedStep ℕ ℕ ℕ)
 stepped h = and_then h []
 
 -- what a call is answered after some events
-abbrev pub answer_after : (ℕ → ℕ → Bool) → Settings ℕ ℕ → Call ℕ ℕ → List (Event ℕ ℕ) → Option (Answer ℕ ℕ ℕ)
+abbrev pub answer_after : (ℕ → ℕ → Bool) → Settings ℕ ℕ → Call ℕ ℕ ℕ → List (Event ℕ ℕ) → Option (Answer ℕ ℕ ℕ)
 answer_after eq settings call h = answer eq settings call (stepped h)
 
 -- what calls are answered, in order, after some accepted steps
-abbrev pub answers : (ℕ → ℕ → Bool) → Settings ℕ ℕ → List (Call ℕ ℕ) → List (AcceptedStep ℕ ℕ ℕ) → List (Option (Answer ℕ ℕ ℕ))
+abbrev pub answers : (ℕ → ℕ → Bool) → Settings ℕ ℕ → List (Call ℕ ℕ ℕ) → List (AcceptedStep ℕ ℕ ℕ) → List (Option (Answer ℕ ℕ ℕ))
 answers eq settings [] steps = []
 answers eq settings (call ∷ calls) steps = answer eq settings call steps ∷ answers eq settings calls (after eq settings call steps)
 

@@ -8,13 +8,13 @@ use Rattle.moka_laws.specs.Laws.{and_then}
 use Rattle.moka_laws.specs.Worked.{seconds}
 
 -- at a capacity of two: two keys come and are admitted, the first is hit, and a third comes and is admitted
-abbrev pub session : List (Call ℕ ℕ)
+abbrev pub session : List (Call ℕ ℕ ℕ)
 session =
     Insert 1 10 0 ∷ Insert 2 20 1 ∷ RunPendingTasks 2 ∷ Get 1 3 ∷ Insert 3 30 4 ∷ ContainsKey 3 5 ∷ EntryCount
     ∷ RunPendingTasks 6 ∷ TakeNotice ∷ TakeNotice ∷ Get 2 7 ∷ Invalidate 1 8 ∷ WeightedSize ∷ TakeNotice ∷ []
 
 -- the key 65 comes behind 64 that wait
-abbrev pub behind_64 : List (Call ℕ ℕ)
+abbrev pub behind_64 : List (Call ℕ ℕ ℕ)
 behind_64 = Insert 65 65 1 ∷ EntryCount ∷ Get 65 1 ∷ []
 
 -- the keys from 1 up to a number come, each in a step of its own
@@ -42,7 +42,7 @@ abbrev pub two_hidden : List (Event ℕ ℕ)
 two_hidden = Hidden (has_value 30) ∷ Hidden (has_value 20) ∷ Written 3 30 2 ∷ Written 2 20 1 ∷ Written 1 10 0 ∷ []
 
 -- a key comes, all is hidden, and another comes
-abbrev pub all_hidden : List (Call ℕ ℕ)
+abbrev pub all_hidden : List (Call ℕ ℕ ℕ)
 all_hidden =
     Insert 1 10 0 ∷ InvalidateAll ∷ Insert 2 20 0 ∷ Get 1 0 ∷ Get 2 0 ∷ EntryCount ∷ RunPendingTasks 0 ∷ TakeNotice ∷ TakeNotice
     ∷ EntryCount ∷ []
@@ -52,13 +52,13 @@ abbrev pub is_7_or_9 : ℕ → ℕ → Bool
 is_7_or_9 k v = v == 7 || v == 9
 
 -- three keys are admitted, two values are hidden, one of these comes again under another key, and a maintenance follows
-abbrev pub some_hidden : List (Call ℕ ℕ)
+abbrev pub some_hidden : List (Call ℕ ℕ ℕ)
 some_hidden =
     Insert 0 7 0 ∷ Insert 1 8 0 ∷ Insert 2 9 0 ∷ RunPendingTasks 0 ∷ InvalidateIf is_7_or_9 ∷ Insert 3 7 10 ∷ RunPendingTasks 10
     ∷ TakeNotice ∷ TakeNotice ∷ TakeNotice ∷ Get 0 10 ∷ Get 1 10 ∷ Get 2 10 ∷ Get 3 10 ∷ EntryCount ∷ []
 
 -- a value is removed when its ten seconds have passed, and another before that
-abbrev pub removals_of_both : List (Call ℕ ℕ)
+abbrev pub removals_of_both : List (Call ℕ ℕ ℕ)
 removals_of_both =
     Insert 1 10 0 ∷ Insert 2 20 1 ∷ Remove 1 (seconds 10) ∷ TakeNotice ∷ Remove 2 (seconds 10) ∷ TakeNotice
     ∷ Remove 2 (seconds 10) ∷ EntryCount ∷ []

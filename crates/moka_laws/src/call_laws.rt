@@ -1,50 +1,51 @@
 //! The laws of calls, over every list of accepted steps: what each records and draws, and that all
 //! lists which calls give are legal.
-ghost use Rattle.std.specs.Prelude.{◌≡◌, ◌⊎◌, ◌↔◌, ◌≢◌, ℕ, max, false, Option, Some, List, [], ◌∷◌};
+ghost use Rattle.std.specs.Prelude.{◌≡◌, ◌⊎◌, ◌↔◌, ◌≢◌, ℕ, max, false, Option, Some, List, [], ◌++◌};
 ghost use Rattle.std.specs.List.{AllByRecursion};
 ghost use Rattle.moka_model.specs.Lives.{Settings};
 ghost use Rattle.moka_model.specs.Events.{recorded, latest};
 ghost use Rattle.moka_model.specs.Numbers.{next_number, greatest_number, stores_nothing};
 ghost use Rattle.moka_model.specs.Steps.{AcceptedStep, events_in};
-ghost use Rattle.moka_model.specs.Calls.{Call, Insert, Found, Accepted, accepted, after, IsLegal, IsOutOfNumbers, MayTakeMemory};
-ghost use Rattle.moka_laws.specs.Laws.{answer, moment_of, IsWrite};
+ghost use Rattle.moka_model.specs.Calls.{Call, Insert, Accepted, accepted, after, IsLegal, IfAnswered, IsOutOfNumbers, AnswerMayFail, MayTakeMemory};
+ghost use Rattle.moka_laws.specs.Laws.{moment_of, IsWrite};
 
 /// Before any call there are no steps, which is legal, and each call leaves a legal list legal.
 pub fn calls_give_legal_lists<K: Eq, V, E>()
     ensures none { (settings : Settings K V) (none : List (AcceptedStep K V E)) → none ≡ [] → IsLegal K.eq settings none }
-    ensures next { (settings : Settings K V) (steps : List (AcceptedStep K V E)) (call : Call K V) → IsLegal K.eq settings steps
+    ensures next { (settings : Settings K V) (steps : List (AcceptedStep K V E)) (call : Call K V E) → IsLegal K.eq settings steps
         → IsLegal K.eq settings (after K.eq settings call steps) }
 {}
 
-/// The latest moment is the greatest that was handed in, but to a question, which records none. So
-/// is it where a write stores nothing.
+/// The latest moment is the greatest that was handed in to an accepted call, but to a question, which
+/// records none. So is it where a write stores nothing.
 pub fn moments_are_recorded<K: Eq, V, E>()
-    ensures { (settings : Settings K V) (steps : List (AcceptedStep K V E)) (call : Call K V)
-        → latest (events_in (after K.eq settings call steps)) ≡ max (latest (events_in steps)) (moment_of call) }
+    ensures { (settings : Settings K V) (steps : List (AcceptedStep K V E)) (call : Call K V E) (it : Accepted K V E)
+        → accepted K.eq settings steps call ≡ Some it
+        → latest (it.step.events ++ events_in steps) ≡ max (latest (events_in steps)) (moment_of call) }
 {}
 
 /// The events of an accepted step are all at one moment: each records the moment that was handed
 /// in, or none.
 pub fn a_step_is_at_one_moment<K: Eq, V, E>()
-    ensures { (settings : Settings K V) (steps : List (AcceptedStep K V E)) (call : Call K V) (it : Accepted K V E)
+    ensures { (settings : Settings K V) (steps : List (AcceptedStep K V E)) (call : Call K V E) (it : Accepted K V E)
         → accepted K.eq settings steps call ≡ Some it
         → AllByRecursion (λ e. (recorded e ≡ moment_of call) ⊎ (recorded e ≡ 0)) it.step.events }
 {}
 
 /// A write is refused for want of numbers exactly where something is stored and the next number is
-/// the greatest, and no other call ever is.
+/// the greatest, and no call ever is that neither writes nor begins.
 pub fn writes_alone_run_out_of_numbers<K: Eq, V, E>()
     ensures write { (settings : Settings K V) (steps : List (AcceptedStep K V E)) (k : K) (v : V) (at : ℕ)
         → IsOutOfNumbers K.eq settings steps (Insert k v at) ↔ ((stores_nothing settings.max_capacity ≡ false) × (next_number settings (events_in steps) ≡ greatest_number)) }
-    ensures others { (settings : Settings K V) (steps : List (AcceptedStep K V E)) (call : Call K V)
+    ensures others { (settings : Settings K V) (steps : List (AcceptedStep K V E)) (call : Call K V E)
         → IsOutOfNumbers K.eq settings steps call → IsWrite call }
 {}
 
-/// A write may be refused memory exactly where the capacity is not 0, and any other call exactly
-/// where it answers a value whose copy can fail.
+/// A write may be refused memory exactly where the capacity is not 0, and a call that neither writes
+/// nor begins exactly where it answers a copy that can fail.
 pub fn writes_and_copies_alone_take_memory<K: Eq, V: Clone, E>()
     ensures write { (settings : Settings K V) (steps : List (AcceptedStep K V E)) (k : K) (v : V) (at : ℕ)
         → MayTakeMemory K.eq V.is_infallible settings steps (Insert k v at) ↔ (settings.max_capacity ≢ Some 0) }
-    ensures others { (settings : Settings K V) (steps : List (AcceptedStep K V E)) (call : Call K V) → ¬ (IsWrite call)
-        → MayTakeMemory K.eq V.is_infallible settings steps call ↔ ((v : V) × (answer K.eq settings call steps ≡ Some (Found (Some v))) × ¬ (V.is_infallible v)) }
+    ensures others { (settings : Settings K V) (steps : List (AcceptedStep K V E)) (call : Call K V E) → ¬ (IsWrite call)
+        → MayTakeMemory K.eq V.is_infallible settings steps call ↔ IfAnswered (AnswerMayFail V.is_infallible) (accepted K.eq settings steps call) }
 {}

@@ -12,7 +12,7 @@ ghost use Rattle.moka_model.specs.Steps.{AcceptedStep, events_in};
 ghost use Rattle.moka_model.specs.Calls.{Call, InvalidateAll, InvalidateIf, accepted, after};
 ghost use Rattle.moka_conserved.specs.Conserved.{SeesKeysAlike, count_written, count_standing, count_left, given_out};
 ghost use Rattle.moka_laws.specs.Laws.{IsUnwritten, LastWrite};
-ghost use Rattle.moka_laws.specs.HidingLaws.{HidingEvent, IsNotFound, IsInvalidation};
+ghost use Rattle.moka_laws.specs.HidingLaws.{HidingEvent, IsNotFound, IsInvalidation, IsByName};
 
 /// A write is hidden exactly where, behind it, an event hides by a test that holds of its stored
 /// key and its value. So what is written later is not, and nothing leaves at such an event.
@@ -48,16 +48,18 @@ pub fn what_was_hidden_leaves_as_removed<K, V>()
 
 /// No invalidation changes a frequency.
 pub fn an_invalidation_changes_no_frequency<K: Eq, V, E>()
-    ensures { (settings : Settings K V) (steps : List (AcceptedStep K V E)) (call : Call K V) (hash : ℕ) → IsInvalidation call
+    ensures { (settings : Settings K V) (steps : List (AcceptedStep K V E)) (call : Call K V E) (hash : ℕ) → IsInvalidation call
         → frequency settings (events_in (after K.eq settings call steps)) hash ≡ frequency settings (events_in steps) hash }
 {}
 
-/// A call is refused by its name exactly where it hides by a test and the cache does not support
-/// that. Then nothing has changed.
-pub fn tests_alone_are_refused_by_name<K: Eq, V, E>()
-    ensures exactly { (settings : Settings K V) (steps : List (AcceptedStep K V E)) (call : Call K V)
-        → (accepted K.eq settings steps call ≡ None) ↔ ((test : K → V → Bool) × (call ≡ InvalidateIf test) × (settings.supports_closures ≡ false)) }
-    ensures nothing { (settings : Settings K V) (steps : List (AcceptedStep K V E)) (call : Call K V)
+/// A call that hides by a test is refused by its name exactly where the cache does not support that. Of
+/// all others only those are that name a turn. Where a call is refused by its name nothing has changed.
+pub fn tests_and_names_alone_are_refused<K: Eq, V, E>()
+    ensures exactly { (settings : Settings K V) (steps : List (AcceptedStep K V E)) (test : K → V → Bool)
+        → (accepted K.eq settings steps (InvalidateIf test) ≡ None) ↔ (settings.supports_closures ≡ false) }
+    ensures others { (settings : Settings K V) (steps : List (AcceptedStep K V E)) (call : Call K V E)
+        → accepted K.eq settings steps call ≡ None → IsByName call }
+    ensures nothing { (settings : Settings K V) (steps : List (AcceptedStep K V E)) (call : Call K V E)
         → accepted K.eq settings steps call ≡ None → after K.eq settings call steps ≡ steps }
 {}
 

@@ -40,9 +40,9 @@ pub fn get_after_insert<K: Eq, V, E>()
 /// nothing: every later answer is as if it had not been made, and so are the two orders, whether a
 /// flush is due, what was not given out yet, and how often each hash was noted.
 pub fn a_question_changes_nothing<K: Eq, V, E>()
-    ensures step { (settings : Settings K V) (steps : List (AcceptedStep K V E)) (call : Call K V) → IsQuestion call
+    ensures step { (settings : Settings K V) (steps : List (AcceptedStep K V E)) (call : Call K V E) → IsQuestion call
         → after K.eq settings call steps ≡ and_then [] steps }
-    ensures answer { (settings : Settings K V) (later steps : List (AcceptedStep K V E)) (call : Call K V)
+    ensures answer { (settings : Settings K V) (later steps : List (AcceptedStep K V E)) (call : Call K V E)
         → answer K.eq settings call (later ++ and_then [] steps) ≡ answer K.eq settings call (later ++ steps) }
     ensures standing { (settings : Settings K V) (later steps : List (AcceptedStep K V E)) (k : K)
         → standing K.eq settings k (events_in (later ++ and_then [] steps)) ≡ standing K.eq settings k (events_in (later ++ steps)) }

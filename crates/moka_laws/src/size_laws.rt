@@ -7,9 +7,9 @@ ghost use Rattle.moka_model.specs.Lives.{Settings, Write, is_live};
 ghost use Rattle.moka_model.specs.Events.{Event, Maintained, latest};
 ghost use Rattle.moka_model.specs.Orders.{is_left_at, orders, standing};
 ghost use Rattle.moka_model.specs.Removals.{removals_at, removals};
-ghost use Rattle.moka_model.specs.Numbers.{next_number, entry_count, weighted_size, stores_nothing, flush_point};
+ghost use Rattle.moka_model.specs.Numbers.{drawn_in, entry_count, weighted_size, stores_nothing, flush_point};
 ghost use Rattle.moka_model.specs.Steps.{AcceptedStep, events_in};
-ghost use Rattle.moka_model.specs.Calls.{Get, ContainsKey, Found, Contains, IsLegal};
+ghost use Rattle.moka_model.specs.Calls.{Get, ContainsKey, Found, Contains, IsLegal, write_events};
 ghost use Rattle.moka_model.specs.MaintenanceLaws.{AreAmong};
 ghost use Rattle.moka_model.specs.SizeLaws.{WeighsOnes, LimitsSome, lives, dead, living, gone, gone_behind, excess, overweight, removal_as, dead_removal};
 ghost use Rattle.moka_model.specs.Maintenance.{total};
@@ -76,8 +76,8 @@ pub fn no_other_capacity_stores_nothing()
     ensures { (capacity : Option ℕ) → (stores_nothing capacity ≡ true) ↔ (capacity ≡ Some 0) }
 {}
 
-/// With a capacity of 0 nothing is ever stored, found or counted, nothing leaves, and no number is
-/// drawn.
+/// With a capacity of 0 nothing is ever stored, found or counted, nothing leaves, and no write
+/// draws a number.
 pub fn a_capacity_of_0_stores_nothing<K: Eq, V, E>()
     ensures orders { (settings : Settings K V) (steps : List (AcceptedStep K V E)) → stores_nothing settings.max_capacity ≡ true → IsLegal K.eq settings steps
         → ((orders K.eq settings (events_in steps)).admitted ≡ []) × ((orders K.eq settings (events_in steps)).waiting ≡ []) × (entry_count K.eq settings (events_in steps) ≡ 0) }
@@ -87,8 +87,8 @@ pub fn a_capacity_of_0_stores_nothing<K: Eq, V, E>()
         → (answer K.eq settings (Get k at) steps ≡ Some (Found None)) × (answer K.eq settings (ContainsKey k at) steps ≡ Some (Contains false)) }
     ensures removals { (settings : Settings K V) (steps : List (AcceptedStep K V E)) → stores_nothing settings.max_capacity ≡ true → IsLegal K.eq settings steps
         → removals K.eq settings (events_in steps) ≡ [] }
-    ensures next_number { (settings : Settings K V) (steps : List (AcceptedStep K V E)) → stores_nothing settings.max_capacity ≡ true → IsLegal K.eq settings steps
-        → next_number settings (events_in steps) ≡ settings.first_number }
+    ensures drawn { (settings : Settings K V) (k : K) (v : V) (at : ℕ) (h : List (Event K V)) → stores_nothing settings.max_capacity ≡ true
+        → drawn_in (write_events K.eq settings k v at h) ≡ 0 }
 {}
 
 /// By either policy the dead leave first in a maintenance, as removed where they were hidden and

@@ -2,6 +2,6 @@
 //! between numbers.
 #![tactic(auto)]
 
-mod as_is;
+pub mod as_is;
 mod firsts;
 pub mod links;

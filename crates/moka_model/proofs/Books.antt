@@ -1,5 +1,5 @@
 -- What each event makes of the books, and what a state comes to stand for.
-use Rattle.std.proofs.Common.{◌≡◌, ℕ, ◌+◌, ◌<◌, ◌≤◌, nat_le, max, min, Bool, true, false, Option, Some, None, List, [], ◌∷◌, ◌++◌, length, map, drop, refl, sym, ap, ◌∙◌, append_assoc, append-nil, length-append, add-zero, arith}
+use Rattle.std.proofs.Common.{subst, ◌≡◌, ℕ, ◌+◌, ◌<◌, ◌≤◌, nat_le, max, min, Bool, true, false, Option, Some, None, List, [], ◌∷◌, ◌++◌, length, map, drop, refl, sym, ap, ◌∙◌, append_assoc, append-nil, length-append, add-zero, arith}
 use Rattle.std.proofs.Math.Path.{fun_ext}
 use Rattle.std.specs.Option.{option_to_list}
 use Rattle.std.specs.Cmp.{IsEquivalence}
@@ -14,9 +14,10 @@ use Rattle.moka_model.specs.Orders.{is_hit, used_where, written_in, removed_in, 
 use Rattle.moka_model.specs.OrderLaws.{held}
 use Rattle.moka_model.specs.Removals.{Removal, removal_of, removals_of, removals_at, removals, taken, notices_left}
 use Rattle.moka_model.specs.Numbers.{next_number}
-use Rattle.moka_model.specs.Steps.{AcceptedStep, events_in}
-use Rattle.moka_model.specs.Calls.{Call, after, IsLegal}
-use Rattle.moka_model.specs.StandsFor.{Books, books_of, View, StandsFor}
+use Rattle.moka_model.specs.Steps.{AcceptedStep, events_in, turns as turns_of}
+use Rattle.moka_model.specs.Calls.{Call, after, IsLegal, Holds}
+use Rattle.moka_model.specs.StandsFor.{Books, books_of, View, WholeView, StandsFor}
+use Rattle.moka_model.specs.Turns.{Turn}
 use Rattle.moka_model.proofs.Legal.{IsLegal-after}
 use Rattle.moka_model.proofs.OrdersHold.{held-orders}
 
@@ -175,21 +176,29 @@ module _ {K V : Type 0} (eq : K → K → Bool) where
         ∙ noted-after settings e h view.frequency is.frequency more hash;
   }
 
-module _ {K V E : Type 0} (eq : K → K → Bool) (settings : Settings K V) (view : View K V) (steps : List (AcceptedStep K V E)) where
+-- a step that moves no turn, on top of others
+abbrev pub unmoved : {K V E : Type 0} → List (Event K V) → List (AcceptedStep K V E) → List (AcceptedStep K V E)
+unmoved events steps = record { events = events; move = None } ∷ steps
+
+-- values and turns together
+abbrev pub whole : {K V E : Type 0} → View K V → List (Turn K V E) → WholeView K V E
+whole values turns = record { values = values; turns = turns }
+
+module _ {K V E : Type 0} (eq : K → K → Bool) {is_clone : V → V → Type 0} {turns : List (Turn K V E)} (settings : Settings K V) (view : View K V) (steps : List (AcceptedStep K V E)) where
   -- what stands for accepted steps is the view of their events
-  pub view-of : StandsFor eq settings view steps → IsViewOf eq settings view (events_in steps)
+  pub view-of : StandsFor eq is_clone settings (whole view turns) steps → IsViewOf eq settings view (events_in steps)
   view-of stands = record { settings = stands.settings; books = stands.books; frequency = stands.frequency }
 
-  -- and the view of their events stands for a legal list of them
-  pub stands-for : IsLegal eq settings steps → IsViewOf eq settings view (events_in steps) → StandsFor eq settings view steps
-  stands-for legal is = record { legal = legal; settings = is.settings; books = is.books; frequency = is.frequency }
+  -- and the view of their events, with their turns, stands for a legal list of them
+  pub stands-for : IsLegal eq settings steps → IsViewOf eq settings view (events_in steps) → Holds eq is_clone (turns_of steps) turns → StandsFor eq is_clone settings (whole view turns) steps
+  stands-for legal is same = record { legal = legal; settings = is.settings; books = is.books; frequency = is.frequency; turns = same }
 
   -- the orders have for each key the write that stands and no other
-  pub held-stands : IsEquivalence eq → StandsFor eq settings view steps → (k : K) → held eq k view.books.orders ≡ option_to_list (standing eq settings k (events_in steps))
+  pub held-stands : IsEquivalence eq → StandsFor eq is_clone settings (whole view turns) steps → (k : K) → held eq k view.books.orders ≡ option_to_list (standing eq settings k (events_in steps))
   held-stands laws stands k = ap (λ (b : Books K V). held eq k b.orders) stands.books ∙ held-orders eq settings laws k (events_in steps)
 
   -- a limit leaves a part undone where it leaves one of the maintenance of its books
-  pub cut-stands : StandsFor eq settings view steps → (limit : Option ℕ) (at : ℕ) → is_left_at eq settings limit at (events_in steps) ≡ is_cut view.settings (view.frequency []) limit (max view.books.latest at) view.books.orders
+  pub cut-stands : StandsFor eq is_clone settings (whole view turns) steps → (limit : Option ℕ) (at : ℕ) → is_left_at eq settings limit at (events_in steps) ≡ is_cut view.settings (view.frequency []) limit (max view.books.latest at) view.books.orders
   cut-stands stands limit at =
       let h : List (Event K V) = events_in steps in
       sym
@@ -197,15 +206,19 @@ module _ {K V E : Type 0} (eq : K → K → Bool) (settings : Settings K V) (vie
       ∙ ap (λ f. is_cut settings f limit (max view.books.latest at) view.books.orders) (frequency-now eq settings view h (view-of stands))
       ∙ ap (λ (b : Books K V). is_cut settings (frequency settings h) limit (max b.latest at) b.orders) stands.books)
 
-  -- after a call a state stands for the steps that follow, where its view is that of their events
-  pub stands-after : StandsFor eq settings view steps → (call : Call K V) (new : View K V) → IsViewOf eq settings new (events_in (after eq settings call steps)) → StandsFor eq settings new (after eq settings call steps)
-  stands-after stands call new is = record { legal = IsLegal-after eq settings call steps stands.legal; settings = is.settings; books = is.books; frequency = is.frequency }
+  -- after a call a state stands for the steps that follow, where its view is that of their events, and its turns are theirs
+  pub stands-moved : StandsFor eq is_clone settings (whole view turns) steps → (call : Call K V E) (new : View K V) (left : List (Turn K V E)) → IsViewOf eq settings new (events_in (after eq settings call steps))
+      → Holds eq is_clone (turns_of (after eq settings call steps)) left → StandsFor eq is_clone settings (whole new left) (after eq settings call steps)
+  stands-moved stands call new left is same = record { legal = IsLegal-after eq settings call steps stands.legal; settings = is.settings; books = is.books; frequency = is.frequency; turns = same }
+
+  -- after one that moves no turn the turns are those before
+  pub stands-after : StandsFor eq is_clone settings (whole view turns) steps → (call : Call K V E) (new : View K V) (events : List (Event K V)) → after eq settings call steps ≡ unmoved events steps
+      → IsViewOf eq settings new (events ++ events_in steps) → StandsFor eq is_clone settings (whole new turns) (after eq settings call steps)
+  stands-after stands call new events after_is is =
+      stands-moved stands call new turns
+      (subst (λ (s : List (AcceptedStep K V E)). IsViewOf eq settings new (events_in s)) (sym after_is) is)
+      (subst (λ (s : List (AcceptedStep K V E)). Holds eq is_clone (turns_of s) turns) (sym after_is) stands.turns)
 
   -- so a call without events leaves it as it is
-  pub stands-question : StandsFor eq settings view steps → (call : Call K V) → events_in (after eq settings call steps) ≡ events_in steps → StandsFor eq settings view (after eq settings call steps)
-  stands-question stands call no_events = record {
-    legal = IsLegal-after eq settings call steps stands.legal;
-    settings = stands.settings;
-    books = stands.books ∙ ap (books_of eq settings) (sym no_events);
-    frequency = λ more hash. stands.frequency more hash ∙ ap (λ h. settings.frequency (notes settings h ++ more) hash) (sym no_events);
-  }
+  pub stands-question : StandsFor eq is_clone settings (whole view turns) steps → (call : Call K V E) → after eq settings call steps ≡ unmoved [] steps → StandsFor eq is_clone settings (whole view turns) (after eq settings call steps)
+  stands-question stands call nothing = stands-after stands call view [] nothing (view-of stands)

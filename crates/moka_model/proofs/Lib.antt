@@ -15,7 +15,11 @@ pub mod MaintenanceLimits
 pub mod MaintenanceOnes
 pub mod MaintenanceOrder
 pub mod MaintenanceWins
+pub mod OpenTurns
 pub mod OrdersHold
 pub mod Sizes
 pub mod Standing
+pub mod TurnLists
+pub mod TurnMoves
+pub mod TurnNumbers
 pub mod Writes

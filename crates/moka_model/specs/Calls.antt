@@ -1,27 +1,48 @@
 -- Calls: what each answers after a list of accepted steps, which accepted step it is, and when it may be refused.
-use Rattle.std.specs.Prelude.{⊤, ◌≡◌, ◌<◌, ℕ, max, min, Bool, true, false, if◌then◌else◌, Option, Some, None, List, [], ◌∷◌}
-use Rattle.std.specs.Prelude.{option_map, IsSomeAnd}
-use Rattle.std.specs.Prelude.{is_some, slice_get}
+use Rattle.std.specs.Prelude.{⊤, ◌≡◌, ◌<◌, ℕ, max, min, Bool, true, false, ◌==◌, if◌then◌else◌, List, [], ◌∷◌, ◌++◌, slice_get}
+use Rattle.std.specs.Prelude.{Option, Some, None, IsSome, IsSomeAnd, is_some, option_map}
+use Rattle.moka_model.specs.declared.turns.Kind.{Kind}
+use Rattle.moka_model.specs.declared.turns.Kind.TheVariants.{With, Optionally, Try, Compute}
+use Rattle.moka_model.specs.declared.turns.Op.TheVariants as ops
+use Rattle.moka_model.specs.declared.turns.Outcome.{Outcome}
+use Rattle.moka_model.specs.declared.turns.Outcome.TheVariants as outcomes
 use Rattle.moka_model.specs.Lives.{Settings, Write}
-use Rattle.moka_model.specs.Events.{Event, Looked, Written, Invalidated, Hidden, Maintained, Passed, Taken, latest}
+use Rattle.moka_model.specs.Events.{Event, Looked, TurnedDown, Written, Invalidated, Hidden, Maintained, Passed, Drawn, Taken, latest}
 use Rattle.moka_model.specs.Orders.{live, is_left_at}
 use Rattle.moka_model.specs.Removals.{Removal, notices_left}
 use Rattle.moka_model.specs.Numbers.{drawn_in, next_number, greatest_number, entry_count, weighted_size, stores_nothing, is_flush_due}
-use Rattle.moka_model.specs.Steps.{AcceptedStep, events_in}
+use Rattle.moka_model.specs.Turns.{Name, Turn, Move, Opened, Waited, Ended, Spent, End, Agree, fits, found}
+use Rattle.moka_model.specs.Turns.{is_open_for, is_open_as, has_ticket_as, is_ended_as, has_ended_as}
+use Rattle.moka_model.specs.Turns as turning
+use Rattle.moka_model.specs.Steps.{AcceptedStep, events_in, turns}
 
-pub data Call (K V : Type 0) : Type 0 where  -- A call, with what it hands in; the last of that is its moment, if it has one.
-  Get : K → ℕ → Call K V
-  ContainsKey : K → ℕ → Call K V
-  Insert : K → V → ℕ → Call K V
-  Invalidate : K → ℕ → Call K V
-  Remove : K → ℕ → Call K V
-  InvalidateAll : Call K V
-  InvalidateIf : (K → V → Bool) → Call K V
-  RunPendingTasks : ℕ → Call K V
-  RunPendingTasksUpTo : ℕ → ℕ → Call K V  -- a limit, and a moment
-  EntryCount : Call K V
-  WeightedSize : Call K V
-  TakeNotice : Call K V
+pub data Call (K V E : Type 0) : Type 0 where  -- A call, with what it hands in; the last of that is its moment, if it has one.
+  Get : K → ℕ → Call K V E
+  ContainsKey : K → ℕ → Call K V E
+  Insert : K → V → ℕ → Call K V E
+  Invalidate : K → ℕ → Call K V E
+  Remove : K → ℕ → Call K V E
+  InvalidateAll : Call K V E
+  InvalidateIf : (K → V → Bool) → Call K V E
+  RunPendingTasks : ℕ → Call K V E
+  RunPendingTasksUpTo : ℕ → ℕ → Call K V E  -- a limit, and a moment
+  EntryCount : Call K V E
+  WeightedSize : Call K V E
+  TakeNotice : Call K V E
+  OrInsert : K → V → ℕ → Call K V E
+  Begin : K → Kind → Option Bool → ℕ → Call K V E  -- with what the caller says of a live value, whether to replace it, if it does
+  BeginCompute : K → Bool → ℕ → Call K V E  -- with whether a copy of the live value is to be kept aside
+  Finish : Name K → Outcome V E → ℕ → Call K V E
+  Abandon : Name K → Call K V E
+  Collect : Name K → Call K V E
+  Leave : Name K → Call K V E
+
+-- A value that is handed out under a key, whether the call wrote it, and whether over a live one.
+pub record Entry (K V : Type 0) : Type 0 where
+  pub key : K
+  pub value : V
+  pub fresh : Bool
+  pub replaced : Bool
 
 pub data Answer (K V E : Type 0) : Type 0 where  -- An answer, with the values themselves. What a call hands out is a copy of them.
   Found : Option V → Answer K V E
@@ -30,6 +51,19 @@ pub data Answer (K V E : Type 0) : Type 0 where  -- An answer, with the values t
   Counted : ℕ → Answer K V E
   Left : Bool → Answer K V E
   Noticed : Option (Removal K V) → Answer K V E
+  Entered : Entry K V → Answer K V E
+  Run : Name K → Option (Entry K V) → Answer K V E  -- a turn was opened, with the live entry that a compute is shown
+  Wait : Name K → Answer K V E
+  GaveNothing : Answer K V E
+  GaveError : E → Answer K V E
+  StillNone : K → Answer K V E
+  Unchanged : Entry K V → Answer K V E
+  Inserted : Entry K V → Answer K V E
+  ReplacedWith : Entry K V → Answer K V E
+  Removed : Entry K V → Answer K V E
+  NotYet : Answer K V E
+  WasAbandoned : Answer K V E
+  HasEnded : Answer K V E
 
 pub record Accepted (K V E : Type 0) : Type 0 where  -- What an accepted call answers, and the step that it is.
   pub answer : Answer K V E
@@ -37,6 +71,29 @@ pub record Accepted (K V E : Type 0) : Type 0 where  -- What an accepted call an
 
 abbrev pub without_move : {K V E : Type 0} → Answer K V E → List (Event K V) → Accepted K V E  -- an accepted call that moves no turn
 without_move answer events = record { answer = answer; step = record { events = events; move = None } }
+
+abbrev pub with_move : {K V E : Type 0} → Answer K V E → List (Event K V) → Move K V E → Accepted K V E
+with_move answer events move = record { answer = answer; step = record { events = events; move = Some move } }
+
+module _ {K V : Type 0} where
+  abbrev pub entry_of : Write K V → Entry K V
+  entry_of w = record { key = w.key; value = w.value; fresh = false; replaced = false }
+
+  abbrev pub entry_under : K → V → Entry K V
+  entry_under k v = record { key = k; value = v; fresh = false; replaced = false }
+
+  abbrev pub fresh_entry : K → V → Bool → Entry K V
+  fresh_entry k v replaced = record { key = k; value = v; fresh = true; replaced = replaced }
+
+  abbrev pub acceptable : Option Bool → Option (Write K V) → Option (Write K V)  -- a live value, unless the caller turned it down
+  acceptable None w = w
+  acceptable (Some false) w = w
+  acceptable (Some true) w = None
+
+  abbrev pub look_event : Option Bool → K → ℕ → Event K V
+  look_event None k at = Looked k at
+  look_event (Some false) k at = Looked k at
+  look_event (Some true) k at = TurnedDown k at
 
 module _ {K V : Type 0} (eq : K → K → Bool) (settings : Settings K V) where
   -- the live write of a key where a call looks at a moment: at the greater of that and the latest recorded one
@@ -50,24 +107,131 @@ module _ {K V : Type 0} (eq : K → K → Bool) (settings : Settings K V) where
   abbrev pub write_events : K → V → ℕ → List (Event K V) → List (Event K V)
   write_events k v at h = if stores_nothing settings.max_capacity then Passed at ∷ [] else Written k v at ∷ flush at h
 
+module _ {K V E : Type 0} where
+  -- what a ticket of a turn is answered, by the end of the turn
+  abbrev pub answer_by : Name K → End V E → Answer K V E
+  answer_by name (turning.Value v replaced) = Entered (record { key = name.key; value = v; fresh = false; replaced = replaced })
+  answer_by name turning.Nothing = GaveNothing
+  answer_by name (turning.Failed e) = GaveError e
+  answer_by name turning.Computed = HasEnded
+  answer_by name turning.Abandoned = WasAbandoned
+
+  abbrev pub waits_for : Turn K V E → K → List (Event K V) → Accepted K V E  -- a ticket has the key of the call that is told to wait
+  waits_for t k events = with_move (Wait (record t.name { key = k })) events (Waited t.name.number)
+
+  abbrev pub collected : Name K → ℕ → Option (End V E) → Accepted K V E  -- a ticket of an open turn stays unspent
+  collected name number None = without_move NotYet []
+  collected name number (Some end) = with_move (answer_by name end) [] (Spent number)
+
+  abbrev pub spends : ℕ → Accepted K V E
+  spends number = with_move Done [] (Spent number)
+
+  abbrev pub abandons : ℕ → Accepted K V E
+  abandons number = with_move Done [] (Ended number turning.Abandoned)
+
+  -- what a compute that puts, removes or does nothing is answered: presence is that at its begin, but that of a removal
+  abbrev pub put_by : Name K → V → Bool → Answer K V E
+  put_by name v shown = if shown then ReplacedWith (fresh_entry name.key v true) else Inserted (fresh_entry name.key v false)
+
+  abbrev pub removed_by : Name K → Option (Write K V) → Answer K V E
+  removed_by name None = StillNone name.key
+  removed_by name (Some w) = Removed (entry_under name.key w.value)
+
+  abbrev pub kept_by : Name K → Option V → Answer K V E
+  kept_by name None = StillNone name.key
+  kept_by name (Some v) = Unchanged (entry_under name.key v)
+
+module _ {V E : Type 0} where
+  -- what a turn ends with, where its finish hands in an outcome, and whether a live value stood at its write
+  abbrev pub end_by : Outcome V E → Bool → End V E
+  end_by (outcomes.Value v) replaced = turning.Value v replaced
+  end_by outcomes.Nothing replaced = turning.Nothing
+  end_by (outcomes.Failed e) replaced = turning.Failed e
+  end_by (outcomes.Op op) replaced = turning.Computed
+
+module _ {K V : Type 0} (eq : K → K → Bool) (settings : Settings K V) (h : List (Event K V)) where
+  abbrev pub new_name : Kind → K → Name K  -- the name of a turn that is opened after these events
+  new_name kind k = record { number = next_number settings h; kind = kind; key = k }
+
+  abbrev pub is_replacing : K → ℕ → Bool  -- whether a live value stands just before a write, behind its flush
+  is_replacing k at = is_some (live eq settings k (max (latest h) at) (flush eq settings at h ++ h))
+
+module _ {K V E : Type 0} (eq : K → K → Bool) (settings : Settings K V) (h : List (Event K V)) where
+  -- a begin of an initializer, by the acceptable live value and the open turn, if there are such
+  abbrev pub begun : K → Kind → Option Bool → ℕ → Option (Write K V) → Option (Turn K V E) → Accepted K V E
+  begun k kind replace at (Some w) turn = without_move (Entered (entry_of w)) (look_event replace k at ∷ [])
+  begun k kind replace at None (Some t) = waits_for t k (look_event replace k at ∷ [])
+  begun k kind replace at None None =
+      with_move (Run (new_name eq settings h kind k) None) (Drawn ∷ look_event replace k at ∷ [])
+      (Opened (new_name eq settings h kind k) false None)
+
+  -- a begin of a compute, by the open turn, if there is one
+  abbrev pub begun_compute : K → Bool → ℕ → Option (Turn K V E) → Accepted K V E
+  begun_compute k keep at (Some t) = waits_for t k (Passed at ∷ [])
+  begun_compute k keep at None =
+      with_move (Run (new_name eq settings h Compute k) (option_map entry_of (live_at eq settings k at h))) (Drawn ∷ Looked k at ∷ [])
+      (Opened (new_name eq settings h Compute k) (is_some (live_at eq settings k at h))
+      (if keep then option_map (λ w. w.value) (live_at eq settings k at h) else None))
+
+  abbrev pub or_inserted : K → V → ℕ → Option (Write K V) → Accepted K V E
+  or_inserted k v at (Some w) = without_move (Entered (entry_of w)) (Looked k at ∷ [])
+  or_inserted k v at None =
+      without_move (Entered (fresh_entry k v false)) (write_events eq settings k v at (Looked k at ∷ h) ++ Looked k at ∷ [])
+
+  abbrev pub finish_answer : Turn K V E → ℕ → Outcome V E → Name K → Answer K V E
+  finish_answer t at (outcomes.Value v) name = Entered (fresh_entry name.key v (is_replacing eq settings h name.key at))
+  finish_answer t at outcomes.Nothing name = GaveNothing
+  finish_answer t at (outcomes.Failed e) name = GaveError e
+  finish_answer t at (outcomes.Op (ops.Put v)) name = put_by name v t.shown
+  finish_answer t at (outcomes.Op ops.Remove) name = removed_by name (live_at eq settings name.key at h)
+  finish_answer t at (outcomes.Op ops.Nop) name = kept_by name t.kept
+
+  abbrev pub finish_events : K → ℕ → Outcome V E → List (Event K V)
+  finish_events k at (outcomes.Value v) = write_events eq settings k v at h
+  finish_events k at (outcomes.Op (ops.Put v)) = write_events eq settings k v at h
+  finish_events k at (outcomes.Op ops.Remove) = Invalidated k at ∷ []
+  finish_events k at outcome = Passed at ∷ []
+
+  abbrev pub finished : Name K → Outcome V E → ℕ → Turn K V E → Accepted K V E
+  finished name outcome at t =
+      with_move (finish_answer t at outcome name) (finish_events name.key at outcome)
+      (Ended t.name.number (end_by outcome (is_replacing eq settings h name.key at)))
+
+module _ {K V E : Type 0} (eq : K → K → Bool) (settings : Settings K V) (h : List (Event K V)) (ts : List (Turn K V E)) where
+  abbrev pub begun_by : K → Kind → Option Bool → ℕ → Accepted K V E
+  begun_by k Compute replace at = begun_compute eq settings h k false at (found (is_open_for eq Compute k) ts)
+  begun_by k kind replace at =
+      begun eq settings h k kind replace at (acceptable replace (live_at eq settings k at h)) (found (is_open_for eq kind k) ts)
+
+  -- What a call answers and which step it is, after these events and beside these turns; none where it is refused by its name.
+  abbrev pub accepted_beside : Call K V E → Option (Accepted K V E)
+  accepted_beside (Get k at) = Some (without_move (Found (option_map (λ w. w.value) (live_at eq settings k at h))) (Looked k at ∷ []))
+  accepted_beside (ContainsKey k at) = Some (without_move (Contains (is_some (live_at eq settings k at h))) [])
+  accepted_beside (Insert k v at) = Some (without_move Done (write_events eq settings k v at h))
+  accepted_beside (Invalidate k at) = Some (without_move Done (Invalidated k at ∷ []))
+  accepted_beside (Remove k at) =
+      Some (without_move (Found (option_map (λ w. w.value) (live_at eq settings k at h))) (Invalidated k at ∷ []))
+  accepted_beside InvalidateAll = Some (without_move Done (Hidden (λ k v. true) ∷ []))
+  accepted_beside (InvalidateIf test) = if settings.supports_closures then Some (without_move Done (Hidden test ∷ [])) else None
+  accepted_beside (RunPendingTasks at) = Some (without_move Done (Maintained None at ∷ []))
+  accepted_beside (RunPendingTasksUpTo limit at) =
+      Some (without_move (Left (is_left_at eq settings (Some limit) at h)) (Maintained (Some limit) at ∷ []))
+  accepted_beside EntryCount = Some (without_move (Counted (min (entry_count eq settings h) greatest_number)) [])
+  accepted_beside WeightedSize = Some (without_move (Counted (min (weighted_size eq settings h) greatest_number)) [])
+  accepted_beside TakeNotice = Some (without_move (Noticed (slice_get (notices_left eq settings h) 0)) (Taken ∷ []))
+  accepted_beside (OrInsert k v at) = Some (or_inserted eq settings h k v at (live_at eq settings k at h))
+  accepted_beside (Begin k kind replace at) = Some (begun_by k kind replace at)
+  accepted_beside (BeginCompute k keep at) = Some (begun_compute eq settings h k keep at (found (is_open_for eq Compute k) ts))
+  accepted_beside (Finish name outcome at) =
+      if fits name.kind outcome then option_map (finished eq settings h name outcome at) (found (is_open_as eq name) ts) else None
+  accepted_beside (Abandon name) = option_map (λ t. abandons t.name.number) (found (is_open_as eq name) ts)
+  accepted_beside (Collect name) = option_map (λ t. collected name t.name.number t.end) (found (has_ticket_as eq name) ts)
+  accepted_beside (Leave name) = option_map (λ t. spends t.name.number) (found (has_ticket_as eq name) ts)
+
 module _ {K V E : Type 0} (eq : K → K → Bool) (settings : Settings K V) (steps : List (AcceptedStep K V E)) where
-  -- What a call answers and which step it is, after these; none where it is refused by its name.
-  abbrev pub accepted : Call K V → Option (Accepted K V E)
-  accepted (Get k at) =
-      Some (without_move (Found (option_map (λ w. w.value) (live_at eq settings k at (events_in steps)))) (Looked k at ∷ []))
-  accepted (ContainsKey k at) = Some (without_move (Contains (is_some (live_at eq settings k at (events_in steps)))) [])
-  accepted (Insert k v at) = Some (without_move Done (write_events eq settings k v at (events_in steps)))
-  accepted (Invalidate k at) = Some (without_move Done (Invalidated k at ∷ []))
-  accepted (Remove k at) =
-      Some (without_move (Found (option_map (λ w. w.value) (live_at eq settings k at (events_in steps)))) (Invalidated k at ∷ []))
-  accepted InvalidateAll = Some (without_move Done (Hidden (λ k v. true) ∷ []))
-  accepted (InvalidateIf test) = if settings.supports_closures then Some (without_move Done (Hidden test ∷ [])) else None
-  accepted (RunPendingTasks at) = Some (without_move Done (Maintained None at ∷ []))
-  accepted (RunPendingTasksUpTo limit at) =
-      Some (without_move (Left (is_left_at eq settings (Some limit) at (events_in steps))) (Maintained (Some limit) at ∷ []))
-  accepted EntryCount = Some (without_move (Counted (min (entry_count eq settings (events_in steps)) greatest_number)) [])
-  accepted WeightedSize = Some (without_move (Counted (min (weighted_size eq settings (events_in steps)) greatest_number)) [])
-  accepted TakeNotice = Some (without_move (Noticed (slice_get (notices_left eq settings (events_in steps)) 0)) (Taken ∷ []))
+  -- What a call answers and which step it is, after these steps.
+  abbrev pub accepted : Call K V E → Option (Accepted K V E)
+  accepted call = accepted_beside eq settings (events_in steps) (turns steps) call
 
 module _ {K V E : Type 0} where
   -- an accepted step on top of others, where there is one
@@ -82,32 +246,66 @@ module _ {K V E : Type 0} where
   abbrev pub answer_of : Option (Accepted K V E) → Option (Answer K V E)  -- what is answered, if a call is accepted
   answer_of it = option_map (λ a. a.answer) it
 
+  abbrev pub IfAnswered : (Answer K V E → Type 0) → Option (Accepted K V E) → Type 0  -- a call is accepted with such an answer
+  IfAnswered P None = ⊥
+  IfAnswered P (Some it) = P it.answer
+
+  -- a step with these events and this move wants a number that is not there
+  abbrev pub WantsNumberBy : ℕ → List (Turn K V E) → List (Event K V) → Option (Move K V E) → Type 0
+  WantsNumberBy next ts events (Some (Waited number)) =
+      (t : Turn K V E) × (found (λ u. u.name.number == number) ts ≡ Some t) × (t.unspent ≡ greatest_number)
+  WantsNumberBy next ts events move = (0 < drawn_in events) × (next ≡ greatest_number)
+
+  abbrev pub WantsNumber : ℕ → List (Turn K V E) → Option (Accepted K V E) → Type 0
+  WantsNumber next ts None = ⊥
+  WantsNumber next ts (Some it) = WantsNumberBy next ts it.step.events it.step.move
+
 module _ {K V E : Type 0} (eq : K → K → Bool) (settings : Settings K V) where
   -- the accepted steps after a call: one more, and the same ones where it is refused by its name
-  abbrev pub after : Call K V → List (AcceptedStep K V E) → List (AcceptedStep K V E)
+  abbrev pub after : Call K V E → List (AcceptedStep K V E) → List (AcceptedStep K V E)
   after call steps = with_step (accepted eq settings steps call) steps
 
   -- A list of accepted steps: each is what the definitions give for some call, after those before it.
   abbrev pub IsLegal : List (AcceptedStep K V E) → Type 0
   IsLegal [] = ⊤
   IsLegal (step ∷ steps) =
-      ((call : Call K V) × (it : Accepted K V E) × (accepted eq settings steps call ≡ Some it) × (it.step ≡ step)) × IsLegal steps
+      ((call : Call K V E) × (it : Accepted K V E) × (accepted eq settings steps call ≡ Some it) × (it.step ≡ step)) × IsLegal steps
 
-  -- A call is refused for want of numbers exactly where it would draw one and none is left.
-  abbrev pub IsOutOfNumbers : List (AcceptedStep K V E) → Call K V → Type 0
-  IsOutOfNumbers steps call = (0 < drawn_by (accepted eq settings steps call)) × (next_number settings (events_in steps) ≡ greatest_number)
+  -- A call is refused for want of numbers exactly where it would draw one and none is left, or would wait for a turn whose
+  -- tickets are as many as can be counted.
+  abbrev pub IsOutOfNumbers : List (AcceptedStep K V E) → Call K V E → Type 0
+  IsOutOfNumbers steps call = WantsNumber (next_number settings (events_in steps)) (turns steps) (accepted eq settings steps call)
+
+-- The values' type says of which values copies never fail.
+abbrev pub AnswerMayFail : {K V E : Type 0} → (V → Type 0) → Answer K V E → Type 0  -- What is handed out is a copy, which can fail.
+AnswerMayFail is_infallible (Found (Some v)) = ¬ (is_infallible v)
+AnswerMayFail is_infallible (Entered e) = ¬ (is_infallible e.value)
+AnswerMayFail is_infallible (GaveError e) = ⊤
+AnswerMayFail is_infallible answer = ⊥
 
 module _ {K V E : Type 0} (eq : K → K → Bool) (is_infallible : V → Type 0) (settings : Settings K V)
     (steps : List (AcceptedStep K V E)) where
-  -- A look copies what it finds: there is a live value, and its copy can fail, as the type of the values says.
+  -- A look copies what it finds: there is a live value, and its copy can fail.
   abbrev pub CopyMayFail : K → ℕ → Type 0
   CopyMayFail k at = IsSomeAnd (live_at eq settings k at (events_in steps)) (λ w. ¬ (is_infallible w.value))
 
-  -- A look may be refused memory where its copy may fail, and a write where something is stored. No other call may.
-  abbrev pub MayTakeMemory : Call K V → Type 0
+  abbrev pub FinishMayFail : Name K → ℕ → Outcome V E → Type 0  -- The end of a turn copies what is handed out, or grows.
+  FinishMayFail name at outcomes.Nothing = ⊥
+  FinishMayFail name at (outcomes.Op ops.Nop) = ⊥
+  FinishMayFail name at (outcomes.Op ops.Remove) = CopyMayFail name.key at
+  FinishMayFail name at outcome = ⊤
+
+  -- A look may be refused memory where its copy may fail, a write where something is stored, a begin always, since a turn may
+  -- be opened, and a ticket where the copy of its outcome may fail. No other call may.
+  abbrev pub MayTakeMemory : Call K V E → Type 0
   MayTakeMemory (Get k at) = CopyMayFail k at
   MayTakeMemory (Insert k v at) = stores_nothing settings.max_capacity ≡ false
   MayTakeMemory (Remove k at) = CopyMayFail k at
+  MayTakeMemory (OrInsert k v at) = ⊤
+  MayTakeMemory (Begin k kind replace at) = ⊤
+  MayTakeMemory (BeginCompute k keep at) = ⊤
+  MayTakeMemory (Finish name outcome at) = IsSome (accepted eq settings steps (Finish name outcome at)) × FinishMayFail name at outcome
+  MayTakeMemory (Collect name) = IfAnswered (AnswerMayFail is_infallible) (accepted eq settings steps (Collect name))
   MayTakeMemory call = ⊥
 
 module _ {V : Type 0} (is_clone : V → V → Type 0) where
@@ -116,7 +314,45 @@ module _ {V : Type 0} (is_clone : V → V → Type 0) where
   IsCopyOf (Some v) (Some w) = is_clone v w
   IsCopyOf v w = ⊥
 
+  abbrev pub IsCopiedEntry : {K : Type 0} → Entry K V → Entry K V → Type 0  -- an entry whose value is a copy of another's
+  IsCopiedEntry a b = (b.key ≡ a.key) × is_clone a.value b.value × (b.fresh ≡ a.fresh) × (b.replaced ≡ a.replaced)
+
+  abbrev pub IsEntryOf : {K : Type 0} → Option (Entry K V) → Option (Entry K V) → Type 0
+  IsEntryOf None None = ⊤
+  IsEntryOf (Some a) (Some b) = IsCopiedEntry a b
+  IsEntryOf a b = ⊥
+
   -- An answer that is handed out: a value is a copy of the definition's, and all else is the definition's own.
   abbrev pub IsAnswer : {K E : Type 0} → Answer K V E → Answer K V E → Type 0
   IsAnswer (Found v) (Found w) = IsCopyOf v w
+  IsAnswer (Entered a) (Entered b) = IsCopiedEntry a b
+  IsAnswer (Run name a) (Run called b) = (called ≡ name) × IsEntryOf a b
+  IsAnswer (Unchanged a) (Unchanged b) = IsCopiedEntry a b
+  IsAnswer (Inserted a) (Inserted b) = IsCopiedEntry a b
+  IsAnswer (ReplacedWith a) (ReplacedWith b) = IsCopiedEntry a b
+  IsAnswer (Removed a) (Removed b) = IsCopiedEntry a b
   IsAnswer a b = b ≡ a
+
+  abbrev pub IsCopiedEnd : {E : Type 0} → Option (End V E) → Option (End V E) → Type 0
+  IsCopiedEnd (Some (turning.Value v marked)) (Some (turning.Value w replaced)) = is_clone v w × (replaced ≡ marked)
+  IsCopiedEnd a b = b ≡ a
+
+  -- What is kept of an open turn, which is found by its kind and its key: the value that was kept aside is a copy.
+  pub record IsOpenTurnOf {K E : Type 0} (t row : Turn K V E) : Type 0 where
+    pub number : row.name.number ≡ t.name.number
+    pub shown : row.shown ≡ t.shown
+    pub kept : IsCopyOf t.kept row.kept
+    pub unspent : row.unspent ≡ t.unspent
+
+-- What is kept of an ended turn, which is found by its number: its kind, an equal key, and its end, whose value is a copy.
+pub record IsEndedTurnOf {K V E : Type 0} (eq : K → K → Bool) (is_clone : V → V → Type 0) (t row : Turn K V E) : Type 0 where
+  pub kind : row.name.kind ≡ t.name.kind
+  pub key : eq t.name.key row.name.key ≡ true
+  pub end : IsCopiedEnd is_clone t.end row.end
+  pub unspent : row.unspent ≡ t.unspent
+
+-- What is kept of some turns: for each kind and key the open turn, and for each number the ended turn that has unspent tickets;
+-- no other ended turn is kept.
+pub record Holds {K V E : Type 0} (eq : K → K → Bool) (is_clone : V → V → Type 0) (ts rows : List (Turn K V E)) : Type 0 where
+  pub opened : (kind : Kind) (k : K) → Agree (IsOpenTurnOf is_clone) (found (is_open_for eq kind k) ts) (found (is_open_for eq kind k) rows)
+  pub ended : (number : ℕ) → Agree (IsEndedTurnOf eq is_clone) (found (is_ended_as number) ts) (found (has_ended_as number) rows)

@@ -11,3 +11,4 @@ pub mod Removals
 pub mod SizeLaws
 pub mod StandsFor
 pub mod Steps
+pub mod Turns

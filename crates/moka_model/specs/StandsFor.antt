@@ -7,8 +7,9 @@ use Rattle.moka_model.specs.Admission.{notes}
 use Rattle.moka_model.specs.Orders.{orders}
 use Rattle.moka_model.specs.Removals.{Removal, notices_left}
 use Rattle.moka_model.specs.Numbers.{next_number}
-use Rattle.moka_model.specs.Steps.{AcceptedStep, events_in}
-use Rattle.moka_model.specs.Calls.{Call, Answer, Accepted, accepted, after, IsLegal, IsAnswer}
+use Rattle.moka_model.specs.Turns.{Turn}
+use Rattle.moka_model.specs.Steps.{AcceptedStep, events_in, turns}
+use Rattle.moka_model.specs.Calls.{Call, Answer, Accepted, accepted, after, IsLegal, IsAnswer, Holds}
 
 -- The books of a cache: what it stores, the notices not taken yet, the latest moment, and the number that is drawn next.
 pub record Books (K V : Type 0) : Type 0 where
@@ -21,31 +22,38 @@ abbrev pub books_of : {K V : Type 0} → (K → K → Bool) → Settings K V →
 books_of eq settings h =
     record { orders = orders eq settings h; notices = notices_left eq settings h; latest = latest h; next_number = next_number settings h }
 
--- What a state is to the definitions. The frequency is what its source estimates of a hash once it has noted these hashes more.
+-- What the values of a state are to the definitions. The frequency is what its source estimates of a hash once it has noted
+-- these hashes more.
 pub record View (K V : Type 0) : Type 0 where
   pub settings : Settings K V
   pub books : Books K V
   pub frequency : List ℕ → ℕ → ℕ
 
+pub record WholeView (K V E : Type 0) : Type 0 where  -- What a state is to the definitions: its values, and its turns.
+  pub values : View K V
+  pub turns : List (Turn K V E)
+
 -- A state stands for a list of accepted steps under these settings where the list is legal, the state was built with the
--- settings, its books are those of the list, and its source has noted the hashes of all recorded looks, in order.
-pub record StandsFor {K V E : Type 0} (eq : K → K → Bool) (given : Settings K V) (view : View K V)
+-- settings, its books are those of the list, its source has noted the hashes of all recorded looks, in order, and it keeps the
+-- turns that are open, and the ended ones that have unspent tickets.
+pub record StandsFor {K V E : Type 0} (eq : K → K → Bool) (is_clone : V → V → Type 0) (given : Settings K V) (view : WholeView K V E)
     (steps : List (AcceptedStep K V E)) : Type 0 where
   pub legal : IsLegal eq given steps
-  pub settings : view.settings ≡ given
-  pub books : view.books ≡ books_of eq given (events_in steps)
+  pub settings : view.values.settings ≡ given
+  pub books : view.values.books ≡ books_of eq given (events_in steps)
   pub frequency : (more : List ℕ) (hash : ℕ) →
-      view.frequency more hash ≡ given.frequency (notes given (events_in steps) ++ more) hash
+      view.values.frequency more hash ≡ given.frequency (notes given (events_in steps) ++ more) hash
+  pub turns : Holds eq is_clone (turns steps) view.turns
 
-module _ {K V : Type 0} (E : Type 0) (eq : K → K → Bool) where
-  -- P holds of whatever settings and steps the state stands for. The steps have errors of the type E.
-  abbrev pub AtEachHistory : View K V → (Settings K V → List (AcceptedStep K V E) → Type 0) → Type 0
+module _ {K V E : Type 0} (eq : K → K → Bool) (is_clone : V → V → Type 0) where
+  -- P holds of whatever settings and steps the state stands for.
+  abbrev pub AtEachHistory : WholeView K V E → (Settings K V → List (AcceptedStep K V E) → Type 0) → Type 0
   AtEachHistory view P =
-      (settings : Settings K V) (steps : List (AcceptedStep K V E)) → StandsFor eq settings view steps → P settings steps
+      (settings : Settings K V) (steps : List (AcceptedStep K V E)) → StandsFor eq is_clone settings view steps → P settings steps
 
   -- Whatever steps the old state stood for, the new one stands for those followed by the call.
-  abbrev pub Follows : View K V → Call K V → View K V → Type 0
-  Follows old call new = AtEachHistory old (λ settings steps. StandsFor eq settings new (after eq settings call steps))
+  abbrev pub Follows : WholeView K V E → Call K V E → WholeView K V E → Type 0
+  Follows old call new = AtEachHistory old (λ settings steps. StandsFor eq is_clone settings new (after eq settings call steps))
 
 module _ {K V E : Type 0} (is_clone : V → V → Type 0) where
   abbrev pub IsAnswerOf : Option (Accepted K V E) → Answer K V E → Type 0  -- an answer that is handed out where a call is accepted
@@ -53,6 +61,6 @@ module _ {K V E : Type 0} (is_clone : V → V → Type 0) where
   IsAnswerOf (Some it) answer = IsAnswer is_clone it.answer answer
 
 -- What is handed out is the answer to the call, after whatever steps the state stands for.
-abbrev pub Answers : {K V : Type 0} (E : Type 0) → (K → K → Bool) → (V → V → Type 0) → View K V → Call K V → Answer K V E → Type 0
-Answers E eq is_clone view call answer =
-    AtEachHistory E eq view (λ settings steps. IsAnswerOf is_clone (accepted eq settings steps call) answer)
+abbrev pub Answers : {K V E : Type 0} → (K → K → Bool) → (V → V → Type 0) → WholeView K V E → Call K V E → Answer K V E → Type 0
+Answers eq is_clone view call answer =
+    AtEachHistory eq is_clone view (λ settings steps. IsAnswerOf is_clone (accepted eq settings steps call) answer)

@@ -1,16 +1,23 @@
 -- Accepted steps: what one call does to the stored values, and what it does to the turns.
-use Rattle.std.specs.Prelude.{Option, List, [], ◌∷◌, ◌++◌}
+use Rattle.std.specs.Prelude.{Option, List, [], ◌∷◌, ◌++◌, filter}
 use Rattle.moka_model.specs.Events.{Event}
+use Rattle.moka_model.specs.Turns.{Move, Turn, moved_by, is_held}
 
--- What an accepted step does to turns. There are none yet, and so no moves; no definition over events looks at moves.
-pub data Move (K V E : Type 0) : Type 0 where
-
--- One accepted step: its events, the newest first, all at one moment, and its move, if it has one.
+-- One accepted step: its events, the newest first, all at one moment, and its move, if it has one. No definition over events
+-- looks at moves.
 pub record AcceptedStep (K V E : Type 0) : Type 0 where
   pub events : List (Event K V)
   pub move : Option (Move K V E)
 
--- the events of a list of accepted steps, both read from the newest
-abbrev pub events_in : {K V E : Type 0} → List (AcceptedStep K V E) → List (Event K V)
-events_in [] = []
-events_in (step ∷ steps) = step.events ++ events_in steps
+module _ {K V E : Type 0} where
+  -- the events of a list of accepted steps, both read from the newest
+  abbrev pub events_in : List (AcceptedStep K V E) → List (Event K V)
+  events_in [] = []
+  events_in (step ∷ steps) = step.events ++ events_in steps
+
+  abbrev pub turns : List (AcceptedStep K V E) → List (Turn K V E)  -- all turns that were ever opened, the oldest first
+  turns [] = []
+  turns (step ∷ steps) = moved_by step.move (turns steps)
+
+  abbrev pub held_turns : List (AcceptedStep K V E) → List (Turn K V E)  -- those that are open, or have an unspent ticket
+  held_turns steps = filter is_held (turns steps)

@@ -3,3 +3,4 @@
 #![tactic(auto)]
 
 pub mod notification;
+pub mod turns;

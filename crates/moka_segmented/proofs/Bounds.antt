@@ -20,7 +20,7 @@ all-at P [] each = tt
 all-at P (x ∷ xs) each = (each 0, all-at P xs (λ i. each (suc i)))
 
 module _ {K V H W X F : Type 0} (E : Type 0) (eq : K → K → Bool) (behaviour : BehaviourData H W X → Behaviour K V) (frequency : F → List ℕ → ℕ → ℕ) (opened : F) (cache : SegmentedData K V H W X F)
-    (given : SegmentedSettings K V) (calls : List (Call K V)) (stand : AllStandFor E eq given (segmented_view_by behaviour frequency opened cache) calls) where
+    (given : SegmentedSettings K V) (calls : List (Call K V E)) (stand : AllStandFor E eq given (segmented_view_by behaviour frequency opened cache) calls) where
   -- where each weighs one, with a capacity, each segment stores as many at most as its share and the flush point together
   pub all-bounded : WeighsOnes (segmented_view_by behaviour frequency opened cache).settings.whole → LimitsSome cache.settings.flush_limit
       → IfSome cache.settings.max_capacity (λ capacity. AllByRecursion (λ state. length (all_writes state) ≤ share (segments_of given) capacity + flush_point) cache.segments)

@@ -21,12 +21,12 @@ below-or-past zero (suc b) = inl (omega arith)
 below-or-past (suc a) (suc b) = ⊎_elim (λ lt. inl (omega (arith, lt))) (λ le. inr (omega (arith, le))) (below-or-past a b)
 
 -- The first i of some states have followed a call, and the others are as they were.
-pub record Progress {K V S : Type 0} (E : Type 0) (eq : K → K → Bool) (view : S → View K V) (call : Call K V) (old now : List S) (i : ℕ) : Type 0 where
+pub record Progress {K V S : Type 0} (E : Type 0) (eq : K → K → Bool) (view : S → View K V) (call : Call K V E) (old now : List S) (i : ℕ) : Type 0 where
   pub count : length now ≡ length old
   pub done : (j : ℕ) → j < i → FollowsAt E eq call (option_map view (slice_get old j)) (option_map view (slice_get now j))
   pub rest : (j : ℕ) → i ≤ j → slice_get now j ≡ slice_get old j
 
-module _ {K V S : Type 0} (E : Type 0) (eq : K → K → Bool) (view : S → View K V) (call : Call K V) where
+module _ {K V S : Type 0} (E : Type 0) (eq : K → K → Bool) (view : S → View K V) (call : Call K V E) where
   pub progress-none : (old : List S) → Progress E eq view call old old 0
   progress-none old = record { count = refl; done = λ j lt. absurd (let no : ⊥ = omega arith in no); rest = λ j le. refl }
 
@@ -57,18 +57,18 @@ module _ {K V S : Type 0} (E : Type 0) (eq : K → K → Bool) (view : S → Vie
       (⊎_elim (λ lt. was.done j (omega (arith, lt))) (λ le. rw (slice_get_past old j le, slice_get_past now j (omega (arith, was.count, le))) tt) (below-or-past j (length old)))
 
 -- what the state at a place answers, where there is one
-abbrev pub AnswersAt : {K V : Type 0} (E : Type 0) → (K → K → Bool) → (V → V → Type 0) → Call K V → Answer K V E → Option (View K V) → Type 0
+abbrev pub AnswersAt : {K V : Type 0} (E : Type 0) → (K → K → Bool) → (V → V → Type 0) → Call K V E → Answer K V E → Option (View K V) → Type 0
 AnswersAt E eq is_clone call answer None = Unit {0}
 AnswersAt E eq is_clone call answer (Some v) = Answers E eq is_clone v call answer
 
 -- The first i of some states have followed a call, and any of them left something exactly where this says so.
-pub record Together {K V S : Type 0} (E : Type 0) (eq : K → K → Bool) (is_clone : V → V → Type 0) (view : S → View K V) (call : Call K V) (old now : List S) (left : Bool) (i : ℕ) : Type 0 where
+pub record Together {K V S : Type 0} (E : Type 0) (eq : K → K → Bool) (is_clone : V → V → Type 0) (view : S → View K V) (call : Call K V E) (old now : List S) (left : Bool) (i : ℕ) : Type 0 where
   pub progress : Progress E eq view call old now i
   pub answers : ℕ → Bool
   pub each : (j : ℕ) → j < i → AnswersAt E eq is_clone call (Left (answers j)) (option_map view (slice_get old j))
   pub any : left ≡ any_below answers i
 
-module _ {K V S : Type 0} (E : Type 0) (eq : K → K → Bool) (is_clone : V → V → Type 0) (view : S → View K V) (call : Call K V) where
+module _ {K V S : Type 0} (E : Type 0) (eq : K → K → Bool) (is_clone : V → V → Type 0) (view : S → View K V) (call : Call K V E) where
   pub together-none : (old : List S) → Together E eq is_clone view call old old false 0
   together-none old = record { progress = progress-none E eq view call old; answers = λ j. false; each = λ j lt. absurd (let no : ⊥ = omega arith in no); any = refl }
 
@@ -131,8 +131,8 @@ module _ {K V H W X F : Type 0} (E : Type 0) (eq : K → K → Bool) (behaviour 
           by j (was.answers j) (Some (view_by behaviour frequency opened it.0)) refl (rw it.1 at (was.each j lt)) (rw view-there at (stand.each j))
 
   -- where all states have followed a call that goes to each, the cache has
-  pub broadcast-follows : (call : Call K V) (old : SegmentedData K V H W X F) (bits : ℕ) (settings : SettingsData H W X) (now : List (StateData K V H W X F)) (i : ℕ) → bits ≡ old.bits → settings ≡ old.settings → i ≡ length old.segments
-      → Progress E eq (view_by behaviour frequency opened) call old.segments now i → ((given : SegmentedSettings K V) (calls : List (Call K V)) → place_of E eq given calls call ≡ Each)
+  pub broadcast-follows : (call : Call K V E) (old : SegmentedData K V H W X F) (bits : ℕ) (settings : SettingsData H W X) (now : List (StateData K V H W X F)) (i : ℕ) → bits ≡ old.bits → settings ≡ old.settings → i ≡ length old.segments
+      → Progress E eq (view_by behaviour frequency opened) call old.segments now i → ((given : SegmentedSettings K V) (calls : List (Call K V E)) → place_of E eq given calls call ≡ Each)
       → FollowsIn E eq (segmented_view_by behaviour frequency opened old) call (segmented_view_by behaviour frequency opened (record { bits = bits; settings = settings; segments = now }))
   broadcast-follows call old bits settings now i b s all was place given calls stand =
       stand-each E eq given (segmented_view_by behaviour frequency opened old) (segmented_view_by behaviour frequency opened (record { bits = bits; settings = settings; segments = now })) calls call (place given calls)
@@ -142,8 +142,8 @@ module _ {K V H W X F : Type 0} (E : Type 0) (eq : K → K → Bool) (behaviour 
       (progress-all E eq (view_by behaviour frequency opened) call old.segments now i all was)
       stand
 
-  module _ (cache : SegmentedData K V H W X F) (given : SegmentedSettings K V) (calls : List (Call K V)) (stand : AllStandFor E eq given (segmented_view_by behaviour frequency opened cache) calls) where
-    supports-as : (i : ℕ) (o : Option (StateData K V H W X F)) → slice_get cache.segments i ≡ o → IfSome o (λ state. state.settings.supports_closures ≡ given.whole.supports_closures)
+  module _ (cache : SegmentedData K V H W X F) (given : SegmentedSettings K V) (calls : List (Call K V E)) (stand : AllStandFor E eq given (segmented_view_by behaviour frequency opened cache) calls) where
+    supports-as : (i : ℕ) (o : Option (StateData K V H W X F E)) → slice_get cache.segments i ≡ o → IfSome o (λ state. state.settings.supports_closures ≡ given.whole.supports_closures)
     supports-as i None e = tt
     supports-as i (Some state) e =
         let here : slice_get (map (view_by behaviour frequency opened) cache.segments) i ≡ Some (view_by behaviour frequency opened state) = slice_get-map (view_by behaviour frequency opened) cache.segments i ∙ ap (option_map (view_by behaviour frequency opened)) e in

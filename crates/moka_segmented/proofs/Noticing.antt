@@ -46,32 +46,32 @@ counted-capped f i count one more new is capped was e =
     more-capped c b m e = omega (arith, e)
 
 module _ {K V H W X F : Type 0} where
-  pub notice-there : (states : List (StateData K V H W X F)) (i : ℕ) (s : StateData K V H W X F) → slice_get states i ≡ Some s → has_notice states i ≡ not (is_empty s.books.notices)
-  notice-there states i s e = ap (state_at (λ (s : StateData K V H W X F). not (is_empty s.books.notices)) false) e
+  pub notice-there : (states : List (StateData K V H W X F E)) (i : ℕ) (s : StateData K V H W X F E) → slice_get states i ≡ Some s → has_notice states i ≡ not (is_empty s.books.notices)
+  notice-there states i s e = ap (state_at (λ (s : StateData K V H W X F E). not (is_empty s.books.notices)) false) e
 
-  pub stored-there : (states : List (StateData K V H W X F)) (i : ℕ) (s : StateData K V H W X F) → slice_get states i ≡ Some s → stored_at states i ≡ length (all_writes s)
-  stored-there states i s e = ap (state_at (λ (s : StateData K V H W X F). length (all_writes s)) 0) e
+  pub stored-there : (states : List (StateData K V H W X F E)) (i : ℕ) (s : StateData K V H W X F E) → slice_get states i ≡ Some s → stored_at states i ≡ length (all_writes s)
+  stored-there states i s e = ap (state_at (λ (s : StateData K V H W X F E). length (all_writes s)) 0) e
 
-  pub weight-there : (states : List (StateData K V H W X F)) (i : ℕ) (s : StateData K V H W X F) → slice_get states i ≡ Some s → weight_at states i ≡ total (λ (w : Write K V). w.policy_weight) (all_writes s)
-  weight-there states i s e = ap (state_at (λ (s : StateData K V H W X F). total (λ (w : Write K V). w.policy_weight) (all_writes s)) 0) e
+  pub weight-there : (states : List (StateData K V H W X F E)) (i : ℕ) (s : StateData K V H W X F E) → slice_get states i ≡ Some s → weight_at states i ≡ total (λ (w : Write K V). w.policy_weight) (all_writes s)
+  weight-there states i s e = ap (state_at (λ (s : StateData K V H W X F E). total (λ (w : Write K V). w.policy_weight) (all_writes s)) 0) e
 
-  pub notices-there : (states : List (StateData K V H W X F)) (i : ℕ) (s : StateData K V H W X F) → slice_get states i ≡ Some s → notices_at states i ≡ length s.books.notices
-  notices-there states i s e = ap (state_at (λ (s : StateData K V H W X F). length s.books.notices) 0) e
+  pub notices-there : (states : List (StateData K V H W X F E)) (i : ℕ) (s : StateData K V H W X F E) → slice_get states i ≡ Some s → notices_at states i ≡ length s.books.notices
+  notices-there states i s e = ap (state_at (λ (s : StateData K V H W X F E). length s.books.notices) 0) e
 
   -- where the state at a place has one notice less, there is one less
-  pub kept-fewer : (states : List (StateData K V H W X F)) (i : ℕ) (here new : StateData K V H W X F) → i < length states → slice_get states i ≡ Some here → length here.books.notices ≡ length new.books.notices + 1
+  pub kept-fewer : (states : List (StateData K V H W X F E)) (i : ℕ) (here new : StateData K V H W X F E) → i < length states → slice_get states i ≡ Some here → length here.books.notices ≡ length new.books.notices + 1
       → notices_kept states ≡ notices_kept (set states i new) + 1
   kept-fewer states i here new lt at less =
       sum_below-one (notices_at (set states i new)) (notices_at states) (length states) i 1 lt
       (notices-there states i here at ∙ less ∙ ap (λ n. n + 1) (sym (notices-there (set states i new) i new (slice_get-set_same states i new here at))))
-      (λ j other. ap (state_at (λ (s : StateData K V H W X F). length s.books.notices) 0) (sym (slice_get-set_other states i j new (apart j other))))
+      (λ j other. ap (state_at (λ (s : StateData K V H W X F E). length s.books.notices) 0) (sym (slice_get-set_other states i j new (apart j other))))
       ∙ ap (λ n. sum_below (notices_at (set states i new)) n + 1) (sym (length-set states i new))
     where
       apart : (j : ℕ) → (j == i) ≡ false → j ≢ i
       apart j other e = let yes : (j == i) ≡ true = ap (λ n. n == i) e ∙ eqb_refl i in let no : true ≡ false = sym yes ∙ other in cc
 
   -- where the first that has a notice is at a place, there is one
-  pub kept-some : (states : List (StateData K V H W X F)) (i : ℕ) (here : StateData K V H W X F) → i < length states → slice_get states i ≡ Some here → has_notice states i ≡ true → (here.books.notices ≡ [] → ⊥) × (notices_kept states ≡ 0 → ⊥)
+  pub kept-some : (states : List (StateData K V H W X F E)) (i : ℕ) (here : StateData K V H W X F E) → i < length states → slice_get states i ≡ Some here → has_notice states i ≡ true → (here.books.notices ≡ [] → ⊥) × (notices_kept states ≡ 0 → ⊥)
   kept-some states i here lt at has =
       let some : not (is_empty here.books.notices) ≡ true = sym (notice-there states i here at) ∙ has in
       let filled : here.books.notices ≡ [] → ⊥ = λ e. let no : false ≡ true = sym (ap (λ (l : List (Removal K V)). not (is_empty l)) e) ∙ some in cc in
@@ -82,11 +82,11 @@ module _ {K V H W X F : Type 0} where
       empty (x ∷ xs) e = absurd (let no : ⊥ = omega (arith, e) in no)
 
   -- where none has a notice there is none
-  pub kept-none : (states : List (StateData K V H W X F)) → None ≡ first_from (has_notice states) 0 (length states) → notices_kept states ≡ 0
+  pub kept-none : (states : List (StateData K V H W X F E)) → None ≡ first_from (has_notice states) 0 (length states) → notices_kept states ≡ 0
   kept-none states none =
       sum_below-zeros (notices_at states) (length states) (λ i lt. by (slice_get states i) (first_from-none-all (has_notice states) 0 (length states) (sym none) i (omega arith) (omega (arith, lt))))
     where
-      by : (o : Option (StateData K V H W X F)) → state_at (λ (s : StateData K V H W X F). not (is_empty s.books.notices)) false o ≡ false → state_at (λ (s : StateData K V H W X F). length s.books.notices) 0 o ≡ 0
+      by : (o : Option (StateData K V H W X F E)) → state_at (λ (s : StateData K V H W X F E). not (is_empty s.books.notices)) false o ≡ false → state_at (λ (s : StateData K V H W X F E). length s.books.notices) 0 o ≡ 0
       by None e = refl
       by (Some s) e = nothing s.books.notices e
         where
@@ -95,13 +95,13 @@ module _ {K V H W X F : Type 0} where
           nothing (x ∷ xs) e = cc
 
   module _ (E : Type 0) (eq : K → K → Bool) (behaviour : BehaviourData H W X → Behaviour K V) (frequency : F → List ℕ → ℕ → ℕ) (opened : F) (cache : SegmentedData K V H W X F) where
-    module _ (given : SegmentedSettings K V) (calls : List (Call K V)) (stand : AllStandFor E eq given (segmented_view_by behaviour frequency opened cache) calls) where
+    module _ (given : SegmentedSettings K V) (calls : List (Call K V E)) (stand : AllStandFor E eq given (segmented_view_by behaviour frequency opened cache) calls) where
       -- what the views say, by what the states hold
       by-states : {Y : Type 0} (f : Books K V → Y) (other : Y) (i : ℕ)
-          → at_or (λ (v : View K V). f v.books) other (slice_get (map (view_by behaviour frequency opened) cache.segments) i) ≡ state_at (λ (s : StateData K V H W X F). f s.books) other (slice_get cache.segments i)
+          → at_or (λ (v : View K V). f v.books) other (slice_get (map (view_by behaviour frequency opened) cache.segments) i) ≡ state_at (λ (s : StateData K V H W X F E). f s.books) other (slice_get cache.segments i)
       by-states f other i = ap (at_or (λ (v : View K V). f v.books) other) (slice_get-map (view_by behaviour frequency opened) cache.segments i) ∙ here (slice_get cache.segments i)
         where
-          here : (o : Option (StateData K V H W X F)) → at_or (λ (v : View K V). f v.books) other (option_map (view_by behaviour frequency opened) o) ≡ state_at (λ (s : StateData K V H W X F). f s.books) other o
+          here : (o : Option (StateData K V H W X F E)) → at_or (λ (v : View K V). f v.books) other (option_map (view_by behaviour frequency opened) o) ≡ state_at (λ (s : StateData K V H W X F E). f s.books) other o
           here None = refl
           here (Some s) = refl
 
@@ -147,14 +147,14 @@ module _ {K V H W X F : Type 0} where
     pub weight-answers : (is_clone : V → V → Type 0) (n : ℕ) → n ≡ min (sum_below (weight_at cache.segments) (length cache.segments)) greatest_number → AnswersIn E eq is_clone (segmented_view_by behaviour frequency opened cache) WeightedSize (Counted n)
     weight-answers is_clone n is given calls stand = ap (λ m. let a : Answer K V E = Counted m in a) (is ∙ ap (λ m. min m greatest_number) (sym (weight-by given calls stand)))
 
-    pub count-stays : (call : Call K V) → ((given : SegmentedSettings K V) (calls : List (Call K V)) → place_of E eq given calls call ≡ Nowhere) → FollowsIn E eq (segmented_view_by behaviour frequency opened cache) call (segmented_view_by behaviour frequency opened cache)
+    pub count-stays : (call : Call K V E) → ((given : SegmentedSettings K V) (calls : List (Call K V E)) → place_of E eq given calls call ≡ Nowhere) → FollowsIn E eq (segmented_view_by behaviour frequency opened cache) call (segmented_view_by behaviour frequency opened cache)
     count-stays call place given calls stand = stand-nowhere E eq given (segmented_view_by behaviour frequency opened cache) calls call (place given calls) stand
 
-    module _ (index : ℕ) (here : StateData K V H W X F) (found : Some index ≡ first_from (has_notice cache.segments) 0 (length cache.segments)) (here_is : here ≡ get_or cache.segments index here) where
+    module _ (index : ℕ) (here : StateData K V H W X F E) (found : Some index ≡ first_from (has_notice cache.segments) 0 (length cache.segments)) (here_is : here ≡ get_or cache.segments index here) where
       here-view : slice_get (map (view_by behaviour frequency opened) cache.segments) index ≡ Some (view_by behaviour frequency opened here)
       here-view = let passes = first_from-passes (has_notice cache.segments) 0 (length cache.segments) index (sym found) in view-at (view_by behaviour frequency opened) cache.segments index here (omega (arith, passes.0)) here_is
 
-      first-is : (given : SegmentedSettings K V) (calls : List (Call K V)) → AllStandFor E eq given (segmented_view_by behaviour frequency opened cache) calls → first_noticed E eq given (list_of E eq given calls) ≡ Some index
+      first-is : (given : SegmentedSettings K V) (calls : List (Call K V E)) → AllStandFor E eq given (segmented_view_by behaviour frequency opened cache) calls → first_noticed E eq given (list_of E eq given calls) ≡ Some index
       first-is given calls stand = first-by given calls stand ∙ sym found
 
       -- a notice of the first segment that has one is the answer, and that segment's state goes on
@@ -163,7 +163,7 @@ module _ {K V H W X F : Type 0} where
           subst (λ o. IsAnswerIn is_clone o answer) (sym (noticed-answer E eq given calls index (first-is given calls stand)))
           (answer-at E eq given is_clone (segmented_view_by behaviour frequency opened cache) calls index (view_by behaviour frequency opened here) TakeNotice answer here-view answers stand)
 
-      pub taken-follows : (new : StateData K V H W X F) → Follows E eq (view_by behaviour frequency opened here) TakeNotice (view_by behaviour frequency opened new)
+      pub taken-follows : (new : StateData K V H W X F E) → Follows E eq (view_by behaviour frequency opened here) TakeNotice (view_by behaviour frequency opened new)
           → FollowsIn E eq (segmented_view_by behaviour frequency opened cache) TakeNotice (segmented_view_by behaviour frequency opened (record cache { segments = set cache.segments index new }))
       taken-follows new follows given calls stand =
           rw (views-set (view_by behaviour frequency opened) cache.segments index new)

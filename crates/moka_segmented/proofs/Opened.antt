@@ -44,7 +44,7 @@ module _ {K V H W X F : Type 0} (E : Type 0) (eq : K → K → Bool) (behaviour 
     count = length-map cache.segments (view_by behaviour frequency opened) ∙ count;
     each = at cache.segments all;
   } where
-    at : (states : List (StateData K V H W X F)) → AllByRecursion (λ state. StandsFor {E = E} eq (share_settings (segmented_settings_by behaviour (frequency opened) cache)) (view_by behaviour frequency opened state) []) states
+    at : (states : List (StateData K V H W X F E)) → AllByRecursion (λ state. StandsFor {E = E} eq (share_settings (segmented_settings_by behaviour (frequency opened) cache)) (view_by behaviour frequency opened state) []) states
         → (i : ℕ) → IfSome (slice_get (map (view_by behaviour frequency opened) states) i) (λ one. StandsFor {E = E} eq (share_settings (segmented_settings_by behaviour (frequency opened) cache)) one [])
     at [] all i = tt
     at (s ∷ ss) all zero = all.0
@@ -52,7 +52,7 @@ module _ {K V H W X F : Type 0} (E : Type 0) (eq : K → K → Bool) (behaviour 
 
 module _ {K V H W X F : Type 0} (E : Type 0) (eq : K → K → Bool) (behaviour : BehaviourData H W X → Behaviour K V) (frequency : F → List ℕ → ℕ → ℕ) (opened : F) (bits : ℕ) (whole : SettingsData H W X) where
   -- one state more that stands for no steps, with its share
-  pub opened-more : (states : List (StateData K V H W X F)) (state : StateData K V H W X F) (count : ℕ) → count ≡ 2 ^ bits
+  pub opened-more : (states : List (StateData K V H W X F E)) (state : StateData K V H W X F E) (count : ℕ) → count ≡ 2 ^ bits
       → state.settings ≡ record whole { name = None; max_capacity = option_map (share count) whole.max_capacity }
       → StandsFor {E = E} eq (settings_by behaviour (frequency opened) state.settings) (view_by behaviour frequency opened state) []
       → AllByRecursion (λ s. StandsFor {E = E} eq (share_settings (record { bits = bits; whole = settings_by behaviour (frequency opened) whole })) (view_by behaviour frequency opened s) []) states

@@ -23,7 +23,7 @@ use Rattle.moka_segmented.specs.Step.{IsReplyBy, IsReplyIn, after_reply_in}
 use Rattle.moka_segmented.proofs.Routed.{Routing, routed-follows, routed-stands, routed-history, index-is}
 
 module _ {K V H W X F : Type 0} (E : Type 0) (eq : K → K → Bool) (behaviour : BehaviourData H W X → Behaviour K V) (frequency : F → List ℕ → ℕ → ℕ) (opened : F) (cache : SegmentedData K V H W X F)
-    (here : StateData K V H W X F) (index : ℕ) (k : K) (routing : Routing (segmented_settings_by behaviour (frequency opened) cache) cache.segments here index k) (call : Call K V) (key : key_in call ≡ Some k) (reply : Reply K V) where
+    (here : StateData K V H W X F E) (index : ℕ) (k : K) (routing : Routing (segmented_settings_by behaviour (frequency opened) cache) cache.segments here index k) (call : Call K V E) (key : key_in call ≡ Some k) (reply : Reply K V) where
   -- the reply of the state of its key's segment is the reply
   pub routed-replies : (is_clone : V → V → Type 0) (is_infallible : V → Type 0)
       → ((s : Settings K V) (steps : List (AcceptedStep K V E)) → StandsFor eq s (view_by behaviour frequency opened here) steps → IsReplyTo eq is_clone is_infallible s steps call reply)
@@ -35,7 +35,7 @@ module _ {K V H W X F : Type 0} (E : Type 0) (eq : K → K → Bool) (behaviour 
       (routed-history E eq behaviour frequency opened cache here index k routing (λ s steps. IsReplyTo eq is_clone is_infallible s steps call reply) replies given calls stand))
 
   -- where that state stands for what its reply leaves, so do all
-  pub routed-stood : (new : StateData K V H W X F)
+  pub routed-stood : (new : StateData K V H W X F E)
       → ((s : Settings K V) (steps : List (AcceptedStep K V E)) → StandsFor eq s (view_by behaviour frequency opened here) steps → StandsFor eq s (view_by behaviour frequency opened new) (after_reply eq s call reply steps))
       → AtEachList E eq (segmented_view_by behaviour frequency opened cache) (λ given calls. AllStandFor E eq given (segmented_view_by behaviour frequency opened (record cache { segments = set cache.segments index new })) (after_reply_in call reply calls))
   routed-stood new stands = by reply stands
@@ -59,7 +59,7 @@ module _ {K V H W X F : Type 0} (E : Type 0) (eq : K → K → Bool) (behaviour 
       by (Refused cause) same = refused same
       by (PredicateRefused cause) same = refused same
 
-module _ {K V : Type 0} (E : Type 0) (eq : K → K → Bool) (is_clone : V → V → Type 0) (is_infallible : V → Type 0) (given : SegmentedSettings K V) (calls : List (Call K V)) (test : K → V → Bool) where
+module _ {K V : Type 0} (E : Type 0) (eq : K → K → Bool) (is_clone : V → V → Type 0) (is_infallible : V → Type 0) (given : SegmentedSettings K V) (calls : List (Call K V E)) (test : K → V → Bool) where
   -- a predicate is accepted where closures are supported, and refused by its name where not
   pub hidden-replies : given.whole.supports_closures ≡ true → IsReplyIn E eq is_clone is_infallible given calls (InvalidateIf test) Done
   hidden-replies supports =

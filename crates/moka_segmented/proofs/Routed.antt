@@ -42,13 +42,13 @@ not-both (Err e) err ok = cc
 pub set-same : {S : Type 0} (states : List S) (i : ℕ) (now new : S) → now ≡ get_or states i now → new ≡ now → set states i new ≡ states
 set-same states i now new is same = ap (set states i) (same ∙ is) ∙ set-get_or states i now
 
-pub data-same : {K V H W X F : Type 0} (bits : ℕ) (settings : SettingsData H W X) (states : List (StateData K V H W X F)) (i : ℕ) (now new : StateData K V H W X F) → now ≡ get_or states i now → new ≡ now
+pub data-same : {K V H W X F : Type 0} (bits : ℕ) (settings : SettingsData H W X) (states : List (StateData K V H W X F E)) (i : ℕ) (now new : StateData K V H W X F E) → now ≡ get_or states i now → new ≡ now
     → (let it : SegmentedData K V H W X F = record { bits = bits; settings = settings; segments = set states i new } in it) ≡ record { bits = bits; settings = settings; segments = states }
 data-same bits settings states i now new is same =
     ap (λ l. let it : SegmentedData _ _ _ _ _ _ = record { bits = bits; settings = settings; segments = l } in it) (set-same states i now new is same)
 
 -- data of the same parts are the same
-pub same-data : {K V H W X F : Type 0} (old : SegmentedData K V H W X F) (bits : ℕ) (settings : SettingsData H W X) (states : List (StateData K V H W X F)) → bits ≡ old.bits → settings ≡ old.settings → states ≡ old.segments
+pub same-data : {K V H W X F : Type 0} (old : SegmentedData K V H W X F) (bits : ℕ) (settings : SettingsData H W X) (states : List (StateData K V H W X F E)) → bits ≡ old.bits → settings ≡ old.settings → states ≡ old.segments
     → (let it : SegmentedData K V H W X F = record { bits = bits; settings = settings; segments = states } in it) ≡ old
 same-data old bits settings states b s l =
     ap (λ n. let it : SegmentedData _ _ _ _ _ _ = record { bits = n; settings = settings; segments = states } in it) b
@@ -72,16 +72,16 @@ pub record Routing {K V S : Type 0} (settings : SegmentedSettings K V) (states :
   pub within : index < length states
 
 module _ {K V H W X F : Type 0} (E : Type 0) (eq : K → K → Bool) (behaviour : BehaviourData H W X → Behaviour K V) (frequency : F → List ℕ → ℕ → ℕ) (opened : F) (cache : SegmentedData K V H W X F)
-    (here : StateData K V H W X F) (index : ℕ) (k : K) (routing : Routing (segmented_settings_by behaviour (frequency opened) cache) cache.segments here index k) where
+    (here : StateData K V H W X F E) (index : ℕ) (k : K) (routing : Routing (segmented_settings_by behaviour (frequency opened) cache) cache.segments here index k) where
   here-view : slice_get (map (view_by behaviour frequency opened) cache.segments) index ≡ Some (view_by behaviour frequency opened here)
   here-view = view-at (view_by behaviour frequency opened) cache.segments index here routing.within routing.here_is
 
   -- the index is that of the key
-  pub index-is : (given : SegmentedSettings K V) (calls : List (Call K V)) → AllStandFor E eq given (segmented_view_by behaviour frequency opened cache) calls → index ≡ segment_of_key given k
+  pub index-is : (given : SegmentedSettings K V) (calls : List (Call K V E)) → AllStandFor E eq given (segmented_view_by behaviour frequency opened cache) calls → index ≡ segment_of_key given k
   index-is given calls stand = routing.is ∙ hash-at E eq given (segmented_view_by behaviour frequency opened cache) calls k stand
 
   -- the state's answer is the answer
-  pub routed-answers : (is_clone : V → V → Type 0) (call : Call K V) (answer : Answer K V E) → key_in call ≡ Some k → Answers E eq is_clone (view_by behaviour frequency opened here) call answer
+  pub routed-answers : (is_clone : V → V → Type 0) (call : Call K V E) (answer : Answer K V E) → key_in call ≡ Some k → Answers E eq is_clone (view_by behaviour frequency opened here) call answer
       → AnswersIn E eq is_clone (segmented_view_by behaviour frequency opened cache) call answer
   routed-answers is_clone call answer key answers given calls stand =
       let it = routed E eq given k call calls key in
@@ -90,7 +90,7 @@ module _ {K V H W X F : Type 0} (E : Type 0) (eq : K → K → Bool) (behaviour 
       (answer-at E eq given is_clone (segmented_view_by behaviour frequency opened cache) calls index (view_by behaviour frequency opened here) call answer here-view answers stand))
 
   -- where it stands for its own steps, and those of all other segments stay, all stand for a list of calls
-  pub routed-stands : (given : SegmentedSettings K V) (calls later : List (Call K V)) (new : StateData K V H W X F) → StandsFor {E = E} eq (share_settings given) (view_by behaviour frequency opened new) (steps_in E eq given later index)
+  pub routed-stands : (given : SegmentedSettings K V) (calls later : List (Call K V E)) (new : StateData K V H W X F E) → StandsFor {E = E} eq (share_settings given) (view_by behaviour frequency opened new) (steps_in E eq given later index)
       → ((i : ℕ) → (i == index) ≡ false → steps_in E eq given later i ≡ steps_in E eq given calls i) → AllStandFor E eq given (segmented_view_by behaviour frequency opened cache) calls
       → AllStandFor E eq given (segmented_view_by behaviour frequency opened (record cache { segments = set cache.segments index new })) later
   routed-stands given calls later new stands others stand =
@@ -98,7 +98,7 @@ module _ {K V H W X F : Type 0} (E : Type 0) (eq : K → K → Bool) (behaviour 
       (stand-set E eq given (segmented_view_by behaviour frequency opened cache) calls later index (view_by behaviour frequency opened here) (view_by behaviour frequency opened new) here-view stands others stand)
 
   -- and where it follows a call, all do
-  pub routed-follows : (call : Call K V) (new : StateData K V H W X F) → key_in call ≡ Some k → Follows E eq (view_by behaviour frequency opened here) call (view_by behaviour frequency opened new)
+  pub routed-follows : (call : Call K V E) (new : StateData K V H W X F E) → key_in call ≡ Some k → Follows E eq (view_by behaviour frequency opened here) call (view_by behaviour frequency opened new)
       → FollowsIn E eq (segmented_view_by behaviour frequency opened cache) call (segmented_view_by behaviour frequency opened (record cache { segments = set cache.segments index new }))
   routed-follows call new key follows given calls stand =
       let place : place_of E eq given calls call ≡ One index = (routed E eq given k call calls key).place ∙ ap One (sym (index-is given calls stand)) in
@@ -106,7 +106,7 @@ module _ {K V H W X F : Type 0} (E : Type 0) (eq : K → K → Bool) (behaviour 
       (stand-one E eq given (segmented_view_by behaviour frequency opened cache) calls index (view_by behaviour frequency opened here) (view_by behaviour frequency opened new) call place here-view follows stand)
 
   -- so where it is as it was
-  pub routed-stays : (call : Call K V) → key_in call ≡ Some k → Follows E eq (view_by behaviour frequency opened here) call (view_by behaviour frequency opened here)
+  pub routed-stays : (call : Call K V E) → key_in call ≡ Some k → Follows E eq (view_by behaviour frequency opened here) call (view_by behaviour frequency opened here)
       → FollowsIn E eq (segmented_view_by behaviour frequency opened cache) call (segmented_view_by behaviour frequency opened cache)
   routed-stays call key follows =
       subst (λ l. FollowsIn E eq (segmented_view_by behaviour frequency opened cache) call (segmented_view_by behaviour frequency opened (record cache { segments = l })))

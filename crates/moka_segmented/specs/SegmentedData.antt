@@ -14,10 +14,10 @@ use Rattle.moka_segments.specs.Segments.{AllStandFor, AtEachList, FollowsIn, Ans
 
 -- What a cache of several segments keeps, as data: how many bits of a hash name a segment, the settings of the whole, and the
 -- state of each segment.
-pub record SegmentedData (K V H W X F : Type 0) : Type 0 where
+pub record SegmentedData (K V H W X F E : Type 0) : Type 0 where
   pub bits : ℕ
   pub settings : SettingsData H W X
-  pub segments : List (StateData K V H W X F)
+  pub segments : List (StateData K V H W X F E)
 
 -- the settings that a cache is made from, as data
 abbrev pub data_of : {K V C H W X P F L T E S : Type 0} → Settings K V C H W X P F L T E S → SettingsData H W X
@@ -32,36 +32,36 @@ data_of settings =
 
 module _ {K V H W X : Type 0} (behaviour_in : BehaviourData H W X → Behaviour K V) where
   -- what it is built with, by the behaviour that its settings mean, and by what a new source estimates
-  abbrev pub segmented_settings_by : {F : Type 0} → (List ℕ → ℕ → ℕ) → SegmentedData K V H W X F → SegmentedSettings K V
+  abbrev pub segmented_settings_by : {F E : Type 0} → (List ℕ → ℕ → ℕ) → SegmentedData K V H W X F E → SegmentedSettings K V
   segmented_settings_by frequency it = record { bits = it.bits; whole = settings_by behaviour_in frequency it.settings }
 
   -- its view, by those of its states
-  abbrev pub segmented_view_by : {F : Type 0} → (F → List ℕ → ℕ → ℕ) → F → SegmentedData K V H W X F → SegmentedView K V
+  abbrev pub segmented_view_by : {F E : Type 0} → (F → List ℕ → ℕ → ℕ) → F → SegmentedData K V H W X F E → SegmentedView K V E
   segmented_view_by frequency_in opened it = record {
     settings = segmented_settings_by (frequency_in opened) it;
     segments = map (view_by behaviour_in frequency_in opened) it.segments;
   }
 
 -- The relations of caches of several segments, by what the view of each is.
-module _ {K V : Type 0} (E : Type 0) (eq : K → K → Bool) where
-  abbrev pub AllStandForBy : {S : Type 0} → (S → SegmentedView K V) → SegmentedSettings K V → S → List (Call K V) → Type 0
-  AllStandForBy view settings it calls = AllStandFor E eq settings (view it) calls
+module _ {K V E S : Type 0} (eq : K → K → Bool) (is_clone : V → V → Type 0) (view : S → SegmentedView K V E) where
+  abbrev pub AllStandForBy : SegmentedSettings K V → S → List (Call K V E) → Type 0
+  AllStandForBy settings it calls = AllStandFor eq is_clone settings (view it) calls
 
-  abbrev pub AtEachListBy : {S : Type 0} → (S → SegmentedView K V) → S → (SegmentedSettings K V → List (Call K V) → Type 0) → Type 0
-  AtEachListBy view it P = AtEachList E eq (view it) P
+  abbrev pub AtEachListBy : S → (SegmentedSettings K V → List (Call K V E) → Type 0) → Type 0
+  AtEachListBy it P = AtEachList eq is_clone (view it) P
 
-  abbrev pub FollowsInBy : {S : Type 0} → (S → SegmentedView K V) → S → Call K V → S → Type 0
-  FollowsInBy view old call new = FollowsIn E eq (view old) call (view new)
+  abbrev pub FollowsInBy : S → Call K V E → S → Type 0
+  FollowsInBy old call new = FollowsIn eq is_clone (view old) call (view new)
 
-  abbrev pub AnswersInBy : {S : Type 0} → (V → V → Type 0) → (S → SegmentedView K V) → S → Call K V → Answer K V E → Type 0
-  AnswersInBy is_clone view it call answer = AnswersIn E eq is_clone (view it) call answer
+  abbrev pub AnswersInBy : S → Call K V E → Answer K V E → Type 0
+  AnswersInBy it call answer = AnswersIn eq is_clone (view it) call answer
 
 -- what is said of the state at a place, and something else where there is none
 abbrev pub state_at : {S Y : Type 0} → (S → Y) → Y → Option S → Y
 state_at f other None = other
 state_at f other (Some state) = f state
 
-module _ {K V H W X F : Type 0} (states : List (StateData K V H W X F)) where
+module _ {K V H W X F E : Type 0} (states : List (StateData K V H W X F E)) where
   abbrev pub has_notice : ℕ → Bool  -- whether the state at a place has a notice
   has_notice i = state_at (λ state. not (is_empty state.books.notices)) false (slice_get states i)
 

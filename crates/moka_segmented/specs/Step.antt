@@ -16,7 +16,7 @@ IsReplyBy None Otherwise reply = Otherwise
 -- What a call replies after others: what all segments answer together, and else what the segment that is asked replies, as a
 -- state of its share that was given its own list alone.
 abbrev pub IsReplyIn : {K V : Type 0} (E : Type 0) → (K → K → Bool) → (V → V → Type 0) → (V → Type 0) → SegmentedSettings K V →
-    List (Call K V) → Call K V → Reply K V → Type 0
+    List (Call K V E) → Call K V E → Reply K V → Type 0
 IsReplyIn E eq is_clone is_infallible settings calls call reply =
     IsReplyBy (joint_in E eq settings calls call)
     (IsReplyTo eq is_clone is_infallible (share_settings settings)
@@ -24,20 +24,20 @@ IsReplyIn E eq is_clone is_infallible settings calls call reply =
     reply
 
 -- The calls after a reply to one more: a refused call leaves them as they are.
-abbrev pub after_reply_in : {K V : Type 0} → Call K V → Reply K V → List (Call K V) → List (Call K V)
+abbrev pub after_reply_in : {K V E : Type 0} → Call K V E → Reply K V → List (Call K V E) → List (Call K V E)
 after_reply_in call (Refused cause) calls = calls
 after_reply_in call (PredicateRefused cause) calls = calls
 after_reply_in call reply calls = call ∷ calls
 
 module _ {K V C H W X P F L T E S : Type 0} (test : P → K → V → Bool) where
   -- those after a run, on those before it
-  abbrev pub after_all_in : List (Step K V C H W X P F L T E S) → List (Reply K V) → List (Call K V) → List (Call K V)
+  abbrev pub after_all_in : List (Step K V C H W X P F L T E S) → List (Reply K V) → List (Call K V E) → List (Call K V E)
   after_all_in [] replies calls = calls
   after_all_in (step ∷ rest) [] calls = calls
   after_all_in (step ∷ rest) (reply ∷ replies) calls = after_all_in rest replies (after_reply_in (call_of test step) reply calls)
 
   -- Each reply is the step's, after the calls before it, and there are as many replies as steps.
-  abbrev pub IsRunIn : (K → K → Bool) → (V → V → Type 0) → (V → Type 0) → SegmentedSettings K V → List (Call K V) →
+  abbrev pub IsRunIn : (K → K → Bool) → (V → V → Type 0) → (V → Type 0) → SegmentedSettings K V → List (Call K V E) →
       List (Step K V C H W X P F L T E S) → List (Reply K V) → Type 0
   IsRunIn eq is_clone is_infallible settings calls [] [] = ⊤
   IsRunIn eq is_clone is_infallible settings calls (step ∷ rest) (reply ∷ replies) =

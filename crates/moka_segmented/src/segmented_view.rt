@@ -12,31 +12,31 @@ pub trait SegmentedStateView<K: Hash, V: Clone>: CacheTypes<K, V> {
     ghost use Rattle.moka_segmented.specs.SegmentedData.{SegmentedData};
 
     /// What the cache was built with, as the definitions speak of it.
-    ghost segmented_settings: { SegmentedData K V Self.Hasher Self.Weigher Self.Expiry Self.Frequency
+    ghost segmented_settings: { SegmentedData K V Self.Hasher Self.Weigher Self.Expiry Self.Frequency Self.Error
         → SegmentedSettings K V };
 
     /// The segments stand for these calls, each for its own list of them, as a cache of its share
     /// under these settings.
     ghost all_stand_for: { SegmentedSettings K V
-        → SegmentedData K V Self.Hasher Self.Weigher Self.Expiry Self.Frequency
-        → List (Call K V)
+        → SegmentedData K V Self.Hasher Self.Weigher Self.Expiry Self.Frequency Self.Error
+        → List (Call K V Self.Error)
         → Type 0 };
 
     /// Whatever settings and calls the segments stand for, this holds of them.
-    ghost at_each_list: { SegmentedData K V Self.Hasher Self.Weigher Self.Expiry Self.Frequency
-        → (SegmentedSettings K V → List (Call K V) → Type 0)
+    ghost at_each_list: { SegmentedData K V Self.Hasher Self.Weigher Self.Expiry Self.Frequency Self.Error
+        → (SegmentedSettings K V → List (Call K V Self.Error) → Type 0)
         → Type 0 };
 
     /// Whatever calls the first ones stand for, the others stand for those followed by this one.
-    ghost follows_in: { SegmentedData K V Self.Hasher Self.Weigher Self.Expiry Self.Frequency
-        → Call K V
-        → SegmentedData K V Self.Hasher Self.Weigher Self.Expiry Self.Frequency
+    ghost follows_in: { SegmentedData K V Self.Hasher Self.Weigher Self.Expiry Self.Frequency Self.Error
+        → Call K V Self.Error
+        → SegmentedData K V Self.Hasher Self.Weigher Self.Expiry Self.Frequency Self.Error
         → Type 0 };
 
     /// This, when it is handed out, is the answer to the call, after whatever calls the segments
     /// stand for.
-    ghost answers_in: { SegmentedData K V Self.Hasher Self.Weigher Self.Expiry Self.Frequency
-        → Call K V
+    ghost answers_in: { SegmentedData K V Self.Hasher Self.Weigher Self.Expiry Self.Frequency Self.Error
+        → Call K V Self.Error
         → Answer K V Self.Error
         → Type 0 };
 }
@@ -48,22 +48,22 @@ impl<K: Hash, V: Clone, C: CacheTypes<K, V>> SegmentedStateView<K, V> for C {
         ⟦<C as BehaviourView<K, V>>⟧.behaviour
         (⟦<C as BehaviourView<K, V>>⟧.frequency C.Frequency.opened) };
 
-    ghost all_stand_for = { AllStandForBy C.Error K.eq (segmented_view_by
+    ghost all_stand_for = { AllStandForBy K.eq V.is_clone (segmented_view_by
         ⟦<C as BehaviourView<K, V>>⟧.behaviour
         ⟦<C as BehaviourView<K, V>>⟧.frequency
         C.Frequency.opened) };
 
-    ghost at_each_list = { AtEachListBy C.Error K.eq (segmented_view_by
+    ghost at_each_list = { AtEachListBy K.eq V.is_clone (segmented_view_by
         ⟦<C as BehaviourView<K, V>>⟧.behaviour
         ⟦<C as BehaviourView<K, V>>⟧.frequency
         C.Frequency.opened) };
 
-    ghost follows_in = { FollowsInBy C.Error K.eq (segmented_view_by
+    ghost follows_in = { FollowsInBy K.eq V.is_clone (segmented_view_by
         ⟦<C as BehaviourView<K, V>>⟧.behaviour
         ⟦<C as BehaviourView<K, V>>⟧.frequency
         C.Frequency.opened) };
 
-    ghost answers_in = { AnswersInBy C.Error K.eq V.is_clone (segmented_view_by
+    ghost answers_in = { AnswersInBy K.eq V.is_clone (segmented_view_by
         ⟦<C as BehaviourView<K, V>>⟧.behaviour
         ⟦<C as BehaviourView<K, V>>⟧.frequency
         C.Frequency.opened) };

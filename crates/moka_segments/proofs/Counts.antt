@@ -8,7 +8,7 @@ use Rattle.moka_model.specs.Maintenance.{total}
 use Rattle.moka_model.specs.Numbers.{entry_count, weighted_size}
 use Rattle.moka_model.specs.Removals.{Removal}
 use Rattle.moka_model.specs.Calls.{Call, TakeNotice, Answer, Noticed, accepted, answer_of}
-use Rattle.moka_model.specs.StandsFor.{Books, View, StandsFor}
+use Rattle.moka_model.specs.StandsFor.{Books, WholeView, StandsFor}
 use Rattle.moka_segments.specs.Segments.{SegmentedSettings, SegmentedView, share_settings, segments_of, One, Nowhere, asked, at_first, place_of, answer_in, sum_below, first_from, first_noticed, notices_after, is_empty, list_of, events_of, entries_in, weight_in, notices_in, steps_in, AllStandFor}
 use Rattle.moka_segments.proofs.Lists.{there, at_or}
 
@@ -93,48 +93,48 @@ first-on test n i lt here was =
     was ∙ ap (first_from test i) left ∙ ap (λ b. cond b (Some i) (first_from test (suc i) (n - (i + 1)))) here ∙ ap (λ j. first_from test j (n - (i + 1))) next
 
 -- the writes of a view
-abbrev pub writes_of : {K V : Type 0} → View K V → List (Write K V)
-writes_of view = view.books.orders.admitted ++ view.books.orders.waiting
+abbrev pub writes_of : {K V E : Type 0} → WholeView K V E → List (Write K V)
+writes_of view = view.values.books.orders.admitted ++ view.values.books.orders.waiting
 
-module _ {K V : Type 0} (E : Type 0) (eq : K → K → Bool) (given : SegmentedSettings K V) (view : SegmentedView K V) (calls : List (Call K V)) (stand : AllStandFor E eq given view calls) where
+module _ {K V : Type 0} (E : Type 0) (eq : K → K → Bool) {is_clone : V → V → Type 0} (given : SegmentedSettings K V) (view : SegmentedView K V E) (calls : List (Call K V E)) (stand : AllStandFor eq is_clone given view calls) where
   -- the state at a place stands for its list
-  pub one-stands : (i : ℕ) → i < segments_of given → (v : View K V) × (slice_get view.segments i ≡ Some v) × StandsFor {E = E} eq (share_settings given) v (steps_in E eq given calls i)
+  pub one-stands : (i : ℕ) → i < segments_of given → (v : WholeView K V E) × (slice_get view.segments i ≡ Some v) × StandsFor eq is_clone (share_settings given) v (steps_in E eq given calls i)
   one-stands i lt =
       let it = there view.segments i (omega (arith, lt, stand.count)) in
       (it.0, it.1, rw it.1 at (stand.each i))
 
   -- the first that has a notice, by what the states hold
-  pub noticed-same : first_noticed E eq given (list_of E eq given calls) ≡ first_from (λ i. at_or (λ (v : View K V). not (is_empty v.books.notices)) false (slice_get view.segments i)) 0 (segments_of given)
+  pub noticed-same : first_noticed E eq given (list_of E eq given calls) ≡ first_from (λ i. at_or (λ (v : WholeView K V E). not (is_empty v.values.books.notices)) false (slice_get view.segments i)) 0 (segments_of given)
   noticed-same =
-      first_from-same (λ i. not (is_empty (notices_after E eq given (list_of E eq given calls i)))) (λ i. at_or (λ (v : View K V). not (is_empty v.books.notices)) false (slice_get view.segments i)) 0 (segments_of given)
+      first_from-same (λ i. not (is_empty (notices_after E eq given (list_of E eq given calls i)))) (λ i. at_or (λ (v : WholeView K V E). not (is_empty v.values.books.notices)) false (slice_get view.segments i)) 0 (segments_of given)
       (λ j lt.
       let it = one-stands j (omega (arith, lt)) in
-      ap (λ (b : Books K V). not (is_empty b.notices)) (sym it.2.books) ∙ sym (ap (λ o. at_or (λ (v : View K V). not (is_empty v.books.notices)) false o) it.1))
+      ap (λ (b : Books K V). not (is_empty b.notices)) (sym it.2.books) ∙ sym (ap (λ o. at_or (λ (v : WholeView K V E). not (is_empty v.values.books.notices)) false o) it.1))
 
   -- the sum of what the states store, and of what that weighs
-  pub entries-same : entries_in E eq given calls ≡ sum_below (λ i. at_or (λ (v : View K V). length (writes_of v)) 0 (slice_get view.segments i)) (segments_of given)
+  pub entries-same : entries_in E eq given calls ≡ sum_below (λ i. at_or (λ (v : WholeView K V E). length (writes_of v)) 0 (slice_get view.segments i)) (segments_of given)
   entries-same =
-      sum_below-same (λ i. entry_count eq (share_settings given) (events_of E eq given calls i)) (λ i. at_or (λ (v : View K V). length (writes_of v)) 0 (slice_get view.segments i)) (segments_of given)
+      sum_below-same (λ i. entry_count eq (share_settings given) (events_of E eq given calls i)) (λ i. at_or (λ (v : WholeView K V E). length (writes_of v)) 0 (slice_get view.segments i)) (segments_of given)
       (λ j lt.
       let it = one-stands j lt in
-      ap (λ (b : Books K V). length (b.orders.admitted ++ b.orders.waiting)) (sym it.2.books) ∙ sym (ap (λ o. at_or (λ (v : View K V). length (writes_of v)) 0 o) it.1))
+      ap (λ (b : Books K V). length (b.orders.admitted ++ b.orders.waiting)) (sym it.2.books) ∙ sym (ap (λ o. at_or (λ (v : WholeView K V E). length (writes_of v)) 0 o) it.1))
 
   -- and of how many notices they hold
-  pub notices-same : notices_in E eq given calls ≡ sum_below (λ i. at_or (λ (v : View K V). length v.books.notices) 0 (slice_get view.segments i)) (segments_of given)
+  pub notices-same : notices_in E eq given calls ≡ sum_below (λ i. at_or (λ (v : WholeView K V E). length v.values.books.notices) 0 (slice_get view.segments i)) (segments_of given)
   notices-same =
-      sum_below-same (λ i. length (notices_after E eq given (list_of E eq given calls i))) (λ i. at_or (λ (v : View K V). length v.books.notices) 0 (slice_get view.segments i)) (segments_of given)
+      sum_below-same (λ i. length (notices_after E eq given (list_of E eq given calls i))) (λ i. at_or (λ (v : WholeView K V E). length v.values.books.notices) 0 (slice_get view.segments i)) (segments_of given)
       (λ j lt.
       let it = one-stands j lt in
-      ap (λ (b : Books K V). length b.notices) (sym it.2.books) ∙ sym (ap (λ o. at_or (λ (v : View K V). length v.books.notices) 0 o) it.1))
+      ap (λ (b : Books K V). length b.notices) (sym it.2.books) ∙ sym (ap (λ o. at_or (λ (v : WholeView K V E). length v.values.books.notices) 0 o) it.1))
 
-  pub weight-same : weight_in E eq given calls ≡ sum_below (λ i. at_or (λ (v : View K V). total (λ (w : Write K V). w.policy_weight) (writes_of v)) 0 (slice_get view.segments i)) (segments_of given)
+  pub weight-same : weight_in E eq given calls ≡ sum_below (λ i. at_or (λ (v : WholeView K V E). total (λ (w : Write K V). w.policy_weight) (writes_of v)) 0 (slice_get view.segments i)) (segments_of given)
   weight-same =
-      sum_below-same (λ i. weighted_size eq (share_settings given) (events_of E eq given calls i)) (λ i. at_or (λ (v : View K V). total (λ (w : Write K V). w.policy_weight) (writes_of v)) 0 (slice_get view.segments i)) (segments_of given)
+      sum_below-same (λ i. weighted_size eq (share_settings given) (events_of E eq given calls i)) (λ i. at_or (λ (v : WholeView K V E). total (λ (w : Write K V). w.policy_weight) (writes_of v)) 0 (slice_get view.segments i)) (segments_of given)
       (λ j lt.
       let it = one-stands j lt in
-      ap (λ (b : Books K V). total (λ (w : Write K V). w.policy_weight) (b.orders.admitted ++ b.orders.waiting)) (sym it.2.books) ∙ sym (ap (λ o. at_or (λ (v : View K V). total (λ (w : Write K V). w.policy_weight) (writes_of v)) 0 o) it.1))
+      ap (λ (b : Books K V). total (λ (w : Write K V). w.policy_weight) (b.orders.admitted ++ b.orders.waiting)) (sym it.2.books) ∙ sym (ap (λ o. at_or (λ (v : WholeView K V E). total (λ (w : Write K V). w.policy_weight) (writes_of v)) 0 o) it.1))
 
-module _ {K V : Type 0} (E : Type 0) (eq : K → K → Bool) (given : SegmentedSettings K V) (calls : List (Call K V)) where
+module _ {K V : Type 0} (E : Type 0) (eq : K → K → Bool) (given : SegmentedSettings K V) (calls : List (Call K V E)) where
   -- where a notice is taken, and what is answered; and where there is none
   pub noticed-place : (i : ℕ) → first_noticed E eq given (list_of E eq given calls) ≡ Some i → place_of E eq given calls TakeNotice ≡ One i
   noticed-place i e = ap at_first e

@@ -4,3 +4,4 @@ pub mod Lists
 pub mod Rounding
 pub mod SegmentLaws
 pub mod Standing
+pub mod Writes

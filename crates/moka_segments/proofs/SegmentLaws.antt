@@ -1,5 +1,5 @@
 -- The proofs of the laws of segments.
-use Rattle.std.proofs.Common.{◌≡◌, ◌≢◌, ℕ, zero, suc, ◌+◌, ◌-◌, ◌*◌, ◌/◌, ◌<◌, ◌^◌, ◌==◌, min, Bool, true, false, not, ◌&&◌, ◌||◌, cond, Option, Some, None, List, [], ◌∷◌, ◌++◌, length, filter, option_map, refl, sym, ap, ◌∙◌, ⊎_elim, arith}
+use Rattle.std.proofs.Common.{◌≡◌, ◌≢◌, ℕ, zero, suc, ◌+◌, ◌-◌, ◌*◌, ◌/◌, ◌<◌, ◌^◌, ◌==◌, min, Bool, true, false, not, ◌&&◌, ◌||◌, cond, Option, Some, None, List, [], ◌∷◌, ◌++◌, length, filter, option_map, refl, sym, ap, ◌∙◌, ⊎_elim, arith, add_comm}
 use Rattle.std.specs.Cmp.{IsEquivalence}
 use Rattle.std.proofs.Math.Nat.{div-eq_of_lt, div-lt_iff_lt-mul, div-one}
 use Rattle.std.proofs.lemmas.Nat.{pow_pos}
@@ -13,18 +13,19 @@ use Rattle.moka_model.specs.Numbers.{entry_count, weighted_size, greatest_number
 use Rattle.moka_model.specs.Orders.{orders, is_left_at}
 use Rattle.moka_model.specs.Removals.{notices_left}
 use Rattle.moka_model.specs.Steps.{AcceptedStep, events_in}
-use Rattle.moka_model.specs.Calls.{Call, Answer, Counted, accepted, answer_of, after, with_step, without_move, Done, IsLegal}
-use Rattle.moka_model.specs.Calls.{Get, ContainsKey, Insert, Invalidate, Remove, InvalidateAll, InvalidateIf, RunPendingTasks, RunPendingTasksUpTo, EntryCount, WeightedSize, TakeNotice, Left}
+use Rattle.moka_model.specs.Calls.{Call, Insert, RunPendingTasksUpTo, EntryCount, WeightedSize, TakeNotice, Answer, Counted, Left, accepted, answer_of, after, IsLegal}
 use Rattle.moka_model.proofs.Callers.{IsLegal-after}
 use Rattle.moka_conserved.specs.Conserved.{SeesKeysAlike, count_written, count_standing, count_left, given_out}
 use Rattle.moka_conserved.proofs.Callers.{is_conserved}
-use Rattle.moka_segments.specs.Segments.{SegmentedSettings, segments_of, share, share_settings, segment_of, segment_of_key, goes_to, at_first, asked, place_of, first_noticed, list_of, steps_after, steps_in, events_of, sum_below, any_below, joint_in, answer_by, answer_in}
-use Rattle.moka_segments.specs.SegmentLaws.{pairs_written, pairs_standing, pairs_waiting, pairs_given}
+use Rattle.moka_segments.specs.Segments.{SegmentedSettings, segments_of, share, share_settings, segment_of, segment_of_key, place_of_key, key_in, One, goes_to, at_first, asked, place_of, first_noticed, list_of, steps_after, steps_in, events_of, sum_below, any_below, joint_in, answer_by, answer_in}
+use Rattle.moka_segments.specs.SegmentLaws.{events_by, accepted_in, pairs_written, pairs_standing, pairs_waiting, pairs_given}
 use Rattle.moka_segments.proofs.Lists.{segment-within, eqb_refl}
-use Rattle.moka_segments.proofs.Counts.{sum_below-same, first_from-passes}
+use Rattle.moka_segments.proofs.Counts.{sum_below-same, sum_below-zeros, first_from-passes}
+use Rattle.moka_segments.proofs.Standing.{steps-here, steps-apart, routed}
+use Rattle.moka_segments.proofs.Writes.{uncounted, written-after, uncounted-call, keyless-none}
 
 -- what calls give is legal
-pub legal-calls : {K V : Type 0} (E : Type 0) (eq : K → K → Bool) (settings : Settings K V) (calls : List (Call K V)) → IsLegal {E = E} eq settings (steps_after eq settings calls)
+pub legal-calls : {K V : Type 0} (E : Type 0) (eq : K → K → Bool) (settings : Settings K V) (calls : List (Call K V E)) → IsLegal {E = E} eq settings (steps_after eq settings calls)
 legal-calls E eq settings [] = tt
 legal-calls E eq settings (call ∷ calls) = IsLegal-after eq settings call (steps_after eq settings calls) (legal-calls E eq settings calls)
 
@@ -53,26 +54,6 @@ sum_below-plus : (f g h : ℕ → ℕ) (n : ℕ) → sum_below (λ i. f i + (g i
 sum_below-plus f g h zero = refl
 sum_below-plus f g h (suc n) = let before = sum_below-plus f g h n in omega (arith, before)
 
-module _ {K V : Type 0} (E : Type 0) (eq : K → K → Bool) (settings : Settings K V) (test : K → V → Bool) where
-  written-or : (k : K) (v : V) (at : ℕ) (h : List (Event K V)) (nothing due : Bool)
-      → count_written test (cond nothing (Passed at ∷ []) (Written k v at ∷ cond due (Maintained settings.flush_limit at ∷ []) []) ++ h) ≡ cond (not nothing && test k v) (suc (count_written test h)) (count_written test h)
-  written-or k v at h true due = refl
-  written-or k v at h false true = refl
-  written-or k v at h false false = refl
-
-  -- a write adds its pair where something is stored
-  written-more : (k : K) (v : V) (at : ℕ) (steps : List (AcceptedStep K V E))
-      → count_written test (events_in (after eq settings (Insert k v at) steps)) ≡ cond (not (stores_nothing settings.max_capacity) && test k v) (suc (count_written test (events_in steps))) (count_written test (events_in steps))
-  written-more k v at steps = written-or k v at (events_in steps) (stores_nothing settings.max_capacity) (is_flush_due eq settings (events_in steps))
-
-  -- and hiding adds none
-  hidden-none : (hide : K → V → Bool) (steps : List (AcceptedStep K V E)) → count_written test (events_in (after eq settings (InvalidateIf hide) steps)) ≡ count_written test (events_in steps)
-  hidden-none hide steps = by settings.supports_closures
-    where
-      by : (b : Bool) → count_written test (events_in (with_step (cond b (Some (without_move {E = E} Done (Rattle.moka_model.specs.Events.Hidden hide ∷ []))) None) steps)) ≡ count_written test (events_in steps)
-      by true = refl
-      by false = refl
-
 -- the share of nothing is nothing, and of no other whole
 pub share-nothing : (segments : ℕ) → 0 < segments → (c : Option ℕ) → stores_nothing (option_map (share segments) c) ≡ stores_nothing c
 share-nothing segments some None = refl
@@ -91,76 +72,80 @@ share-nothing segments some (Some c) = by c
     by (suc c) = unlike (share segments (suc c)) (share-some c) ∙ sym (unlike (suc c) (omega arith))
 
 module _ {K V : Type 0} (E : Type 0) (eq : K → K → Bool) (given : SegmentedSettings K V) (test : K → V → Bool) where
-  abbrev written-of : List (Call K V) → ℕ → ℕ
+  abbrev written-of : List (Call K V E) → ℕ → ℕ
   written-of calls i = count_written test (events_of E eq given calls i)
 
+  -- what a call writes, in the segment that is asked
+  abbrev added : List (Call K V E) → Call K V E → ℕ
+  added calls call = count_written test (events_by (accepted_in E eq given calls call))
+
   -- a call that writes nothing adds no pair, wherever it goes
-  written-same : (call : Call K V) (calls : List (Call K V))
-      → ((steps : List (AcceptedStep K V E)) → count_written test (events_in (after eq (share_settings given) call steps)) ≡ count_written test (events_in steps))
-      → sum_below (written-of (call ∷ calls)) (segments_of given) ≡ sum_below (written-of calls) (segments_of given)
-  written-same call calls none = sum_below-same (written-of (call ∷ calls)) (written-of calls) (segments_of given) (λ i lt. by i (goes_to i (place_of E eq given calls call)))
+  written-same : (call : Call K V E) (calls : List (Call K V E)) → key_in call ≡ None
+      → sum_below (written-of (call ∷ calls)) (segments_of given) ≡ added calls call + sum_below (written-of calls) (segments_of given)
+  written-same call calls e =
+      sum_below-same (written-of (call ∷ calls)) (written-of calls) (segments_of given) (λ i lt. by i (goes_to i (place_of E eq given calls call)))
+      ∙ ap (λ n. n + sum_below (written-of calls) (segments_of given)) (sym (keyless-none eq (share_settings given) (steps_in E eq given calls (asked (place_of E eq given calls call))) test call e))
     where
       by : (i : ℕ) (b : Bool) → count_written test (events_in (steps_after {E = E} eq (share_settings given) (cond b (call ∷ list_of E eq given calls i) (list_of E eq given calls i)))) ≡ written-of calls i
-      by i true = none (steps_in E eq given calls i)
+      by i true =
+          written-after test (accepted eq (share_settings given) (steps_in E eq given calls i) call) (steps_in E eq given calls i)
+          ∙ ap (λ n. n + written-of calls i) (keyless-none eq (share_settings given) (steps_in E eq given calls i) test call e)
       by i false = refl
 
-  module _ (few : given.bits < 64) (fits : (k : K) → given.whole.behaviour.hash k < 2 ^ 64) where
-    some-segments : 0 < segments_of given
-    some-segments = pow_pos given.bits
+  -- what a call under another key writes is not counted
+  pub added-none : (call : Call K V E) (calls : List (Call K V E)) → ((k : K) (v : V) → key_in call ≡ Some k → test k v ≡ false) → added calls call ≡ 0
+  added-none call calls fails =
+      uncounted test (events_by (accepted_in E eq given calls call))
+      (uncounted-call eq (share_settings given) (steps_in E eq given calls (asked (place_of E eq given calls call))) test call fails)
 
+  -- an insert writes its pair where something is stored
+  pub added-insert : (k : K) (v : V) (at : ℕ) (calls : List (Call K V E)) → added calls (Insert k v at) ≡ cond (not (stores_nothing given.whole.max_capacity) && test k v) 1 0
+  added-insert k v at calls =
+      by (stores_nothing (share_settings given).max_capacity) (is_flush_due eq (share_settings given) (events_of E eq given calls (segment_of_key given k)))
+      ∙ ap (λ b. cond (not b && test k v) 1 0) (share-nothing (segments_of given) (pow_pos given.bits) given.whole.max_capacity)
+    where
+      by : (nothing due : Bool) → count_written test (cond nothing (Passed at ∷ []) (Written k v at ∷ cond due (Maintained given.whole.flush_limit at ∷ []) [])) ≡ cond (not nothing && test k v) 1 0
+      by true due = refl
+      by false true = refl
+      by false false = refl
+
+  module _ (few : given.bits < 64) (fits : (k : K) → given.whole.behaviour.hash k < 2 ^ 64) where
     -- each pair is written in one segment
-    written-insert : (k : K) (v : V) (at : ℕ) (calls : List (Call K V)) → sum_below (written-of calls) (segments_of given) ≡ pairs_written E eq given test calls
-        → sum_below (written-of (Insert k v at ∷ calls)) (segments_of given) ≡ pairs_written E eq given test (Insert k v at ∷ calls)
-    written-insert k v at calls before = by (not (stores_nothing given.whole.max_capacity) && test k v) refl
+    written-keyed : (call : Call K V E) (calls : List (Call K V E)) (k : K) → key_in call ≡ Some k
+        → sum_below (written-of (call ∷ calls)) (segments_of given) ≡ added calls call + sum_below (written-of calls) (segments_of given)
+    written-keyed call calls k e =
+        sum_below-one (written-of calls) (written-of (call ∷ calls)) (segments_of given) j (added calls call)
+        (segment-within given.bits (given.whole.behaviour.hash k) few (fits k)) here
+        (λ i other. ap (λ steps. count_written test (events_in steps)) (steps-apart E eq given calls call i (One j) place other))
+        ∙ add_comm (sum_below (written-of calls) (segments_of given)) (added calls call)
       where
         j : ℕ
         j = segment_of_key given k
 
-        within : j < segments_of given
-        within = segment-within given.bits (given.whole.behaviour.hash k) few (fits k)
+        place : place_of E eq given calls call ≡ One j
+        place = (routed E eq given k call calls e).place
 
-        others : (i : ℕ) → (i == j) ≡ false → written-of (Insert k v at ∷ calls) i ≡ written-of calls i
-        others i other = ap (λ b. count_written test (events_in (steps_after {E = E} eq (share_settings given) (cond b (Insert k v at ∷ list_of E eq given calls i) (list_of E eq given calls i))))) other
-
-        here : written-of (Insert k v at ∷ calls) j ≡ cond (not (stores_nothing given.whole.max_capacity) && test k v) (suc (written-of calls j)) (written-of calls j)
+        here : written-of (call ∷ calls) j ≡ written-of calls j + added calls call
         here =
-            ap (λ b. count_written test (events_in (steps_after {E = E} eq (share_settings given) (cond b (Insert k v at ∷ list_of E eq given calls j) (list_of E eq given calls j))))) (eqb_refl j)
-            ∙ written-more E eq (share_settings given) test k v at (steps_in E eq given calls j)
-            ∙ ap (λ b. cond (not b && test k v) (suc (written-of calls j)) (written-of calls j)) (share-nothing (segments_of given) some-segments given.whole.max_capacity)
+            ap (λ steps. count_written test (events_in steps)) (steps-here E eq given calls call j (One j) place (eqb_refl j))
+            ∙ written-after test (accepted eq (share_settings given) (steps_in E eq given calls j) call) (steps_in E eq given calls j)
+            ∙ ap (λ p. count_written test (events_by (accepted eq (share_settings given) (steps_in E eq given calls (asked p)) call)) + written-of calls j) (sym place)
+            ∙ add_comm (added calls call) (written-of calls j)
 
-        by : (b : Bool) → (not (stores_nothing given.whole.max_capacity) && test k v) ≡ b → sum_below (written-of (Insert k v at ∷ calls)) (segments_of given) ≡ pairs_written E eq given test (Insert k v at ∷ calls)
-        by true e =
-            sum_below-one (written-of calls) (written-of (Insert k v at ∷ calls)) (segments_of given) j 1 within
-            (here ∙ ap (λ b. cond b (suc (written-of calls j)) (written-of calls j)) e ∙ (let one : suc (written-of calls j) ≡ written-of calls j + 1 = omega arith in one)) others
-            ∙ (let one : sum_below (written-of calls) (segments_of given) + 1 ≡ suc (pairs_written E eq given test calls) = omega (arith, before) in one)
-            ∙ sym (ap (λ b. cond b (suc (pairs_written E eq given test calls)) (pairs_written E eq given test calls)) e)
-        by false e =
-            sum_below-one (written-of calls) (written-of (Insert k v at ∷ calls)) (segments_of given) j 0 within
-            (here ∙ ap (λ b. cond b (suc (written-of calls j)) (written-of calls j)) e ∙ (let one : written-of calls j ≡ written-of calls j + 0 = omega arith in one)) others
-            ∙ (let one : sum_below (written-of calls) (segments_of given) + 0 ≡ pairs_written E eq given test calls = omega (arith, before) in one)
-            ∙ sym (ap (λ b. cond b (suc (pairs_written E eq given test calls)) (pairs_written E eq given test calls)) e)
-
-    written-in : (calls : List (Call K V)) → sum_below (written-of calls) (segments_of given) ≡ pairs_written E eq given test calls
-    written-in [] = zeros (segments_of given)
+    written-one : (call : Call K V E) (calls : List (Call K V E))
+        → sum_below (written-of (call ∷ calls)) (segments_of given) ≡ added calls call + sum_below (written-of calls) (segments_of given)
+    written-one call calls = by (key_in call) refl
       where
-        zeros : (n : ℕ) → sum_below (λ i. 0) n ≡ 0
-        zeros zero = refl
-        zeros (suc n) = let before = zeros n in omega (arith, before)
-    written-in (Insert k v at ∷ calls) = written-insert k v at calls (written-in calls)
-    written-in (Get k at ∷ calls) = written-same (Get k at) calls (λ steps. refl) ∙ written-in calls
-    written-in (ContainsKey k at ∷ calls) = written-same (ContainsKey k at) calls (λ steps. refl) ∙ written-in calls
-    written-in (Invalidate k at ∷ calls) = written-same (Invalidate k at) calls (λ steps. refl) ∙ written-in calls
-    written-in (Remove k at ∷ calls) = written-same (Remove k at) calls (λ steps. refl) ∙ written-in calls
-    written-in (InvalidateAll ∷ calls) = written-same InvalidateAll calls (λ steps. refl) ∙ written-in calls
-    written-in (InvalidateIf hide ∷ calls) = written-same (InvalidateIf hide) calls (hidden-none E eq (share_settings given) test hide) ∙ written-in calls
-    written-in (RunPendingTasks at ∷ calls) = written-same (RunPendingTasks at) calls (λ steps. refl) ∙ written-in calls
-    written-in (RunPendingTasksUpTo limit at ∷ calls) = written-same (RunPendingTasksUpTo limit at) calls (λ steps. refl) ∙ written-in calls
-    written-in (EntryCount ∷ calls) = written-same EntryCount calls (λ steps. refl) ∙ written-in calls
-    written-in (WeightedSize ∷ calls) = written-same WeightedSize calls (λ steps. refl) ∙ written-in calls
-    written-in (TakeNotice ∷ calls) = written-same TakeNotice calls (λ steps. refl) ∙ written-in calls
+        by : (o : Option K) → key_in call ≡ o → sum_below (written-of (call ∷ calls)) (segments_of given) ≡ added calls call + sum_below (written-of calls) (segments_of given)
+        by None e = written-same call calls e
+        by (Some k) e = written-keyed call calls k e
+
+    written-in : (calls : List (Call K V E)) → sum_below (written-of calls) (segments_of given) ≡ pairs_written E eq given test calls
+    written-in [] = sum_below-zeros (written-of []) (segments_of given) (λ i lt. refl)
+    written-in (call ∷ calls) = written-one call calls ∙ ap (λ n. added calls call + n) (written-in calls)
 
     -- so nothing is lost or doubled over all segments
-    pub pairs-conserved : IsEquivalence eq → SeesKeysAlike eq test → (calls : List (Call K V))
+    pub pairs-conserved : IsEquivalence eq → SeesKeysAlike eq test → (calls : List (Call K V E))
         → pairs_written E eq given test calls ≡ pairs_standing E eq given test calls + (pairs_waiting E eq given test calls + pairs_given E eq given test calls)
     pairs-conserved laws alike calls =
         let standing_of : ℕ → ℕ = λ i. count_standing test (orders eq (share_settings given) (events_of E eq given calls i)) in
@@ -187,52 +172,30 @@ module _ {K V : Type 0} (E : Type 0) (eq : K → K → Bool) (given : SegmentedS
   abbrev elsewhere : K → V → Bool
   elsewhere k v = not (i == segment_of_key given k)
 
-  abbrev from_elsewhere : List (Call K V) → ℕ
+  abbrev from_elsewhere : List (Call K V E) → ℕ
   from_elsewhere calls = count_written elsewhere (events_of E eq given calls i)
 
-  -- a call that writes nothing adds none
-  adds-none : (call : Call K V) (calls : List (Call K V))
-      → ((steps : List (AcceptedStep K V E)) → count_written elsewhere (events_in (after eq (share_settings given) call steps)) ≡ count_written elsewhere (events_in steps))
-      → from_elsewhere calls ≡ 0 → from_elsewhere (call ∷ calls) ≡ 0
-  adds-none call calls none before = by (goes_to i (place_of E eq given calls call)) ∙ before
+  -- no call adds one, since it goes to the segment of its key alone
+  adds-none : (call : Call K V E) (calls : List (Call K V E)) → from_elsewhere (call ∷ calls) ≡ from_elsewhere calls
+  adds-none call calls = by (goes_to i (place_of E eq given calls call)) refl
     where
-      by : (b : Bool) → count_written elsewhere (events_in (steps_after {E = E} eq (share_settings given) (cond b (call ∷ list_of E eq given calls i) (list_of E eq given calls i)))) ≡ from_elsewhere calls
-      by true = none (steps_in E eq given calls i)
-      by false = refl
+      fails : goes_to i (place_of E eq given calls call) ≡ true → (k : K) (v : V) → key_in call ≡ Some k → elsewhere k v ≡ false
+      fails here k v e = ap not (sym (ap (goes_to i) (routed E eq given k call calls e).place) ∙ here)
 
-  -- nor does a write, since it goes to the segment of its key alone
-  write-none : (k : K) (v : V) (at : ℕ) (calls : List (Call K V)) → from_elsewhere calls ≡ 0 → from_elsewhere (Insert k v at ∷ calls) ≡ 0
-  write-none k v at calls before = by (i == segment_of_key given k) refl ∙ before
-    where
-      by : (b : Bool) → (i == segment_of_key given k) ≡ b
-          → count_written elsewhere (events_in (steps_after {E = E} eq (share_settings given) (cond b (Insert k v at ∷ list_of E eq given calls i) (list_of E eq given calls i)))) ≡ from_elsewhere calls
+      by : (b : Bool) → goes_to i (place_of E eq given calls call) ≡ b
+          → count_written elsewhere (events_in (steps_after {E = E} eq (share_settings given) (cond b (call ∷ list_of E eq given calls i) (list_of E eq given calls i)))) ≡ from_elsewhere calls
       by true here =
-          written-more E eq (share_settings given) elsewhere k v at (steps_in E eq given calls i)
-          ∙ ap (λ b. cond (not (stores_nothing (share_settings given).max_capacity) && not b) (suc (from_elsewhere calls)) (from_elsewhere calls)) here
-          ∙ none (not (stores_nothing (share_settings given).max_capacity))
-        where
-          none : (b : Bool) → cond (b && false) (suc (from_elsewhere calls)) (from_elsewhere calls) ≡ from_elsewhere calls
-          none true = refl
-          none false = refl
-      by false apart = refl
+          written-after elsewhere (accepted eq (share_settings given) (steps_in E eq given calls i) call) (steps_in E eq given calls i)
+          ∙ ap (λ n. n + from_elsewhere calls)
+          (uncounted elsewhere (events_by (accepted eq (share_settings given) (steps_in E eq given calls i) call)) (uncounted-call eq (share_settings given) (steps_in E eq given calls i) elsewhere call (fails here)))
+      by false here = refl
 
-  none-elsewhere : (calls : List (Call K V)) → from_elsewhere calls ≡ 0
+  none-elsewhere : (calls : List (Call K V E)) → from_elsewhere calls ≡ 0
   none-elsewhere [] = refl
-  none-elsewhere (Insert k v at ∷ calls) = write-none k v at calls (none-elsewhere calls)
-  none-elsewhere (Get k at ∷ calls) = adds-none (Get k at) calls (λ steps. refl) (none-elsewhere calls)
-  none-elsewhere (ContainsKey k at ∷ calls) = adds-none (ContainsKey k at) calls (λ steps. refl) (none-elsewhere calls)
-  none-elsewhere (Invalidate k at ∷ calls) = adds-none (Invalidate k at) calls (λ steps. refl) (none-elsewhere calls)
-  none-elsewhere (Remove k at ∷ calls) = adds-none (Remove k at) calls (λ steps. refl) (none-elsewhere calls)
-  none-elsewhere (InvalidateAll ∷ calls) = adds-none InvalidateAll calls (λ steps. refl) (none-elsewhere calls)
-  none-elsewhere (InvalidateIf hide ∷ calls) = adds-none (InvalidateIf hide) calls (hidden-none E eq (share_settings given) elsewhere hide) (none-elsewhere calls)
-  none-elsewhere (RunPendingTasks at ∷ calls) = adds-none (RunPendingTasks at) calls (λ steps. refl) (none-elsewhere calls)
-  none-elsewhere (RunPendingTasksUpTo limit at ∷ calls) = adds-none (RunPendingTasksUpTo limit at) calls (λ steps. refl) (none-elsewhere calls)
-  none-elsewhere (EntryCount ∷ calls) = adds-none EntryCount calls (λ steps. refl) (none-elsewhere calls)
-  none-elsewhere (WeightedSize ∷ calls) = adds-none WeightedSize calls (λ steps. refl) (none-elsewhere calls)
-  none-elsewhere (TakeNotice ∷ calls) = adds-none TakeNotice calls (λ steps. refl) (none-elsewhere calls)
+  none-elsewhere (call ∷ calls) = adds-none call calls ∙ none-elsewhere calls
 
   -- so what stands in a segment is of keys of that segment
-  pub stands-at-home : IsEquivalence eq → ((k q : K) → eq k q ≡ true → given.whole.behaviour.hash k ≡ given.whole.behaviour.hash q) → (calls : List (Call K V))
+  pub stands-at-home : IsEquivalence eq → ((k q : K) → eq k q ≡ true → given.whole.behaviour.hash k ≡ given.whole.behaviour.hash q) → (calls : List (Call K V E))
       → AllByRecursion (λ (w : Write K V). segment_of_key given w.key ≡ i) (all_standing eq (share_settings given) (events_of E eq given calls i))
   stands-at-home laws alike calls = at (everything q) (count-none (λ (w : Write K V). elsewhere w.key w.value) (everything q) none)
     where
@@ -280,7 +243,7 @@ module _ {K V : Type 0} (E : Type 0) (eq : K → K → Bool) (given : SegmentedS
       wholes None = refl
       wholes (Some c) = ap Some (let all : c + (1 - 1) ≡ c = omega arith in ap (λ n. n / 1) all ∙ div-one c)
 
-  alone-first : (o : Option ℕ) (lists : ℕ → List (Call K V)) → first_noticed E eq given lists ≡ o → asked (at_first o) ≡ 0
+  alone-first : (o : Option ℕ) (lists : ℕ → List (Call K V E)) → first_noticed E eq given lists ≡ o → asked (at_first o) ≡ 0
   alone-first None lists e = refl
   alone-first (Some i) lists e = let it = first_from-passes _ 0 (2 ^ given.bits) i e in let n : 2 ^ given.bits ≡ 1 = ap (λ b. 2 ^ b) one in omega (arith, it.0, n)
 
@@ -288,22 +251,18 @@ module _ {K V : Type 0} (E : Type 0) (eq : K → K → Bool) (given : SegmentedS
     alone-key : (k : K) → segment_of_key given k ≡ 0
     alone-key k = ap (λ b. given.whole.behaviour.hash k / 2 ^ (64 - b)) one ∙ div-eq_of_lt (fits k)
 
-    alone-asked : (calls : List (Call K V)) (call : Call K V) → asked (place_of E eq given calls call) ≡ 0
-    alone-asked calls (Get k at) = alone-key k
-    alone-asked calls (ContainsKey k at) = alone-key k
-    alone-asked calls (Insert k v at) = alone-key k
-    alone-asked calls (Invalidate k at) = alone-key k
-    alone-asked calls (Remove k at) = alone-key k
-    alone-asked calls InvalidateAll = refl
-    alone-asked calls (InvalidateIf test) = refl
-    alone-asked calls (RunPendingTasks at) = refl
-    alone-asked calls (RunPendingTasksUpTo limit at) = refl
+    alone-place : (o : Option K) → asked (place_of_key given o) ≡ 0
+    alone-place None = refl
+    alone-place (Some k) = alone-key k
+
+    alone-asked : (calls : List (Call K V E)) (call : Call K V E) → asked (place_of E eq given calls call) ≡ 0
     alone-asked calls EntryCount = refl
     alone-asked calls WeightedSize = refl
     alone-asked calls TakeNotice = alone-first (first_noticed E eq given (list_of E eq given calls)) (list_of E eq given calls) refl
+    alone-asked calls call = alone-place (key_in call)
 
     -- it answers what a cache does that was given its list
-    alone-share : (calls : List (Call K V)) (call : Call K V) → answer_in E eq given calls call ≡ answer_by (joint_in E eq given calls call) (answer_of (accepted eq (share_settings given) (steps_in E eq given calls 0) call))
+    alone-share : (calls : List (Call K V E)) (call : Call K V E) → answer_in E eq given calls call ≡ answer_by (joint_in E eq given calls call) (answer_of (accepted eq (share_settings given) (steps_in E eq given calls 0) call))
     alone-share calls call = ap (λ i. answer_by (joint_in E eq given calls call) (answer_of (accepted eq (share_settings given) (steps_in E eq given calls i) call))) (alone-asked calls call)
 
     alone-sum : (f : ℕ → ℕ) → sum_below f (segments_of given) ≡ f 0
@@ -312,21 +271,13 @@ module _ {K V : Type 0} (E : Type 0) (eq : K → K → Bool) (given : SegmentedS
     alone-any : (f : ℕ → Bool) → any_below f (segments_of given) ≡ f 0
     alone-any f = ap (λ b. any_below f (2 ^ b)) one
 
-    alone-here : (calls : List (Call K V)) (call : Call K V) → answer_by (joint_in E eq given calls call) (answer_of (accepted eq (share_settings given) (steps_in E eq given calls 0) call)) ≡ answer_of (accepted eq (share_settings given) (steps_in E eq given calls 0) call)
-    alone-here calls (Get k at) = refl
-    alone-here calls (ContainsKey k at) = refl
-    alone-here calls (Insert k v at) = refl
-    alone-here calls (Invalidate k at) = refl
-    alone-here calls (Remove k at) = refl
-    alone-here calls InvalidateAll = refl
-    alone-here calls (InvalidateIf test) = refl
-    alone-here calls (RunPendingTasks at) = refl
+    alone-here : (calls : List (Call K V E)) (call : Call K V E) → answer_by (joint_in E eq given calls call) (answer_of (accepted eq (share_settings given) (steps_in E eq given calls 0) call)) ≡ answer_of (accepted eq (share_settings given) (steps_in E eq given calls 0) call)
     alone-here calls (RunPendingTasksUpTo limit at) = ap (λ b. let a : Option (Answer K V E) = Some (Left b) in a) (alone-any (λ i. is_left_at eq (share_settings given) (Some limit) at (events_of E eq given calls i)))
     alone-here calls EntryCount = ap (λ n. let a : Option (Answer K V E) = Some (Counted (min n greatest_number)) in a) (alone-sum (λ i. entry_count eq (share_settings given) (events_of E eq given calls i)))
     alone-here calls WeightedSize = ap (λ n. let a : Option (Answer K V E) = Some (Counted (min n greatest_number)) in a) (alone-sum (λ i. weighted_size eq (share_settings given) (events_of E eq given calls i)))
-    alone-here calls TakeNotice = refl
+    alone-here calls call = refl
 
-    pub alone-answers : (calls : List (Call K V)) (call : Call K V) → answer_in E eq given calls call ≡ answer_of (accepted eq given.whole (steps_after eq given.whole (list_of E eq given calls 0)) call)
+    pub alone-answers : (calls : List (Call K V E)) (call : Call K V E) → answer_in E eq given calls call ≡ answer_of (accepted eq given.whole (steps_after eq given.whole (list_of E eq given calls 0)) call)
     alone-answers calls call =
         alone-share calls call ∙ alone-here calls call
         ∙ ap (λ s. answer_of (accepted eq s (steps_after {E = E} eq s (list_of E eq given calls 0)) call)) alone-settings

@@ -9,8 +9,9 @@ use Rattle.moka_model.specs.Numbers.{entry_count, weighted_size, greatest_number
 use Rattle.moka_model.specs.Events.{Event}
 use Rattle.moka_model.specs.Steps.{AcceptedStep, events_in}
 use Rattle.moka_model.specs.Calls.{Call, Get, ContainsKey, Insert, Invalidate, Remove, EntryCount, WeightedSize, TakeNotice}
-use Rattle.moka_model.specs.Calls.{RunPendingTasksUpTo, Answer, Counted, Left, accepted, answer_of, after, live_at, IsAnswer}
-use Rattle.moka_model.specs.StandsFor.{View, StandsFor}
+use Rattle.moka_model.specs.Calls.{RunPendingTasksUpTo, OrInsert, Begin, BeginCompute, Finish, Abandon, Collect, Leave}
+use Rattle.moka_model.specs.Calls.{Answer, Counted, Left, accepted, answer_of, after, live_at, IsAnswer}
+use Rattle.moka_model.specs.StandsFor.{WholeView, StandsFor}
 
 -- the segment of a hash, of 2 ^ bits segments: the number that the hash's highest bits are
 abbrev pub segment_of : ℕ → ℕ → ℕ
@@ -33,13 +34,20 @@ abbrev pub share_settings : {K V : Type 0} → SegmentedSettings K V → Setting
 share_settings settings =
     record settings.whole { max_capacity = option_map (share (segments_of settings)) settings.whole.max_capacity }
 
--- the key of a call, if it has one
-abbrev pub key_in : {K V : Type 0} → Call K V → Option K
+-- the key of a call, if it has one: that of a turn's name, where it has a name
+abbrev pub key_in : {K V E : Type 0} → Call K V E → Option K
 key_in (Get k at) = Some k
 key_in (ContainsKey k at) = Some k
 key_in (Insert k v at) = Some k
 key_in (Invalidate k at) = Some k
 key_in (Remove k at) = Some k
+key_in (OrInsert k v at) = Some k
+key_in (Begin k kind replace at) = Some k
+key_in (BeginCompute k keep at) = Some k
+key_in (Finish name outcome at) = Some name.key
+key_in (Abandon name) = Some name.key
+key_in (Collect name) = Some name.key
+key_in (Leave name) = Some name.key
 key_in call = None
 
 -- where a call goes: to one segment, to each, or to none, where it changes nothing
@@ -98,72 +106,72 @@ abbrev pub bits_for : ℕ → ℕ
 bits_for segments = unwrap_or (first_from (λ bits. nat_le segments (2 ^ bits)) 0 63) 63
 
 -- the accepted steps that calls are, each after those before it
-abbrev pub steps_after : {K V E : Type 0} → (K → K → Bool) → Settings K V → List (Call K V) → List (AcceptedStep K V E)
+abbrev pub steps_after : {K V E : Type 0} → (K → K → Bool) → Settings K V → List (Call K V E) → List (AcceptedStep K V E)
 steps_after eq settings [] = []
 steps_after eq settings (call ∷ calls) = after eq settings call (steps_after eq settings calls)
 
 abbrev pub segment_of_key : {K V : Type 0} → SegmentedSettings K V → K → ℕ  -- the segment of a key
 segment_of_key settings k = segment_of settings.bits (settings.whole.behaviour.hash k)
 
+-- where a call goes by its key: to the key's segment, and to each where it has none
+abbrev pub place_of_key : {K V : Type 0} → SegmentedSettings K V → Option K → Place
+place_of_key settings None = Each
+place_of_key settings (Some k) = One (segment_of_key settings k)
+
 module _ {K V : Type 0} (E : Type 0) (eq : K → K → Bool) (settings : SegmentedSettings K V) where
-  abbrev pub notices_after : List (Call K V) → List (Removal K V)  -- the notices of a segment that were not taken, after its list
+  abbrev pub notices_after : List (Call K V E) → List (Removal K V)  -- the notices of a segment that were not taken, after its list
   notices_after calls = notices_left eq (share_settings settings) (events_in {E = E} (steps_after eq (share_settings settings) calls))
 
   -- the first segment that has a notice, by the list of each
-  abbrev pub first_noticed : (ℕ → List (Call K V)) → Option ℕ
+  abbrev pub first_noticed : (ℕ → List (Call K V E)) → Option ℕ
   first_noticed lists = first_from (λ i. not (is_empty (notices_after (lists i)))) 0 (segments_of settings)
 
-  -- Where a call goes, by the list of each segment: to the segment of its key; to the first that has a notice; to none,
-  -- where it counts; and else to each.
-  abbrev pub place_by : (ℕ → List (Call K V)) → Call K V → Place
-  place_by lists (Get k at) = One (segment_of_key settings k)
-  place_by lists (ContainsKey k at) = One (segment_of_key settings k)
-  place_by lists (Insert k v at) = One (segment_of_key settings k)
-  place_by lists (Invalidate k at) = One (segment_of_key settings k)
-  place_by lists (Remove k at) = One (segment_of_key settings k)
+  -- Where a call goes, by the list of each segment: to none, where it counts; to the first that has a notice, where it takes
+  -- one; and else to the segment of its key, or to each where it has none.
+  abbrev pub place_by : (ℕ → List (Call K V E)) → Call K V E → Place
   place_by lists EntryCount = Nowhere
   place_by lists WeightedSize = Nowhere
   place_by lists TakeNotice = at_first (first_noticed lists)
-  place_by lists call = Each
+  place_by lists call = place_of_key settings (key_in call)
 
   -- A segment's list: a filter of the list of all calls, both read from the newest.
-  abbrev pub list_of : List (Call K V) → ℕ → List (Call K V)
+  abbrev pub list_of : List (Call K V E) → ℕ → List (Call K V E)
   list_of [] i = []
   list_of (call ∷ calls) i =
       if goes_to i (place_by (list_of calls) call) then call ∷ list_of calls i else list_of calls i
 
-  abbrev pub place_of : List (Call K V) → Call K V → Place  -- where a call goes, after others
+  abbrev pub place_of : List (Call K V E) → Call K V E → Place  -- where a call goes, after others
   place_of calls call = place_by (list_of calls) call
 
   -- the accepted steps of a segment: those of its own list, under its own settings
-  abbrev pub steps_in : List (Call K V) → ℕ → List (AcceptedStep K V E)
+  abbrev pub steps_in : List (Call K V E) → ℕ → List (AcceptedStep K V E)
   steps_in calls i = steps_after eq (share_settings settings) (list_of calls i)
 
-  abbrev pub events_of : List (Call K V) → ℕ → List (Event K V)  -- the events of a segment
+  abbrev pub events_of : List (Call K V E) → ℕ → List (Event K V)  -- the events of a segment
   events_of calls i = events_in (steps_in calls i)
 
   -- the live write of a key where a call looks at a moment: that of the key's segment
-  abbrev pub live_in : List (Call K V) → K → ℕ → Option (Write K V)
+  abbrev pub live_in : List (Call K V E) → K → ℕ → Option (Write K V)
   live_in calls k at = live_at eq (share_settings settings) k at (events_of calls (segment_of_key settings k))
 
   -- How many stand in all segments, and their weight.
-  abbrev pub entries_in : List (Call K V) → ℕ
+  abbrev pub entries_in : List (Call K V E) → ℕ
   entries_in calls = sum_below (λ i. entry_count eq (share_settings settings) (events_of calls i)) (segments_of settings)
 
-  abbrev pub weight_in : List (Call K V) → ℕ
+  abbrev pub weight_in : List (Call K V E) → ℕ
   weight_in calls = sum_below (λ i. weighted_size eq (share_settings settings) (events_of calls i)) (segments_of settings)
 
-  abbrev pub notices_in : List (Call K V) → ℕ  -- how many notices of all segments were not taken
+  abbrev pub notices_in : List (Call K V E) → ℕ  -- how many notices of all segments were not taken
   notices_in calls = sum_below (λ i. length (notices_after (list_of calls i))) (segments_of settings)
 
   -- whether a maintenance in which so many may leave each segment would leave a part undone in any of them
-  abbrev pub left_in : List (Call K V) → ℕ → ℕ → Bool
+  abbrev pub left_in : List (Call K V E) → ℕ → ℕ → Bool
   left_in calls limit at =
       any_below (λ i. is_left_at eq (share_settings settings) (Some limit) at (events_of calls i)) (segments_of settings)
 
   -- What all segments answer together: to a count a sum, at most the greatest number, and to a maintenance within a limit
   -- whether any of them leaves a part; none for any other call.
-  abbrev pub joint_in : List (Call K V) → Call K V → Option Joint
+  abbrev pub joint_in : List (Call K V E) → Call K V E → Option Joint
   joint_in calls EntryCount = Some (Total (min (entries_in calls) greatest_number))
   joint_in calls WeightedSize = Some (Total (min (weight_in calls) greatest_number))
   joint_in calls (RunPendingTasksUpTo limit at) = Some (AnyLeft (left_in calls limit at))
@@ -171,40 +179,41 @@ module _ {K V : Type 0} (E : Type 0) (eq : K → K → Bool) (settings : Segment
 
   -- What a call answers after others, none where it is refused by its name: what all segments answer together, and else what
   -- the segment that is asked answers, as a cache of its share that was given its own list alone.
-  abbrev pub answer_in : List (Call K V) → Call K V → Option (Answer K V E)
+  abbrev pub answer_in : List (Call K V E) → Call K V E → Option (Answer K V E)
   answer_in calls call =
       answer_by (joint_in calls call)
       (answer_of (accepted eq (share_settings settings) (steps_in calls (asked (place_of calls call))) call))
 
 -- What the states of a cache of several segments are to the definitions.
-pub record SegmentedView (K V : Type 0) : Type 0 where
+pub record SegmentedView (K V E : Type 0) : Type 0 where
   pub settings : SegmentedSettings K V
-  pub segments : List (View K V)
+  pub segments : List (WholeView K V E)
 
 -- They stand for a list of calls under these settings where the cache was built with them, and each segment's state stands for
 -- its own list, under its share.
-pub record AllStandFor {K V : Type 0} (E : Type 0) (eq : K → K → Bool) (given : SegmentedSettings K V) (view : SegmentedView K V)
-    (calls : List (Call K V)) : Type 0 where
+pub record AllStandFor {K V E : Type 0} (eq : K → K → Bool) (is_clone : V → V → Type 0) (given : SegmentedSettings K V)
+    (view : SegmentedView K V E) (calls : List (Call K V E)) : Type 0 where
   pub settings : view.settings ≡ given
   pub count : length view.segments ≡ segments_of given
   pub each : (i : ℕ) →
-      IfSome (slice_get view.segments i) (λ one. StandsFor {E = E} eq (share_settings given) one (steps_in E eq given calls i))
+      IfSome (slice_get view.segments i) (λ one. StandsFor eq is_clone (share_settings given) one (steps_in E eq given calls i))
 
-module _ {K V : Type 0} (E : Type 0) (eq : K → K → Bool) where
+module _ {K V E : Type 0} (eq : K → K → Bool) (is_clone : V → V → Type 0) where
   -- P holds of whatever settings and calls the states stand for.
-  abbrev pub AtEachList : SegmentedView K V → (SegmentedSettings K V → List (Call K V) → Type 0) → Type 0
-  AtEachList view P = (settings : SegmentedSettings K V) (calls : List (Call K V)) → AllStandFor E eq settings view calls → P settings calls
+  abbrev pub AtEachList : SegmentedView K V E → (SegmentedSettings K V → List (Call K V E) → Type 0) → Type 0
+  AtEachList view P =
+      (settings : SegmentedSettings K V) (calls : List (Call K V E)) → AllStandFor eq is_clone settings view calls → P settings calls
 
   -- Whatever calls the old states stood for, the new ones stand for those followed by this one.
-  abbrev pub FollowsIn : SegmentedView K V → Call K V → SegmentedView K V → Type 0
-  FollowsIn old call new = AtEachList old (λ settings calls. AllStandFor E eq settings new (call ∷ calls))
+  abbrev pub FollowsIn : SegmentedView K V E → Call K V E → SegmentedView K V E → Type 0
+  FollowsIn old call new = AtEachList old (λ settings calls. AllStandFor eq is_clone settings new (call ∷ calls))
 
 abbrev pub IsAnswerIn : {K V E : Type 0} → (V → V → Type 0) → Option (Answer K V E) → Answer K V E → Type 0  -- an answer that is handed out
 IsAnswerIn is_clone None answer = ⊥
 IsAnswerIn is_clone (Some it) answer = IsAnswer is_clone it answer
 
 -- What is handed out is the answer to the call, after whatever calls the states stand for.
-abbrev pub AnswersIn : {K V : Type 0} (E : Type 0) → (K → K → Bool) → (V → V → Type 0) → SegmentedView K V → Call K V →
+abbrev pub AnswersIn : {K V E : Type 0} → (K → K → Bool) → (V → V → Type 0) → SegmentedView K V E → Call K V E →
     Answer K V E → Type 0
-AnswersIn E eq is_clone view call answer =
-    AtEachList E eq view (λ settings calls. IsAnswerIn is_clone (answer_in E eq settings calls call) answer)
+AnswersIn {E} eq is_clone view call answer =
+    AtEachList eq is_clone view (λ settings calls. IsAnswerIn is_clone (answer_in E eq settings calls call) answer)

@@ -1,11 +1,11 @@
 //! The laws of segments: what each is given, that it answers as a cache of its own, and that none
 //! depends on another.
-ghost use Rattle.std.specs.Prelude.{◌≡◌, ◌≢◌, ◌⊎◌, ℕ, ◌*◌, ◌^◌, ◌-◌, ◌≤◌, ◌<◌, ◌+◌, true, false, Bool, Some, None, List, [], ◌∷◌};
+ghost use Rattle.std.specs.Prelude.{◌≡◌, ◌≢◌, ◌⊎◌, ℕ, ◌*◌, ◌^◌, ◌-◌, ◌≤◌, ◌<◌, ◌+◌, ◌&&◌, not, if◌then◌else◌, true, false, Bool, Some, None, List, [], ◌∷◌};
 ghost use Rattle.std.specs.List.{AllByRecursion};
-ghost use Rattle.moka_model.specs.Calls.{Call, InvalidateAll, InvalidateIf, RunPendingTasks, RunPendingTasksUpTo, TakeNotice, Done, Left, Noticed, accepted, answer_of, IsLegal};
+ghost use Rattle.moka_model.specs.Calls.{Call, Insert, InvalidateAll, InvalidateIf, RunPendingTasks, RunPendingTasksUpTo, TakeNotice, Done, Left, Noticed, accepted, answer_of, IsLegal};
 ghost use Rattle.moka_model.specs.Events.{latest};
 ghost use Rattle.moka_model.specs.Lives.{Write, is_live};
-ghost use Rattle.moka_model.specs.Numbers.{entry_count, weighted_size, flush_point, all_standing};
+ghost use Rattle.moka_model.specs.Numbers.{entry_count, weighted_size, flush_point, stores_nothing, all_standing};
 ghost use Rattle.moka_model.specs.Orders.{standing};
 ghost use Rattle.moka_model.specs.SizeLaws.{WeighsOnes, LimitsSome};
 ghost use Rattle.moka_conserved.specs.Conserved.{SeesKeysAlike};
@@ -40,20 +40,20 @@ pub fn segments_are_rounded_up_to_a_power_of_two()
 
 /// A segment's list of accepted steps is legal: those of a cache of its share.
 pub fn a_segments_list_is_legal<K: Eq, V, E>()
-    ensures { (settings : SegmentedSettings K V) (calls : List (Call K V)) (i : ℕ)
+    ensures { (settings : SegmentedSettings K V) (calls : List (Call K V E)) (i : ℕ)
         → IsLegal K.eq (share_settings settings) (steps_in E K.eq settings calls i) }
 {}
 
 /// What one segment does changes no reply of another: a call of a key is answered alike whether or
 /// not calls to another segment came before it, since they stand in no other list.
 pub fn what_one_segment_does_changes_no_reply_of_another<K: Eq, V, E>()
-    ensures list { (settings : SegmentedSettings K V) (calls : List (Call K V)) (between : Call K V) (i j : ℕ)
+    ensures list { (settings : SegmentedSettings K V) (calls : List (Call K V E)) (between : Call K V E) (i j : ℕ)
         → place_of E K.eq settings calls between ≡ One j → i ≢ j
         → list_of E K.eq settings (between ∷ calls) i ≡ list_of E K.eq settings calls i }
-    ensures answer { (settings : SegmentedSettings K V) (calls : List (Call K V)) (between call : Call K V) (j : ℕ) (k : K)
+    ensures answer { (settings : SegmentedSettings K V) (calls : List (Call K V E)) (between call : Call K V E) (j : ℕ) (k : K)
         → place_of E K.eq settings calls between ≡ One j → key_in call ≡ Some k → segment_of_key settings k ≢ j
         → answer_in E K.eq settings (between ∷ calls) call ≡ answer_in E K.eq settings calls call }
-    ensures by_its_list { (settings : SegmentedSettings K V) (calls others : List (Call K V)) (call : Call K V) (k : K) → key_in call ≡ Some k
+    ensures by_its_list { (settings : SegmentedSettings K V) (calls others : List (Call K V E)) (call : Call K V E) (k : K) → key_in call ≡ Some k
         → list_of E K.eq settings calls (segment_of_key settings k) ≡ list_of E K.eq settings others (segment_of_key settings k)
         → answer_in E K.eq settings calls call ≡ answer_in E K.eq settings others call }
 {}
@@ -61,22 +61,22 @@ pub fn what_one_segment_does_changes_no_reply_of_another<K: Eq, V, E>()
 /// A call that goes to each segment is answered alike by all of them, where they do not answer it
 /// together, and so is a taking that finds no notice.
 pub fn all_segments_answer_a_broadcast_alike<K: Eq, V, E>()
-    ensures each { (settings : SegmentedSettings K V) (calls : List (Call K V)) (call : Call K V) (i : ℕ)
+    ensures each { (settings : SegmentedSettings K V) (calls : List (Call K V E)) (call : Call K V E) (i : ℕ)
         → place_of E K.eq settings calls call ≡ Each → joint_in E K.eq settings calls call ≡ None
         → answer_in E K.eq settings calls call ≡ answer_of (accepted K.eq (share_settings settings) (steps_in E K.eq settings calls i) call) }
-    ensures none { (settings : SegmentedSettings K V) (calls : List (Call K V)) → place_of E K.eq settings calls TakeNotice ≡ Nowhere
+    ensures none { (settings : SegmentedSettings K V) (calls : List (Call K V E)) → place_of E K.eq settings calls TakeNotice ≡ Nowhere
         → answer_in E K.eq settings calls TakeNotice ≡ Some (Noticed None) }
 {}
 
 /// A maintenance within a limit runs in each segment with the whole limit, and answers that a part
 /// is left undone exactly where one of the segments, by itself, answers so.
 pub fn a_maintenance_within_a_limit_leaves_what_any_segment_leaves<K: Eq, V, E>()
-    ensures each { (settings : SegmentedSettings K V) (calls : List (Call K V)) (limit at : ℕ)
+    ensures each { (settings : SegmentedSettings K V) (calls : List (Call K V E)) (limit at : ℕ)
         → place_of E K.eq settings calls (RunPendingTasksUpTo limit at) ≡ Each }
-    ensures some { (settings : SegmentedSettings K V) (calls : List (Call K V)) (limit at i : ℕ) → i < segments_of settings
+    ensures some { (settings : SegmentedSettings K V) (calls : List (Call K V E)) (limit at i : ℕ) → i < segments_of settings
         → answer_of (accepted K.eq (share_settings settings) (steps_in E K.eq settings calls i) (RunPendingTasksUpTo limit at)) ≡ Some (Left true)
         → answer_in E K.eq settings calls (RunPendingTasksUpTo limit at) ≡ Some (Left true) }
-    ensures none { (settings : SegmentedSettings K V) (calls : List (Call K V)) (limit at : ℕ)
+    ensures none { (settings : SegmentedSettings K V) (calls : List (Call K V E)) (limit at : ℕ)
         → ((i : ℕ) → i < segments_of settings
         → answer_of (accepted K.eq (share_settings settings) (steps_in E K.eq settings calls i) (RunPendingTasksUpTo limit at)) ≡ Some (Left false))
         → answer_in E K.eq settings calls (RunPendingTasksUpTo limit at) ≡ Some (Left false) }
@@ -87,10 +87,10 @@ pub fn a_maintenance_within_a_limit_leaves_what_any_segment_leaves<K: Eq, V, E>(
 /// left out of it, since they change nothing.
 pub fn one_segment_answers_as_a_state<K: Eq, V, E>()
     ensures settings { (settings : SegmentedSettings K V) → settings.bits ≡ 0 → share_settings settings ≡ settings.whole }
-    ensures list { (settings : SegmentedSettings K V) (calls : List (Call K V)) (call : Call K V)
+    ensures list { (settings : SegmentedSettings K V) (calls : List (Call K V E)) (call : Call K V E)
         → settings.bits ≡ 0 → ((k : K) → settings.whole.behaviour.hash k < 2 ^ 64)
         → (place_of E K.eq settings calls call ≡ Nowhere) ⊎ (list_of E K.eq settings (call ∷ calls) 0 ≡ call ∷ list_of E K.eq settings calls 0) }
-    ensures answer { (settings : SegmentedSettings K V) (calls : List (Call K V)) (call : Call K V)
+    ensures answer { (settings : SegmentedSettings K V) (calls : List (Call K V E)) (call : Call K V E)
         → settings.bits ≡ 0 → ((k : K) → settings.whole.behaviour.hash k < 2 ^ 64)
         → answer_in E K.eq settings calls call ≡ answer_of (accepted K.eq settings.whole (steps_after K.eq settings.whole (list_of E K.eq settings calls 0)) call) }
 {}
@@ -98,7 +98,7 @@ pub fn one_segment_answers_as_a_state<K: Eq, V, E>()
 /// Where equal keys hash alike, each key that stands in a segment is of that segment: so no key
 /// stands in two.
 pub fn each_key_stands_in_its_own_segment<K: Eq, V, E>()
-    ensures { (settings : SegmentedSettings K V) (calls : List (Call K V)) (i : ℕ)
+    ensures { (settings : SegmentedSettings K V) (calls : List (Call K V E)) (i : ℕ)
         → ((k q : K) → K.eq k q ≡ true → settings.whole.behaviour.hash k ≡ settings.whole.behaviour.hash q)
         → AllByRecursion (λ w. segment_of_key settings w.key ≡ i)
         (all_standing K.eq (share_settings settings) (events_of E K.eq settings calls i)) }
@@ -108,24 +108,35 @@ pub fn each_key_stands_in_its_own_segment<K: Eq, V, E>()
 /// each segment, where a flush limit is not 0; after a maintenance no more than its share, by weight in any case, and all of it is
 /// live.
 pub fn each_segment_stays_within_its_share<K: Eq, V, E>()
-    ensures always { (settings : SegmentedSettings K V) (calls : List (Call K V)) (i capacity : ℕ)
+    ensures always { (settings : SegmentedSettings K V) (calls : List (Call K V E)) (i capacity : ℕ)
         → WeighsOnes settings.whole → LimitsSome settings.whole.flush_limit → settings.whole.max_capacity ≡ Some capacity
         → entry_count K.eq (share_settings settings) (events_of E K.eq settings calls i) ≤ share (segments_of settings) capacity + flush_point }
-    ensures weight { (settings : SegmentedSettings K V) (calls : List (Call K V)) (at i capacity : ℕ) → settings.whole.max_capacity ≡ Some capacity
+    ensures weight { (settings : SegmentedSettings K V) (calls : List (Call K V E)) (at i capacity : ℕ) → settings.whole.max_capacity ≡ Some capacity
         → weighted_size K.eq (share_settings settings) (events_of E K.eq settings (RunPendingTasks at ∷ calls) i) ≤ share (segments_of settings) capacity }
-    ensures count { (settings : SegmentedSettings K V) (calls : List (Call K V)) (at i capacity : ℕ)
+    ensures count { (settings : SegmentedSettings K V) (calls : List (Call K V E)) (at i capacity : ℕ)
         → WeighsOnes settings.whole → settings.whole.max_capacity ≡ Some capacity
         → entry_count K.eq (share_settings settings) (events_of E K.eq settings (RunPendingTasks at ∷ calls) i) ≤ share (segments_of settings) capacity }
-    ensures live { (settings : SegmentedSettings K V) (calls : List (Call K V)) (at i : ℕ) (k : K) (w : Write K V)
+    ensures live { (settings : SegmentedSettings K V) (calls : List (Call K V E)) (at i : ℕ) (k : K) (w : Write K V)
         → standing K.eq (share_settings settings) k (events_of E K.eq settings (RunPendingTasks at ∷ calls) i) ≡ Some w
         → is_live (share_settings settings) w (latest (events_of E K.eq settings (RunPendingTasks at ∷ calls) i)) ≡ true }
+{}
+
+/// What a call writes is under its own key, and a call without a key writes nothing. An insert writes
+/// its pair exactly where something is stored.
+pub fn a_call_writes_under_its_own_key<K: Eq, V, E>()
+    ensures own { (settings : SegmentedSettings K V) (calls : List (Call K V E)) (call : Call K V E) (test : K → V → Bool)
+        → ((k : K) (v : V) → key_in call ≡ Some k → test k v ≡ false)
+        → pairs_written E K.eq settings test (call ∷ calls) ≡ pairs_written E K.eq settings test calls }
+    ensures insert { (settings : SegmentedSettings K V) (calls : List (Call K V E)) (k : K) (v : V) (at : ℕ) (test : K → V → Bool)
+        → pairs_written E K.eq settings test (Insert k v at ∷ calls)
+        ≡ (if not (stores_nothing settings.whole.max_capacity) && test k v then 1 else 0) + pairs_written E K.eq settings test calls }
 {}
 
 /// Over all segments nothing is lost or doubled: of the pairs that were written as many pass each test
 /// that does not tell equal keys apart as of those that stand, whose notices wait, and whose notices
 /// were taken.
 pub fn no_segment_loses_or_doubles_a_pair<K: Eq, V, E>()
-    ensures { (settings : SegmentedSettings K V) (calls : List (Call K V)) (test : K → V → Bool)
+    ensures { (settings : SegmentedSettings K V) (calls : List (Call K V E)) (test : K → V → Bool)
         → settings.bits < 64 → ((k : K) → settings.whole.behaviour.hash k < 2 ^ 64) → SeesKeysAlike K.eq test
         → pairs_written E K.eq settings test calls ≡ pairs_standing E K.eq settings test calls
         + (pairs_waiting E K.eq settings test calls + pairs_given E K.eq settings test calls) }

@@ -1,9 +1,9 @@
 //! Worked cases of segments. Each computes.
 ghost use Rattle.std.specs.Prelude.{◌≡◌, ◌+◌, ◌^◌, ◌-◌, true, false, Some, None, [], ◌∷◌, nat_eq};
 ghost use Rattle.moka_model.specs.declared.notification.RemovalCause.TheVariants.{Explicit, Size};
-ghost use Rattle.moka_model.specs.Calls.{Done, Found, Counted, Left, Noticed};
+ghost use Rattle.moka_model.specs.Calls.{Done, Found, Counted, Left, Noticed, Entered, Run, Wait};
 ghost use Rattle.moka_segments.specs.Segments.{share, segment_of, bits_for};
-ghost use Rattle.moka_segments.specs.WorkedSegments.{of_segments, upper, answers_in, two_and_one, upper_first, both_hidden, one_by_one};
+ghost use Rattle.moka_segments.specs.WorkedSegments.{of_segments, upper, answers_in, two_and_one, upper_first, both_hidden, one_by_one, lower_name, upper_name, two_turns};
 
 /// Of eight segments at a capacity of a hundred each has thirteen. The hashes of the second begin
 /// where an eighth of all hashes is passed. Five segments are rounded up to eight.
@@ -50,4 +50,13 @@ pub fn all_segments_are_hidden()
 pub fn each_segment_is_given_the_whole_limit()
     ensures { answers_in (of_segments 1 4) one_by_one [] ≡ Some Done ∷ Some Done ∷ Some Done ∷ Some Done
         ∷ Some (Left true) ∷ Some (Counted 1) ∷ Some (Left false) ∷ Some (Counted 0) ∷ [] }
+{}
+
+/// Each segment numbers its own turns, and a name is known in the segment of its key alone: so two
+/// turns of one number do not meet.
+pub fn each_segment_has_its_own_turns()
+    ensures { answers_in (of_segments 1 2) two_turns [] ≡ Some (Run lower_name None) ∷ Some (Run upper_name None)
+        ∷ Some (Wait lower_name) ∷ Some (Entered (record { key = 1; value = 7; fresh = true; replaced = false })) ∷ None
+        ∷ Some (Entered (record { key = 1; value = 7; fresh = false; replaced = false })) ∷ Some Done
+        ∷ Some (Found (Some 7)) ∷ Some (Found None) ∷ [] }
 {}

@@ -5,7 +5,7 @@ use Rattle.moka_model.specs.Lives.{Settings}
 use Rattle.moka_model.specs.Removals.{Removal}
 use Rattle.moka_model.specs.Steps.{AcceptedStep, events_in}
 use Rattle.moka_model.specs.Calls.{Call, Answer}
-use Rattle.moka_model.specs.StandsFor.{View, StandsFor, books_of}
+use Rattle.moka_model.specs.StandsFor.{WholeView, StandsFor, books_of}
 use Rattle.moka_conserved.specs.Conserved.{given_out, IsConserved}
 use Rattle.moka_conserved.proofs.Callers.{is_conserved, given-by_answer}
 use Rattle.moka_table.specs.Table.{removal_of}
@@ -29,7 +29,7 @@ noticed_in-cons (PredicateRefused cause) replies = refl
 
 module _ {K V E : Type 0} (eq : K → K → Bool) (is_clone : V → V → Type 0) (is_infallible : V → Type 0) (settings : Settings K V) where
   -- a call gives out the notice of its reply
-  given-reply : (steps : List (AcceptedStep K V E)) (call : Call K V) (reply : Reply K V) → IsReplyTo eq is_clone is_infallible settings steps call reply
+  given-reply : (steps : List (AcceptedStep K V E)) (call : Call K V E) (reply : Reply K V) → IsReplyTo eq is_clone is_infallible settings steps call reply
       → given_out eq settings (events_in (after_reply eq settings call reply steps)) ≡ given_out eq settings (events_in steps) ++ noticed_in (reply ∷ [])
   given-reply steps call (Found v) is = given-by_answer is_clone eq settings steps call (Answer.Found v) is.0
   given-reply steps call (Contains b) is = given-by_answer is_clone eq settings steps call (Answer.Contains b) is.0
@@ -56,8 +56,8 @@ module _ {K V C H W X P F L T E S : Type 0} (eq : K → K → Bool) (test : P �
       ∙ ap (λ l. given ++ l) (noticed_in-cons r rs)
 
   -- so nothing is lost or doubled by it
-  pub run-conserved : IsEquivalence eq → (view : View K V) (before : List (AcceptedStep K V E)) (calls : List (Step K V C H W X P F L T E S)) (replies : List (Reply K V)) → IsRun eq test settings is_clone is_infallible before calls replies
-      → StandsFor eq settings view (after_all eq test settings calls replies before) → IsConserved eq settings (events_in (after_all eq test settings calls replies before)) view.books (given_out eq settings (events_in before) ++ noticed_in replies)
+  pub run-conserved : IsEquivalence eq → (view : WholeView K V E) (before : List (AcceptedStep K V E)) (calls : List (Step K V C H W X P F L T E S)) (replies : List (Reply K V)) → IsRun eq test settings is_clone is_infallible before calls replies
+      → StandsFor eq is_clone settings view (after_all eq test settings calls replies before) → IsConserved eq settings (events_in (after_all eq test settings calls replies before)) view.values.books (given_out eq settings (events_in before) ++ noticed_in replies)
   run-conserved laws view before calls replies run stands =
       let all = events_in (after_all eq test settings calls replies before) in
       subst (λ b. IsConserved eq settings all b (given_out eq settings (events_in before) ++ noticed_in replies)) (sym stands.books)

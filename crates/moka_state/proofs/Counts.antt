@@ -6,7 +6,9 @@ use Rattle.moka_model.specs.Lives.{Settings, Write}
 use Rattle.moka_model.specs.Maintenance.{total}
 use Rattle.moka_model.specs.Numbers.{flush_point, entry_count, weighted_size}
 use Rattle.moka_model.specs.SizeLaws.{WeighsOnes, LimitsSome}
+use Rattle.moka_model.specs.Turns.{Turn}
 use Rattle.moka_model.specs.Steps.{AcceptedStep, events_in}
+use Rattle.moka_model.proofs.Callers.{whole}
 use Rattle.moka_model.specs.Calls.{RunPendingTasks, after}
 use Rattle.moka_model.specs.StandsFor.{Books, View, StandsFor}
 use Rattle.moka_model.proofs.Callers.{entry_count-le, maintained-entry_count-le}
@@ -23,7 +25,7 @@ weighs_one weight weigher none k v = ap (λ it. weight_by weight it k v) none
 abbrev pub writes_in : {K V : Type 0} → View K V → List (Write K V)
 writes_in view = view.books.orders.admitted ++ view.books.orders.waiting
 
-module _ {K V E : Type 0} (eq : K → K → Bool) (settings : Settings K V) (view : View K V) (steps : List (AcceptedStep K V E)) (stands : StandsFor eq settings view steps) where
+module _ {K V E : Type 0} (eq : K → K → Bool) {is_clone : V → V → Type 0} {turns : List (Turn K V E)} (settings : Settings K V) (view : View K V) (steps : List (AcceptedStep K V E)) (stands : StandsFor eq is_clone settings (whole view turns) steps) where
   -- a state stores as many writes as stand,
   pub writes-counted : length (writes_in view) ≡ entry_count eq settings (events_in steps)
   writes-counted = ap (λ (b : Books K V). length (b.orders.admitted ++ b.orders.waiting)) stands.books
@@ -43,7 +45,7 @@ module _ {K V E : Type 0} (eq : K → K → Bool) (settings : Settings K V) (vie
           omega (arith, writes-counted)
 
 -- where each weighs one, with a capacity, no more after a maintenance than it says
-pub writes-within : {K V E : Type 0} (eq : K → K → Bool) (settings : Settings K V) (view : View K V) (at : ℕ) (steps : List (AcceptedStep K V E)) → WeighsOnes view.settings → StandsFor eq settings view (after eq settings (RunPendingTasks at) steps)
+pub writes-within : {K V E : Type 0} (eq : K → K → Bool) {is_clone : V → V → Type 0} {turns : List (Turn K V E)} (settings : Settings K V) (view : View K V) (at : ℕ) (steps : List (AcceptedStep K V E)) → WeighsOnes view.settings → StandsFor eq is_clone settings (whole view turns) (after eq settings (RunPendingTasks at) steps)
     → IfSome view.settings.max_capacity (λ capacity. length (writes_in view) ≤ capacity)
 writes-within eq settings view at steps ones stands = go view.settings.max_capacity refl
   where

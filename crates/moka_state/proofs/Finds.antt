@@ -4,7 +4,9 @@ use Rattle.std.specs.Arc.{arc_value}
 use Rattle.std.specs.Cmp.{IsEquivalence}
 use Rattle.std.specs.List.{AllByRecursion}
 use Rattle.moka_model.specs.Lives.{Settings, has_come}
+use Rattle.moka_model.specs.Turns.{Turn}
 use Rattle.moka_model.specs.Steps.{AcceptedStep, events_in}
+use Rattle.moka_model.proofs.Callers.{whole}
 use Rattle.moka_model.specs.Calls.{live_at}
 use Rattle.moka_model.specs.StandsFor.{StandsFor}
 use Rattle.moka_ways.specs.declared.lives.Lives.{Lives}
@@ -16,8 +18,8 @@ use Rattle.moka_state.proofs.Held.{held-row, held-absent}
 use Rattle.moka_state.proofs.Maintained.{HasLives}
 use Rattle.moka_state.proofs.Views.{view_with, one-each, live-held}
 
-module _ {K V E : Type 0} (eq : K → K → Bool) (laws : IsEquivalence eq) (settings : Settings K V) (contents : Contents K V) (frequency : List ℕ → ℕ → ℕ) (latest number : ℕ)
-    (given : Settings K V) (steps : List (AcceptedStep K V E)) (stands : StandsFor eq given (view_with settings contents frequency latest number) steps) where
+module _ {K V E : Type 0} (eq : K → K → Bool) {is_clone : V → V → Type 0} {turns : List (Turn K V E)} (laws : IsEquivalence eq) (settings : Settings K V) (contents : Contents K V) (frequency : List ℕ → ℕ → ℕ) (latest number : ℕ)
+    (given : Settings K V) (steps : List (AcceptedStep K V E)) (stands : StandsFor eq is_clone given (whole (view_with settings contents frequency latest number) turns) steps) where
   -- the row stores the live value of its key, unless it is hidden or expired
   pub live-row : (lives : Lives) → HasLives settings lives → (k : K) (at n : ℕ) (row : Row K V) → row_under n (entries contents) ≡ Some row → eq (arc_value row.key) k ≡ true
       → (alive : Bool) → (not row.info.is_hidden && not (has_come (deadline_of lives row.info) (max latest at))) ≡ alive

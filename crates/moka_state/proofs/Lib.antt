@@ -11,5 +11,6 @@ pub mod Runs
 mod Scans
 pub mod Sound
 pub mod Targets
+pub mod Turns
 pub mod Views
 pub mod Removing

@@ -7,6 +7,7 @@ use Rattle.std.proofs.lemmas.List.Elements.{All-same, recursion_from_All}
 use Rattle.moka_model.specs.declared.notification.RemovalCause.TheVariants.{Expired, Explicit, Size}
 use Rattle.moka_model.specs.Lives.{Settings, Write, is_expired, is_live}
 use Rattle.moka_model.specs.Events.{Maintained, latest}
+use Rattle.moka_model.specs.Turns.{Turn}
 use Rattle.moka_model.specs.Steps.{AcceptedStep, events_in}
 use Rattle.moka_model.specs.StandsFor.{Books, StandsFor}
 use Rattle.moka_model.specs.Admission.{wins}
@@ -14,8 +15,7 @@ use Rattle.moka_model.specs.Orders.{maintained, is_left_at}
 use Rattle.moka_model.specs.Removals.{Removal, removal_of as write_removal}
 use Rattle.moka_model.specs.Maintenance.{Queues, Part, total, parts, done, is_left, evicted_in, after_parts}
 use Rattle.moka_model.specs.MaintenanceLaws.{everything}
-use Rattle.moka_model.proofs.Callers.{All-live-after, total-after-le, evicted-done-le, count-maintenance, all-pass, cut-stands}
-use Rattle.moka_model.proofs.Callers.{total-by, queues_by, part_by, evicted_in-by, after_parts-by, done-by, is_left-by, parts-by}
+use Rattle.moka_model.proofs.Callers.{whole, All-live-after, total-after-le, evicted-done-le, count-maintenance, all-pass, cut-stands, total-by, queues_by, part_by, evicted_in-by, after_parts-by, done-by, is_left-by, parts-by}
 use Rattle.moka_model.proofs.Callers.{parts-same}
 use Rattle.moka_rows.specs.declared.rows.Row.{Row}
 use Rattle.moka_ways.specs.declared.lives.Lives.{Lives}
@@ -142,8 +142,8 @@ module _ {K V : Type 0} (eq : K → K → Bool) (settings : Settings K V) (lives
         rw (is.waiting, append-nil (stored_writes new.admitted)) (recursion_from_All Lives (stored_writes new.admitted) admitted)
 
 -- so it is in whatever list the state stands for
-pub live-after : {K V E : Type 0} (eq : K → K → Bool) (given : Settings K V) (steps : List (AcceptedStep K V E)) (settings : Settings K V) (lives : Lives) → HasLives settings lives
-    → (contents : Contents K V) (frequency : List ℕ → ℕ → ℕ) (moment number : ℕ) → StandsFor eq given (view_with settings contents frequency moment number) steps → (at : ℕ) (new : Contents K V)
+pub live-after : {K V E : Type 0} (eq : K → K → Bool) {is_clone : V → V → Type 0} {turns : List (Turn K V E)} (given : Settings K V) (steps : List (AcceptedStep K V E)) (settings : Settings K V) (lives : Lives) → HasLives settings lives
+    → (contents : Contents K V) (frequency : List ℕ → ℕ → ℕ) (moment number : ℕ) → StandsFor eq is_clone given (whole (view_with settings contents frequency moment number) turns) steps → (at : ℕ) (new : Contents K V)
     → IsMaintained lives settings.behaviour.is_lru (frequency []) settings.max_capacity (max moment at) contents new
     → AllByRecursion (λ w. is_live given w (max (latest (events_in steps)) at) ≡ true) (stored_writes new.admitted ++ stored_writes new.waiting)
 live-after {K} {V} eq given steps settings lives expired_alike contents frequency moment number stands at new is =

@@ -2,7 +2,7 @@
 use Rattle.std.proofs.Common.{◌≡◌, Bool, List, [], ◌∷◌, ◌++◌, suc, length, drop, refl, sym, ap, subst, arith}
 use Rattle.moka_model.specs.Lives.{Settings}
 use Rattle.moka_model.specs.Steps.{AcceptedStep}
-use Rattle.moka_model.specs.StandsFor.{View, StandsFor}
+use Rattle.moka_model.specs.StandsFor.{WholeView, StandsFor}
 use Rattle.moka_state.specs.declared.step.Step.{Step}
 use Rattle.moka_state.specs.declared.step.Reply.{Reply}
 use Rattle.moka_state.specs.Step.{call_of, IsReplyTo, IsRun, after_reply, after_all}
@@ -25,9 +25,9 @@ module _ {K V C H W X P F L T E S : Type 0} (eq : K → K → Bool) (test : P �
   after_all-more before (s ∷ ss) (r ∷ rs) step reply run = after_all-more (after_reply eq settings (call_of test s) r before) ss rs step reply run.1
 
   -- so what a state stands for after that step it stands for after the longer run
-  pub stands-more : (view : View K V) (before : List (AcceptedStep K V E)) (calls : List (Step K V C H W X P F L T E S)) (replies : List (Reply K V)) (step : Step K V C H W X P F L T E S) (reply : Reply K V)
-      → IsRun eq test settings is_clone is_infallible before calls replies → StandsFor eq settings view (after_reply eq settings (call_of test step) reply (after_all eq test settings calls replies before)) → StandsFor eq settings view (after_all eq test settings (calls ++ step ∷ []) (replies ++ reply ∷ []) before)
-  stands-more view before calls replies step reply run stands = subst (StandsFor eq settings view) (sym (after_all-more before calls replies step reply run)) stands
+  pub stands-more : (view : WholeView K V E) (before : List (AcceptedStep K V E)) (calls : List (Step K V C H W X P F L T E S)) (replies : List (Reply K V)) (step : Step K V C H W X P F L T E S) (reply : Reply K V)
+      → IsRun eq test settings is_clone is_infallible before calls replies → StandsFor eq is_clone settings view (after_reply eq settings (call_of test step) reply (after_all eq test settings calls replies before)) → StandsFor eq is_clone settings view (after_all eq test settings (calls ++ step ∷ []) (replies ++ reply ∷ []) before)
+  stands-more view before calls replies step reply run stands = subst (StandsFor eq is_clone settings view) (sym (after_all-more before calls replies step reply run)) stands
 
 -- a list that is itself without its first element is empty
 pub same_as_rest-empty : {A : Type 0} (xs : List A) → xs ≡ drop 1 xs → xs ≡ []

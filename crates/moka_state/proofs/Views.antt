@@ -7,10 +7,11 @@ use Rattle.moka_model.specs.Events.{Event, Hidden, latest}
 use Rattle.moka_model.specs.Orders.{standing}
 use Rattle.moka_model.specs.OrderLaws.{held, HasOneEach}
 use Rattle.moka_model.specs.Numbers.{flush_point, is_flush_due}
+use Rattle.moka_model.specs.Turns.{Turn}
 use Rattle.moka_model.specs.Steps.{AcceptedStep, events_in}
 use Rattle.moka_model.specs.Calls.{Call, InvalidateIf, Done, without_move, with_step, live_at, after}
 use Rattle.moka_model.specs.StandsFor.{Books, View, StandsFor, Follows}
-use Rattle.moka_model.proofs.Callers.{books_after, IsViewOf, frequency_after, view-event, view-of, held-stands, stands-after, stands-question}
+use Rattle.moka_model.proofs.Callers.{books_after, IsViewOf, frequency_after, view-event, unmoved, whole, view-of, held-stands, stands-after, stands-question}
 use Rattle.moka_table.specs.Table.{Contents}
 use Rattle.moka_state.specs.State.{books_by}
 
@@ -54,28 +55,27 @@ module _ {K V : Type 0} (eq : K → K → Bool) where
         }
 
     -- a state that stands for some steps stores one write at most of each key
-    pub one-each : {E : Type 0} (given : Settings K V) (view : View K V) (steps : List (AcceptedStep K V E)) → StandsFor eq given view steps → HasOneEach eq view.books.orders
+    pub one-each : {E : Type 0} {is_clone : V → V → Type 0} {turns : List (Turn K V E)} (given : Settings K V) (view : View K V) (steps : List (AcceptedStep K V E)) → StandsFor eq is_clone given (whole view turns) steps → HasOneEach eq view.books.orders
     one-each given view steps stands k = (standing eq given k (events_in steps), held-stands eq given view steps laws stands k)
 
     -- a call of one event, by which its view becomes another
-    pub follows-event : {E : Type 0} (old new : View K V) (call : Call K V) (e : Event K V) → ((given : Settings K V) (steps : List (AcceptedStep K V E)) → events_in (after eq given call steps) ≡ e ∷ events_in steps)
-        → (HasOneEach eq old.books.orders → Becomes old e new) → Follows E eq old call new
-    follows-event old new call e events becomes given steps stands =
-        stands-after eq given old steps stands call new
-        (subst (IsViewOf eq given new) (sym (events given steps))
-        (view-becomes given old new (events_in steps) e (view-of eq given old steps stands) (becomes (one-each given old steps stands))))
+    pub follows-event : {E : Type 0} {is_clone : V → V → Type 0} {turns : List (Turn K V E)} (old new : View K V) (call : Call K V E) (e : Event K V) → ((given : Settings K V) (steps : List (AcceptedStep K V E)) → after eq given call steps ≡ unmoved (e ∷ []) steps)
+        → (HasOneEach eq old.books.orders → Becomes old e new) → Follows eq is_clone (whole old turns) call (whole new turns)
+    follows-event old new call e step becomes given steps stands =
+        stands-after eq given old steps stands call new (e ∷ []) (step given steps)
+        (view-becomes given old new (events_in steps) e (view-of eq given old steps stands) (becomes (one-each given old steps stands)))
 
     -- a call that hides by a test, where that is supported
-    pub follows-hidden : {E : Type 0} (old new : View K V) (test : K → V → Bool) → old.settings.supports_closures ≡ true → Becomes old (Hidden test) new → Follows E eq old (InvalidateIf test) new
+    pub follows-hidden : {E : Type 0} {is_clone : V → V → Type 0} {turns : List (Turn K V E)} (old new : View K V) (test : K → V → Bool) → old.settings.supports_closures ≡ true → Becomes old (Hidden test) new → Follows eq is_clone (whole old turns) (InvalidateIf test) (whole new turns)
     follows-hidden {E} old new test supported becomes given steps stands =
         let it : given.supports_closures ≡ true = ap (λ (s : Settings K V). s.supports_closures) (sym stands.settings) ∙ supported in
-        let hides : events_in (after eq given (InvalidateIf test) steps) ≡ Hidden test ∷ events_in steps =
-        ap (λ b. events_in (with_step (cond b (Some (without_move {E = E} Done (Hidden test ∷ []))) None) steps)) it in
-        stands-after eq given old steps stands (InvalidateIf test) new
-        (subst (IsViewOf eq given new) (sym hides) (view-becomes given old new (events_in steps) (Hidden test) (view-of eq given old steps stands) becomes))
+        let hides : after eq given (InvalidateIf test) steps ≡ unmoved (Hidden test ∷ []) steps =
+        ap (λ b. with_step (cond b (Some (without_move {E = E} Done (Hidden test ∷ []))) None) steps) it in
+        stands-after eq given old steps stands (InvalidateIf test) new (Hidden test ∷ []) hides
+        (view-becomes given old new (events_in steps) (Hidden test) (view-of eq given old steps stands) becomes)
 
     -- the live write of a key, by what is held of it
-    pub live-held : {E : Type 0} (given : Settings K V) (view : View K V) (steps : List (AcceptedStep K V E)) → StandsFor eq given view steps → (k : K) (at : ℕ) (o : Option (Write K V)) → held eq k view.books.orders ≡ option_to_list o
+    pub live-held : {E : Type 0} {is_clone : V → V → Type 0} {turns : List (Turn K V E)} (given : Settings K V) (view : View K V) (steps : List (AcceptedStep K V E)) → StandsFor eq is_clone given (whole view turns) steps → (k : K) (at : ℕ) (o : Option (Write K V)) → held eq k view.books.orders ≡ option_to_list o
         → live_at eq given k at (events_in steps) ≡ live_one view.settings (max view.books.latest at) o
     live-held given view steps stands k at o is =
         ap (live_one given (max (latest (events_in steps)) at)) (option_to_list-same (standing eq given k (events_in steps)) o (sym (held-stands eq given view steps laws stands k) ∙ is))
@@ -83,9 +83,9 @@ module _ {K V : Type 0} (eq : K → K → Bool) where
         ∙ ap (λ (s : Settings K V). live_one s (max view.books.latest at) o) (sym stands.settings)
 
   -- a question leaves what a state stands for
-  pub follows-question : {E : Type 0} (view : View K V) (call : Call K V) → ((given : Settings K V) (steps : List (AcceptedStep K V E)) → events_in (after eq given call steps) ≡ events_in steps) → Follows E eq view call view
-  follows-question view call events given steps stands = stands-question eq given view steps stands call (events given steps)
+  pub follows-question : {E : Type 0} {is_clone : V → V → Type 0} {turns : List (Turn K V E)} (view : View K V) (call : Call K V E) → ((given : Settings K V) (steps : List (AcceptedStep K V E)) → after eq given call steps ≡ unmoved [] steps) → Follows eq is_clone (whole view turns) call (whole view turns)
+  follows-question view call step given steps stands = stands-question eq given view steps stands call (step given steps)
 
   -- a flush is due where so many wait
-  pub flush-counted : {E : Type 0} (given : Settings K V) (view : View K V) (steps : List (AcceptedStep K V E)) → StandsFor eq given view steps → is_flush_due eq given (events_in steps) ≡ nat_le flush_point (length view.books.orders.waiting)
+  pub flush-counted : {E : Type 0} {is_clone : V → V → Type 0} {turns : List (Turn K V E)} (given : Settings K V) (view : View K V) (steps : List (AcceptedStep K V E)) → StandsFor eq is_clone given (whole view turns) steps → is_flush_due eq given (events_in steps) ≡ nat_le flush_point (length view.books.orders.waiting)
   flush-counted given view steps stands = ap (λ (b : Books K V). nat_le flush_point (length b.orders.waiting)) (sym stands.books)

@@ -30,7 +30,7 @@ settings_of name time_to_live time_to_idle max_capacity first_number closures fl
 }
 
 -- all stored writes
-abbrev pub all_writes : {K V H W X F : Type 0} → StateData K V H W X F → List (Write K V)
+abbrev pub all_writes : {K V H W X F E : Type 0} → StateData K V H W X F E → List (Write K V)
 all_writes state = state.books.orders.admitted ++ state.books.orders.waiting
 
 module _ {K V : Type 0} where

@@ -18,7 +18,7 @@ use Rattle.moka_table.specs.Table.{removal_of}
 -- Steps of a cache's own types: of its keys and values, its predicates P, and the others that it names.
 module _ {K V C H W X P F L T E S : Type 0} where
   -- The call that a step is, by the test that each predicate answers.
-  abbrev pub call_of : (P → K → V → Bool) → Step K V C H W X P F L T E S → Call K V
+  abbrev pub call_of : (P → K → V → Bool) → Step K V C H W X P F L T E S → Call K V E
   call_of test (Get key now) = Call.Get (arc_value key) now
   call_of test (ContainsKey key now) = Call.ContainsKey (arc_value key) now
   call_of test (Insert key value now) = Call.Insert (arc_value key) value now
@@ -36,13 +36,13 @@ module _ {K V C H W X P F L T E S : Type 0} where
 module _ {K V E : Type 0} (eq : K → K → Bool) (is_clone : V → V → Type 0) (is_infallible : V → Type 0) (settings : Settings K V)
     (steps : List (AcceptedStep K V E)) where
   -- a call is accepted with this answer, and it is not out of numbers
-  abbrev pub IsAccepted : Call K V → Answer K V E → Type 0
+  abbrev pub IsAccepted : Call K V E → Answer K V E → Type 0
   IsAccepted call answer = IsAnswerOf is_clone (accepted eq settings steps call) answer × ¬ (IsOutOfNumbers eq settings steps call)
 
   -- An accepted call answers what the definitions give, and one that draws a number is accepted only where one is left. A
   -- refused one says for want of what it was refused, and that is so: for want of memory only where it was not for want of
   -- numbers. A predicate is refused exactly where the call is refused by its name.
-  abbrev pub IsReplyTo : Call K V → Reply K V → Type 0
+  abbrev pub IsReplyTo : Call K V E → Reply K V → Type 0
   IsReplyTo call (Found v) = IsAccepted call (Answer.Found v)
   IsReplyTo call (Contains b) = IsAccepted call (Answer.Contains b)
   IsReplyTo call Done = IsAccepted call Answer.Done
@@ -56,7 +56,7 @@ module _ {K V E : Type 0} (eq : K → K → Bool) (is_clone : V → V → Type 0
 
 module _ {K V E : Type 0} (eq : K → K → Bool) (settings : Settings K V) where
   -- The accepted steps after a reply to a call: a refused call leaves them as they are.
-  abbrev pub after_reply : Call K V → Reply K V → List (AcceptedStep K V E) → List (AcceptedStep K V E)
+  abbrev pub after_reply : Call K V E → Reply K V → List (AcceptedStep K V E) → List (AcceptedStep K V E)
   after_reply call (Refused cause) steps = steps
   after_reply call (PredicateRefused cause) steps = steps
   after_reply call reply steps = after eq settings call steps

@@ -8,7 +8,7 @@ use Rattle.moka_state.specs.declared.state.InsertRefused.{InsertRefused}
 -- How a write of a value for a key ends that finds one state and leaves another. Where it is done, what follows holds. Where
 -- it is refused, whatever refuses it, nothing has changed, and what was given comes back. It is refused for want of numbers
 -- exactly where one is to be drawn and none is left, and else for want of memory; where nothing is stored it is done.
-pub record WriteEnds {K V H W X F Q T : Type 0} (follows : Type 0) (old new : StateData K V H W X F) (key : Q) (value : V)
+pub record WriteEnds {K V H W X F E Q T : Type 0} (follows : Type 0) (old new : StateData K V H W X F E) (key : Q) (value : V)
     (result : Result T (InsertRefused Q V)) : Type 0 where
   pub stands : OnOk result follows
   pub refused : OnErr result (new ≡ old)

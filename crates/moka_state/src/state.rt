@@ -1,5 +1,5 @@
 //! The cache as a plain value, lent with `&mut`, with every moment handed in.
-ghost use Rattle.std.specs.Prelude.{◌≡◌, ◌≢◌, ◌+◌, ◌≤◌, ◌↔◌, true, false, Some, [], ◌++◌, length, min, map, option_map, IsNone, IsSome, IsOk, IfOk, IfErr, IfSome, OnOk, OnErr, None, IsErrAnd, ◌∷◌};
+ghost use Rattle.std.specs.Prelude.{◌≡◌, ◌≢◌, ◌+◌, ◌≤◌, ◌↔◌, is_some, true, false, Some, [], ◌++◌, length, min, map, option_map, IsNone, IsSome, IsOk, IfOk, IfErr, IfSome, OnOk, OnErr, None, IsErrAnd, ◌∷◌};
 ghost use Rattle.std.specs.Arc.{arc_value};
 ghost use Rattle.std.specs.Duration.{as_nanos};
 ghost use Rattle.std.specs.List.{AllByRecursion};
@@ -8,13 +8,16 @@ ghost use Rattle.moka_model.specs.Events.{Maintained, latest};
 ghost use Rattle.moka_model.specs.Maintenance.{total};
 ghost use Rattle.moka_model.specs.Numbers.{greatest_number, flush_point, stores_nothing};
 ghost use Rattle.moka_model.specs.SizeLaws.{LimitsSome};
-ghost use Rattle.moka_model.specs.Steps.{events_in};
-ghost use Rattle.moka_model.specs.Calls.{Get, ContainsKey, Insert, Invalidate, RunPendingTasks, RunPendingTasksUpTo, EntryCount, WeightedSize, TakeNotice, Found, Contains, Counted, Left, Noticed, live_at};
+ghost use Rattle.moka_model.specs.Steps.{events_in, turns};
+ghost use Rattle.moka_model.specs.Turns.{found, is_open_as, has_ticket_as};
+ghost use Rattle.moka_model.specs.Calls.{Get, ContainsKey, Insert, Invalidate, RunPendingTasks, RunPendingTasksUpTo, EntryCount, WeightedSize, TakeNotice, Found, Contains, Abandon, Leave, Counted, Left, Noticed, live_at};
 ghost use Rattle.moka_policy.specs.Policy.{is_lru};
 ghost use Rattle.moka_table.specs.Table.{entries, removal_of};
 ghost use Rattle.moka_ways.specs.Behaviour.{hash_by};
 ghost use Rattle.moka_state.specs.State.{StateData, settings_of, books_by, all_writes, IsSound};
 ghost use Rattle.moka_state.specs.Write.{WriteEnds};
+ghost use Rattle.moka_turns.specs.Keeps.{name_of};
+ghost use Rattle.moka_turns.specs.Views.{turns_of};
 
 use moka_due::due_rows::DueRows;
 use moka_maintain::upkeep::Upkeep;
@@ -24,6 +27,8 @@ use moka_rows::rows::RowStore;
 use moka_snapshot::snapshot::SharedSnapshot;
 use moka_table::shared_key::{IntoShared, Owned};
 use moka_table::table::Table;
+use moka_turns::handles::{Ticket, Turn};
+use moka_turns::table::Turns;
 use moka_ways::behaviour::Behaviour;
 use moka_ways::lives::Lives;
 use moka_ways::view::StateView;
@@ -104,6 +109,7 @@ pub struct State<K: Hash + Drop, V: Clone, C: CacheTypes<K, V>, R: RowStore<K, V
     first_number: u64,
     next_number: u64,
     pub(crate) behaviour: Behaviour<K, V, C>,
+    pub(crate) turns: Turns<K, V, C::Error>,
     alloc: Global,
     // The table as it was at the start, for contracts alone.
     opening: SharedSnapshot<Table<K, V, R>>,
@@ -120,7 +126,7 @@ pub struct State<K: Hash + Drop, V: Clone, C: CacheTypes<K, V>, R: RowStore<K, V
 pub type CacheState<K, V, C> = State<K, V, C, DueRows<K, V>>;
 
 impl<K: Hash + Drop, V: Clone, C: CacheTypes<K, V>, R: RowStore<K, V>> Model for State<K, V, C, R> {
-    ghost Value = { StateData K V C.Hasher C.Weigher C.Expiry C.Frequency };
+    ghost Value = { StateData K V C.Hasher C.Weigher C.Expiry C.Frequency C.Error };
 
     ghost view = { λ state. record {
       settings = settings_of state.name state.upkeep.lives.time_to_live
@@ -129,6 +135,10 @@ impl<K: Hash + Drop, V: Clone, C: CacheTypes<K, V>, R: RowStore<K, V>> Model for
       books = books_by state.table state.latest state.next_number;
       source = state.upkeep.source;
       initial_room = state.opening.value.room;
+      turns = turns_of
+          (hash_by C.Hasher.build_hasher C.Hasher.Hasher.write C.Hasher.Hasher.finish K.hash_input
+          state.behaviour.hasher)
+          state.turns;
     } };
 
     ghost invariant = { λ state. IsSound C.keeps
@@ -190,6 +200,7 @@ impl<K: Hash + Drop, V: Clone, C: CacheTypes<K, V>, R: RowStore<K, V>> State<K, 
                 settings.weigher,
                 settings.expiry,
             ),
+            turns: Turns::new(alloc),
             alloc,
         })
     }
@@ -513,6 +524,33 @@ impl<K: Hash + Drop, V: Clone, C: CacheTypes<K, V>, R: RowStore<K, V>> State<K, 
         ensures stands { ⟦<C as StateView<K, V>>⟧.follows self.now WeightedSize self.now }
     {
         self.table.weight().min(u128::from(u64::MAX)) as u64
+    }
+
+    /// Ends a turn without an outcome: those who wait for it are told that it was abandoned. The turn
+    /// is spent in any case. Whether it was an open turn of this cache; where it was not, nothing
+    /// has changed. It takes no memory.
+    pub fn abandon(&mut self, turn: Turn<K>) -> bool
+        ensures known { ⟦<C as StateView<K, V>>⟧.at_each_history self.old (λ settings steps.
+            result ≡ is_some (found (is_open_as K.eq (name_of turn.key turn.number)) (turns steps))) }
+        ensures stands { ⟦<C as StateView<K, V>>⟧.follows self.old
+            (Abandon (name_of turn.key turn.number)) self.new }
+        ensures refused { result ≡ false → self.new ≡ self.old }
+    {
+        let hash = self.behaviour.hash(turn.key());
+        self.turns.abandon(turn.rehashed(hash))
+    }
+
+    /// Spends a ticket and asks nothing. The ticket is spent in any case. Whether a turn of this cache
+    /// has its name and an unspent ticket; where none has, nothing has changed. It takes no memory.
+    pub fn leave(&mut self, ticket: Ticket<K>) -> bool
+        ensures known { ⟦<C as StateView<K, V>>⟧.at_each_history self.old (λ settings steps.
+            result ≡ is_some (found (has_ticket_as K.eq (name_of ticket.key ticket.number)) (turns steps))) }
+        ensures stands { ⟦<C as StateView<K, V>>⟧.follows self.old
+            (Leave (name_of ticket.key ticket.number)) self.new }
+        ensures refused { result ≡ false → self.new ≡ self.old }
+    {
+        let hash = self.behaviour.hash(ticket.key());
+        self.turns.leave(ticket.rehashed(hash))
     }
 
     /// What it is called.

@@ -9,14 +9,14 @@ use Rattle.moka_sync.specs.Builder.{BuilderData, settings_built}
 
 -- What is known of a shared cache without its lock: the state that went under its lock, as it was then, and the clock that
 -- went there with it; and its listener. Of that state the settings never change.
-pub record CacheData (K V H W X F L T : Type 0) : Type 0 where
-  pub opening : StateData K V H W X F
+pub record CacheData (K V H W X F E L T : Type 0) : Type 0 where
+  pub opening : StateData K V H W X F E
   pub clock : T
   pub listener : Option L
 
 -- The cache is what a builder makes that was told this: its state has these settings, with this hasher, it looks at this
 -- clock, and it has this listener.
-abbrev pub IsBuilt : {K V H W X F L T : Type 0} → BuilderData W X L → H → T → CacheData K V H W X F L T → Type 0
+abbrev pub IsBuilt : {K V H W X F E L T : Type 0} → BuilderData W X L → H → T → CacheData K V H W X F E L T → Type 0
 IsBuilt told hasher clock cache =
     (cache.opening.settings ≡ settings_built told hasher) × (cache.clock ≡ clock) × (cache.listener ≡ told.listener)
 

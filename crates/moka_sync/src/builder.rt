@@ -320,7 +320,7 @@ impl<K: Hash + Drop, V: Clone, C: CacheTypes<K, V>> CacheBuilder<K, V, C, Single
         ensures refused { IfErr result (λ cause.
             cause ≡ unwrap_or (build_refused self) BuildError.OutOfMemory) }
     {
-        let (state, _listener) = self.opened(alloc, hasher)?;
+        let (state, _listener) = self.limited()?.opened(alloc, hasher)?;
         Ok(state)
     }
 
@@ -343,16 +343,42 @@ impl<K: Hash + Drop, V: Clone, C: CacheTypes<K, V>> CacheBuilder<K, V, C, Single
         ensures refused { IfErr result (λ cause.
             cause ≡ unwrap_or (build_refused self) BuildError.OutOfMemory) }
     {
-        let (state, listener) = self.opened(alloc, hasher)?;
-        let inside = Inside {
-            name: copied(alloc, state.name())?,
-            policy: state.policy(),
-            locked: Opened::new(Locked { state, clock }),
-            listener,
-        };
+        let inside = self.inside(alloc, hasher, clock)?;
         Ok(Cache {
             inside: share(alloc, inside)?,
             waits,
+        })
+    }
+
+    // What the clones of a cache share.
+    fn inside(
+        self,
+        alloc: Global,
+        hasher: C::Hasher,
+        clock: C::Clock,
+    ) -> Result<Inside<K, V, C>, BuildError>
+        ensures settings { IfOk result (λ inside.
+            inside.locked.state.settings ≡ settings_built self hasher) }
+        ensures clock { IfOk result (λ inside. inside.locked.clock ≡ clock) }
+        ensures listener { IfOk result (λ inside. inside.listener ≡ self.listener) }
+        ensures empty { IfOk result (λ inside. ⟦<C as StateView<K, V>>⟧.stands_for
+            (⟦<C as StateView<K, V>>⟧.settings inside.locked.state.settings)
+            inside.locked.state []) }
+        ensures room { IfOk result (λ inside.
+            self.initial_capacity ≤ inside.locked.state.initial_room) }
+        ensures accepted { OnOk result (build_refused self ≡ None) }
+        ensures refused { IfErr result (λ cause.
+            cause ≡ unwrap_or (build_refused self) BuildError.OutOfMemory) }
+    {
+        let told = self.limited()?;
+        let name = copied(alloc, told.name.as_deref())?;
+        let (state, listener) = told.opened(alloc, hasher)?;
+        let policy = state.policy();
+        Ok(Inside {
+            locked: Opened::new(Locked { state, clock }),
+            name,
+            policy,
+            listener,
         })
     }
 
@@ -362,6 +388,7 @@ impl<K: Hash + Drop, V: Clone, C: CacheTypes<K, V>> CacheBuilder<K, V, C, Single
         alloc: Global,
         hasher: C::Hasher,
     ) -> Result<(CacheState<K, V, C>, Option<C::Listener>), BuildError>
+        requires { build_refused self ≡ None }
         ensures settings { IfOk result (λ opened.
             opened.0.settings ≡ settings_built self hasher) }
         ensures empty { IfOk result (λ opened. ⟦<C as StateView<K, V>>⟧.stands_for
@@ -370,9 +397,7 @@ impl<K: Hash + Drop, V: Clone, C: CacheTypes<K, V>> CacheBuilder<K, V, C, Single
         ensures listener { IfOk result (λ opened. opened.1 ≡ self.listener) }
         ensures hears { IfOk result (λ opened. IfSome opened.1 (λ listener.
             (key : K) (value : V) → C.keeps key value → C.Listener.hears listener key value)) }
-        ensures accepted { OnOk result (build_refused self ≡ None) }
-        ensures refused { IfErr result (λ cause.
-            cause ≡ unwrap_or (build_refused self) BuildError.OutOfMemory) }
+        ensures cause { IfErr result (λ cause. cause ≡ BuildError.OutOfMemory) }
     {
         let (settings, listener) = self.settled(alloc, hasher)?;
         match CacheState::new(alloc, settings) {
@@ -405,7 +430,7 @@ impl<K: Hash + Drop, V: Clone, C: CacheTypes<K, V>> CacheBuilder<K, V, C, Segmen
             cause ≡ unwrap_or (build_refused self) BuildError.OutOfMemory) }
     {
         let bits = bits_for(self.num_segments);
-        let (settings, _listener) = self.settled(alloc, hasher)?;
+        let (settings, _listener) = self.limited()?.settled(alloc, hasher)?;
         match opened(alloc, settings, bits) {
             Ok(cache) => Ok(cache),
             Err(_) => Err(BuildError::OutOfMemory),
@@ -414,12 +439,24 @@ impl<K: Hash + Drop, V: Clone, C: CacheTypes<K, V>> CacheBuilder<K, V, C, Segmen
 }
 
 impl<K: Hash + Drop, V: Clone, C: CacheTypes<K, V>, T> CacheBuilder<K, V, C, T> {
+    // The same builder, where its lives and its flush limit are accepted.
+    fn limited(self) -> Result<Self, BuildError>
+        ensures same { IfOk result (λ builder. builder ≡ self) }
+        ensures accepted { OnOk result (build_refused self ≡ None) }
+        ensures refused { IfErr result (λ cause. Some cause ≡ build_refused self) }
+    {
+        ensure_expirations(self.time_to_live, self.time_to_idle)?;
+        ensure_flush_limit(self.flush_limit, self.weigher.is_some())?;
+        Ok(self)
+    }
+
     // What a state is made from, and the listener that is still to be given a place.
     fn settled(
         self,
         alloc: Global,
         hasher: C::Hasher,
     ) -> Result<(Settings<K, V, C>, Option<C::Listener>), BuildError>
+        requires { build_refused self ≡ None }
         ensures settings { IfOk result (λ settled. data_of settled.0 ≡ settings_built self hasher) }
         ensures weighs { IfOk result (λ settled. IfSome settled.0.weigher (λ weigher.
             C.Weigher.weighs (arc_value weigher) (C.weight (arc_value weigher)))) }
@@ -433,12 +470,8 @@ impl<K: Hash + Drop, V: Clone, C: CacheTypes<K, V>, T> CacheBuilder<K, V, C, T> 
         ensures listener { IfOk result (λ settled. settled.1 ≡ self.listener) }
         ensures hears { IfOk result (λ settled. IfSome settled.1 (λ listener.
             (key : K) (value : V) → C.keeps key value → C.Listener.hears listener key value)) }
-        ensures accepted { OnOk result (build_refused self ≡ None) }
-        ensures refused { IfErr result (λ cause.
-            cause ≡ unwrap_or (build_refused self) BuildError.OutOfMemory) }
+        ensures cause { IfErr result (λ cause. cause ≡ BuildError.OutOfMemory) }
     {
-        ensure_expirations(self.time_to_live, self.time_to_idle)?;
-        ensure_flush_limit(self.flush_limit, self.weigher.is_some())?;
         let listener = self.listener;
         let settings = Settings {
             name: self.name,

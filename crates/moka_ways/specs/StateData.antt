@@ -2,9 +2,10 @@
 use Rattle.std.specs.Prelude.{ℕ, Bool, List, Option}
 use Rattle.moka_policy.specs.Frequency.{after_notes}
 use Rattle.moka_model.specs.Lives.{Behaviour, Settings}
+use Rattle.moka_model.specs.Turns.{Turn}
 use Rattle.moka_model.specs.Steps.{AcceptedStep}
 use Rattle.moka_model.specs.Calls.{Call, Answer}
-use Rattle.moka_model.specs.StandsFor.{Books, View, StandsFor, AtEachHistory, Follows, Answers}
+use Rattle.moka_model.specs.StandsFor.{Books, View, WholeView, StandsFor, AtEachHistory, Follows, Answers}
 use Rattle.moka_ways.specs.Behaviour.{BehaviourData}
 
 -- what a source estimates of a hash, once it has noted these hashes more
@@ -22,13 +23,14 @@ pub record SettingsData (H W X : Type 0) : Type 0 where
   pub flush_limit : Option ℕ
   pub behaviour : BehaviourData H W X
 
--- What a state keeps, as data: its settings, its books, and its source of frequencies. What the types of the cache mean
--- by it is its view. And for how many rows there was room from the start, which matters to no answer.
-pub record StateData (K V H W X F : Type 0) : Type 0 where
+-- What a state keeps, as data: its settings, its books, its source of frequencies, and its turns. What the types of the
+-- cache mean by it is its view. And for how many rows there was room from the start, which matters to no answer.
+pub record StateData (K V H W X F E : Type 0) : Type 0 where
   pub settings : SettingsData H W X
   pub books : Books K V
   pub source : F
   pub initial_room : ℕ
+  pub turns : List (Turn K V E)
 
 module _ {K V H W X : Type 0} (behaviour_in : BehaviourData H W X → Behaviour K V) where
   -- the settings that this means, by the behaviour that it means and by what a new source estimates
@@ -45,23 +47,26 @@ module _ {K V H W X : Type 0} (behaviour_in : BehaviourData H W X → Behaviour 
   }
 
   -- the view of a state, by what its data mean: its behaviour, what a source estimates, and a new source
-  abbrev pub view_by : {F : Type 0} → (F → List ℕ → ℕ → ℕ) → F → StateData K V H W X F → View K V
+  abbrev pub view_by : {F E : Type 0} → (F → List ℕ → ℕ → ℕ) → F → StateData K V H W X F E → WholeView K V E
   view_by frequency_in opened state = record {
-    settings = settings_by (frequency_in opened) state.settings;
-    books = state.books;
-    frequency = frequency_in state.source;
+    values = record {
+      settings = settings_by (frequency_in opened) state.settings;
+      books = state.books;
+      frequency = frequency_in state.source;
+    };
+    turns = state.turns;
   }
 
--- The relations of states, by what the view of each is. The steps have errors of this type.
-module _ {K V : Type 0} (E : Type 0) (eq : K → K → Bool) where
-  abbrev pub StandsForBy : {S : Type 0} → (S → View K V) → Settings K V → S → List (AcceptedStep K V E) → Type 0
-  StandsForBy view settings state steps = StandsFor eq settings (view state) steps
+-- The relations of states, by what the view of each is.
+module _ {K V E S : Type 0} (eq : K → K → Bool) (is_clone : V → V → Type 0) (view : S → WholeView K V E) where
+  abbrev pub StandsForBy : Settings K V → S → List (AcceptedStep K V E) → Type 0
+  StandsForBy settings state steps = StandsFor eq is_clone settings (view state) steps
 
-  abbrev pub AtEachHistoryBy : {S : Type 0} → (S → View K V) → S → (Settings K V → List (AcceptedStep K V E) → Type 0) → Type 0
-  AtEachHistoryBy view state P = AtEachHistory E eq (view state) P
+  abbrev pub AtEachHistoryBy : S → (Settings K V → List (AcceptedStep K V E) → Type 0) → Type 0
+  AtEachHistoryBy state P = AtEachHistory eq is_clone (view state) P
 
-  abbrev pub FollowsBy : {S : Type 0} → (S → View K V) → S → Call K V → S → Type 0
-  FollowsBy view old call new = Follows E eq (view old) call (view new)
+  abbrev pub FollowsBy : S → Call K V E → S → Type 0
+  FollowsBy old call new = Follows eq is_clone (view old) call (view new)
 
-  abbrev pub AnswersBy : {S : Type 0} → (V → V → Type 0) → (S → View K V) → S → Call K V → Answer K V E → Type 0
-  AnswersBy is_clone view state call answer = Answers E eq is_clone (view state) call answer
+  abbrev pub AnswersBy : S → Call K V E → Answer K V E → Type 0
+  AnswersBy state call answer = Answers eq is_clone (view state) call answer

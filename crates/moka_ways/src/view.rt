@@ -38,36 +38,36 @@ pub trait StateView<K: Hash, V: Clone>: CacheTypes<K, V> {
     ghost use Rattle.moka_model.specs.Lives.{Settings};
     ghost use Rattle.moka_model.specs.Steps.{AcceptedStep};
     ghost use Rattle.moka_model.specs.Calls.{Call, Answer};
-    ghost use Rattle.moka_model.specs.StandsFor.{View};
+    ghost use Rattle.moka_model.specs.StandsFor.{WholeView};
     ghost use Rattle.moka_ways.specs.StateData.{SettingsData, StateData};
 
     /// The settings that a cache was built with, as the definitions speak of them.
     ghost settings: { SettingsData Self.Hasher Self.Weigher Self.Expiry → Settings K V };
 
     /// What a state is, as the definitions speak of it.
-    ghost view: { StateData K V Self.Hasher Self.Weigher Self.Expiry Self.Frequency → View K V };
+    ghost view: { StateData K V Self.Hasher Self.Weigher Self.Expiry Self.Frequency Self.Error → WholeView K V Self.Error };
 
     /// The state stands for these accepted steps, under these settings.
     ghost stands_for: { Settings K V
-        → StateData K V Self.Hasher Self.Weigher Self.Expiry Self.Frequency
+        → StateData K V Self.Hasher Self.Weigher Self.Expiry Self.Frequency Self.Error
         → List (AcceptedStep K V Self.Error)
         → Type 0 };
 
     /// Whatever settings and accepted steps the state stands for, this holds of them.
-    ghost at_each_history: { StateData K V Self.Hasher Self.Weigher Self.Expiry Self.Frequency
+    ghost at_each_history: { StateData K V Self.Hasher Self.Weigher Self.Expiry Self.Frequency Self.Error
         → (Settings K V → List (AcceptedStep K V Self.Error) → Type 0)
         → Type 0 };
 
     /// Whatever steps the first state stands for, the second stands for those followed by the call.
-    ghost follows: { StateData K V Self.Hasher Self.Weigher Self.Expiry Self.Frequency
-        → Call K V
-        → StateData K V Self.Hasher Self.Weigher Self.Expiry Self.Frequency
+    ghost follows: { StateData K V Self.Hasher Self.Weigher Self.Expiry Self.Frequency Self.Error
+        → Call K V Self.Error
+        → StateData K V Self.Hasher Self.Weigher Self.Expiry Self.Frequency Self.Error
         → Type 0 };
 
     /// This, when it is handed out, is the answer to the call, after whatever steps the state
     /// stands for.
-    ghost answers: { StateData K V Self.Hasher Self.Weigher Self.Expiry Self.Frequency
-        → Call K V
+    ghost answers: { StateData K V Self.Hasher Self.Weigher Self.Expiry Self.Frequency Self.Error
+        → Call K V Self.Error
         → Answer K V Self.Error
         → Type 0 };
 }
@@ -84,22 +84,22 @@ impl<K: Hash, V: Clone, C: CacheTypes<K, V>> StateView<K, V> for C {
         ⟦<C as BehaviourView<K, V>>⟧.frequency
         C.Frequency.opened };
 
-    ghost stands_for = { StandsForBy C.Error K.eq (view_by
+    ghost stands_for = { StandsForBy K.eq V.is_clone (view_by
         ⟦<C as BehaviourView<K, V>>⟧.behaviour
         ⟦<C as BehaviourView<K, V>>⟧.frequency
         C.Frequency.opened) };
 
-    ghost at_each_history = { AtEachHistoryBy C.Error K.eq (view_by
+    ghost at_each_history = { AtEachHistoryBy K.eq V.is_clone (view_by
         ⟦<C as BehaviourView<K, V>>⟧.behaviour
         ⟦<C as BehaviourView<K, V>>⟧.frequency
         C.Frequency.opened) };
 
-    ghost follows = { FollowsBy C.Error K.eq (view_by
+    ghost follows = { FollowsBy K.eq V.is_clone (view_by
         ⟦<C as BehaviourView<K, V>>⟧.behaviour
         ⟦<C as BehaviourView<K, V>>⟧.frequency
         C.Frequency.opened) };
 
-    ghost answers = { AnswersBy C.Error K.eq V.is_clone (view_by
+    ghost answers = { AnswersBy K.eq V.is_clone (view_by
         ⟦<C as BehaviourView<K, V>>⟧.behaviour
         ⟦<C as BehaviourView<K, V>>⟧.frequency
         C.Frequency.opened) };

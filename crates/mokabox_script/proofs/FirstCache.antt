@@ -22,7 +22,7 @@ use Rattle.mokabox_lines.specs.declared.settings.Weighing.{Weighing}
 use Rattle.mokabox_lines.specs.declared.settings.Weighing.TheVariants as weighings
 use Rattle.mokabox_lines.specs.Settings.{byte_weight}
 use Rattle.mokabox_script.specs.declared.session.Bytes.{Bytes}
-use Rattle.mokabox_script.specs.Script.{Text, CacheSettings, beginning, is_lru_by, weight_by, whole_settings, wanted_segments, cache_settings}
+use Rattle.mokabox_script.specs.Script.{Text, is_copy, CacheSettings, beginning, is_lru_by, weight_by, whole_settings, wanted_segments, cache_settings}
 use Rattle.mokabox_script.specs.Session.{CacheData, CacheHasher, cache_hash, cache_behaviour, view, IsAt, Told, IsTold}
 
 -- the weight of a text, by the weigher of a cache

@@ -1,6 +1,7 @@
 -- What a session prints, from what its cache's steps ensure.
 use Rattle.std.proofs.Common.{◌≡◌, ◌+◌, ℕ, zero, suc, List, [], ◌∷◌, ◌++◌, map, replicate, nat_eq, refl, sym, ap, ◌∙◌, subst, add-one}
 use Rattle.std.proofs.lemmas.List.{map-append, append-nil}
+use Rattle.std.specs.declared.convert.Infallible.{Infallible}
 use Rattle.moka_model.specs.Calls as calls
 use Rattle.moka_model.specs.Calls.{Call}
 use Rattle.std.specs.declared.convert.Infallible.{Infallible}
@@ -19,9 +20,9 @@ use Rattle.mokabox_script.specs.Script.{Text, is_copy, is_surely_copied, CacheSe
 use Rattle.mokabox_script.specs.Session.{CacheData, cache_behaviour, view, Prints}
 
 -- The cache goes from one state to another by a call with this reply.
-pub record Goes (old new : CacheData) (call : Call ℕ Text) (reply : Reply ℕ Text) : Type 0 where
-  pub reply_is : (settings : CacheSettings) (steps : List (Call ℕ Text)) → AllStandFor Infallible nat_eq settings (view old) steps → IsReplyIn Infallible nat_eq is_copy is_surely_copied settings steps call reply
-  pub stands : (settings : CacheSettings) (steps : List (Call ℕ Text)) → AllStandFor Infallible nat_eq settings (view old) steps → AllStandFor Infallible nat_eq settings (view new) (after_reply_in call reply steps)
+pub record Goes (old new : CacheData) (call : Call ℕ Text Infallible) (reply : Reply ℕ Text) : Type 0 where
+  pub reply_is : (settings : CacheSettings) (steps : List (Call ℕ Text Infallible)) → AllStandFor Infallible nat_eq is_copy settings (view old) steps → IsReplyIn Infallible nat_eq is_copy is_surely_copied settings steps call reply
+  pub stands : (settings : CacheSettings) (steps : List (Call ℕ Text Infallible)) → AllStandFor Infallible nat_eq is_copy settings (view old) steps → AllStandFor Infallible nat_eq is_copy settings (view new) (after_reply_in call reply steps)
 
 -- the moment of what follows
 pub moved : (cache : CacheData) (moment later : ℕ) → Prints cache moment (commands.At later) [] cache later
@@ -50,15 +51,15 @@ one_call old new moment command call reply answer items is_one goes is_answer ar
     )
 
 -- So many notices were taken, or it was seen that none is left, and these lines were printed.
-pub record HasTaken (cache : CacheData) (settings : CacheSettings) (steps : List (Call ℕ Text)) (count : ℕ) (printed : List (List ℕ)) : Type 0 where
-  pub after : List (Call ℕ Text)
+pub record HasTaken (cache : CacheData) (settings : CacheSettings) (steps : List (Call ℕ Text Infallible)) (count : ℕ) (printed : List (List ℕ)) : Type 0 where
+  pub after : List (Call ℕ Text Infallible)
   pub prints : CallsPrint settings steps (replicate count calls.TakeNotice) printed after
-  pub stands : AllStandFor Infallible nat_eq settings (view cache) after
+  pub stands : AllStandFor Infallible nat_eq is_copy settings (view cache) after
 
-pub none_taken : (cache : CacheData) (settings : CacheSettings) (steps : List (Call ℕ Text)) → AllStandFor Infallible nat_eq settings (view cache) steps → HasTaken cache settings steps 0 []
+pub none_taken : (cache : CacheData) (settings : CacheSettings) (steps : List (Call ℕ Text Infallible)) → AllStandFor Infallible nat_eq is_copy settings (view cache) steps → HasTaken cache settings steps 0 []
 none_taken cache settings steps stands = record { after = steps; prints = (refl, refl); stands = stands }
 
-prints-more : (settings : CacheSettings) (count : ℕ) (steps after : List (Call ℕ Text)) (printed : List (List ℕ)) (reply : Reply ℕ Text) → CallsPrint settings steps (replicate count calls.TakeNotice) printed after → IsReplyIn Infallible nat_eq is_copy is_surely_copied settings after calls.TakeNotice reply
+prints-more : (settings : CacheSettings) (count : ℕ) (steps after : List (Call ℕ Text Infallible)) (printed : List (List ℕ)) (reply : Reply ℕ Text) → CallsPrint settings steps (replicate count calls.TakeNotice) printed after → IsReplyIn Infallible nat_eq is_copy is_surely_copied settings after calls.TakeNotice reply
     → CallsPrint settings steps (replicate (suc count) calls.TakeNotice) (printed ++ answer_text (answer_of reply) ∷ []) (after_reply_in calls.TakeNotice reply after)
 prints-more settings zero steps after printed reply prints is =
     let here : IsReplyIn Infallible nat_eq is_copy is_surely_copied settings steps calls.TakeNotice reply = subst (λ s. IsReplyIn Infallible nat_eq is_copy is_surely_copied settings s calls.TakeNotice reply) prints.1 is in
@@ -74,7 +75,7 @@ prints-more settings (suc count) steps after printed reply prints is =
     )
 
 -- one notice more
-pub one_taken : (old new : CacheData) (settings : CacheSettings) (steps : List (Call ℕ Text)) (count : ℕ) (printed : List (List ℕ)) (reply : Reply ℕ Text) → HasTaken old settings steps count printed → Goes old new calls.TakeNotice reply → HasTaken new settings steps (count + 1) (printed ++ answer_text (answer_of reply) ∷ [])
+pub one_taken : (old new : CacheData) (settings : CacheSettings) (steps : List (Call ℕ Text Infallible)) (count : ℕ) (printed : List (List ℕ)) (reply : Reply ℕ Text) → HasTaken old settings steps count printed → Goes old new calls.TakeNotice reply → HasTaken new settings steps (count + 1) (printed ++ answer_text (answer_of reply) ∷ [])
 one_taken old new settings steps count printed reply taken goes = rw add-one (record {
   after = after_reply_in calls.TakeNotice reply taken.after;
   prints = prints-more settings count steps taken.after printed reply taken.prints (goes.reply_is settings taken.after taken.stands);
@@ -83,7 +84,7 @@ one_taken old new settings steps count printed reply taken goes = rw add-one (re
 
 -- all were taken, and then it was seen that none is left
 pub all_taken : (old new : CacheData) (moment : ℕ) (printed : List (List ℕ))
-    → ((settings : CacheSettings) (steps : List (Call ℕ Text)) → AllStandFor Infallible nat_eq settings (view old) steps → (count : ℕ) × (count ≡ notices_kept old.segments + 1) × HasTaken new settings steps count printed)
+    → ((settings : CacheSettings) (steps : List (Call ℕ Text Infallible)) → AllStandFor Infallible nat_eq is_copy settings (view old) steps → (count : ℕ) × (count ≡ notices_kept old.segments + 1) × HasTaken new settings steps count printed)
     → Prints old moment commands.Notices printed new moment
 all_taken old new moment printed has settings before is =
     let taken = has settings before.done is.stands in
@@ -94,7 +95,7 @@ all_taken old new moment printed has settings before is =
     )
 
 -- a reply more, whose answer is put behind the others
-pub answered_more : (old new : CacheData) (settings : CacheSettings) (steps : List (Call ℕ Text)) (count : ℕ) (items more : List Answer) (one : Answer) (reply : Reply ℕ Text) → HasTaken old settings steps count (map answer_text items) → Goes old new calls.TakeNotice reply → one ≡ answer_of reply → more ≡ items ++ one ∷ [] → HasTaken new settings steps (count + 1) (map answer_text more)
+pub answered_more : (old new : CacheData) (settings : CacheSettings) (steps : List (Call ℕ Text Infallible)) (count : ℕ) (items more : List Answer) (one : Answer) (reply : Reply ℕ Text) → HasTaken old settings steps count (map answer_text items) → Goes old new calls.TakeNotice reply → one ≡ answer_of reply → more ≡ items ++ one ∷ [] → HasTaken new settings steps (count + 1) (map answer_text more)
 answered_more old new settings steps count items more one reply taken goes is_answer is_more =
     let lines : map answer_text more ≡ map answer_text items ++ answer_text (answer_of reply) ∷ [] = ap (map answer_text) is_more ∙ map-append answer_text items (one ∷ []) ∙ ap (λ a. map answer_text items ++ answer_text a ∷ []) is_answer in
     subst (HasTaken new settings steps (count + 1)) (sym lines) (one_taken old new settings steps count (map answer_text items) reply taken goes)

@@ -55,7 +55,7 @@ CacheSettings = SegmentedSettings ℕ Text
 
 -- how far a script has come: the calls of its cache that were not refused, the newest first, and the moment of its commands
 pub record Course : Type 0 where
-  pub done : List (Call ℕ Text)
+  pub done : List (Call ℕ Text Infallible)
   pub moment : ℕ
 
 -- whether the bytes of a text are those of one of the texts that stand with one space between each two
@@ -64,7 +64,7 @@ is_among texts text = is_one_of (string_bytes text) (fields_of texts)
 
 -- The calls that a command makes at a moment, when this many notices are left. A text that it hands in has the command's
 -- bytes. All notices are taken, and then once more, when there is none.
-abbrev pub Makes : ℕ → ℕ → PlainCommand → List (Call ℕ Text) → Type 0
+abbrev pub Makes : ℕ → ℕ → PlainCommand → List (Call ℕ Text Infallible) → Type 0
 Makes notices moment (At later) made = made ≡ []
 Makes notices moment (Insert key value) made = (text : Text) × (string_bytes text ≡ value) × (made ≡ calls.Insert key text moment ∷ [])
 Makes notices moment (Get key) made = made ≡ calls.Get key moment ∷ []
@@ -100,7 +100,8 @@ answer_of (replies.Refused cause) = answers.Refused cause
 answer_of (replies.PredicateRefused cause) = answers.NotHidden cause
 
 -- What calls print, a line for the reply to each, and the calls done after them: a refused call leaves them as they are.
-abbrev pub CallsPrint : CacheSettings → List (Call ℕ Text) → List (Call ℕ Text) → List (List ℕ) → List (Call ℕ Text) → Type 0
+abbrev pub CallsPrint : CacheSettings → List (Call ℕ Text Infallible) → List (Call ℕ Text Infallible) →
+    List (List ℕ) → List (Call ℕ Text Infallible) → Type 0
 CallsPrint settings done [] printed after = (printed ≡ []) × (after ≡ done)
 CallsPrint settings done (call ∷ more) printed after =
     (reply : Reply ℕ Text) × (rest : List (List ℕ)) × IsReplyIn Infallible nat_eq is_copy is_surely_copied settings done call reply
@@ -140,7 +141,7 @@ Tells settings before command lines = lines ≡ []
 -- What a command prints, and how far the script has come then.
 abbrev pub CommandPrints : CacheSettings → Course → PlainCommand → List (List ℕ) → Course → Type 0
 CommandPrints settings before command printed after =
-    (made : List (Call ℕ Text)) × (answers : List (List ℕ)) × (own : List (List ℕ))
+    (made : List (Call ℕ Text Infallible)) × (answers : List (List ℕ)) × (own : List (List ℕ))
     × Makes (notices_in Infallible nat_eq settings before.done) before.moment command made
     × CallsPrint settings before.done made answers after.done × Tells settings before command own × (printed ≡ own ++ answers)
     × (after.moment ≡ moment_after command before.moment)

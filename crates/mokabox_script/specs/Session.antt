@@ -38,7 +38,7 @@ CacheHasher = BuildHasherDefault NumberHash
 
 -- what a script's cache keeps
 abbrev pub CacheData : Type 0
-CacheData = SegmentedData ℕ Text CacheHasher Bytes NoExpiry Counts
+CacheData = SegmentedData ℕ Text CacheHasher Bytes NoExpiry Counts Infallible
 
 -- the hash of a key
 abbrev pub cache_hash : CacheHasher → ℕ → ℕ

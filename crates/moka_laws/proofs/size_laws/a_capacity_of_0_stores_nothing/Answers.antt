@@ -1,6 +1,6 @@
 use Rattle.std.proofs.Common.{refl}
 use Rattle.moka_model.proofs.Callers.{orders-empty, standing-empty, removals-empty}
-use Rattle.moka_laws.proofs.Undrawn.{next_number-empty}
+use Rattle.moka_laws.proofs.Undrawn.{drawn-empty}
 use Rattle.moka_laws.proofs.size_laws.a_capacity_of_0_stores_nothing.Goals as goal
 
 pub returns-clause-orders : goal.returns-clause-orders
@@ -15,5 +15,5 @@ returns-clause-looks g c settings steps k at none legal = rw (standing-empty g.K
 pub returns-clause-removals : goal.returns-clause-removals
 returns-clause-removals g c settings steps none legal = removals-empty g.K.PartialEq.eq settings none steps legal
 
-pub returns-clause-next_number : goal.returns-clause-next_number
-returns-clause-next_number g c settings steps none legal = next_number-empty g.K.PartialEq.eq settings none steps legal
+pub returns-clause-drawn : goal.returns-clause-drawn
+returns-clause-drawn g c settings k v at h none = drawn-empty g.K.PartialEq.eq settings none k v at h

@@ -1,10 +1,13 @@
-use Rattle.std.proofs.Common.{subst, refl, arith}
+use Rattle.std.proofs.Common.{[], subst, refl, arith}
 use Rattle.moka_model.specs.StandsFor.{StandsFor}
+use Rattle.moka_model.proofs.Callers.{whole}
 use Rattle.moka_table.specs.Table.{entries}
 use Rattle.moka_state.proofs.Inserts.{same-view, few-wait, many-wait, stands-plain, stands-put-flushed}
 use Rattle.moka_state.proofs.Sound.{IsSound-same, IsSound-maintained}
 use Rattle.moka_state.proofs.Targets.{goes_with-lookup, goes_with-now, IsSound-put, where-lookup, becomes-put}
 use Rattle.moka_state.proofs.Views.{one-each}
+use Rattle.moka_ways.specs.Behaviour.{hash_by}
+use Rattle.moka_turns.specs.Views.{turns_of}
 use Rattle.moka_state.proofs.state.State.write_anew.Goals as goal
 use Rattle.moka_state.proofs.state.State.write_anew.Goals.{then-waiting_len-lt-FLUSH_POINT+in-Ok-target, else-waiting_len-lt-FLUSH_POINT+in-Ok-into_shared}
 
@@ -41,7 +44,7 @@ returns g c = record {
       let hash = rw c.key.ensures at c.hash-hash.ensures.hash in
       let weighed = rw c.key-2.ensures at c.weight-weight.ensures in
       let stores = rw (← c.self.view_is) at c.requires.stores in
-      let same = subst (λ view. StandsFor eq given view steps) (same-view _ _ s.latest s.next_number s.table c.lookup.new.self c.in-Ok.ensures.same) (rw (← c.self.view_is) at stands) in
+      let same = subst (λ view. StandsFor eq g.V.Clone.is_clone given (whole view (turns_of (hash_by g.C.Hasher.BuildHasher.build_hasher g.C.Hasher.Hasher.Hasher.write g.C.Hasher.Hasher.Hasher.finish g.K.Hash.hash_input s.behaviour.hasher) s.turns)) steps) (same-view _ _ s.latest s.next_number s.table c.lookup.new.self c.in-Ok.ensures.same) (rw (← c.self.view_is) at stands) in
       let one = one-each eq laws given _ steps same in
       elim c.if-waiting_len-lt-FLUSH_POINT.branch [
         | then-waiting_len-lt-FLUSH_POINT+in-Ok-target w ↦

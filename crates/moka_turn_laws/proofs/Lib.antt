@@ -1,0 +1,7 @@
+pub mod Begins
+pub mod Ends
+pub mod HeldTurns
+pub mod Names
+pub mod Numbers
+pub mod Outcomes
+pub mod Tickets

@@ -1,0 +1,168 @@
+-- The words of the laws of turns, over lists of accepted steps.
+use Rattle.std.specs.Prelude.{⊤, ◌≡◌, ◌≢◌, ◌↔◌, ◌≤◌, ◌<◌, ℕ, ◌+◌, ◌==◌, if◌then◌else◌, true, false, Bool, Option, Some, None}
+use Rattle.std.specs.Prelude.{List, [], ◌∷◌, ◌++◌, filter}
+use Rattle.moka_model.specs.declared.turns.Kind.{Kind}
+use Rattle.moka_model.specs.declared.turns.Kind.TheVariants.{Compute}
+use Rattle.moka_model.specs.declared.turns.Outcome.{Outcome}
+use Rattle.moka_model.specs.declared.turns.Outcome.TheVariants as outcomes
+use Rattle.moka_model.specs.Lives.{Settings, Write}
+use Rattle.moka_model.specs.Numbers.{next_number}
+use Rattle.moka_model.specs.Turns.{Name, Turn, End, Value, Nothing, Failed, Computed, Abandoned, Move, Opened, Waited, Ended, Spent}
+use Rattle.moka_model.specs.Turns.{AreApart, AreHeld, IsIn, is_held, is_open_for, moved_by, same_name}
+use Rattle.moka_model.specs.Steps.{AcceptedStep, events_in, held_turns, turns}
+use Rattle.moka_model.specs.Calls.{Call, Begin, BeginCompute, Finish, Abandon, Collect, Leave, Accepted, Answer, Entered, Entry, Run, Wait}
+use Rattle.moka_model.specs.Calls.{GaveNothing, GaveError, NotYet, WasAbandoned, HasEnded}
+use Rattle.moka_model.specs.Calls.{IsLegal, acceptable, accepted, accepted_beside, entry_of, live_at}
+
+module _ {V E : Type 0} where
+  -- an outcome that is handed in and what its turn ends with
+  abbrev pub HandsIn : Outcome V E → End V E → Type 0
+  HandsIn (outcomes.Value v) (Value u replaced) = v ≡ u
+  HandsIn outcomes.Nothing Nothing = ⊤
+  HandsIn (outcomes.Failed e) (Failed f) = e ≡ f
+  HandsIn (outcomes.Op op) Computed = ⊤
+  HandsIn outcome end = ⊥
+
+module _ {K V E : Type 0} where
+  -- how often a turn was waited for, how often a ticket of it was spent, and how often it was ended
+  abbrev pub waits_in : ℕ → Option (Move K V E) → ℕ
+  waits_in number (Some (Waited n)) = if n == number then 1 else 0
+  waits_in number m = 0
+
+  abbrev pub waits_of : ℕ → List (AcceptedStep K V E) → ℕ
+  waits_of number [] = 0
+  waits_of number (d ∷ ds) = waits_in number d.move + waits_of number ds
+
+  abbrev pub spent_in : ℕ → Option (Move K V E) → ℕ
+  spent_in number (Some (Spent n)) = if n == number then 1 else 0
+  spent_in number m = 0
+
+  abbrev pub spent_of : ℕ → List (AcceptedStep K V E) → ℕ
+  spent_of number [] = 0
+  spent_of number (d ∷ ds) = spent_in number d.move + spent_of number ds
+
+  abbrev pub ends_in : ℕ → Option (Move K V E) → ℕ
+  ends_in number (Some (Ended n end)) = if n == number then 1 else 0
+  ends_in number m = 0
+
+  abbrev pub ends_of : ℕ → List (AcceptedStep K V E) → ℕ
+  ends_of number [] = 0
+  ends_of number (d ∷ ds) = ends_in number d.move + ends_of number ds
+
+-- The place of a step in a list, with those before it.
+pub record Place {A : Type 0} (a : A) (all : List A) : Type 0 where
+  pub later : List A
+  pub before : List A
+  pub place : all ≡ later ++ a ∷ before
+
+module _ {K V E : Type 0} where
+  -- no number names two turns
+  abbrev pub NumbersName : List (AcceptedStep K V E) → Type 0
+  NumbersName ds =
+      (before middle after : List (Turn K V E)) (a b : Turn K V E) → turns ds ≡ before ++ a ∷ (middle ++ b ∷ after)
+      → a.name.number ≢ b.name.number
+
+  -- the tickets of a turn: its waits are those spent and those unspent
+  abbrev pub TicketsMatch : List (AcceptedStep K V E) → Type 0
+  TicketsMatch ds =
+      (before after : List (Turn K V E)) (t : Turn K V E) → turns ds ≡ before ++ t ∷ after
+      → waits_of t.name.number ds ≡ spent_of t.name.number ds + t.unspent
+
+  -- a call that ends the turn of a number so: a finish that hands it in, or an abandon
+  abbrev pub EndedBy : ℕ → End V E → Call K V E → Type 0
+  EndedBy number end (Finish name outcome at) = (number ≡ name.number) × HandsIn outcome end
+  EndedBy number end (Abandon name) = (number ≡ name.number) × (end ≡ Abandoned)
+  EndedBy number end call = ⊥
+
+  -- a call that spends a ticket of the turn of a number: a collect that is answered, or a leave
+  abbrev pub SpentBy : ℕ → Call K V E → Answer K V E → Type 0
+  SpentBy number (Collect name) answer = (number ≡ name.number) × (answer ≢ NotYet)
+  SpentBy number (Leave name) answer = number ≡ name.number
+  SpentBy number call answer = ⊥
+
+  -- a call without a move
+  abbrev pub IsIdle : Call K V E → Answer K V E → Type 0
+  IsIdle call (Run name shown) = ⊥
+  IsIdle call (Wait name) = ⊥
+  IsIdle (Finish name outcome at) answer = ⊥
+  IsIdle (Abandon name) answer = ⊥
+  IsIdle (Leave name) answer = ⊥
+  IsIdle (Collect name) answer = answer ≡ NotYet
+  IsIdle call answer = ⊤
+
+  -- the move of an accepted call shows in the call and its answer
+  abbrev pub Shows : Call K V E → Answer K V E → Option (Move K V E) → Type 0
+  Shows call answer None = IsIdle call answer
+  Shows call answer (Some (Opened name look kept)) = (shown : Option (Entry K V)) × (answer ≡ Run name shown)
+  Shows call answer (Some (Waited number)) = (name : Name K) × (answer ≡ Wait name) × (name.number ≡ number)
+  Shows call answer (Some (Ended number end)) = EndedBy number end call
+  Shows call answer (Some (Spent number)) = SpentBy number call answer
+
+module _ {K V E : Type 0} (eq : K → K → Bool) where
+  -- A turn of the name was ended so by a step, and every wait for it stands before that step.
+  pub record IsOutcome (ds : List (AcceptedStep K V E)) (name : Name K) (end : End V E) : Type 0 where
+    pub turn : Turn K V E
+    pub same : same_name eq turn.name name ≡ true
+    pub step : AcceptedStep K V E
+    pub place : Place step ds
+    pub ends : step.move ≡ Some (Ended turn.name.number end)
+    pub waits_before : waits_of turn.name.number ds ≡ waits_of turn.name.number place.before
+
+module _ {K V E : Type 0} (eq : K → K → Bool) (settings : Settings K V) where
+  -- a begin of an initializer answers `Run`
+  abbrev pub Runs : List (AcceptedStep K V E) → K → Kind → Option Bool → ℕ → Type 0
+  Runs ds k kind replace at =
+      (name : Name K) × (it : Accepted K V E) × (accepted eq settings ds (Begin k kind replace at) ≡ Some it)
+      × (it.answer ≡ Run name None)
+
+  -- exactly where no acceptable value is live and no turn of the key and kind is open
+  abbrev pub OpensExactly : List (AcceptedStep K V E) → Type 0
+  OpensExactly ds = (k : K) (kind : Kind) → kind ≢ Compute → (replace : Option Bool) (at : ℕ) →
+      Runs ds k kind replace at
+      ↔ ((acceptable replace (live_at eq settings k at (events_in ds)) ≡ None) × (filter (is_open_for eq kind k) (turns ds) ≡ []))
+
+  -- a begin of a compute answers `Run`
+  abbrev pub RunsCompute : List (AcceptedStep K V E) → K → Bool → ℕ → Type 0
+  RunsCompute ds k keep at =
+      (name : Name K) × (shown : Option (Entry K V)) × (it : Accepted K V E)
+      × (accepted eq settings ds (BeginCompute k keep at) ≡ Some it) × (it.answer ≡ Run name shown)
+
+  -- exactly where no compute turn of the key is open
+  abbrev pub ComputesExactly : List (AcceptedStep K V E) → Type 0
+  ComputesExactly ds = (k : K) (keep : Bool) (at : ℕ) →
+      RunsCompute ds k keep at ↔ (filter (is_open_for eq Compute k) (turns ds) ≡ [])
+
+  -- a begin that is answered with a value gives one that is live and acceptable
+  abbrev pub FindsAcceptable : List (AcceptedStep K V E) → Type 0
+  FindsAcceptable ds = (k : K) (kind : Kind) → kind ≢ Compute → (replace : Option Bool) (at : ℕ) (e : Entry K V) (it : Accepted K V E)
+      → accepted eq settings ds (Begin k kind replace at) ≡ Some it → it.answer ≡ Entered e
+      → (w : Write K V) × (acceptable replace (live_at eq settings k at (events_in ds)) ≡ Some w) × (e ≡ entry_of w)
+
+  -- each step of a list is an accepted call whose move shows
+  abbrev pub MovesShow : List (AcceptedStep K V E) → Type 0
+  MovesShow ds = (d : AcceptedStep K V E) (p : Place d ds) →
+      (call : Call K V E) × (it : Accepted K V E) × (accepted eq settings p.before call ≡ Some it) × (it.step ≡ d)
+      × Shows call it.answer d.move
+
+  -- What a state that keeps the held turns alone rests on: every call is answered from them, each step makes them from
+  -- those before it, and each has a number of its own below the next.
+  pub record HeldSuffice (ds : List (AcceptedStep K V E)) : Type 0 where
+    pub answered : (call : Call K V E) → accepted_beside eq settings (events_in ds) (held_turns ds) call ≡ accepted eq settings ds call
+    pub made : (d : AcceptedStep K V E) → IsLegal eq settings (d ∷ ds) →
+        held_turns (d ∷ ds) ≡ filter is_held (moved_by d.move (held_turns ds))
+    pub apart : AreApart (held_turns ds)
+    pub are_held : AreHeld (held_turns ds)
+    pub below : (t : Turn K V E) → IsIn t (held_turns ds) → t.name.number < next_number settings (events_in ds)
+
+  -- a collect of a name is answered with this
+  abbrev pub Collects : List (AcceptedStep K V E) → Name K → Answer K V E → Type 0
+  Collects ds name answer = (it : Accepted K V E) × (accepted eq settings ds (Collect name) ≡ Some it) × (it.answer ≡ answer)
+
+  -- What is collected is the outcome of a turn of that name.
+  pub record CollectsGive (ds : List (AcceptedStep K V E)) : Type 0 where
+    pub value : (name : Name K) (e : Entry K V) → Collects ds name (Entered e) →
+        (e.key ≡ name.key) × (e.fresh ≡ false) × IsOutcome eq ds name (Value e.value e.replaced)
+    pub nothing : (name : Name K) → Collects ds name GaveNothing → IsOutcome eq ds name Nothing
+    pub failed : (name : Name K) (e : E) → Collects ds name (GaveError e) → IsOutcome eq ds name (Failed e)
+    pub computed : (name : Name K) → Collects ds name HasEnded → IsOutcome eq ds name Computed
+    pub abandoned : (name : Name K) → Collects ds name WasAbandoned → IsOutcome eq ds name Abandoned

@@ -1,0 +1,5 @@
+pub mod Keeps
+pub mod Table
+pub mod TurnKey
+pub mod Views
+pub mod Told

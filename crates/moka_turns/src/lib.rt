@@ -1,0 +1,6 @@
+//! Turns: who works out a value for a key, who waits for it, and what came of it.
+#![tactic(auto)]
+
+pub mod handles;
+pub mod table;
+pub mod turn_key;

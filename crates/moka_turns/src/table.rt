@@ -1,0 +1,422 @@
+//! The table of turns: those that are open, by kind and key, and those that are ended and have
+//! unspent tickets, by their numbers.
+ghost use Rattle.std.specs.Prelude.{◌≡◌, ◌≢◌, ℕ, ◌+◌, ◌-◌, ◌<◌, ◌≤◌, ◌^◌, None, Some, IsSome, IfSome, IfNone, IfOk, IfErr, OnSome, OnOk, nat_eq, option_copied, if◌then◌else◌, nat_lt};
+ghost use Rattle.indexmap.specs.IndexMap.{get, spare, index_map_len, Updates, IsEmpty, IsUnchanged};
+ghost use Rattle.std.specs.Prelude.{Option, List, true, false, ◌==◌, ◌&&◌, nat_le, MatchOption};
+ghost use Rattle.std.specs.Arc.{arc_value};
+ghost use Rattle.moka_model.specs.Turns as turning;
+ghost use Rattle.moka_model.specs.Turns.{Abandoned, Ended, Opened, Spent, Waited, moved, found, has_ticket_as, is_open_as};
+ghost use Rattle.moka_model.specs.Calls.{IsCopiedEnd, IsCopyOf};
+ghost use Rattle.moka_turns.specs.Keeps.{Keeps, AreSound, end_of, name_of};
+ghost use Rattle.moka_turns.specs.Told.{IsTold, IfNotYet, IsUnspent};
+ghost use Rattle.moka_turns.specs.Table.{with_unspent, one_less, kept_ended, HasRoom};
+
+use crate::handles::{Ticket, Turn};
+use crate::turn_key::TurnKey;
+use indexmap::IndexMap;
+use moka_links::as_is::AsIs;
+use moka_model::turns::Kind;
+use std::alloc::{AllocError, Global};
+use std::hash::BuildHasherDefault;
+use std::sync::Arc;
+
+/// An open turn.
+#[derive(Drop)]
+pub struct OpenTurn<V> {
+    /// Its number.
+    pub number: u64,
+    /// Whether its look found a live value.
+    pub shown: bool,
+    /// The copy of that value that was kept aside, if one was.
+    pub kept: Option<V>,
+    /// How many of its tickets are unspent.
+    pub unspent: u64,
+}
+
+/// What a turn ended with.
+#[derive(Drop)]
+pub enum TurnEnd<V, E> {
+    /// A value, and whether a live one stood at its write.
+    Value(V, bool),
+    /// There is no value.
+    Nothing,
+    /// An error in place of a value.
+    Failed(Arc<E>),
+    /// It was a compute: what it gave is its caller's own.
+    Computed,
+    /// It ended without an outcome.
+    Abandoned,
+}
+
+/// An ended turn with unspent tickets.
+#[derive(Drop)]
+pub struct EndedTurn<K, V, E> {
+    /// Its kind and its key.
+    pub key: TurnKey<K>,
+    /// What it ended with.
+    pub end: TurnEnd<V, E>,
+    /// How many of its tickets are unspent.
+    pub unspent: u64,
+}
+
+type Open<K, V> = IndexMap<TurnKey<K>, OpenTurn<V>, BuildHasherDefault<AsIs>>;
+
+type Ended<K, V, E> = IndexMap<u64, EndedTurn<K, V, E>, BuildHasherDefault<AsIs>>;
+
+/// What a ticket is told. As long as its turn is open, the ticket is handed back.
+pub enum Told<K, V, E> {
+    /// Its turn is open.
+    NotYet(Ticket<K>),
+    /// Its turn has ended, with this.
+    Ended(TurnEnd<V, E>),
+}
+
+/// A refused ticket, which is handed back.
+pub struct TicketRefused<K> {
+    /// The ticket, as it was given.
+    pub ticket: Ticket<K>,
+    /// Whether its turn is known, and has an unspent ticket: then memory for a copy was refused.
+    pub known: bool,
+}
+
+/// The turns that are kept: one is found without a look at others, whether open or ended. Each open
+/// turn has the room that it may need once it is ended, so nothing but `reserve` takes memory.
+#[derive(Drop)]
+pub struct Turns<K: Eq + Drop, V: Drop, E: Drop> {
+    opened: Open<K, V>,
+    ended: Ended<K, V, E>,
+    ghost room: { index_map_len opened ≤ spare ended },
+}
+
+impl<K: Eq + Drop, V: Drop, E: Drop> Turns<K, V, E> {
+    /// No turns. It takes no memory.
+    pub fn new(alloc: Global) -> Self
+        ensures opened { (key : TurnKey K) → get ⟦<TurnKey<K> as PartialEq>⟧.eq result.opened key ≡ None }
+        ensures ended { (number : ℕ) → get nat_eq result.ended number ≡ None }
+        ensures nothing { IsEmpty result.opened × IsEmpty result.ended }
+    {
+        Turns {
+            opened: IndexMap::with_hasher(alloc, BuildHasherDefault::new()),
+            ended: IndexMap::with_hasher(alloc, BuildHasherDefault::new()),
+        }
+    }
+
+    /// The open turn of a kind and a key.
+    pub fn find(&self, key: &TurnKey<K>) -> Option<&OpenTurn<V>>
+        ensures { option_copied result ≡ get ⟦<TurnKey<K> as PartialEq>⟧.eq self.now.opened key.now }
+    {
+        self.opened.get(key)
+    }
+
+    /// The ended turn of a number.
+    pub fn ended(&self, number: u64) -> Option<&EndedTurn<K, V, E>>
+        ensures { option_copied result ≡ get nat_eq self.now.ended number }
+    {
+        self.ended.get(&number)
+    }
+
+    /// Makes room for one more turn. Where memory is refused, every turn stays as it was.
+    pub fn reserve(&mut self) -> Result<(), AllocError>
+        ensures room { OnOk result (HasRoom self.new.opened self.new.ended) }
+        ensures opened { IsUnchanged self.old.opened self.new.opened }
+        ensures ended { IsUnchanged self.old.ended self.new.ended }
+    {
+        self.ended.reserve(self.opened.len() + 1)?;
+        self.opened.reserve(1)
+    }
+
+    // Gives out one more ticket of an open turn, and answers its number.
+    fn one_more(&mut self, key: &TurnKey<K>) -> Option<u64>
+        requires { IsSome (get ⟦<TurnKey<K> as PartialEq>⟧.eq self.old.opened key.now) }
+        ensures number { IfSome result (λ number. IfSome (get ⟦<TurnKey<K> as PartialEq>⟧.eq self.old.opened key.now)
+            (λ turn. (turn.number ≡ number) × (turn.unspent < 2 ^ 64 - 1)
+            × Updates ⟦<TurnKey<K> as PartialEq>⟧.eq self.old.opened self.new.opened key.now (Some (with_unspent (turn.unspent + 1) turn)))) }
+        ensures full { IfNone result (IfSome (get ⟦<TurnKey<K> as PartialEq>⟧.eq self.old.opened key.now) (λ turn. turn.unspent ≡ 2 ^ 64 - 1)) }
+        ensures unchanged { IfNone result (IsUnchanged self.old.opened self.new.opened) }
+        ensures ended { self.new.ended ≡ self.old.ended }
+    {
+        let turn = self.opened.get_mut(key)?;
+        if turn.unspent == u64::MAX {
+            return None;
+        }
+        turn.unspent += 1;
+        Some(turn.number)
+    }
+
+    /// Ends the open turn of a kind and a key, and answers it. While it has unspent tickets it is kept
+    /// with its end. It takes no memory.
+    pub fn end(&mut self, key: TurnKey<K>, end: TurnEnd<V, E>) -> OpenTurn<V>
+        requires { IsSome (get ⟦<TurnKey<K> as PartialEq>⟧.eq self.old.opened key) }
+        ensures turn { Some result ≡ get ⟦<TurnKey<K> as PartialEq>⟧.eq self.old.opened key }
+        ensures opened { Updates ⟦<TurnKey<K> as PartialEq>⟧.eq self.old.opened self.new.opened key None }
+        ensures waited_for { 0 < result.unspent → Updates nat_eq self.old.ended self.new.ended result.number
+            (Some (record { key = key; end = end; unspent = result.unspent })) }
+        ensures alone { result.unspent ≡ 0 → IsUnchanged self.old.ended self.new.ended }
+    {
+        let Some(turn) = self.opened.swap_remove(&key) else {
+            unreachable!()
+        };
+        if turn.unspent > 0 {
+            let unspent = turn.unspent;
+            match self
+                .ended
+                .insert(turn.number, EndedTurn { key, end, unspent })
+            {
+                Ok(_) => {}
+                Err(_) => unreachable!(),
+            }
+        }
+        turn
+    }
+
+    /// Spends a ticket of an open turn. It takes no memory.
+    pub fn leave_open(&mut self, key: &TurnKey<K>)
+        requires { IfSome (get ⟦<TurnKey<K> as PartialEq>⟧.eq self.old.opened key.now) (λ turn. 0 < turn.unspent) }
+        ensures spent { IfSome (get ⟦<TurnKey<K> as PartialEq>⟧.eq self.old.opened key.now)
+            (λ turn. Updates ⟦<TurnKey<K> as PartialEq>⟧.eq self.old.opened self.new.opened key.now (Some (with_unspent (turn.unspent - 1) turn))) }
+        ensures ended { self.new.ended ≡ self.old.ended }
+    {
+        if let Some(turn) = self.opened.get_mut(key) {
+            turn.unspent -= 1;
+        }
+    }
+
+    /// Spends a ticket of an ended turn. With its last ticket the turn is let go, and answered. It
+    /// takes no memory.
+    pub fn leave_ended(&mut self, number: u64) -> Option<EndedTurn<K, V, E>>
+        requires { IsSome (get nat_eq self.old.ended number) }
+        ensures spent { IfSome (get nat_eq self.old.ended number)
+            (λ turn. Updates nat_eq self.old.ended self.new.ended number (kept_ended (one_less turn))) }
+        ensures last { IfSome result (λ turn. get nat_eq self.old.ended number ≡ Some turn) }
+        ensures opened { self.new.opened ≡ self.old.opened }
+    {
+        if self.is_last(number) {
+            return self.ended.swap_remove(&number);
+        }
+        if let Some(ended) = self.ended.get_mut(&number) {
+            ended.unspent -= 1;
+        }
+        None
+    }
+
+    // Whether an ended turn has one unspent ticket at most.
+    fn is_last(&self, number: u64) -> bool
+        ensures { IfSome (get nat_eq self.now.ended number)
+            (λ turn. kept_ended (one_less turn) ≡ (if result then None else Some (one_less turn))) }
+    {
+        match self.ended.get(&number) {
+            Some(turn) => turn.unspent <= 1,
+            None => true,
+        }
+    }
+
+    // Whether the open turn of a kind and a key has this number, and an unspent ticket.
+    fn is_awaited(&self, key: &TurnKey<K>, number: u64) -> bool
+        ensures { MatchOption (get ⟦<TurnKey<K> as PartialEq>⟧.eq self.now.opened key.now) (result ≡ false)
+            (λ turn. result ≡ (turn.number == number && nat_le 1 turn.unspent)) }
+    {
+        match self.opened.get(key) {
+            Some(turn) => turn.number == number && turn.unspent >= 1,
+            None => false,
+        }
+    }
+
+    // Whether the ended turn of a number is of a kind and a key.
+    fn is_its(&self, key: &TurnKey<K>, number: u64) -> bool
+        ensures { MatchOption (get nat_eq self.now.ended number) (result ≡ false)
+            (λ turn. result ≡ (⟦<Kind as PartialEq>⟧.eq turn.key.kind key.now.kind && K.eq (arc_value turn.key.key) (arc_value key.now.key))) }
+    {
+        match self.ended.get(&number) {
+            Some(turn) => turn.key.kind == key.kind && *turn.key.key == *key.key,
+            None => false,
+        }
+    }
+
+    // Whether the open turn of a kind and a key has this number.
+    fn is_open(&self, key: &TurnKey<K>, number: u64) -> bool
+        ensures { MatchOption (get ⟦<TurnKey<K> as PartialEq>⟧.eq self.now.opened key.now) (result ≡ false) (λ turn. result ≡ (turn.number == number)) }
+    {
+        match self.opened.get(key) {
+            Some(turn) => turn.number == number,
+            None => false,
+        }
+    }
+}
+
+impl<K: Eq + Drop, V: Clone, E: Drop> Turns<K, V, E> {
+    /// Opens a turn. It takes no memory.
+    pub fn add(&mut self, key: TurnKey<K>, turn: OpenTurn<V>)
+        requires absent { get ⟦<TurnKey<K> as PartialEq>⟧.eq self.old.opened key ≡ None }
+        requires room { HasRoom self.old.opened self.old.ended }
+        ensures opened { Updates ⟦<TurnKey<K> as PartialEq>⟧.eq self.old.opened self.new.opened key (Some turn) }
+        ensures ended { self.new.ended ≡ self.old.ended }
+        ensures keeps { (hash_of : K → ℕ) (ts : List (turning.Turn K V E)) (kept : Option V)
+            → ((a b : K) → K.eq a b ≡ true → hash_of a ≡ hash_of b)
+            → key.hash ≡ hash_of (arc_value key.key)
+            → IsCopyOf V.is_clone kept turn.kept
+            → turn.unspent ≡ 0
+            → Keeps K.eq V.is_clone hash_of ts (get ⟦<TurnKey<K> as PartialEq>⟧.eq self.old.opened) (get nat_eq self.old.ended)
+            → Keeps K.eq V.is_clone hash_of (moved (Opened (name_of key turn.number) turn.shown kept) ts)
+            (get ⟦<TurnKey<K> as PartialEq>⟧.eq self.new.opened) (get nat_eq self.new.ended) }
+    {
+        match self.opened.insert(key, turn) {
+            Ok(_) => {}
+            Err(_) => unreachable!(),
+        }
+    }
+
+    /// Ends a turn without an outcome, where it is an open turn of this table; it is spent in any
+    /// case. Whether it was one. It takes no memory.
+    pub fn abandon(&mut self, turn: Turn<K>) -> bool
+        ensures abandons { (hash_of : K → ℕ) (ts : List (turning.Turn K V E))
+            → ((a b : K) → K.eq a b ≡ true → hash_of a ≡ hash_of b)
+            → turn.key.hash ≡ hash_of (arc_value turn.key.key)
+            → AreSound K.eq ts
+            → Keeps K.eq V.is_clone hash_of ts (get ⟦<TurnKey<K> as PartialEq>⟧.eq self.old.opened) (get nat_eq self.old.ended)
+            → MatchOption (found (is_open_as K.eq (name_of turn.key turn.number)) ts) (result ≡ false)
+            (λ t. (result ≡ true) × Keeps K.eq V.is_clone hash_of (moved (Ended t.name.number Abandoned) ts)
+            (get ⟦<TurnKey<K> as PartialEq>⟧.eq self.new.opened) (get nat_eq self.new.ended)) }
+        ensures unchanged { result ≡ false → IsUnchanged self.old.opened self.new.opened × IsUnchanged self.old.ended self.new.ended }
+    {
+        let Turn { key, number } = turn;
+        if !self.is_open(&key, number) {
+            return false;
+        }
+        self.end(key, TurnEnd::Abandoned);
+        true
+    }
+
+    /// Gives out one more ticket of the open turn of a kind and a key, and answers the turn's number;
+    /// none where its tickets are as many as can be counted, and then nothing has changed. It takes no
+    /// memory.
+    pub fn wait(&mut self, key: &TurnKey<K>) -> Option<u64>
+        requires { IsSome (get ⟦<TurnKey<K> as PartialEq>⟧.eq self.old.opened key.now) }
+        ensures keeps { IfSome result (λ number. (hash_of : K → ℕ) (ts : List (turning.Turn K V E))
+            → ((a b : K) → K.eq a b ≡ true → hash_of a ≡ hash_of b)
+            → key.now.hash ≡ hash_of (arc_value key.now.key)
+            → AreSound K.eq ts
+            → Keeps K.eq V.is_clone hash_of ts (get ⟦<TurnKey<K> as PartialEq>⟧.eq self.old.opened) (get nat_eq self.old.ended)
+            → Keeps K.eq V.is_clone hash_of (moved (Waited number) ts)
+            (get ⟦<TurnKey<K> as PartialEq>⟧.eq self.new.opened) (get nat_eq self.new.ended)) }
+        ensures number { IfSome result (λ number. IfSome (get ⟦<TurnKey<K> as PartialEq>⟧.eq self.old.opened key.now) (λ turn. turn.number ≡ number)) }
+        ensures full { IfNone result (IfSome (get ⟦<TurnKey<K> as PartialEq>⟧.eq self.old.opened key.now) (λ turn. turn.unspent ≡ 2 ^ 64 - 1)) }
+        ensures unchanged { IfNone result (IsUnchanged self.old.opened self.new.opened) }
+        ensures ended { self.new.ended ≡ self.old.ended }
+    {
+        match self.one_more(key) {
+            Some(number) => Some(number),
+            None => None,
+        }
+    }
+
+    /// Spends a ticket, where a turn of this table has its name and an unspent ticket; the ticket is
+    /// spent in any case. Whether there was one. It takes no memory.
+    pub fn leave(&mut self, ticket: Ticket<K>) -> bool
+        ensures leaves { (hash_of : K → ℕ) (ts : List (turning.Turn K V E))
+            → ((a b : K) → K.eq a b ≡ true → hash_of a ≡ hash_of b)
+            → ticket.key.hash ≡ hash_of (arc_value ticket.key.key)
+            → AreSound K.eq ts
+            → Keeps K.eq V.is_clone hash_of ts (get ⟦<TurnKey<K> as PartialEq>⟧.eq self.old.opened) (get nat_eq self.old.ended)
+            → MatchOption (found (has_ticket_as K.eq (name_of ticket.key ticket.number)) ts) (result ≡ false)
+            (λ t. (result ≡ true) × Keeps K.eq V.is_clone hash_of (moved (Spent t.name.number) ts)
+            (get ⟦<TurnKey<K> as PartialEq>⟧.eq self.new.opened) (get nat_eq self.new.ended)) }
+        ensures unchanged { result ≡ false → IsUnchanged self.old.opened self.new.opened × IsUnchanged self.old.ended self.new.ended }
+    {
+        let Ticket { key, number } = ticket;
+        if self.is_awaited(&key, number) {
+            self.leave_open(&key);
+            return true;
+        }
+        if self.is_its(&key, number) {
+            self.leave_ended(number);
+            return true;
+        }
+        false
+    }
+
+    // A copy of the end of an ended turn.
+    fn copy_of(&self, number: u64) -> Result<TurnEnd<V, E>, AllocError>
+        requires { IsSome (get nat_eq self.now.ended number) }
+        ensures { IfOk result (λ copy. IfSome (get nat_eq self.now.ended number)
+            (λ turn. IsCopiedEnd V.is_clone (Some (end_of turn.end)) (Some (end_of copy)))) }
+    {
+        match self.ended.get(&number) {
+            Some(turn) => turn.end.copied(),
+            None => unreachable!(),
+        }
+    }
+
+    /// Spends a ticket of an ended turn, and answers a copy of the turn's end. Where the turn is open,
+    /// the ticket is handed back unspent. Refused where no turn of this table has its name and an
+    /// unspent ticket, and where the copy is refused memory; then the ticket is handed back, and nothing
+    /// has changed.
+    pub fn collect(&mut self, ticket: Ticket<K>) -> Result<Told<K, V, E>, TicketRefused<K>>
+        ensures collects { (hash_of : K → ℕ) (ts : List (turning.Turn K V E))
+            → ((a b : K) → K.eq a b ≡ true → hash_of a ≡ hash_of b)
+            → ((u v w : V) → V.is_clone u v → V.is_clone v w → V.is_clone u w)
+            → ticket.key.hash ≡ hash_of (arc_value ticket.key.key)
+            → AreSound K.eq ts
+            → Keeps K.eq V.is_clone hash_of ts (get ⟦<TurnKey<K> as PartialEq>⟧.eq self.old.opened) (get nat_eq self.old.ended)
+            → IsTold V.is_clone (λ t. Keeps K.eq V.is_clone hash_of (moved (Spent t.name.number) ts)
+            (get ⟦<TurnKey<K> as PartialEq>⟧.eq self.new.opened) (get nat_eq self.new.ended))
+            (found (has_ticket_as K.eq (name_of ticket.key ticket.number)) ts) result }
+        ensures ticket_back { IfErr result (λ refused. refused.ticket ≡ ticket) }
+        ensures unspent { IfOk result (λ told. IfNotYet (λ same. same ≡ ticket) told) }
+        ensures unchanged { IsUnspent result → IsUnchanged self.old.opened self.new.opened × IsUnchanged self.old.ended self.new.ended }
+    {
+        if self.is_awaited(&ticket.key, ticket.number) {
+            return Ok(Told::NotYet(ticket));
+        }
+        if !self.is_its(&ticket.key, ticket.number) {
+            let known = false;
+            return Err(TicketRefused { ticket, known });
+        }
+        let Ok(end) = self.copy_of(ticket.number) else {
+            let known = true;
+            return Err(TicketRefused { ticket, known });
+        };
+        let Ticket { key: _, number } = ticket;
+        self.leave_ended(number);
+        Ok(Told::Ended(end))
+    }
+
+    /// Whether a turn is an open turn of this table.
+    pub fn has(&self, turn: &Turn<K>) -> bool
+        ensures { MatchOption (get ⟦<TurnKey<K> as PartialEq>⟧.eq self.now.opened turn.now.key) (result ≡ false) (λ row. result ≡ (row.number == turn.now.number)) }
+    {
+        self.is_open(&turn.key, turn.number)
+    }
+
+    /// Ends an open turn with what came of it, and answers what was kept of it. It takes no memory.
+    pub fn finish(&mut self, turn: Turn<K>, end: TurnEnd<V, E>) -> OpenTurn<V>
+        requires known { IsSome (get ⟦<TurnKey<K> as PartialEq>⟧.eq self.old.opened turn.key) }
+        requires number { IfSome (get ⟦<TurnKey<K> as PartialEq>⟧.eq self.old.opened turn.key) (λ row. row.number ≡ turn.number) }
+        ensures turn { Some result ≡ get ⟦<TurnKey<K> as PartialEq>⟧.eq self.old.opened turn.key }
+        ensures finishes { (hash_of : K → ℕ) (ts : List (turning.Turn K V E)) (final : turning.End V E)
+            → ((a b : K) → K.eq a b ≡ true → hash_of a ≡ hash_of b)
+            → turn.key.hash ≡ hash_of (arc_value turn.key.key)
+            → AreSound K.eq ts
+            → IsCopiedEnd V.is_clone (Some final) (Some (end_of end))
+            → Keeps K.eq V.is_clone hash_of ts (get ⟦<TurnKey<K> as PartialEq>⟧.eq self.old.opened) (get nat_eq self.old.ended)
+            → Keeps K.eq V.is_clone hash_of (moved (Ended turn.number final) ts)
+            (get ⟦<TurnKey<K> as PartialEq>⟧.eq self.new.opened) (get nat_eq self.new.ended) }
+    {
+        let Turn { key, number: _ } = turn;
+        self.end(key, end)
+    }
+}
+
+impl<V: Clone, E: Drop> TurnEnd<V, E> {
+    /// A copy.
+    pub fn copied(&self) -> Result<TurnEnd<V, E>, AllocError>
+        ensures { IfOk result (λ copy. IsCopiedEnd V.is_clone (Some (end_of self.now)) (Some (end_of copy))) }
+    {
+        Ok(match self {
+            TurnEnd::Value(value, replaced) => TurnEnd::Value(value.clone()?, *replaced),
+            TurnEnd::Nothing => TurnEnd::Nothing,
+            TurnEnd::Failed(error) => TurnEnd::Failed(error.clone()?),
+            TurnEnd::Computed => TurnEnd::Computed,
+            TurnEnd::Abandoned => TurnEnd::Abandoned,
+        })
+    }
+}
