@@ -19,19 +19,19 @@ pub all-at : {X : Type 0} (P : X → Type 0) (xs : List X) → ((i : ℕ) → If
 all-at P [] each = tt
 all-at P (x ∷ xs) each = (each 0, all-at P xs (λ i. each (suc i)))
 
-module _ {K V H W X F : Type 0} (E : Type 0) (eq : K → K → Bool) (behaviour : BehaviourData H W X → Behaviour K V) (frequency : F → List ℕ → ℕ → ℕ) (opened : F) (cache : SegmentedData K V H W X F)
-    (given : SegmentedSettings K V) (calls : List (Call K V E)) (stand : AllStandFor E eq given (segmented_view_by behaviour frequency opened cache) calls) where
+module _ {K V H W X F : Type 0} (E : Type 0) (eq : K → K → Bool) {is_clone : V → V → Type 0} (behaviour : BehaviourData H W X → Behaviour K V) (frequency : F → List ℕ → ℕ → ℕ) (opened : F) (cache : SegmentedData K V H W X F E)
+    (given : SegmentedSettings K V) (calls : List (Call K V E)) (stand : AllStandFor eq is_clone given (segmented_view_by behaviour frequency opened cache) calls) where
   -- where each weighs one, with a capacity, each segment stores as many at most as its share and the flush point together
   pub all-bounded : WeighsOnes (segmented_view_by behaviour frequency opened cache).settings.whole → LimitsSome cache.settings.flush_limit
       → IfSome cache.settings.max_capacity (λ capacity. AllByRecursion (λ state. length (all_writes state) ≤ share (segments_of given) capacity + flush_point) cache.segments)
   all-bounded ones some_limit = by cache.settings.max_capacity refl
     where
-      each : (capacity : ℕ) → cache.settings.max_capacity ≡ Some capacity → (i : ℕ) (o : Option (StateData K V H W X F)) → slice_get cache.segments i ≡ o
+      each : (capacity : ℕ) → cache.settings.max_capacity ≡ Some capacity → (i : ℕ) (o : Option (StateData K V H W X F E)) → slice_get cache.segments i ≡ o
           → IfSome o (λ state. length (all_writes state) ≤ share (segments_of given) capacity + flush_point)
       each capacity some i None e = tt
       each capacity some i (Some state) e =
           let here : slice_get (map (view_by behaviour frequency opened) cache.segments) i ≡ Some (view_by behaviour frequency opened state) = slice_get-map (view_by behaviour frequency opened) cache.segments i ∙ ap (option_map (view_by behaviour frequency opened)) e in
-          let one : StandsFor {E = E} eq (share_settings given) (view_by behaviour frequency opened state) (steps_in E eq given calls i) = rw here at (stand.each i) in
+          let one : StandsFor eq is_clone (share_settings given) (view_by behaviour frequency opened state) (steps_in E eq given calls i) = rw here at (stand.each i) in
           let whole : given.whole.max_capacity ≡ Some capacity = ap (λ (s : SegmentedSettings K V). s.whole.max_capacity) (sym stand.settings) ∙ some in
           let weighs : WeighsOnes given.whole = λ k v. ap (λ (s : SegmentedSettings K V). s.whole.behaviour.weight k v) (sym stand.settings) ∙ ones k v in
           let limits : LimitsSome given.whole.flush_limit = subst (λ (s : SegmentedSettings K V). LimitsSome s.whole.flush_limit) stand.settings some_limit in

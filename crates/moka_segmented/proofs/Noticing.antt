@@ -45,7 +45,7 @@ counted-capped f i count one more new is capped was e =
     more-capped : (c b m : ℕ) → m ≡ min b greatest_number → min (c + m) greatest_number ≡ min (c + b) greatest_number
     more-capped c b m e = omega (arith, e)
 
-module _ {K V H W X F : Type 0} where
+module _ {K V H W X F E : Type 0} where
   pub notice-there : (states : List (StateData K V H W X F E)) (i : ℕ) (s : StateData K V H W X F E) → slice_get states i ≡ Some s → has_notice states i ≡ not (is_empty s.books.notices)
   notice-there states i s e = ap (state_at (λ (s : StateData K V H W X F E). not (is_empty s.books.notices)) false) e
 
@@ -94,88 +94,88 @@ module _ {K V H W X F : Type 0} where
           nothing [] e = refl
           nothing (x ∷ xs) e = cc
 
-  module _ (E : Type 0) (eq : K → K → Bool) (behaviour : BehaviourData H W X → Behaviour K V) (frequency : F → List ℕ → ℕ → ℕ) (opened : F) (cache : SegmentedData K V H W X F) where
-    module _ (given : SegmentedSettings K V) (calls : List (Call K V E)) (stand : AllStandFor E eq given (segmented_view_by behaviour frequency opened cache) calls) where
-      -- what the views say, by what the states hold
-      by-states : {Y : Type 0} (f : Books K V → Y) (other : Y) (i : ℕ)
-          → at_or (λ (v : View K V). f v.books) other (slice_get (map (view_by behaviour frequency opened) cache.segments) i) ≡ state_at (λ (s : StateData K V H W X F E). f s.books) other (slice_get cache.segments i)
-      by-states f other i = ap (at_or (λ (v : View K V). f v.books) other) (slice_get-map (view_by behaviour frequency opened) cache.segments i) ∙ here (slice_get cache.segments i)
-        where
-          here : (o : Option (StateData K V H W X F E)) → at_or (λ (v : View K V). f v.books) other (option_map (view_by behaviour frequency opened) o) ≡ state_at (λ (s : StateData K V H W X F E). f s.books) other o
-          here None = refl
-          here (Some s) = refl
+module _ {K V H W X F : Type 0} (E : Type 0) (eq : K → K → Bool) {is_clone : V → V → Type 0} (behaviour : BehaviourData H W X → Behaviour K V) (frequency : F → List ℕ → ℕ → ℕ) (opened : F) (cache : SegmentedData K V H W X F E) where
+  module _ (given : SegmentedSettings K V) (calls : List (Call K V E)) (stand : AllStandFor eq is_clone given (segmented_view_by behaviour frequency opened cache) calls) where
+    -- what the views say, by what the states hold
+    by-states : {Y : Type 0} (f : Books K V → Y) (other : Y) (i : ℕ)
+        → at_or (λ (v : WholeView K V E). f v.values.books) other (slice_get (map (view_by behaviour frequency opened) cache.segments) i) ≡ state_at (λ (s : StateData K V H W X F E). f s.books) other (slice_get cache.segments i)
+    by-states f other i = ap (at_or (λ (v : WholeView K V E). f v.values.books) other) (slice_get-map (view_by behaviour frequency opened) cache.segments i) ∙ here (slice_get cache.segments i)
+      where
+        here : (o : Option (StateData K V H W X F E)) → at_or (λ (v : WholeView K V E). f v.values.books) other (option_map (view_by behaviour frequency opened) o) ≡ state_at (λ (s : StateData K V H W X F E). f s.books) other o
+        here None = refl
+        here (Some s) = refl
 
-      count : segments_of given ≡ length cache.segments
-      count = sym stand.count ∙ length-map cache.segments (view_by behaviour frequency opened)
+    count : segments_of given ≡ length cache.segments
+    count = sym stand.count ∙ length-map cache.segments (view_by behaviour frequency opened)
 
-      -- the first segment that has a notice
-      first-by : first_noticed E eq given (list_of E eq given calls) ≡ first_from (has_notice cache.segments) 0 (length cache.segments)
-      first-by =
-          noticed-same E eq given (segmented_view_by behaviour frequency opened cache) calls stand
-          ∙ first_from-same (λ i. at_or (λ (v : View K V). not (is_empty v.books.notices)) false (slice_get (map (view_by behaviour frequency opened) cache.segments) i)) (has_notice cache.segments) 0 (segments_of given)
-          (λ j lt. by-states (λ b. not (is_empty b.notices)) false j)
-          ∙ ap (first_from (has_notice cache.segments) 0) count
+    -- the first segment that has a notice
+    first-by : first_noticed E eq given (list_of E eq given calls) ≡ first_from (has_notice cache.segments) 0 (length cache.segments)
+    first-by =
+        noticed-same E eq given (segmented_view_by behaviour frequency opened cache) calls stand
+        ∙ first_from-same (λ i. at_or (λ (v : WholeView K V E). not (is_empty v.values.books.notices)) false (slice_get (map (view_by behaviour frequency opened) cache.segments) i)) (has_notice cache.segments) 0 (segments_of given)
+        (λ j lt. by-states (λ b. not (is_empty b.notices)) false j)
+        ∙ ap (first_from (has_notice cache.segments) 0) count
 
-      -- how many all segments store
-      entries-by : entries_in E eq given calls ≡ sum_below (stored_at cache.segments) (length cache.segments)
-      entries-by =
-          entries-same E eq given (segmented_view_by behaviour frequency opened cache) calls stand
-          ∙ sum_below-same (λ i. at_or (λ (v : View K V). length (v.books.orders.admitted ++ v.books.orders.waiting)) 0 (slice_get (map (view_by behaviour frequency opened) cache.segments) i)) (stored_at cache.segments) (segments_of given)
-          (λ j lt. by-states (λ b. length (b.orders.admitted ++ b.orders.waiting)) 0 j)
-          ∙ ap (sum_below (stored_at cache.segments)) count
+    -- how many all segments store
+    entries-by : entries_in E eq given calls ≡ sum_below (stored_at cache.segments) (length cache.segments)
+    entries-by =
+        entries-same E eq given (segmented_view_by behaviour frequency opened cache) calls stand
+        ∙ sum_below-same (λ i. at_or (λ (v : WholeView K V E). length (v.values.books.orders.admitted ++ v.values.books.orders.waiting)) 0 (slice_get (map (view_by behaviour frequency opened) cache.segments) i)) (stored_at cache.segments) (segments_of given)
+        (λ j lt. by-states (λ b. length (b.orders.admitted ++ b.orders.waiting)) 0 j)
+        ∙ ap (sum_below (stored_at cache.segments)) count
 
-      -- how many notices they hold
-      pub notices-by : notices_in E eq given calls ≡ notices_kept cache.segments
-      notices-by =
-          notices-same E eq given (segmented_view_by behaviour frequency opened cache) calls stand
-          ∙ sum_below-same (λ i. at_or (λ (v : View K V). length v.books.notices) 0 (slice_get (map (view_by behaviour frequency opened) cache.segments) i)) (notices_at cache.segments) (segments_of given)
-          (λ j lt. by-states (λ b. length b.notices) 0 j)
-          ∙ ap (sum_below (notices_at cache.segments)) count
+    -- how many notices they hold
+    pub notices-by : notices_in E eq given calls ≡ notices_kept cache.segments
+    notices-by =
+        notices-same E eq given (segmented_view_by behaviour frequency opened cache) calls stand
+        ∙ sum_below-same (λ i. at_or (λ (v : WholeView K V E). length v.values.books.notices) 0 (slice_get (map (view_by behaviour frequency opened) cache.segments) i)) (notices_at cache.segments) (segments_of given)
+        (λ j lt. by-states (λ b. length b.notices) 0 j)
+        ∙ ap (sum_below (notices_at cache.segments)) count
 
-      -- and what that weighs
-      weight-by : weight_in E eq given calls ≡ sum_below (weight_at cache.segments) (length cache.segments)
-      weight-by =
-          weight-same E eq given (segmented_view_by behaviour frequency opened cache) calls stand
-          ∙ sum_below-same (λ i. at_or (λ (v : View K V). total (λ (w : Write K V). w.policy_weight) (v.books.orders.admitted ++ v.books.orders.waiting)) 0 (slice_get (map (view_by behaviour frequency opened) cache.segments) i)) (weight_at cache.segments) (segments_of given)
-          (λ j lt. by-states (λ b. total (λ (w : Write K V). w.policy_weight) (b.orders.admitted ++ b.orders.waiting)) 0 j)
-          ∙ ap (sum_below (weight_at cache.segments)) count
+    -- and what that weighs
+    weight-by : weight_in E eq given calls ≡ sum_below (weight_at cache.segments) (length cache.segments)
+    weight-by =
+        weight-same E eq given (segmented_view_by behaviour frequency opened cache) calls stand
+        ∙ sum_below-same (λ i. at_or (λ (v : WholeView K V E). total (λ (w : Write K V). w.policy_weight) (v.values.books.orders.admitted ++ v.values.books.orders.waiting)) 0 (slice_get (map (view_by behaviour frequency opened) cache.segments) i)) (weight_at cache.segments) (segments_of given)
+        (λ j lt. by-states (λ b. total (λ (w : Write K V). w.policy_weight) (b.orders.admitted ++ b.orders.waiting)) 0 j)
+        ∙ ap (sum_below (weight_at cache.segments)) count
 
-    -- a count is the answer, and changes nothing
-    pub entries-answer : (is_clone : V → V → Type 0) (n : ℕ) → n ≡ min (sum_below (stored_at cache.segments) (length cache.segments)) greatest_number → AnswersIn E eq is_clone (segmented_view_by behaviour frequency opened cache) EntryCount (Counted n)
-    entries-answer is_clone n is given calls stand = ap (λ m. let a : Answer K V E = Counted m in a) (is ∙ ap (λ m. min m greatest_number) (sym (entries-by given calls stand)))
+  -- a count is the answer, and changes nothing
+  pub entries-answer : (n : ℕ) → n ≡ min (sum_below (stored_at cache.segments) (length cache.segments)) greatest_number → AnswersIn eq is_clone (segmented_view_by behaviour frequency opened cache) EntryCount (Counted n)
+  entries-answer n is given calls stand = ap (λ m. let a : Answer K V E = Counted m in a) (is ∙ ap (λ m. min m greatest_number) (sym (entries-by given calls stand)))
 
-    pub weight-answers : (is_clone : V → V → Type 0) (n : ℕ) → n ≡ min (sum_below (weight_at cache.segments) (length cache.segments)) greatest_number → AnswersIn E eq is_clone (segmented_view_by behaviour frequency opened cache) WeightedSize (Counted n)
-    weight-answers is_clone n is given calls stand = ap (λ m. let a : Answer K V E = Counted m in a) (is ∙ ap (λ m. min m greatest_number) (sym (weight-by given calls stand)))
+  pub weight-answers : (n : ℕ) → n ≡ min (sum_below (weight_at cache.segments) (length cache.segments)) greatest_number → AnswersIn eq is_clone (segmented_view_by behaviour frequency opened cache) WeightedSize (Counted n)
+  weight-answers n is given calls stand = ap (λ m. let a : Answer K V E = Counted m in a) (is ∙ ap (λ m. min m greatest_number) (sym (weight-by given calls stand)))
 
-    pub count-stays : (call : Call K V E) → ((given : SegmentedSettings K V) (calls : List (Call K V E)) → place_of E eq given calls call ≡ Nowhere) → FollowsIn E eq (segmented_view_by behaviour frequency opened cache) call (segmented_view_by behaviour frequency opened cache)
-    count-stays call place given calls stand = stand-nowhere E eq given (segmented_view_by behaviour frequency opened cache) calls call (place given calls) stand
+  pub count-stays : (call : Call K V E) → ((given : SegmentedSettings K V) (calls : List (Call K V E)) → place_of E eq given calls call ≡ Nowhere) → FollowsIn eq is_clone (segmented_view_by behaviour frequency opened cache) call (segmented_view_by behaviour frequency opened cache)
+  count-stays call place given calls stand = stand-nowhere E eq given (segmented_view_by behaviour frequency opened cache) calls call (place given calls) stand
 
-    module _ (index : ℕ) (here : StateData K V H W X F E) (found : Some index ≡ first_from (has_notice cache.segments) 0 (length cache.segments)) (here_is : here ≡ get_or cache.segments index here) where
-      here-view : slice_get (map (view_by behaviour frequency opened) cache.segments) index ≡ Some (view_by behaviour frequency opened here)
-      here-view = let passes = first_from-passes (has_notice cache.segments) 0 (length cache.segments) index (sym found) in view-at (view_by behaviour frequency opened) cache.segments index here (omega (arith, passes.0)) here_is
+  module _ (index : ℕ) (here : StateData K V H W X F E) (found : Some index ≡ first_from (has_notice cache.segments) 0 (length cache.segments)) (here_is : here ≡ get_or cache.segments index here) where
+    here-view : slice_get (map (view_by behaviour frequency opened) cache.segments) index ≡ Some (view_by behaviour frequency opened here)
+    here-view = let passes = first_from-passes (has_notice cache.segments) 0 (length cache.segments) index (sym found) in view-at (view_by behaviour frequency opened) cache.segments index here (omega (arith, passes.0)) here_is
 
-      first-is : (given : SegmentedSettings K V) (calls : List (Call K V E)) → AllStandFor E eq given (segmented_view_by behaviour frequency opened cache) calls → first_noticed E eq given (list_of E eq given calls) ≡ Some index
-      first-is given calls stand = first-by given calls stand ∙ sym found
+    first-is : (given : SegmentedSettings K V) (calls : List (Call K V E)) → AllStandFor eq is_clone given (segmented_view_by behaviour frequency opened cache) calls → first_noticed E eq given (list_of E eq given calls) ≡ Some index
+    first-is given calls stand = first-by given calls stand ∙ sym found
 
-      -- a notice of the first segment that has one is the answer, and that segment's state goes on
-      pub taken-answers : (is_clone : V → V → Type 0) (answer : Answer K V E) → Answers E eq is_clone (view_by behaviour frequency opened here) TakeNotice answer → AnswersIn E eq is_clone (segmented_view_by behaviour frequency opened cache) TakeNotice answer
-      taken-answers is_clone answer answers given calls stand =
-          subst (λ o. IsAnswerIn is_clone o answer) (sym (noticed-answer E eq given calls index (first-is given calls stand)))
-          (answer-at E eq given is_clone (segmented_view_by behaviour frequency opened cache) calls index (view_by behaviour frequency opened here) TakeNotice answer here-view answers stand)
+    -- a notice of the first segment that has one is the answer, and that segment's state goes on
+    pub taken-answers : (answer : Answer K V E) → Answers eq is_clone (view_by behaviour frequency opened here) TakeNotice answer → AnswersIn eq is_clone (segmented_view_by behaviour frequency opened cache) TakeNotice answer
+    taken-answers answer answers given calls stand =
+        subst (λ o. IsAnswerIn is_clone o answer) (sym (noticed-answer E eq given calls index (first-is given calls stand)))
+        (answer-at E eq given (segmented_view_by behaviour frequency opened cache) calls index (view_by behaviour frequency opened here) TakeNotice answer here-view answers stand)
 
-      pub taken-follows : (new : StateData K V H W X F E) → Follows E eq (view_by behaviour frequency opened here) TakeNotice (view_by behaviour frequency opened new)
-          → FollowsIn E eq (segmented_view_by behaviour frequency opened cache) TakeNotice (segmented_view_by behaviour frequency opened (record cache { segments = set cache.segments index new }))
-      taken-follows new follows given calls stand =
-          rw (views-set (view_by behaviour frequency opened) cache.segments index new)
-          (stand-one E eq given (segmented_view_by behaviour frequency opened cache) calls index (view_by behaviour frequency opened here) (view_by behaviour frequency opened new) TakeNotice
-          (noticed-place E eq given calls index (first-is given calls stand)) here-view follows stand)
+    pub taken-follows : (new : StateData K V H W X F E) → Follows eq is_clone (view_by behaviour frequency opened here) TakeNotice (view_by behaviour frequency opened new)
+        → FollowsIn eq is_clone (segmented_view_by behaviour frequency opened cache) TakeNotice (segmented_view_by behaviour frequency opened (record cache { segments = set cache.segments index new }))
+    taken-follows new follows given calls stand =
+        rw (views-set (view_by behaviour frequency opened) cache.segments index new)
+        (stand-one E eq given (segmented_view_by behaviour frequency opened cache) calls index (view_by behaviour frequency opened here) (view_by behaviour frequency opened new) TakeNotice
+        (noticed-place E eq given calls index (first-is given calls stand)) here-view follows stand)
 
-    module _ (none : None ≡ first_from (has_notice cache.segments) 0 (length cache.segments)) where
-      -- where no segment has a notice there is none, and nothing changes
-      pub none-answers : (is_clone : V → V → Type 0) → AnswersIn E eq is_clone (segmented_view_by behaviour frequency opened cache) TakeNotice (Noticed None)
-      none-answers is_clone given calls stand =
-          subst (λ (o : Option (Answer K V E)). IsAnswerIn is_clone o (Noticed None)) (sym (none-answer E eq given calls (first-by given calls stand ∙ sym none))) refl
+  module _ (none : None ≡ first_from (has_notice cache.segments) 0 (length cache.segments)) where
+    -- where no segment has a notice there is none, and nothing changes
+    pub none-answers : AnswersIn eq is_clone (segmented_view_by behaviour frequency opened cache) TakeNotice (Noticed None)
+    none-answers given calls stand =
+        subst (λ (o : Option (Answer K V E)). IsAnswerIn is_clone o (Noticed None)) (sym (none-answer E eq given calls (first-by given calls stand ∙ sym none))) refl
 
-      pub none-follows : FollowsIn E eq (segmented_view_by behaviour frequency opened cache) TakeNotice (segmented_view_by behaviour frequency opened cache)
-      none-follows given calls stand =
-          stand-nowhere E eq given (segmented_view_by behaviour frequency opened cache) calls TakeNotice (none-place E eq given calls (first-by given calls stand ∙ sym none)) stand
+    pub none-follows : FollowsIn eq is_clone (segmented_view_by behaviour frequency opened cache) TakeNotice (segmented_view_by behaviour frequency opened cache)
+    none-follows given calls stand =
+        stand-nowhere E eq given (segmented_view_by behaviour frequency opened cache) calls TakeNotice (none-place E eq given calls (first-by given calls stand ∙ sym none)) stand

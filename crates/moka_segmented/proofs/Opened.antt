@@ -34,35 +34,35 @@ pub all-more : {X : Type 0} (P : X → Type 0) (xs : List X) (x : X) → P x →
 all-more P [] x here all = (here, tt)
 all-more P (y ∷ ys) x here all = (all.0, all-more P ys x here all.1)
 
-module _ {K V H W X F : Type 0} (E : Type 0) (eq : K → K → Bool) (behaviour : BehaviourData H W X → Behaviour K V) (frequency : F → List ℕ → ℕ → ℕ) (opened : F) (cache : SegmentedData K V H W X F) where
+module _ {K V H W X F : Type 0} (E : Type 0) (eq : K → K → Bool) {is_clone : V → V → Type 0} (behaviour : BehaviourData H W X → Behaviour K V) (frequency : F → List ℕ → ℕ → ℕ) (opened : F) (cache : SegmentedData K V H W X F E) where
   -- where each state stands for no steps, with its share, the cache stands for no calls
   pub all-empty : length cache.segments ≡ 2 ^ cache.bits
-      → AllByRecursion (λ state. StandsFor {E = E} eq (share_settings (segmented_settings_by behaviour (frequency opened) cache)) (view_by behaviour frequency opened state) []) cache.segments
-      → AllStandFor E eq (segmented_settings_by behaviour (frequency opened) cache) (segmented_view_by behaviour frequency opened cache) []
+      → AllByRecursion (λ state. StandsFor eq is_clone (share_settings (segmented_settings_by behaviour (frequency opened) cache)) (view_by behaviour frequency opened state) []) cache.segments
+      → AllStandFor eq is_clone (segmented_settings_by behaviour (frequency opened) cache) (segmented_view_by behaviour frequency opened cache) []
   all-empty count all = record {
     settings = refl;
     count = length-map cache.segments (view_by behaviour frequency opened) ∙ count;
     each = at cache.segments all;
   } where
-    at : (states : List (StateData K V H W X F E)) → AllByRecursion (λ state. StandsFor {E = E} eq (share_settings (segmented_settings_by behaviour (frequency opened) cache)) (view_by behaviour frequency opened state) []) states
-        → (i : ℕ) → IfSome (slice_get (map (view_by behaviour frequency opened) states) i) (λ one. StandsFor {E = E} eq (share_settings (segmented_settings_by behaviour (frequency opened) cache)) one [])
+    at : (states : List (StateData K V H W X F E)) → AllByRecursion (λ state. StandsFor eq is_clone (share_settings (segmented_settings_by behaviour (frequency opened) cache)) (view_by behaviour frequency opened state) []) states
+        → (i : ℕ) → IfSome (slice_get (map (view_by behaviour frequency opened) states) i) (λ one. StandsFor eq is_clone (share_settings (segmented_settings_by behaviour (frequency opened) cache)) one [])
     at [] all i = tt
     at (s ∷ ss) all zero = all.0
     at (s ∷ ss) all (suc i) = at ss all.1 i
 
-module _ {K V H W X F : Type 0} (E : Type 0) (eq : K → K → Bool) (behaviour : BehaviourData H W X → Behaviour K V) (frequency : F → List ℕ → ℕ → ℕ) (opened : F) (bits : ℕ) (whole : SettingsData H W X) where
+module _ {K V H W X F : Type 0} (E : Type 0) (eq : K → K → Bool) {is_clone : V → V → Type 0} (behaviour : BehaviourData H W X → Behaviour K V) (frequency : F → List ℕ → ℕ → ℕ) (opened : F) (bits : ℕ) (whole : SettingsData H W X) where
   -- one state more that stands for no steps, with its share
   pub opened-more : (states : List (StateData K V H W X F E)) (state : StateData K V H W X F E) (count : ℕ) → count ≡ 2 ^ bits
       → state.settings ≡ record whole { name = None; max_capacity = option_map (share count) whole.max_capacity }
-      → StandsFor {E = E} eq (settings_by behaviour (frequency opened) state.settings) (view_by behaviour frequency opened state) []
-      → AllByRecursion (λ s. StandsFor {E = E} eq (share_settings (record { bits = bits; whole = settings_by behaviour (frequency opened) whole })) (view_by behaviour frequency opened s) []) states
-      → AllByRecursion (λ s. StandsFor {E = E} eq (share_settings (record { bits = bits; whole = settings_by behaviour (frequency opened) whole })) (view_by behaviour frequency opened s) []) (states ++ state ∷ [])
+      → StandsFor eq is_clone (settings_by behaviour (frequency opened) state.settings) (view_by behaviour frequency opened state) []
+      → AllByRecursion (λ s. StandsFor eq is_clone (share_settings (record { bits = bits; whole = settings_by behaviour (frequency opened) whole })) (view_by behaviour frequency opened s) []) states
+      → AllByRecursion (λ s. StandsFor eq is_clone (share_settings (record { bits = bits; whole = settings_by behaviour (frequency opened) whole })) (view_by behaviour frequency opened s) []) (states ++ state ∷ [])
   opened-more states state count is settings empty all =
-      all-more (λ s. StandsFor {E = E} eq (share_settings (record { bits = bits; whole = settings_by behaviour (frequency opened) whole })) (view_by behaviour frequency opened s) []) states state here all
+      all-more (λ s. StandsFor eq is_clone (share_settings (record { bits = bits; whole = settings_by behaviour (frequency opened) whole })) (view_by behaviour frequency opened s) []) states state here all
     where
-      here : StandsFor {E = E} eq (share_settings (record { bits = bits; whole = settings_by behaviour (frequency opened) whole })) (view_by behaviour frequency opened state) []
+      here : StandsFor eq is_clone (share_settings (record { bits = bits; whole = settings_by behaviour (frequency opened) whole })) (view_by behaviour frequency opened state) []
       here =
-          subst (λ s. StandsFor {E = E} eq s (view_by behaviour frequency opened state) [])
+          subst (λ s. StandsFor eq is_clone s (view_by behaviour frequency opened state) [])
           (ap (settings_by behaviour (frequency opened)) settings
           ∙ ap (λ n. settings_by behaviour (frequency opened) (record whole { name = None; max_capacity = option_map (share n) whole.max_capacity })) is)
           empty

@@ -22,13 +22,13 @@ use Rattle.moka_segmented.specs.SegmentedData.{SegmentedData, segmented_settings
 use Rattle.moka_segmented.specs.Step.{IsReplyBy, IsReplyIn, after_reply_in}
 use Rattle.moka_segmented.proofs.Routed.{Routing, routed-follows, routed-stands, routed-history, index-is}
 
-module _ {K V H W X F : Type 0} (E : Type 0) (eq : K → K → Bool) (behaviour : BehaviourData H W X → Behaviour K V) (frequency : F → List ℕ → ℕ → ℕ) (opened : F) (cache : SegmentedData K V H W X F)
+module _ {K V H W X F : Type 0} (E : Type 0) (eq : K → K → Bool) {is_clone : V → V → Type 0} (behaviour : BehaviourData H W X → Behaviour K V) (frequency : F → List ℕ → ℕ → ℕ) (opened : F) (cache : SegmentedData K V H W X F E)
     (here : StateData K V H W X F E) (index : ℕ) (k : K) (routing : Routing (segmented_settings_by behaviour (frequency opened) cache) cache.segments here index k) (call : Call K V E) (key : key_in call ≡ Some k) (reply : Reply K V) where
   -- the reply of the state of its key's segment is the reply
-  pub routed-replies : (is_clone : V → V → Type 0) (is_infallible : V → Type 0)
-      → ((s : Settings K V) (steps : List (AcceptedStep K V E)) → StandsFor eq s (view_by behaviour frequency opened here) steps → IsReplyTo eq is_clone is_infallible s steps call reply)
-      → AtEachList E eq (segmented_view_by behaviour frequency opened cache) (λ given calls. IsReplyIn E eq is_clone is_infallible given calls call reply)
-  routed-replies is_clone is_infallible replies given calls stand =
+  pub routed-replies : (is_infallible : V → Type 0)
+      → ((s : Settings K V) (steps : List (AcceptedStep K V E)) → StandsFor eq is_clone s (view_by behaviour frequency opened here) steps → IsReplyTo eq is_clone is_infallible s steps call reply)
+      → AtEachList eq is_clone (segmented_view_by behaviour frequency opened cache) (λ given calls. IsReplyIn E eq is_clone is_infallible given calls call reply)
+  routed-replies is_infallible replies given calls stand =
       let it = routed E eq given k call calls key in
       subst (λ joint. IsReplyBy joint (IsReplyTo eq is_clone is_infallible (share_settings given) (steps_in E eq given calls (asked (place_of E eq given calls call))) call reply) reply) (sym it.joint)
       (subst (λ place. IsReplyTo eq is_clone is_infallible (share_settings given) (steps_in E eq given calls (asked place)) call reply) (sym it.place)
@@ -36,20 +36,20 @@ module _ {K V H W X F : Type 0} (E : Type 0) (eq : K → K → Bool) (behaviour 
 
   -- where that state stands for what its reply leaves, so do all
   pub routed-stood : (new : StateData K V H W X F E)
-      → ((s : Settings K V) (steps : List (AcceptedStep K V E)) → StandsFor eq s (view_by behaviour frequency opened here) steps → StandsFor eq s (view_by behaviour frequency opened new) (after_reply eq s call reply steps))
-      → AtEachList E eq (segmented_view_by behaviour frequency opened cache) (λ given calls. AllStandFor E eq given (segmented_view_by behaviour frequency opened (record cache { segments = set cache.segments index new })) (after_reply_in call reply calls))
+      → ((s : Settings K V) (steps : List (AcceptedStep K V E)) → StandsFor eq is_clone s (view_by behaviour frequency opened here) steps → StandsFor eq is_clone s (view_by behaviour frequency opened new) (after_reply eq s call reply steps))
+      → AtEachList eq is_clone (segmented_view_by behaviour frequency opened cache) (λ given calls. AllStandFor eq is_clone given (segmented_view_by behaviour frequency opened (record cache { segments = set cache.segments index new })) (after_reply_in call reply calls))
   routed-stood new stands = by reply stands
     where
-      refused : ((s : Settings K V) (steps : List (AcceptedStep K V E)) → StandsFor eq s (view_by behaviour frequency opened here) steps → StandsFor eq s (view_by behaviour frequency opened new) steps)
-          → AtEachList E eq (segmented_view_by behaviour frequency opened cache) (λ given calls. AllStandFor E eq given (segmented_view_by behaviour frequency opened (record cache { segments = set cache.segments index new })) calls)
+      refused : ((s : Settings K V) (steps : List (AcceptedStep K V E)) → StandsFor eq is_clone s (view_by behaviour frequency opened here) steps → StandsFor eq is_clone s (view_by behaviour frequency opened new) steps)
+          → AtEachList eq is_clone (segmented_view_by behaviour frequency opened cache) (λ given calls. AllStandFor eq is_clone given (segmented_view_by behaviour frequency opened (record cache { segments = set cache.segments index new })) calls)
       refused same given calls stand =
           routed-stands E eq behaviour frequency opened cache here index k routing given calls calls new
-          (subst (λ j. StandsFor {E = E} eq (share_settings given) (view_by behaviour frequency opened new) (steps_in E eq given calls j)) (sym (index-is E eq behaviour frequency opened cache here index k routing given calls stand))
-          (routed-history E eq behaviour frequency opened cache here index k routing (λ s steps. StandsFor eq s (view_by behaviour frequency opened new) steps) same given calls stand))
+          (subst (λ j. StandsFor eq is_clone (share_settings given) (view_by behaviour frequency opened new) (steps_in E eq given calls j)) (sym (index-is E eq behaviour frequency opened cache here index k routing given calls stand))
+          (routed-history E eq behaviour frequency opened cache here index k routing (λ s steps. StandsFor eq is_clone s (view_by behaviour frequency opened new) steps) same given calls stand))
           (λ i other. refl) stand
 
-      by : (it : Reply K V) → ((s : Settings K V) (steps : List (AcceptedStep K V E)) → StandsFor eq s (view_by behaviour frequency opened here) steps → StandsFor eq s (view_by behaviour frequency opened new) (after_reply eq s call it steps))
-          → AtEachList E eq (segmented_view_by behaviour frequency opened cache) (λ given calls. AllStandFor E eq given (segmented_view_by behaviour frequency opened (record cache { segments = set cache.segments index new })) (after_reply_in call it calls))
+      by : (it : Reply K V) → ((s : Settings K V) (steps : List (AcceptedStep K V E)) → StandsFor eq is_clone s (view_by behaviour frequency opened here) steps → StandsFor eq is_clone s (view_by behaviour frequency opened new) (after_reply eq s call it steps))
+          → AtEachList eq is_clone (segmented_view_by behaviour frequency opened cache) (λ given calls. AllStandFor eq is_clone given (segmented_view_by behaviour frequency opened (record cache { segments = set cache.segments index new })) (after_reply_in call it calls))
       by (Found v) follows = routed-follows E eq behaviour frequency opened cache here index k routing call new key follows
       by (Contains b) follows = routed-follows E eq behaviour frequency opened cache here index k routing call new key follows
       by Done follows = routed-follows E eq behaviour frequency opened cache here index k routing call new key follows

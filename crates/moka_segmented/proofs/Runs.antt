@@ -25,9 +25,9 @@ module _ {K V C H W X P F L T E S : Type 0} (eq : K → K → Bool) (test : P �
   after_all_in-more before (s ∷ ss) (r ∷ rs) step reply run = after_all_in-more (after_reply_in (call_of test s) r before) ss rs step reply run.1
 
   -- so what the states stand for after that step they stand for after the longer run
-  pub all-stand-more : (view : SegmentedView K V) (before : List (Call K V E)) (steps : List (Step K V C H W X P F L T E S)) (replies : List (Reply K V)) (step : Step K V C H W X P F L T E S) (reply : Reply K V)
-      → IsRunIn test eq is_clone is_infallible given before steps replies → AllStandFor E eq given view (after_reply_in (call_of test step) reply (after_all_in test steps replies before)) → AllStandFor E eq given view (after_all_in test (steps ++ step ∷ []) (replies ++ reply ∷ []) before)
-  all-stand-more view before steps replies step reply run stand = subst (AllStandFor E eq given view) (sym (after_all_in-more before steps replies step reply run)) stand
+  pub all-stand-more : (view : SegmentedView K V E) (before : List (Call K V E)) (steps : List (Step K V C H W X P F L T E S)) (replies : List (Reply K V)) (step : Step K V C H W X P F L T E S) (reply : Reply K V)
+      → IsRunIn test eq is_clone is_infallible given before steps replies → AllStandFor eq is_clone given view (after_reply_in (call_of test step) reply (after_all_in test steps replies before)) → AllStandFor eq is_clone given view (after_all_in test (steps ++ step ∷ []) (replies ++ reply ∷ []) before)
+  all-stand-more view before steps replies step reply run stand = subst (AllStandFor eq is_clone given view) (sym (after_all_in-more before steps replies step reply run)) stand
 
 -- a list that is itself without its first element is empty
 pub same_as_rest-empty : {A : Type 0} (xs : List A) → xs ≡ drop 1 xs → xs ≡ []

@@ -35,7 +35,7 @@ pub type SegmentedState<K, V, C> = Segmented<K, V, C, DueRows<K, V>>;
 
 impl<K: Hash + Drop, V: Clone, C: CacheTypes<K, V>, R: RowStore<K, V>> Model
     for Segmented<K, V, C, R> {
-    ghost Value = { SegmentedData K V C.Hasher C.Weigher C.Expiry C.Frequency };
+    ghost Value = { SegmentedData K V C.Hasher C.Weigher C.Expiry C.Frequency C.Error };
 
     ghost view = { λ it. record {
       bits = it.bits;

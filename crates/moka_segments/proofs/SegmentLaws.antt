@@ -54,6 +54,10 @@ sum_below-plus : (f g h : ℕ → ℕ) (n : ℕ) → sum_below (λ i. f i + (g i
 sum_below-plus f g h zero = refl
 sum_below-plus f g h (suc n) = let before = sum_below-plus f g h n in omega (arith, before)
 
+-- nothing more is the same
+pub none-more : (n m : ℕ) → n ≡ 0 → n + m ≡ m
+none-more n m none = omega (arith, none)
+
 -- the share of nothing is nothing, and of no other whole
 pub share-nothing : (segments : ℕ) → 0 < segments → (c : Option ℕ) → stores_nothing (option_map (share segments) c) ≡ stores_nothing c
 share-nothing segments some None = refl
@@ -84,12 +88,12 @@ module _ {K V : Type 0} (E : Type 0) (eq : K → K → Bool) (given : SegmentedS
       → sum_below (written-of (call ∷ calls)) (segments_of given) ≡ added calls call + sum_below (written-of calls) (segments_of given)
   written-same call calls e =
       sum_below-same (written-of (call ∷ calls)) (written-of calls) (segments_of given) (λ i lt. by i (goes_to i (place_of E eq given calls call)))
-      ∙ ap (λ n. n + sum_below (written-of calls) (segments_of given)) (sym (keyless-none eq (share_settings given) (steps_in E eq given calls (asked (place_of E eq given calls call))) test call e))
+      ∙ sym (none-more _ (sum_below (written-of calls) (segments_of given)) (keyless-none eq (share_settings given) (steps_in E eq given calls (asked (place_of E eq given calls call))) test call e))
     where
       by : (i : ℕ) (b : Bool) → count_written test (events_in (steps_after {E = E} eq (share_settings given) (cond b (call ∷ list_of E eq given calls i) (list_of E eq given calls i)))) ≡ written-of calls i
       by i true =
           written-after test (accepted eq (share_settings given) (steps_in E eq given calls i) call) (steps_in E eq given calls i)
-          ∙ ap (λ n. n + written-of calls i) (keyless-none eq (share_settings given) (steps_in E eq given calls i) test call e)
+          ∙ none-more _ (written-of calls i) (keyless-none eq (share_settings given) (steps_in E eq given calls i) test call e)
       by i false = refl
 
   -- what a call under another key writes is not counted
@@ -186,7 +190,7 @@ module _ {K V : Type 0} (E : Type 0) (eq : K → K → Bool) (given : SegmentedS
           → count_written elsewhere (events_in (steps_after {E = E} eq (share_settings given) (cond b (call ∷ list_of E eq given calls i) (list_of E eq given calls i)))) ≡ from_elsewhere calls
       by true here =
           written-after elsewhere (accepted eq (share_settings given) (steps_in E eq given calls i) call) (steps_in E eq given calls i)
-          ∙ ap (λ n. n + from_elsewhere calls)
+          ∙ none-more _ (from_elsewhere calls)
           (uncounted elsewhere (events_by (accepted eq (share_settings given) (steps_in E eq given calls i) call)) (uncounted-call eq (share_settings given) (steps_in E eq given calls i) elsewhere call (fails here)))
       by false here = refl
 

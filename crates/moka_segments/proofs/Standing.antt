@@ -3,6 +3,7 @@ use Rattle.std.proofs.Common.{◌≡◌, ℕ, ◌==◌, Bool, true, false, cond,
 use Rattle.std.specs.List.{slice_get}
 use Rattle.std.proofs.lemmas.Bool.Decides.{eqb_tells}
 use Rattle.moka_segments.proofs.Lists.{eqb_refl}
+use Rattle.moka_model.specs.Lives.{Settings}
 use Rattle.moka_model.specs.Steps.{AcceptedStep}
 use Rattle.moka_model.specs.Calls.{Call, Answer, Accepted, accepted, answer_of, after}
 use Rattle.moka_model.specs.StandsFor.{WholeView, StandsFor, Follows, Answers, IsAnswerOf}
@@ -11,7 +12,7 @@ use Rattle.moka_segments.specs.Segments.{SegmentedSettings, SegmentedView, share
 use Rattle.moka_segments.proofs.Lists.{slice_get-set_same, slice_get-set_other, length-set}
 
 -- one state follows a call, where there is one
-abbrev pub FollowsAt : {K V E : Type 0} → (K → K → Bool) → (V → V → Type 0) → Call K V E → Option (WholeWholeView K V E) → Option (WholeWholeView K V E) → Type 0
+abbrev pub FollowsAt : {K V E : Type 0} → (K → K → Bool) → (V → V → Type 0) → Call K V E → Option (WholeView K V E) → Option (WholeView K V E) → Type 0
 FollowsAt eq is_clone call None None = Unit {0}
 FollowsAt eq is_clone call (Some v) (Some w) = Follows eq is_clone v call w
 FollowsAt eq is_clone call v w = ⊥
@@ -31,6 +32,13 @@ module _ {K V : Type 0} (E : Type 0) (eq : K → K → Bool) (given : SegmentedS
       → steps_in E eq given (call ∷ calls) i ≡ steps_in E eq given calls i
   steps-apart calls call i place is apart =
       ap (λ b. steps_after eq (share_settings given) (cond b (call ∷ list_of E eq given calls i) (list_of E eq given calls i))) (ap (goes_to i) is ∙ apart)
+
+stand-at : {K V E : Type 0} (eq : K → K → Bool) (is_clone : V → V → Type 0) (given : Settings K V) (old new : Option (WholeView K V E)) (steps : List (AcceptedStep K V E)) (call : Call K V E)
+    → FollowsAt eq is_clone call old new → IfSome old (λ one. StandsFor eq is_clone given one steps) → IfSome new (λ one. StandsFor eq is_clone given one (after eq given call steps))
+stand-at eq is_clone given None None steps call follows stands = tt
+stand-at eq is_clone given None (Some w) steps call follows stands = absurd follows
+stand-at eq is_clone given (Some v) None steps call follows stands = absurd follows
+stand-at eq is_clone given (Some v) (Some w) steps call follows stands = follows _ _ stands
 
 module _ {K V : Type 0} (E : Type 0) (eq : K → K → Bool) {is_clone : V → V → Type 0} (given : SegmentedSettings K V) where
   -- one segment's state stands for its list of more calls, and the lists of all others stay
@@ -62,16 +70,9 @@ module _ {K V : Type 0} (E : Type 0) (eq : K → K → Bool) {is_clone : V → V
       → AllStandFor eq is_clone given (record { settings = view.settings; segments = set view.segments j w }) (call ∷ calls)
   stand-one view calls j v w call place here follows stand =
       stand-set view calls (call ∷ calls) j v w here
-      (subst (StandsFor eq is_clone (share_settings given) w) (sym (steps-here calls call j (One j) place (eqb_refl j))) (follows (share_settings given) (steps_in E eq given calls j) (stand-here view calls j v here stand)))
-      (λ i other. steps-apart calls call i (One j) place other)
+      (subst (StandsFor eq is_clone (share_settings given) w) (sym (steps-here E eq given calls call j (One j) place (eqb_refl j))) (follows (share_settings given) (steps_in E eq given calls j) (stand-here view calls j v here stand)))
+      (λ i other. steps-apart E eq given calls call i (One j) place other)
       stand
-
-  stand-at : (old new : Option (WholeView K V E)) (steps : List (AcceptedStep K V E)) (call : Call K V E) → FollowsAt eq is_clone call old new
-      → IfSome old (λ one. StandsFor eq is_clone (share_settings given) one steps) → IfSome new (λ one. StandsFor eq is_clone (share_settings given) one (after eq (share_settings given) call steps))
-  stand-at None None steps call follows stands = tt
-  stand-at None (Some w) steps call follows stands = absurd follows
-  stand-at (Some v) None steps call follows stands = absurd follows
-  stand-at (Some v) (Some w) steps call follows stands = follows _ _ stands
 
   -- a call to each: each state follows it
   pub stand-each : (old new : SegmentedView K V E) (calls : List (Call K V E)) (call : Call K V E) → place_of E eq given calls call ≡ Each → new.settings ≡ old.settings
@@ -81,8 +82,8 @@ module _ {K V : Type 0} (E : Type 0) (eq : K → K → Bool) {is_clone : V → V
     settings = settings ∙ stand.settings;
     count = same ∙ stand.count;
     each = λ i.
-        subst (λ steps. IfSome (slice_get new.segments i) (λ one. StandsFor eq is_clone (share_settings given) one steps)) (sym (steps-here calls call i Each place refl))
-        (stand-at (slice_get old.segments i) (slice_get new.segments i) (steps_in E eq given calls i) call (follows i) (stand.each i));
+        subst (λ steps. IfSome (slice_get new.segments i) (λ one. StandsFor eq is_clone (share_settings given) one steps)) (sym (steps-here E eq given calls call i Each place refl))
+        (stand-at eq is_clone (share_settings given) (slice_get old.segments i) (slice_get new.segments i) (steps_in E eq given calls i) call (follows i) (stand.each i));
   }
 
   -- a call to none: all stay
@@ -90,7 +91,7 @@ module _ {K V : Type 0} (E : Type 0) (eq : K → K → Bool) {is_clone : V → V
   stand-nowhere view calls call place stand = record {
     settings = stand.settings;
     count = stand.count;
-    each = λ i. subst (λ steps. IfSome (slice_get view.segments i) (λ one. StandsFor eq is_clone (share_settings given) one steps)) (sym (steps-apart calls call i Nowhere place refl)) (stand.each i);
+    each = λ i. subst (λ steps. IfSome (slice_get view.segments i) (λ one. StandsFor eq is_clone (share_settings given) one steps)) (sym (steps-apart E eq given calls call i Nowhere place refl)) (stand.each i);
   }
 
   -- a state answers as its own list says
@@ -122,4 +123,4 @@ module _ {K V : Type 0} (E : Type 0) (eq : K → K → Bool) (given : SegmentedS
 
 -- a cache hashes as it was built to
 pub hash-at : {K V : Type 0} (E : Type 0) (eq : K → K → Bool) {is_clone : V → V → Type 0} (given : SegmentedSettings K V) (view : SegmentedView K V E) (calls : List (Call K V E)) (k : K) → AllStandFor eq is_clone given view calls → segment_of_key view.settings k ≡ segment_of_key given k
-hash-at E eq given view calls k stand = ap (λ (s : SegmentedSettings K V). segment_of_key s k) stand.settings
+hash-at {K = K} {V = V} E eq given view calls k stand = ap (λ (s : SegmentedSettings K V). segment_of_key s k) stand.settings

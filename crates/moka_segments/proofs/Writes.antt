@@ -1,5 +1,5 @@
 -- What a call writes is under its own key.
-use Rattle.std.proofs.Common.{◌≡◌, ℕ, zero, suc, ◌+◌, Bool, true, false, cond, Option, Some, None, option_map, List, [], ◌∷◌, ◌++◌, refl, sym, ap, ◌∙◌}
+use Rattle.std.proofs.Common.{◌≡◌, ℕ, zero, suc, ◌+◌, Bool, true, false, cond, Option, Some, None, option_map, List, [], ◌∷◌, ◌++◌, refl, sym, ap, ◌∙◌, arith}
 use Rattle.std.specs.List.{AllByRecursion}
 use Rattle.std.proofs.lemmas.Bool.{cond_both}
 use Rattle.moka_model.specs.declared.turns.Kind.{Kind}
@@ -37,18 +37,18 @@ module _ {K V : Type 0} (test : K → V → Bool) where
   written-more (Written k v at) es h more = by (test k v)
     where
       by : (b : Bool) → cond b (suc (count_written test (es ++ h))) (count_written test (es ++ h)) ≡ cond b (suc (count_written test es)) (count_written test es) + count_written test h
-      by true = ap suc more
+      by true = omega (arith, more)
       by false = more
   written-more e es h more = more
 
   pub written-append : (es h : List (Event K V)) → count_written test (es ++ h) ≡ count_written test es + count_written test h
-  written-append [] h = refl
+  written-append [] h = omega arith
   written-append (e ∷ es) h = written-more e es h (written-append es h)
 
   -- what is written after a call is what the call writes, and what was written before
   pub written-after : {E : Type 0} (it : Option (Accepted K V E)) (steps : List (AcceptedStep K V E))
       → count_written test (events_in (with_step it steps)) ≡ count_written test (events_by it) + count_written test (events_in steps)
-  written-after None steps = refl
+  written-after None steps = omega arith
   written-after (Some it) steps = written-append it.step.events (events_in steps)
 
   abbrev IsUncountedBy : {E : Type 0} → Option (Accepted K V E) → Type 0

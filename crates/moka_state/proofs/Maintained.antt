@@ -152,8 +152,8 @@ live-after {K} {V} eq given steps settings lives expired_alike contents frequenc
     (subst (λ (b : Books K V). All_live settings b.latest) stands.books (live-maintained eq settings lives expired_alike contents frequency moment number at new is))
 
 -- A part is left undone where the definitions leave one, in whatever list the state stands for.
-pub cut-after : {K V E : Type 0} (eq : K → K → Bool) (given : Settings K V) (steps : List (AcceptedStep K V E)) (settings : Settings K V) (lives : Lives) → HasLives settings lives
-    → (contents : Contents K V) (frequency : List ℕ → ℕ → ℕ) (moment number : ℕ) → StandsFor eq given (view_with settings contents frequency moment number) steps → (at : ℕ) (limit : Option ℕ) (new : Contents K V) (is_cut : Bool)
+pub cut-after : {K V E : Type 0} (eq : K → K → Bool) {is_clone : V → V → Type 0} {turns : List (Turn K V E)} (given : Settings K V) (steps : List (AcceptedStep K V E)) (settings : Settings K V) (lives : Lives) → HasLives settings lives
+    → (contents : Contents K V) (frequency : List ℕ → ℕ → ℕ) (moment number : ℕ) → StandsFor eq is_clone given (whole (view_with settings contents frequency moment number) turns) steps → (at : ℕ) (limit : Option ℕ) (new : Contents K V) (is_cut : Bool)
     → IsMaintainedUpTo lives settings.behaviour.is_lru (frequency []) settings.max_capacity (max moment at) limit contents new is_cut
     → is_cut ≡ is_left_at eq given limit at (events_in steps)
 cut-after eq given steps settings lives expired_alike contents frequency moment number stands at limit new is_cut is =

@@ -1,5 +1,5 @@
 -- What a state keeps to stays so: after a change of one row, and after a maintenance.
-use Rattle.std.proofs.Common.{◌≡◌, ℕ, Bool, List, [], ◌∷◌, ◌++◌, map, Option, Some, sym, ap, ◌∙◌, subst, append_assoc}
+use Rattle.std.proofs.Common.{◌≡◌, ◌≢◌, ℕ, zero, suc, ◌<◌, arith, Bool, List, [], ◌∷◌, ◌++◌, map, Option, Some, None, refl, sym, ap, ◌∙◌, subst, append_assoc}
 use Rattle.std.specs.Arc.{arc_value}
 use Rattle.moka_model.specs.declared.notification.Notice.{Notice}
 use Rattle.moka_rows.specs.declared.rows.EntryInfo.{EntryInfo}
@@ -10,6 +10,7 @@ use Rattle.moka_rows.specs.declared.rows.Row.{Row}
 use Rattle.moka_model.specs.declared.notification.RemovalCause.{RemovalCause}
 use Rattle.moka_model.specs.Maintenance.{done, evicted_in, after_parts}
 use Rattle.moka_model.specs.MaintenanceLaws.{everything}
+use Rattle.moka_model.specs.SizeLaws.{LimitsSome}
 use Rattle.moka_ways.specs.declared.lives.Lives.{Lives}
 use Rattle.moka_ways.specs.Lives.{IsDated}
 use Rattle.moka_maintain.specs.Maintain.{is_alive, notice_at, rows_of, row_wins, row_parts, IsMaintainedUpTo}
@@ -95,3 +96,13 @@ module _ {K V : Type 0} (keeps : K → V → Type 0) (hash_of : K → ℕ) (live
       kept-noticed : (rows : List (ℕ × Row K V)) → AllByRecursion (λ (p : ℕ × Row K V). keeps (arc_value p.1.key) p.1.value) rows → AllByRecursion (λ (m : Notice K V). keeps (arc_value m.key) m.value) (map (notice_at lives at) rows)
       kept-noticed [] all = tt
       kept-noticed (p ∷ ps) all = (all.0, kept-noticed ps all.1)
+
+-- what stores nothing and has no notice is sound
+pub IsSound-empty : {K V : Type 0} (keeps : K → V → Type 0) (hash_of : K → ℕ) (lives : Lives) (contents : Contents K V) → entries contents ≡ [] → contents.notices ≡ [] → IsSound keeps hash_of lives contents
+IsSound-empty keeps hash_of lives contents none no_notices = record { dated = rw none tt; hashed = rw none tt; kept = rw none tt; notices_kept = rw no_notices tt }
+
+-- a limit that is not 0 lets some leave
+pub limits-some : (limit : Option ℕ) → limit ≢ Some 0 → LimitsSome limit
+limits-some None other = tt
+limits-some (Some zero) other = absurd (other refl)
+limits-some (Some (suc n)) other = omega arith

@@ -47,9 +47,9 @@ module _ {K V E : Type 0} (eq : K → K → Bool) {is_clone : V → V → Type 0
       stands-by call (move t) (ap (λ a. with_step a steps) is ∙ ap (λ s. s ∷ steps) (step t)) (holds (moved (move t) (turns steps)) found_it.1)
 
 -- a state whose turns are the same
-pub with-turns : {K V H W X F E : Type 0} (settings : SettingsData H W X) (books : Books K V) (source : F) (left rows : List (Turn K V E)) → left ≡ rows
-    → (let a : StateData K V H W X F E = record { settings = settings; books = books; source = source; turns = left } in a) ≡ record { settings = settings; books = books; source = source; turns = rows }
-with-turns {K} {V} {H} {W} {X} {F} {E} settings books source left rows same = ap (λ l. let a : StateData K V H W X F E = record { settings = settings; books = books; source = source; turns = l } in a) same
+pub with-turns : {K V H W X F E : Type 0} (settings : SettingsData H W X) (books : Books K V) (source : F) (room : ℕ) (left rows : List (Turn K V E)) → left ≡ rows
+    → (let a : StateData K V H W X F E = record { settings = settings; books = books; source = source; initial_room = room; turns = left } in a) ≡ record { settings = settings; books = books; source = source; initial_room = room; turns = rows }
+with-turns {K} {V} {H} {W} {X} {F} {E} settings books source room left rows same = ap (λ l. let a : StateData K V H W X F E = record { settings = settings; books = books; source = source; initial_room = room; turns = l } in a) same
 
 -- a table whose entries are the same keeps the same turns
 pub same-turns : {K V E : Type 0} (hash_of : K → ℕ) (opened before : List (TurnKey K × OpenTurn V)) (ended ended_before : List (ℕ × EndedTurn K V E)) → opened ≡ before → ended ≡ ended_before → turns_in hash_of opened ended ≡ turns_in hash_of before ended_before

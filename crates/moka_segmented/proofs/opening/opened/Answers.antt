@@ -20,7 +20,7 @@ loop-preserved g c = record {
 
 pub returns-clause-empty : goal.returns-clause-empty
 returns-clause-empty g c =
-    let cache : SegmentedData _ _ _ _ _ _ = record { bits = c.args.bits; settings = data_of c.args.settings; segments = c.loop.segments.items } in
+    let cache : SegmentedData _ _ _ _ _ _ _ = record { bits = c.args.bits; settings = data_of c.args.settings; segments = c.loop.segments.items } in
     let count : length c.loop.segments.items ≡ 2 ^ c.args.bits = omega (arith, c.loop.segments.ok, c.loop.invariant.count, c.loop-test.false, c.loop.auto.counter-end, c.count_of-count.ensures) in
     all-empty g.row.C-Error.Denot g.K.PartialEq.eq (behaviour_by (hash_by g.C.Hasher.BuildHasher.build_hasher g.C.Hasher.Hasher.Hasher.write g.C.Hasher.Hasher.Hasher.finish g.K.Hash.hash_input) g.C.CacheTypes.weight g.C.CacheTypes.lifetimes) (estimates g.C.Frequency.FrequencySource.noted g.C.Frequency.FrequencySource.count) g.C.Frequency.FrequencySource.opened cache count c.loop.invariant.each
 

@@ -11,17 +11,17 @@ returns-clause-reply g c =
     let behaviour = behaviour_by (hash_by g.C.Hasher.BuildHasher.build_hasher g.C.Hasher.Hasher.Hasher.write g.C.Hasher.Hasher.Hasher.finish g.K.Hash.hash_input) g.C.CacheTypes.weight g.C.CacheTypes.lifetimes in
     let frequency = estimates g.C.Frequency.FrequencySource.noted g.C.Frequency.FrequencySource.count in
     let it = c.self.inside in
-    let cache : SegmentedData _ _ _ _ _ _ = record { bits = it.bits; settings = data_of it.settings; segments = it.segments.items } in
+    let cache : SegmentedData _ _ _ _ _ _ _ = record { bits = it.bits; settings = data_of it.settings; segments = it.segments.items } in
     let routing : Routing (segmented_settings_by behaviour (frequency g.C.Frequency.FrequencySource.opened) cache) it.segments.items c.index.result.now c.segment_of-index.result c.args.key.now =
     record { here_is = c.index.ensures; is = rw (← c.self.view_is) at c.segment_of-index.ensures.is; within = rw (← c.self.view_is) at c.segment_of-index.ensures.within } in
-    rw (← c.self.view_is) (routed-answers g.row.C-Error.Denot g.K.PartialEq.eq behaviour frequency g.C.Frequency.FrequencySource.opened cache _ _ c.args.key.now routing g.V.Clone.is_clone (ContainsKey c.args.key.now c.args.now) (Contains c.contains_key.result) refl c.contains_key.ensures.reply)
+    rw (← c.self.view_is) (routed-answers g.row.C-Error.Denot g.K.PartialEq.eq behaviour frequency g.C.Frequency.FrequencySource.opened cache _ _ c.args.key.now routing (ContainsKey c.args.key.now c.args.now) (Contains c.contains_key.result) refl c.contains_key.ensures.reply)
 
 pub returns-clause-stands : goal.returns-clause-stands
 returns-clause-stands g c =
     let behaviour = behaviour_by (hash_by g.C.Hasher.BuildHasher.build_hasher g.C.Hasher.Hasher.Hasher.write g.C.Hasher.Hasher.Hasher.finish g.K.Hash.hash_input) g.C.CacheTypes.weight g.C.CacheTypes.lifetimes in
     let frequency = estimates g.C.Frequency.FrequencySource.noted g.C.Frequency.FrequencySource.count in
     let it = c.self.inside in
-    let cache : SegmentedData _ _ _ _ _ _ = record { bits = it.bits; settings = data_of it.settings; segments = it.segments.items } in
+    let cache : SegmentedData _ _ _ _ _ _ _ = record { bits = it.bits; settings = data_of it.settings; segments = it.segments.items } in
     let routing : Routing (segmented_settings_by behaviour (frequency g.C.Frequency.FrequencySource.opened) cache) it.segments.items c.index.result.now c.segment_of-index.result c.args.key.now =
     record { here_is = c.index.ensures; is = rw (← c.self.view_is) at c.segment_of-index.ensures.is; within = rw (← c.self.view_is) at c.segment_of-index.ensures.within } in
     rw (← c.self.view_is) (routed-stays g.row.C-Error.Denot g.K.PartialEq.eq behaviour frequency g.C.Frequency.FrequencySource.opened cache _ _ c.args.key.now routing (ContainsKey c.args.key.now c.args.now) refl c.contains_key.ensures.stands)

@@ -11,5 +11,5 @@ abbrev pub invariant-loop-index : goal.invariant-loop-index
 invariant-loop-index g l = record {
   bits : l.self-inside.bits ≡ l.fn.self.bits;
   settings : data_of l.self-inside.settings ≡ l.fn.self.settings;
-  progress : Progress g.row.C-Error.Denot g.K.PartialEq.eq (view_by (behaviour_by (hash_by g.C.Hasher.BuildHasher.build_hasher g.C.Hasher.Hasher.Hasher.write g.C.Hasher.Hasher.Hasher.finish g.K.Hash.hash_input) g.C.CacheTypes.weight g.C.CacheTypes.lifetimes) (estimates g.C.Frequency.FrequencySource.noted g.C.Frequency.FrequencySource.count) g.C.Frequency.FrequencySource.opened) (InvalidateIf (g.C.CacheTypes.test l.fn.predicate)) l.fn.self.segments l.self-inside.segments.items l.index;
+  progress : Progress g.K.PartialEq.eq g.V.Clone.is_clone (view_by (behaviour_by (hash_by g.C.Hasher.BuildHasher.build_hasher g.C.Hasher.Hasher.Hasher.write g.C.Hasher.Hasher.Hasher.finish g.K.Hash.hash_input) g.C.CacheTypes.weight g.C.CacheTypes.lifetimes) (estimates g.C.Frequency.FrequencySource.noted g.C.Frequency.FrequencySource.count) g.C.Frequency.FrequencySource.opened) (InvalidateIf (g.C.CacheTypes.test l.fn.predicate)) l.fn.self.segments l.self-inside.segments.items l.index;
 }

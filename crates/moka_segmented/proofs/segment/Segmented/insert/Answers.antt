@@ -14,7 +14,7 @@ returns-clause-stands g c =
     let behaviour = behaviour_by (hash_by g.C.Hasher.BuildHasher.build_hasher g.C.Hasher.Hasher.Hasher.write g.C.Hasher.Hasher.Hasher.finish g.K.Hash.hash_input) g.C.CacheTypes.weight g.C.CacheTypes.lifetimes in
     let frequency = estimates g.C.Frequency.FrequencySource.noted g.C.Frequency.FrequencySource.count in
     let it = c.self.inside in
-    let cache : SegmentedData _ _ _ _ _ _ = record { bits = it.bits; settings = data_of it.settings; segments = it.segments.items } in
+    let cache : SegmentedData _ _ _ _ _ _ _ = record { bits = it.bits; settings = data_of it.settings; segments = it.segments.items } in
     let routing : Routing (segmented_settings_by behaviour (frequency g.C.Frequency.FrequencySource.opened) cache) it.segments.items c.index_mut.result.now c.segment_of-index.result c.args.key =
     record { here_is = c.index_mut.ensures.value; is = rw (← c.self.view_is) at c.segment_of-index.ensures.is; within = rw (← c.self.view_is) at c.segment_of-index.ensures.within } in
     rw (← c.self.view_is) (OnOk-by c.insert.result (λ follows. routed-follows g.row.C-Error.Denot g.K.PartialEq.eq behaviour frequency g.C.Frequency.FrequencySource.opened cache _ _ c.args.key routing (Insert c.args.key c.args.value c.args.now) c.insert.new.self refl follows) c.insert.ensures.stands)
@@ -29,7 +29,7 @@ returns-clause-numbers g c =
     let behaviour = behaviour_by (hash_by g.C.Hasher.BuildHasher.build_hasher g.C.Hasher.Hasher.Hasher.write g.C.Hasher.Hasher.Hasher.finish g.K.Hash.hash_input) g.C.CacheTypes.weight g.C.CacheTypes.lifetimes in
     let frequency = estimates g.C.Frequency.FrequencySource.noted g.C.Frequency.FrequencySource.count in
     let it = c.self.inside in
-    let cache : SegmentedData _ _ _ _ _ _ = record { bits = it.bits; settings = data_of it.settings; segments = it.segments.items } in
+    let cache : SegmentedData _ _ _ _ _ _ _ = record { bits = it.bits; settings = data_of it.settings; segments = it.segments.items } in
     let routing : Routing (segmented_settings_by behaviour (frequency g.C.Frequency.FrequencySource.opened) cache) it.segments.items c.index_mut.result.now c.segment_of-index.result c.args.key =
     record { here_is = c.index_mut.ensures.value; is = rw (← c.self.view_is) at c.segment_of-index.ensures.is; within = rw (← c.self.view_is) at c.segment_of-index.ensures.within } in
     let used_up = IsErrAnd c.insert.result (λ refused. refused.cause ≡ NumbersUsedUp) in
@@ -41,7 +41,7 @@ returns-clause-nothing g c =
     let behaviour = behaviour_by (hash_by g.C.Hasher.BuildHasher.build_hasher g.C.Hasher.Hasher.Hasher.write g.C.Hasher.Hasher.Hasher.finish g.K.Hash.hash_input) g.C.CacheTypes.weight g.C.CacheTypes.lifetimes in
     let frequency = estimates g.C.Frequency.FrequencySource.noted g.C.Frequency.FrequencySource.count in
     let it = c.self.inside in
-    let cache : SegmentedData _ _ _ _ _ _ = record { bits = it.bits; settings = data_of it.settings; segments = it.segments.items } in
+    let cache : SegmentedData _ _ _ _ _ _ _ = record { bits = it.bits; settings = data_of it.settings; segments = it.segments.items } in
     let routing : Routing (segmented_settings_by behaviour (frequency g.C.Frequency.FrequencySource.opened) cache) it.segments.items c.index_mut.result.now c.segment_of-index.result c.args.key =
     record { here_is = c.index_mut.ensures.value; is = rw (← c.self.view_is) at c.segment_of-index.ensures.is; within = rw (← c.self.view_is) at c.segment_of-index.ensures.within } in
     rw (← c.self.view_is)

@@ -12,17 +12,17 @@ returns-clause-reply g c =
     let behaviour = behaviour_by (hash_by g.C.Hasher.BuildHasher.build_hasher g.C.Hasher.Hasher.Hasher.write g.C.Hasher.Hasher.Hasher.finish g.K.Hash.hash_input) g.C.CacheTypes.weight g.C.CacheTypes.lifetimes in
     let frequency = estimates g.C.Frequency.FrequencySource.noted g.C.Frequency.FrequencySource.count in
     let it = c.self.inside in
-    let cache : SegmentedData _ _ _ _ _ _ = record { bits = it.bits; settings = data_of it.settings; segments = it.segments.items } in
+    let cache : SegmentedData _ _ _ _ _ _ _ = record { bits = it.bits; settings = data_of it.settings; segments = it.segments.items } in
     let routing : Routing (segmented_settings_by behaviour (frequency g.C.Frequency.FrequencySource.opened) cache) it.segments.items c.index_mut.result.now c.segment_of-index.result c.args.key.now =
     record { here_is = c.index_mut.ensures.value; is = rw (← c.self.view_is) at c.segment_of-index.ensures.is; within = rw (← c.self.view_is) at c.segment_of-index.ensures.within } in
-    rw (← c.self.view_is) (IfOk-by c.remove.result (λ found answers. routed-answers g.row.C-Error.Denot g.K.PartialEq.eq behaviour frequency g.C.Frequency.FrequencySource.opened cache _ _ c.args.key.now routing g.V.Clone.is_clone (Remove c.args.key.now c.args.now) (Found found) refl answers) c.remove.ensures.reply)
+    rw (← c.self.view_is) (IfOk-by c.remove.result (λ found answers. routed-answers g.row.C-Error.Denot g.K.PartialEq.eq behaviour frequency g.C.Frequency.FrequencySource.opened cache _ _ c.args.key.now routing (Remove c.args.key.now c.args.now) (Found found) refl answers) c.remove.ensures.reply)
 
 pub returns-clause-stands : goal.returns-clause-stands
 returns-clause-stands g c =
     let behaviour = behaviour_by (hash_by g.C.Hasher.BuildHasher.build_hasher g.C.Hasher.Hasher.Hasher.write g.C.Hasher.Hasher.Hasher.finish g.K.Hash.hash_input) g.C.CacheTypes.weight g.C.CacheTypes.lifetimes in
     let frequency = estimates g.C.Frequency.FrequencySource.noted g.C.Frequency.FrequencySource.count in
     let it = c.self.inside in
-    let cache : SegmentedData _ _ _ _ _ _ = record { bits = it.bits; settings = data_of it.settings; segments = it.segments.items } in
+    let cache : SegmentedData _ _ _ _ _ _ _ = record { bits = it.bits; settings = data_of it.settings; segments = it.segments.items } in
     let routing : Routing (segmented_settings_by behaviour (frequency g.C.Frequency.FrequencySource.opened) cache) it.segments.items c.index_mut.result.now c.segment_of-index.result c.args.key.now =
     record { here_is = c.index_mut.ensures.value; is = rw (← c.self.view_is) at c.segment_of-index.ensures.is; within = rw (← c.self.view_is) at c.segment_of-index.ensures.within } in
     rw (← c.self.view_is) (OnOk-by c.remove.result (λ follows. routed-follows g.row.C-Error.Denot g.K.PartialEq.eq behaviour frequency g.C.Frequency.FrequencySource.opened cache _ _ c.args.key.now routing (Remove c.args.key.now c.args.now) c.remove.new.self refl follows) c.remove.ensures.stands)
@@ -37,7 +37,7 @@ returns-clause-miss g c =
     let behaviour = behaviour_by (hash_by g.C.Hasher.BuildHasher.build_hasher g.C.Hasher.Hasher.Hasher.write g.C.Hasher.Hasher.Hasher.finish g.K.Hash.hash_input) g.C.CacheTypes.weight g.C.CacheTypes.lifetimes in
     let frequency = estimates g.C.Frequency.FrequencySource.noted g.C.Frequency.FrequencySource.count in
     let it = c.self.inside in
-    let cache : SegmentedData _ _ _ _ _ _ = record { bits = it.bits; settings = data_of it.settings; segments = it.segments.items } in
+    let cache : SegmentedData _ _ _ _ _ _ _ = record { bits = it.bits; settings = data_of it.settings; segments = it.segments.items } in
     let routing : Routing (segmented_settings_by behaviour (frequency g.C.Frequency.FrequencySource.opened) cache) it.segments.items c.index_mut.result.now c.segment_of-index.result c.args.key.now =
     record { here_is = c.index_mut.ensures.value; is = rw (← c.self.view_is) at c.segment_of-index.ensures.is; within = rw (← c.self.view_is) at c.segment_of-index.ensures.within } in
     rw (← c.self.view_is) (routed-history g.row.C-Error.Denot g.K.PartialEq.eq behaviour frequency g.C.Frequency.FrequencySource.opened cache _ _ c.args.key.now routing (λ s steps. live_at g.K.PartialEq.eq s c.args.key.now c.args.now (events_in steps) ≡ None → IsOk c.remove.result) c.remove.ensures.miss)
@@ -47,7 +47,7 @@ returns-clause-copied g c =
     let behaviour = behaviour_by (hash_by g.C.Hasher.BuildHasher.build_hasher g.C.Hasher.Hasher.Hasher.write g.C.Hasher.Hasher.Hasher.finish g.K.Hash.hash_input) g.C.CacheTypes.weight g.C.CacheTypes.lifetimes in
     let frequency = estimates g.C.Frequency.FrequencySource.noted g.C.Frequency.FrequencySource.count in
     let it = c.self.inside in
-    let cache : SegmentedData _ _ _ _ _ _ = record { bits = it.bits; settings = data_of it.settings; segments = it.segments.items } in
+    let cache : SegmentedData _ _ _ _ _ _ _ = record { bits = it.bits; settings = data_of it.settings; segments = it.segments.items } in
     let routing : Routing (segmented_settings_by behaviour (frequency g.C.Frequency.FrequencySource.opened) cache) it.segments.items c.index_mut.result.now c.segment_of-index.result c.args.key.now =
     record { here_is = c.index_mut.ensures.value; is = rw (← c.self.view_is) at c.segment_of-index.ensures.is; within = rw (← c.self.view_is) at c.segment_of-index.ensures.within } in
     rw (← c.self.view_is) (routed-history g.row.C-Error.Denot g.K.PartialEq.eq behaviour frequency g.C.Frequency.FrequencySource.opened cache _ _ c.args.key.now routing (λ s steps. IfSome (live_at g.K.PartialEq.eq s c.args.key.now c.args.now (events_in steps)) (λ live. g.V.Clone.is_infallible live.value → IsOk c.remove.result)) c.remove.ensures.copied)

@@ -10,7 +10,7 @@ use Rattle.moka_segmented.proofs.segment.Segmented.run_pending_tasks.Goals as go
 
 pub loop-index-init : goal.loop-index-init
 loop-index-init g c =
-    rw (← c.self.view_is) (record { bits = refl; settings = refl; progress = progress-none g.row.C-Error.Denot g.K.PartialEq.eq (view_by (behaviour_by (hash_by g.C.Hasher.BuildHasher.build_hasher g.C.Hasher.Hasher.Hasher.write g.C.Hasher.Hasher.Hasher.finish g.K.Hash.hash_input) g.C.CacheTypes.weight g.C.CacheTypes.lifetimes) (estimates g.C.Frequency.FrequencySource.noted g.C.Frequency.FrequencySource.count) g.C.Frequency.FrequencySource.opened) (RunPendingTasks c.args.now) c.self.inside.segments.items })
+    rw (← c.self.view_is) (record { bits = refl; settings = refl; progress = progress-none g.K.PartialEq.eq g.V.Clone.is_clone (view_by (behaviour_by (hash_by g.C.Hasher.BuildHasher.build_hasher g.C.Hasher.Hasher.Hasher.write g.C.Hasher.Hasher.Hasher.finish g.K.Hash.hash_input) g.C.CacheTypes.weight g.C.CacheTypes.lifetimes) (estimates g.C.Frequency.FrequencySource.noted g.C.Frequency.FrequencySource.count) g.C.Frequency.FrequencySource.opened) (RunPendingTasks c.args.now) c.self.inside.segments.items })
 
 pub loop-index-preserved : goal.loop-index-preserved
 loop-index-preserved g c =
@@ -22,7 +22,7 @@ loop-index-preserved g c =
     record {
       bits = c.loop-index.invariant.bits;
       settings = c.loop-index.invariant.settings;
-      progress = progress-more g.row.C-Error.Denot g.K.PartialEq.eq (view_by (behaviour_by (hash_by g.C.Hasher.BuildHasher.build_hasher g.C.Hasher.Hasher.Hasher.write g.C.Hasher.Hasher.Hasher.finish g.K.Hash.hash_input) g.C.CacheTypes.weight g.C.CacheTypes.lifetimes) (estimates g.C.Frequency.FrequencySource.noted g.C.Frequency.FrequencySource.count) g.C.Frequency.FrequencySource.opened) (RunPendingTasks c.args.now) c.args.self.now.segments now index c.index_mut.result.now c.run_pending_tasks.new.self here c.run_pending_tasks.ensures.stands c.loop-index.invariant.progress;
+      progress = progress-more g.K.PartialEq.eq g.V.Clone.is_clone (view_by (behaviour_by (hash_by g.C.Hasher.BuildHasher.build_hasher g.C.Hasher.Hasher.Hasher.write g.C.Hasher.Hasher.Hasher.finish g.K.Hash.hash_input) g.C.CacheTypes.weight g.C.CacheTypes.lifetimes) (estimates g.C.Frequency.FrequencySource.noted g.C.Frequency.FrequencySource.count) g.C.Frequency.FrequencySource.opened) (RunPendingTasks c.args.now) c.args.self.now.segments now index c.index_mut.result.now c.run_pending_tasks.new.self here c.run_pending_tasks.ensures.stands c.loop-index.invariant.progress;
     }
 
 pub returns : goal.returns

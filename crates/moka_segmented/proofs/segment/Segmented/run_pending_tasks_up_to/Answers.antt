@@ -10,7 +10,7 @@ use Rattle.moka_segmented.proofs.segment.Segmented.run_pending_tasks_up_to.Goals
 
 pub loop-index-init : goal.loop-index-init
 loop-index-init g c =
-    rw (← c.self.view_is) (record { bits = refl; settings = refl; together = together-none g.row.C-Error.Denot g.K.PartialEq.eq g.V.Clone.is_clone (view_by (behaviour_by (hash_by g.C.Hasher.BuildHasher.build_hasher g.C.Hasher.Hasher.Hasher.write g.C.Hasher.Hasher.Hasher.finish g.K.Hash.hash_input) g.C.CacheTypes.weight g.C.CacheTypes.lifetimes) (estimates g.C.Frequency.FrequencySource.noted g.C.Frequency.FrequencySource.count) g.C.Frequency.FrequencySource.opened) (RunPendingTasksUpTo c.args.limit c.args.now) c.self.inside.segments.items })
+    rw (← c.self.view_is) (record { bits = refl; settings = refl; together = together-none g.K.PartialEq.eq g.V.Clone.is_clone (view_by (behaviour_by (hash_by g.C.Hasher.BuildHasher.build_hasher g.C.Hasher.Hasher.Hasher.write g.C.Hasher.Hasher.Hasher.finish g.K.Hash.hash_input) g.C.CacheTypes.weight g.C.CacheTypes.lifetimes) (estimates g.C.Frequency.FrequencySource.noted g.C.Frequency.FrequencySource.count) g.C.Frequency.FrequencySource.opened) (RunPendingTasksUpTo c.args.limit c.args.now) c.self.inside.segments.items })
 
 pub loop-index-preserved : goal.loop-index-preserved
 loop-index-preserved g c =
@@ -22,7 +22,7 @@ loop-index-preserved g c =
     record {
       bits = c.loop-index.invariant.bits;
       settings = c.loop-index.invariant.settings;
-      together = together-more g.row.C-Error.Denot g.K.PartialEq.eq g.V.Clone.is_clone (view_by (behaviour_by (hash_by g.C.Hasher.BuildHasher.build_hasher g.C.Hasher.Hasher.Hasher.write g.C.Hasher.Hasher.Hasher.finish g.K.Hash.hash_input) g.C.CacheTypes.weight g.C.CacheTypes.lifetimes) (estimates g.C.Frequency.FrequencySource.noted g.C.Frequency.FrequencySource.count) g.C.Frequency.FrequencySource.opened) (RunPendingTasksUpTo c.args.limit c.args.now) c.args.self.now.segments now c.loop-index.is_left c.run_pending_tasks_up_to-is_left.result index c.index_mut.result.now c.run_pending_tasks_up_to-is_left.new.self here c.run_pending_tasks_up_to-is_left.ensures.stands c.run_pending_tasks_up_to-is_left.ensures.reply c.loop-index.invariant.together;
+      together = together-more g.K.PartialEq.eq g.V.Clone.is_clone (view_by (behaviour_by (hash_by g.C.Hasher.BuildHasher.build_hasher g.C.Hasher.Hasher.Hasher.write g.C.Hasher.Hasher.Hasher.finish g.K.Hash.hash_input) g.C.CacheTypes.weight g.C.CacheTypes.lifetimes) (estimates g.C.Frequency.FrequencySource.noted g.C.Frequency.FrequencySource.count) g.C.Frequency.FrequencySource.opened) (RunPendingTasksUpTo c.args.limit c.args.now) c.args.self.now.segments now c.loop-index.is_left c.run_pending_tasks_up_to-is_left.result index c.index_mut.result.now c.run_pending_tasks_up_to-is_left.new.self here c.run_pending_tasks_up_to-is_left.ensures.stands c.run_pending_tasks_up_to-is_left.ensures.reply c.loop-index.invariant.together;
     }
 
 pub returns-clause-stands : goal.returns-clause-stands
@@ -36,4 +36,4 @@ pub returns-clause-reply : goal.returns-clause-reply
 returns-clause-reply g c =
     let count : length c.self.inside.segments.items ≡ length c.args.self.now.segments = ap (λ (d : SegmentedData _ _ _ _ _ _). length d.segments) c.self.view_is in
     let all : c.loop-index.index ≡ length c.args.self.now.segments = omega (arith, c.loop-index-test.false, c.loop-index.auto.index-end, c.len-index-end.ensures, count) in
-    together-answers g.row.C-Error.Denot g.K.PartialEq.eq (behaviour_by (hash_by g.C.Hasher.BuildHasher.build_hasher g.C.Hasher.Hasher.Hasher.write g.C.Hasher.Hasher.Hasher.finish g.K.Hash.hash_input) g.C.CacheTypes.weight g.C.CacheTypes.lifetimes) (estimates g.C.Frequency.FrequencySource.noted g.C.Frequency.FrequencySource.count) g.C.Frequency.FrequencySource.opened g.V.Clone.is_clone c.args.limit c.args.now c.args.self.now c.loop-index.self-inside.segments.items c.loop-index.is_left c.loop-index.index all c.loop-index.invariant.together
+    together-answers g.row.C-Error.Denot g.K.PartialEq.eq (behaviour_by (hash_by g.C.Hasher.BuildHasher.build_hasher g.C.Hasher.Hasher.Hasher.write g.C.Hasher.Hasher.Hasher.finish g.K.Hash.hash_input) g.C.CacheTypes.weight g.C.CacheTypes.lifetimes) (estimates g.C.Frequency.FrequencySource.noted g.C.Frequency.FrequencySource.count) g.C.Frequency.FrequencySource.opened c.args.limit c.args.now c.args.self.now c.loop-index.self-inside.segments.items c.loop-index.is_left c.loop-index.index all c.loop-index.invariant.together

@@ -13,18 +13,18 @@ returns-clause-reply g c =
     let behaviour = behaviour_by (hash_by g.C.Hasher.BuildHasher.build_hasher g.C.Hasher.Hasher.Hasher.write g.C.Hasher.Hasher.Hasher.finish g.K.Hash.hash_input) g.C.CacheTypes.weight g.C.CacheTypes.lifetimes in
     let frequency = estimates g.C.Frequency.FrequencySource.noted g.C.Frequency.FrequencySource.count in
     let it = c.self.inside in
-    let cache : SegmentedData _ _ _ _ _ _ = record { bits = it.bits; settings = data_of it.settings; segments = it.segments.items } in
+    let cache : SegmentedData _ _ _ _ _ _ _ = record { bits = it.bits; settings = data_of it.settings; segments = it.segments.items } in
     let routing : Routing (segmented_settings_by behaviour (frequency g.C.Frequency.FrequencySource.opened) cache) it.segments.items c.index_mut.result.now c.segment_of-index.result c.in-Some.key.now =
     record { here_is = c.index_mut.ensures.value; is = rw (← c.self.view_is) at c.segment_of-index.ensures.is; within = rw (← c.self.view_is) at c.segment_of-index.ensures.within } in
     let key : key_in (call_of g.C.CacheTypes.test c.args.step) ≡ Some c.in-Some.key.now = sym c.in-Some.ensures in
-    rw (← c.self.view_is) (routed-replies g.row.C-Error.Denot g.K.PartialEq.eq behaviour frequency g.C.Frequency.FrequencySource.opened cache _ _ c.in-Some.key.now routing (call_of g.C.CacheTypes.test c.args.step) key c.step.result g.V.Clone.is_clone g.V.Clone.is_infallible c.step.ensures.reply)
+    rw (← c.self.view_is) (routed-replies g.row.C-Error.Denot g.K.PartialEq.eq behaviour frequency g.C.Frequency.FrequencySource.opened cache _ _ c.in-Some.key.now routing (call_of g.C.CacheTypes.test c.args.step) key c.step.result g.V.Clone.is_infallible c.step.ensures.reply)
 
 pub returns-clause-stands : goal.returns-clause-stands
 returns-clause-stands g c =
     let behaviour = behaviour_by (hash_by g.C.Hasher.BuildHasher.build_hasher g.C.Hasher.Hasher.Hasher.write g.C.Hasher.Hasher.Hasher.finish g.K.Hash.hash_input) g.C.CacheTypes.weight g.C.CacheTypes.lifetimes in
     let frequency = estimates g.C.Frequency.FrequencySource.noted g.C.Frequency.FrequencySource.count in
     let it = c.self.inside in
-    let cache : SegmentedData _ _ _ _ _ _ = record { bits = it.bits; settings = data_of it.settings; segments = it.segments.items } in
+    let cache : SegmentedData _ _ _ _ _ _ _ = record { bits = it.bits; settings = data_of it.settings; segments = it.segments.items } in
     let routing : Routing (segmented_settings_by behaviour (frequency g.C.Frequency.FrequencySource.opened) cache) it.segments.items c.index_mut.result.now c.segment_of-index.result c.in-Some.key.now =
     record { here_is = c.index_mut.ensures.value; is = rw (← c.self.view_is) at c.segment_of-index.ensures.is; within = rw (← c.self.view_is) at c.segment_of-index.ensures.within } in
     let key : key_in (call_of g.C.CacheTypes.test c.args.step) ≡ Some c.in-Some.key.now = sym c.in-Some.ensures in

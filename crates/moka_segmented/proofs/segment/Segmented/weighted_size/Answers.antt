@@ -30,7 +30,7 @@ returns-clause-reply g c =
     let states = c.args.self.now.segments in
     let same = ap (λ (d : SegmentedData _ _ _ _ _ _). length d.segments) c.self.view_is in
     let all : c.loop-index.index ≡ length states = omega (arith, c.loop-index-test.false, c.loop-index.auto.index-end, c.len-index-end.ensures, same) in
-    weight-answers g.row.C-Error.Denot g.K.PartialEq.eq (behaviour_by (hash_by g.C.Hasher.BuildHasher.build_hasher g.C.Hasher.Hasher.Hasher.write g.C.Hasher.Hasher.Hasher.finish g.K.Hash.hash_input) g.C.CacheTypes.weight g.C.CacheTypes.lifetimes) (estimates g.C.Frequency.FrequencySource.noted g.C.Frequency.FrequencySource.count) g.C.Frequency.FrequencySource.opened c.args.self.now g.V.Clone.is_clone c.loop-index.weight (c.loop-index.invariant ∙ ap (λ n. min (sum_below (weight_at states) n) greatest_number) all)
+    weight-answers g.row.C-Error.Denot g.K.PartialEq.eq (behaviour_by (hash_by g.C.Hasher.BuildHasher.build_hasher g.C.Hasher.Hasher.Hasher.write g.C.Hasher.Hasher.Hasher.finish g.K.Hash.hash_input) g.C.CacheTypes.weight g.C.CacheTypes.lifetimes) (estimates g.C.Frequency.FrequencySource.noted g.C.Frequency.FrequencySource.count) g.C.Frequency.FrequencySource.opened c.args.self.now c.loop-index.weight (c.loop-index.invariant ∙ ap (λ n. min (sum_below (weight_at states) n) greatest_number) all)
 
 pub returns-clause-stands : goal.returns-clause-stands
 returns-clause-stands g c = count-stays g.row.C-Error.Denot g.K.PartialEq.eq (behaviour_by (hash_by g.C.Hasher.BuildHasher.build_hasher g.C.Hasher.Hasher.Hasher.write g.C.Hasher.Hasher.Hasher.finish g.K.Hash.hash_input) g.C.CacheTypes.weight g.C.CacheTypes.lifetimes) (estimates g.C.Frequency.FrequencySource.noted g.C.Frequency.FrequencySource.count) g.C.Frequency.FrequencySource.opened c.args.self.now _ (λ given calls. refl)

@@ -38,4 +38,4 @@ returns-clause-stands g c given steps stands =
 pub returns-clause-refused : goal.returns-clause-refused
 returns-clause-refused g c none =
     let s = c.self.inside in
-    rw (← c.self.view_is) (with-turns _ _ _ _ _ (same-turns (hash_by g.C.Hasher.BuildHasher.build_hasher g.C.Hasher.Hasher.Hasher.write g.C.Hasher.Hasher.Hasher.finish g.K.Hash.hash_input s.behaviour.hasher) _ _ _ _ (c.abandon.ensures.unchanged none).0 (c.abandon.ensures.unchanged none).1))
+    rw (← c.self.view_is) (with-turns _ _ _ _ _ _ (same-turns (hash_by g.C.Hasher.BuildHasher.build_hasher g.C.Hasher.Hasher.Hasher.write g.C.Hasher.Hasher.Hasher.finish g.K.Hash.hash_input s.behaviour.hasher) _ _ _ _ (c.abandon.ensures.unchanged none).0 (c.abandon.ensures.unchanged none).1))
