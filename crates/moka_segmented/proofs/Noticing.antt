@@ -8,7 +8,7 @@ use Rattle.moka_model.specs.Maintenance.{total}
 use Rattle.moka_model.specs.Removals.{Removal}
 use Rattle.moka_model.specs.Numbers.{greatest_number}
 use Rattle.moka_model.specs.Calls.{Call, Answer, EntryCount, WeightedSize, TakeNotice, Counted, Noticed}
-use Rattle.moka_model.specs.StandsFor.{Books, View, Follows, Answers}
+use Rattle.moka_model.specs.StandsFor.{Books, WholeView, Follows, Answers}
 use Rattle.moka_ways.specs.Behaviour.{BehaviourData}
 use Rattle.moka_ways.specs.StateData.{StateData, view_by}
 use Rattle.moka_state.specs.State.{all_writes}
@@ -94,8 +94,8 @@ module _ {K V H W X F E : Type 0} where
           nothing [] e = refl
           nothing (x ∷ xs) e = cc
 
-module _ {K V H W X F : Type 0} (E : Type 0) (eq : K → K → Bool) {is_clone : V → V → Type 0} (behaviour : BehaviourData H W X → Behaviour K V) (frequency : F → List ℕ → ℕ → ℕ) (opened : F) (cache : SegmentedData K V H W X F E) where
-  module _ (given : SegmentedSettings K V) (calls : List (Call K V E)) (stand : AllStandFor eq is_clone given (segmented_view_by behaviour frequency opened cache) calls) where
+module _ {K V H W X F : Type 0} (E : Type 0) (eq : K → K → Bool) (behaviour : BehaviourData H W X → Behaviour K V) (frequency : F → List ℕ → ℕ → ℕ) (opened : F) (cache : SegmentedData K V H W X F E) where
+  module _ {is_clone : V → V → Type 0} (given : SegmentedSettings K V) (calls : List (Call K V E)) (stand : AllStandFor eq is_clone given (segmented_view_by behaviour frequency opened cache) calls) where
     -- what the views say, by what the states hold
     by-states : {Y : Type 0} (f : Books K V → Y) (other : Y) (i : ℕ)
         → at_or (λ (v : WholeView K V E). f v.values.books) other (slice_get (map (view_by behaviour frequency opened) cache.segments) i) ≡ state_at (λ (s : StateData K V H W X F E). f s.books) other (slice_get cache.segments i)
@@ -140,42 +140,45 @@ module _ {K V H W X F : Type 0} (E : Type 0) (eq : K → K → Bool) {is_clone :
         (λ j lt. by-states (λ b. total (λ (w : Write K V). w.policy_weight) (b.orders.admitted ++ b.orders.waiting)) 0 j)
         ∙ ap (sum_below (weight_at cache.segments)) count
 
-  -- a count is the answer, and changes nothing
-  pub entries-answer : (n : ℕ) → n ≡ min (sum_below (stored_at cache.segments) (length cache.segments)) greatest_number → AnswersIn eq is_clone (segmented_view_by behaviour frequency opened cache) EntryCount (Counted n)
-  entries-answer n is given calls stand = ap (λ m. let a : Answer K V E = Counted m in a) (is ∙ ap (λ m. min m greatest_number) (sym (entries-by given calls stand)))
+  module _ {is_clone : V → V → Type 0} where
+    -- a count is the answer, and changes nothing
+    pub entries-answer : (n : ℕ) → n ≡ min (sum_below (stored_at cache.segments) (length cache.segments)) greatest_number → AnswersIn eq is_clone (segmented_view_by behaviour frequency opened cache) EntryCount (Counted n)
+    entries-answer n is given calls stand = ap (λ m. let a : Answer K V E = Counted m in a) (is ∙ ap (λ m. min m greatest_number) (sym (entries-by given calls stand)))
 
-  pub weight-answers : (n : ℕ) → n ≡ min (sum_below (weight_at cache.segments) (length cache.segments)) greatest_number → AnswersIn eq is_clone (segmented_view_by behaviour frequency opened cache) WeightedSize (Counted n)
-  weight-answers n is given calls stand = ap (λ m. let a : Answer K V E = Counted m in a) (is ∙ ap (λ m. min m greatest_number) (sym (weight-by given calls stand)))
+    pub weight-answers : (n : ℕ) → n ≡ min (sum_below (weight_at cache.segments) (length cache.segments)) greatest_number → AnswersIn eq is_clone (segmented_view_by behaviour frequency opened cache) WeightedSize (Counted n)
+    weight-answers n is given calls stand = ap (λ m. let a : Answer K V E = Counted m in a) (is ∙ ap (λ m. min m greatest_number) (sym (weight-by given calls stand)))
 
-  pub count-stays : (call : Call K V E) → ((given : SegmentedSettings K V) (calls : List (Call K V E)) → place_of E eq given calls call ≡ Nowhere) → FollowsIn eq is_clone (segmented_view_by behaviour frequency opened cache) call (segmented_view_by behaviour frequency opened cache)
-  count-stays call place given calls stand = stand-nowhere E eq given (segmented_view_by behaviour frequency opened cache) calls call (place given calls) stand
+    pub count-stays : (call : Call K V E) → ((given : SegmentedSettings K V) (calls : List (Call K V E)) → place_of E eq given calls call ≡ Nowhere) → FollowsIn eq is_clone (segmented_view_by behaviour frequency opened cache) call (segmented_view_by behaviour frequency opened cache)
+    count-stays call place given calls stand = stand-nowhere E eq given (segmented_view_by behaviour frequency opened cache) calls call (place given calls) stand
 
   module _ (index : ℕ) (here : StateData K V H W X F E) (found : Some index ≡ first_from (has_notice cache.segments) 0 (length cache.segments)) (here_is : here ≡ get_or cache.segments index here) where
     here-view : slice_get (map (view_by behaviour frequency opened) cache.segments) index ≡ Some (view_by behaviour frequency opened here)
     here-view = let passes = first_from-passes (has_notice cache.segments) 0 (length cache.segments) index (sym found) in view-at (view_by behaviour frequency opened) cache.segments index here (omega (arith, passes.0)) here_is
 
-    first-is : (given : SegmentedSettings K V) (calls : List (Call K V E)) → AllStandFor eq is_clone given (segmented_view_by behaviour frequency opened cache) calls → first_noticed E eq given (list_of E eq given calls) ≡ Some index
-    first-is given calls stand = first-by given calls stand ∙ sym found
+    module _ {is_clone : V → V → Type 0} where
+      first-is : (given : SegmentedSettings K V) (calls : List (Call K V E)) → AllStandFor eq is_clone given (segmented_view_by behaviour frequency opened cache) calls → first_noticed E eq given (list_of E eq given calls) ≡ Some index
+      first-is given calls stand = first-by given calls stand ∙ sym found
 
-    -- a notice of the first segment that has one is the answer, and that segment's state goes on
-    pub taken-answers : (answer : Answer K V E) → Answers eq is_clone (view_by behaviour frequency opened here) TakeNotice answer → AnswersIn eq is_clone (segmented_view_by behaviour frequency opened cache) TakeNotice answer
-    taken-answers answer answers given calls stand =
-        subst (λ o. IsAnswerIn is_clone o answer) (sym (noticed-answer E eq given calls index (first-is given calls stand)))
-        (answer-at E eq given (segmented_view_by behaviour frequency opened cache) calls index (view_by behaviour frequency opened here) TakeNotice answer here-view answers stand)
+      -- a notice of the first segment that has one is the answer, and that segment's state goes on
+      pub taken-answers : (answer : Answer K V E) → Answers eq is_clone (view_by behaviour frequency opened here) TakeNotice answer → AnswersIn eq is_clone (segmented_view_by behaviour frequency opened cache) TakeNotice answer
+      taken-answers answer answers given calls stand =
+          subst (λ o. IsAnswerIn is_clone o answer) (sym (noticed-answer E eq given calls index (first-is given calls stand)))
+          (answer-at E eq given (segmented_view_by behaviour frequency opened cache) calls index (view_by behaviour frequency opened here) TakeNotice answer here-view answers stand)
 
-    pub taken-follows : (new : StateData K V H W X F E) → Follows eq is_clone (view_by behaviour frequency opened here) TakeNotice (view_by behaviour frequency opened new)
-        → FollowsIn eq is_clone (segmented_view_by behaviour frequency opened cache) TakeNotice (segmented_view_by behaviour frequency opened (record cache { segments = set cache.segments index new }))
-    taken-follows new follows given calls stand =
-        rw (views-set (view_by behaviour frequency opened) cache.segments index new)
-        (stand-one E eq given (segmented_view_by behaviour frequency opened cache) calls index (view_by behaviour frequency opened here) (view_by behaviour frequency opened new) TakeNotice
-        (noticed-place E eq given calls index (first-is given calls stand)) here-view follows stand)
+      pub taken-follows : (new : StateData K V H W X F E) → Follows eq is_clone (view_by behaviour frequency opened here) TakeNotice (view_by behaviour frequency opened new)
+          → FollowsIn eq is_clone (segmented_view_by behaviour frequency opened cache) TakeNotice (segmented_view_by behaviour frequency opened (record cache { segments = set cache.segments index new }))
+      taken-follows new follows given calls stand =
+          rw (views-set (view_by behaviour frequency opened) cache.segments index new)
+          (stand-one E eq given (segmented_view_by behaviour frequency opened cache) calls index (view_by behaviour frequency opened here) (view_by behaviour frequency opened new) TakeNotice
+          (noticed-place E eq given calls index (first-is given calls stand)) here-view follows stand)
 
   module _ (none : None ≡ first_from (has_notice cache.segments) 0 (length cache.segments)) where
-    -- where no segment has a notice there is none, and nothing changes
-    pub none-answers : AnswersIn eq is_clone (segmented_view_by behaviour frequency opened cache) TakeNotice (Noticed None)
-    none-answers given calls stand =
-        subst (λ (o : Option (Answer K V E)). IsAnswerIn is_clone o (Noticed None)) (sym (none-answer E eq given calls (first-by given calls stand ∙ sym none))) refl
+    module _ {is_clone : V → V → Type 0} where
+      -- where no segment has a notice there is none, and nothing changes
+      pub none-answers : AnswersIn eq is_clone (segmented_view_by behaviour frequency opened cache) TakeNotice (Noticed None)
+      none-answers given calls stand =
+          subst (λ (o : Option (Answer K V E)). IsAnswerIn is_clone o (Noticed None)) (sym (none-answer E eq given calls (first-by given calls stand ∙ sym none))) refl
 
-    pub none-follows : FollowsIn eq is_clone (segmented_view_by behaviour frequency opened cache) TakeNotice (segmented_view_by behaviour frequency opened cache)
-    none-follows given calls stand =
-        stand-nowhere E eq given (segmented_view_by behaviour frequency opened cache) calls TakeNotice (none-place E eq given calls (first-by given calls stand ∙ sym none)) stand
+      pub none-follows : FollowsIn eq is_clone (segmented_view_by behaviour frequency opened cache) TakeNotice (segmented_view_by behaviour frequency opened cache)
+      none-follows given calls stand =
+          stand-nowhere E eq given (segmented_view_by behaviour frequency opened cache) calls TakeNotice (none-place E eq given calls (first-by given calls stand ∙ sym none)) stand

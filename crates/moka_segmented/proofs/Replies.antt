@@ -1,11 +1,11 @@
 -- What a step of a key replies, and what the states stand for then.
 use Rattle.std.proofs.Common.{◌≡◌, ℕ, ◌<◌, true, false, cond, arith, Bool, Option, Some, None, option_map, List, [], ◌∷◌, refl, sym, ap, subst, set}
 use Rattle.moka_model.specs.Lives.{Behaviour, Settings}
-use Rattle.moka_model.specs.Steps.{AcceptedStep, events_in}
+use Rattle.moka_model.specs.Steps.{AcceptedStep, events_in, turns}
 use Rattle.moka_model.specs.Events.{Hidden}
 use Rattle.moka_model.specs.Numbers.{next_number, greatest_number}
 use Rattle.moka_model.specs.Calls as answers
-use Rattle.moka_model.specs.Calls.{Call, InvalidateIf, TakeNotice, Accepted, without_move, drawn_by}
+use Rattle.moka_model.specs.Calls.{Call, InvalidateIf, TakeNotice, Accepted, without_move, WantsNumber}
 use Rattle.moka_predicate_ids.specs.declared.predicate_error.PredicateError.{PredicateError}
 use Rattle.moka_predicate_ids.specs.declared.predicate_error.PredicateError.TheVariants.{InvalidationClosuresDisabled}
 use Rattle.moka_model.specs.StandsFor.{StandsFor, IsAnswerOf}
@@ -63,7 +63,7 @@ module _ {K V : Type 0} (E : Type 0) (eq : K → K → Bool) (is_clone : V → V
   -- a predicate is accepted where closures are supported, and refused by its name where not
   pub hidden-replies : given.whole.supports_closures ≡ true → IsReplyIn E eq is_clone is_infallible given calls (InvalidateIf test) Done
   hidden-replies supports =
-      subst (λ b. let it : Option (Accepted K V E) = cond b (Some (without_move answers.Done (Hidden test ∷ []))) None in IsAnswerOf is_clone it answers.Done × ¬ ((0 < drawn_by it) × (next_number (share_settings given) (events_in (steps_in E eq given calls 0)) ≡ greatest_number)))
+      subst (λ b. let it : Option (Accepted K V E) = cond b (Some (without_move answers.Done (Hidden test ∷ []))) None in IsAnswerOf is_clone it answers.Done × ¬ (WantsNumber (next_number (share_settings given) (events_in (steps_in E eq given calls 0))) (turns (steps_in E eq given calls 0)) it))
       (sym supports) (refl, λ out. let no : ⊥ = omega (arith, out.0) in no)
 
   pub refused-replies : (cause : PredicateError) → cause ≡ InvalidationClosuresDisabled → (given.whole.supports_closures ≡ true → ⊥) → IsReplyIn E eq is_clone is_infallible given calls (InvalidateIf test) (PredicateRefused cause)

@@ -71,51 +71,52 @@ pub record Routing {K V S : Type 0} (settings : SegmentedSettings K V) (states :
   pub is : index ≡ segment_of_key settings k
   pub within : index < length states
 
-module _ {K V H W X F : Type 0} (E : Type 0) (eq : K → K → Bool) {is_clone : V → V → Type 0} (behaviour : BehaviourData H W X → Behaviour K V) (frequency : F → List ℕ → ℕ → ℕ) (opened : F) (cache : SegmentedData K V H W X F E)
+module _ {K V H W X F : Type 0} (E : Type 0) (eq : K → K → Bool) (behaviour : BehaviourData H W X → Behaviour K V) (frequency : F → List ℕ → ℕ → ℕ) (opened : F) (cache : SegmentedData K V H W X F E)
     (here : StateData K V H W X F E) (index : ℕ) (k : K) (routing : Routing (segmented_settings_by behaviour (frequency opened) cache) cache.segments here index k) where
   here-view : slice_get (map (view_by behaviour frequency opened) cache.segments) index ≡ Some (view_by behaviour frequency opened here)
   here-view = view-at (view_by behaviour frequency opened) cache.segments index here routing.within routing.here_is
 
-  -- the index is that of the key
-  pub index-is : (given : SegmentedSettings K V) (calls : List (Call K V E)) → AllStandFor eq is_clone given (segmented_view_by behaviour frequency opened cache) calls → index ≡ segment_of_key given k
-  index-is given calls stand = routing.is ∙ hash-at E eq given (segmented_view_by behaviour frequency opened cache) calls k stand
+  module _ {is_clone : V → V → Type 0} where
+    -- the index is that of the key
+    pub index-is : (given : SegmentedSettings K V) (calls : List (Call K V E)) → AllStandFor eq is_clone given (segmented_view_by behaviour frequency opened cache) calls → index ≡ segment_of_key given k
+    index-is given calls stand = routing.is ∙ hash-at E eq given (segmented_view_by behaviour frequency opened cache) calls k stand
 
-  -- the state's answer is the answer
-  pub routed-answers : (call : Call K V E) (answer : Answer K V E) → key_in call ≡ Some k → Answers eq is_clone (view_by behaviour frequency opened here) call answer
-      → AnswersIn eq is_clone (segmented_view_by behaviour frequency opened cache) call answer
-  routed-answers call answer key answers given calls stand =
-      let it = routed E eq given k call calls key in
-      subst (λ o. IsAnswerIn is_clone o answer) (sym (answer-asked E eq given calls call (One (segment_of_key given k)) it.place it.joint))
-      (subst (λ j. IsAnswerIn is_clone (answer_of (accepted eq (share_settings given) (steps_in E eq given calls j) call)) answer) (index-is given calls stand)
-      (answer-at E eq given (segmented_view_by behaviour frequency opened cache) calls index (view_by behaviour frequency opened here) call answer here-view answers stand))
+    -- the state's answer is the answer
+    pub routed-answers : (call : Call K V E) (answer : Answer K V E) → key_in call ≡ Some k → Answers eq is_clone (view_by behaviour frequency opened here) call answer
+        → AnswersIn eq is_clone (segmented_view_by behaviour frequency opened cache) call answer
+    routed-answers call answer key answers given calls stand =
+        let it = routed E eq given k call calls key in
+        subst (λ o. IsAnswerIn is_clone o answer) (sym (answer-asked E eq given calls call (One (segment_of_key given k)) it.place it.joint))
+        (subst (λ j. IsAnswerIn is_clone (answer_of (accepted eq (share_settings given) (steps_in E eq given calls j) call)) answer) (index-is given calls stand)
+        (answer-at E eq given (segmented_view_by behaviour frequency opened cache) calls index (view_by behaviour frequency opened here) call answer here-view answers stand))
 
-  -- where it stands for its own steps, and those of all other segments stay, all stand for a list of calls
-  pub routed-stands : (given : SegmentedSettings K V) (calls later : List (Call K V E)) (new : StateData K V H W X F E) → StandsFor eq is_clone (share_settings given) (view_by behaviour frequency opened new) (steps_in E eq given later index)
-      → ((i : ℕ) → (i == index) ≡ false → steps_in E eq given later i ≡ steps_in E eq given calls i) → AllStandFor eq is_clone given (segmented_view_by behaviour frequency opened cache) calls
-      → AllStandFor eq is_clone given (segmented_view_by behaviour frequency opened (record cache { segments = set cache.segments index new })) later
-  routed-stands given calls later new stands others stand =
-      rw (views-set (view_by behaviour frequency opened) cache.segments index new)
-      (stand-set E eq given (segmented_view_by behaviour frequency opened cache) calls later index (view_by behaviour frequency opened here) (view_by behaviour frequency opened new) here-view stands others stand)
+    -- where it stands for its own steps, and those of all other segments stay, all stand for a list of calls
+    pub routed-stands : (given : SegmentedSettings K V) (calls later : List (Call K V E)) (new : StateData K V H W X F E) → StandsFor eq is_clone (share_settings given) (view_by behaviour frequency opened new) (steps_in E eq given later index)
+        → ((i : ℕ) → (i == index) ≡ false → steps_in E eq given later i ≡ steps_in E eq given calls i) → AllStandFor eq is_clone given (segmented_view_by behaviour frequency opened cache) calls
+        → AllStandFor eq is_clone given (segmented_view_by behaviour frequency opened (record cache { segments = set cache.segments index new })) later
+    routed-stands given calls later new stands others stand =
+        rw (views-set (view_by behaviour frequency opened) cache.segments index new)
+        (stand-set E eq given (segmented_view_by behaviour frequency opened cache) calls later index (view_by behaviour frequency opened here) (view_by behaviour frequency opened new) here-view stands others stand)
 
-  -- and where it follows a call, all do
-  pub routed-follows : (call : Call K V E) (new : StateData K V H W X F E) → key_in call ≡ Some k → Follows eq is_clone (view_by behaviour frequency opened here) call (view_by behaviour frequency opened new)
-      → FollowsIn eq is_clone (segmented_view_by behaviour frequency opened cache) call (segmented_view_by behaviour frequency opened (record cache { segments = set cache.segments index new }))
-  routed-follows call new key follows given calls stand =
-      let place : place_of E eq given calls call ≡ One index = (routed E eq given k call calls key).place ∙ ap One (sym (index-is given calls stand)) in
-      rw (views-set (view_by behaviour frequency opened) cache.segments index new)
-      (stand-one E eq given (segmented_view_by behaviour frequency opened cache) calls index (view_by behaviour frequency opened here) (view_by behaviour frequency opened new) call place here-view follows stand)
+    -- and where it follows a call, all do
+    pub routed-follows : (call : Call K V E) (new : StateData K V H W X F E) → key_in call ≡ Some k → Follows eq is_clone (view_by behaviour frequency opened here) call (view_by behaviour frequency opened new)
+        → FollowsIn eq is_clone (segmented_view_by behaviour frequency opened cache) call (segmented_view_by behaviour frequency opened (record cache { segments = set cache.segments index new }))
+    routed-follows call new key follows given calls stand =
+        let place : place_of E eq given calls call ≡ One index = (routed E eq given k call calls key).place ∙ ap One (sym (index-is given calls stand)) in
+        rw (views-set (view_by behaviour frequency opened) cache.segments index new)
+        (stand-one E eq given (segmented_view_by behaviour frequency opened cache) calls index (view_by behaviour frequency opened here) (view_by behaviour frequency opened new) call place here-view follows stand)
 
-  -- so where it is as it was
-  pub routed-stays : (call : Call K V E) → key_in call ≡ Some k → Follows eq is_clone (view_by behaviour frequency opened here) call (view_by behaviour frequency opened here)
-      → FollowsIn eq is_clone (segmented_view_by behaviour frequency opened cache) call (segmented_view_by behaviour frequency opened cache)
-  routed-stays call key follows =
-      subst (λ l. FollowsIn eq is_clone (segmented_view_by behaviour frequency opened cache) call (segmented_view_by behaviour frequency opened (record cache { segments = l })))
-      (set-same cache.segments index here here routing.here_is refl)
-      (routed-follows call here key follows)
+    -- so where it is as it was
+    pub routed-stays : (call : Call K V E) → key_in call ≡ Some k → Follows eq is_clone (view_by behaviour frequency opened here) call (view_by behaviour frequency opened here)
+        → FollowsIn eq is_clone (segmented_view_by behaviour frequency opened cache) call (segmented_view_by behaviour frequency opened cache)
+    routed-stays call key follows =
+        subst (λ l. FollowsIn eq is_clone (segmented_view_by behaviour frequency opened cache) call (segmented_view_by behaviour frequency opened (record cache { segments = l })))
+        (set-same cache.segments index here here routing.here_is refl)
+        (routed-follows call here key follows)
 
-  -- what the state of the key's segment says of its steps
-  pub routed-history : (P : Settings K V → List (AcceptedStep K V E) → Type 0) → ((s : Settings K V) (steps : List (AcceptedStep K V E)) → StandsFor eq is_clone s (view_by behaviour frequency opened here) steps → P s steps)
-      → AtEachList eq is_clone (segmented_view_by behaviour frequency opened cache) (λ given calls. P (share_settings given) (steps_in E eq given calls (segment_of_key given k)))
-  routed-history P each given calls stand =
-      subst (λ j. P (share_settings given) (steps_in E eq given calls j)) (index-is given calls stand)
-      (each _ _ (stand-here E eq given (segmented_view_by behaviour frequency opened cache) calls index (view_by behaviour frequency opened here) here-view stand))
+    -- what the state of the key's segment says of its steps
+    pub routed-history : (P : Settings K V → List (AcceptedStep K V E) → Type 0) → ((s : Settings K V) (steps : List (AcceptedStep K V E)) → StandsFor eq is_clone s (view_by behaviour frequency opened here) steps → P s steps)
+        → AtEachList eq is_clone (segmented_view_by behaviour frequency opened cache) (λ given calls. P (share_settings given) (steps_in E eq given calls (segment_of_key given k)))
+    routed-history P each given calls stand =
+        subst (λ j. P (share_settings given) (steps_in E eq given calls j)) (index-is given calls stand)
+        (each _ _ (stand-here E eq given (segmented_view_by behaviour frequency opened cache) calls index (view_by behaviour frequency opened here) here-view stand))

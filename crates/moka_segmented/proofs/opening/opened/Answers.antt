@@ -14,7 +14,7 @@ loop-preserved g c = record {
       (opened-more g.row.C-Error.Denot g.K.PartialEq.eq (behaviour_by (hash_by g.C.Hasher.BuildHasher.build_hasher g.C.Hasher.Hasher.Hasher.write g.C.Hasher.Hasher.Hasher.finish g.K.Hash.hash_input) g.C.CacheTypes.weight g.C.CacheTypes.lifetimes) (estimates g.C.Frequency.FrequencySource.noted g.C.Frequency.FrequencySource.count) g.C.Frequency.FrequencySource.opened c.args.bits (data_of c.args.settings) c.loop.segments.items c.in_ok-new.field-0 c.count_of-count.result c.count_of-count.ensures
       (c.in_ok-new.ensures.settings ∙ c.in-Ok-share_of.ensures.share) c.in_ok-new.ensures.empty c.loop.invariant.each);
   roomy = rw c.push_reserved.ensures.items
-      (all-more (λ (state : StateData _ _ _ _ _ _). share (2 ^ c.args.bits) c.args.settings.initial_capacity ≤ state.initial_room) c.loop.segments.items c.in_ok-new.field-0
+      (all-more (λ (state : StateData _ _ _ _ _ _ _). share (2 ^ c.args.bits) c.args.settings.initial_capacity ≤ state.initial_room) c.loop.segments.items c.in_ok-new.field-0
       (subst (λ n. n ≤ c.in_ok-new.field-0.initial_room) (c.in-Ok-share_of.ensures.room ∙ ap (λ n. share n c.args.settings.initial_capacity) c.count_of-count.ensures) c.in_ok-new.ensures.room) c.loop.invariant.roomy);
 }
 

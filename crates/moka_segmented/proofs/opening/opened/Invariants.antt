@@ -16,6 +16,6 @@ invariant-loop g l =
     record {
       count : vec_len l.segments ≡ l.counter;
       room : l.count ≤ vec_capacity l.segments;
-      each : AllByRecursion (λ state. StandsFor {E = g.row.C-Error.Denot} g.K.PartialEq.eq (share_settings (record { bits = l.fn.bits; whole = settings_by behaviour (frequency g.C.Frequency.FrequencySource.opened) (data_of l.fn.settings) })) (view_by behaviour frequency g.C.Frequency.FrequencySource.opened state) []) l.segments.items;
-      roomy : AllByRecursion (λ (state : StateData _ _ _ _ _ _). share (2 ^ l.fn.bits) l.fn.settings.initial_capacity ≤ state.initial_room) l.segments.items;
+      each : AllByRecursion (λ state. StandsFor g.K.PartialEq.eq g.V.Clone.is_clone (share_settings (record { bits = l.fn.bits; whole = settings_by behaviour (frequency g.C.Frequency.FrequencySource.opened) (data_of l.fn.settings) })) (view_by behaviour frequency g.C.Frequency.FrequencySource.opened state) []) l.segments.items;
+      roomy : AllByRecursion (λ (state : StateData _ _ _ _ _ _ _). share (2 ^ l.fn.bits) l.fn.settings.initial_capacity ≤ state.initial_room) l.segments.items;
     }

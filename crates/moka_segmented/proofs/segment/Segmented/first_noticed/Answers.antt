@@ -9,7 +9,7 @@ use Rattle.moka_segmented.proofs.segment.Segmented.first_noticed.Goals as goal
 pub returns-then-notice_count-gt0 : goal.returns-then-notice_count-gt0
 returns-then-notice_count-gt0 g c =
     let states = c.args.self.now.segments in
-    let same = ap (λ (d : SegmentedData _ _ _ _ _ _). d.segments) c.self.view_is in
+    let same = ap (λ (d : SegmentedData _ _ _ _ _ _ _). d.segments) c.self.view_is in
     let index = c.loop-index.index in
     let within : index < length c.self.inside.segments.items = omega (arith, c.loop-index-test.true, c.len-index-end.ensures) in
     let here : slice_get states index ≡ Some c.index.result.now = rw same at (slice_get_read c.self.inside.segments.items _ index c.index.result.now refl within c.index.ensures) in
@@ -20,7 +20,7 @@ returns-then-notice_count-gt0 g c =
 pub loop-index-preserved : goal.loop-index-preserved
 loop-index-preserved g c =
     let states = c.args.self.now.segments in
-    let same = ap (λ (d : SegmentedData _ _ _ _ _ _). d.segments) c.self.view_is in
+    let same = ap (λ (d : SegmentedData _ _ _ _ _ _ _). d.segments) c.self.view_is in
     let index = c.loop-index.index in
     let within : index < length c.self.inside.segments.items = omega (arith, c.loop-index-test.true, c.len-index-end.ensures) in
     let here : slice_get states index ≡ Some c.index.result.now = rw same at (slice_get_read c.self.inside.segments.items _ index c.index.result.now refl within c.index.ensures) in

@@ -10,7 +10,7 @@ use Rattle.moka_segmented.proofs.segment.Segmented.notice_count.Goals as goal
 pub loop-index-preserved : goal.loop-index-preserved
 loop-index-preserved g c =
     let states = c.args.self.now.segments in
-    let same = ap (λ (d : SegmentedData _ _ _ _ _ _). d.segments) c.self.view_is in
+    let same = ap (λ (d : SegmentedData _ _ _ _ _ _ _). d.segments) c.self.view_is in
     let index = c.loop-index.index in
     let within : index < length c.self.inside.segments.items = omega (arith, c.loop-index-test.true, c.len-index-end.ensures) in
     let here : slice_get states index ≡ Some c.index.result.now = rw same at (slice_get_read c.self.inside.segments.items _ index c.index.result.now refl within c.index.ensures) in
@@ -19,6 +19,6 @@ loop-index-preserved g c =
 pub returns : goal.returns
 returns g c =
     let states = c.args.self.now.segments in
-    let same = ap (λ (d : SegmentedData _ _ _ _ _ _). length d.segments) c.self.view_is in
+    let same = ap (λ (d : SegmentedData _ _ _ _ _ _ _). length d.segments) c.self.view_is in
     let all : c.loop-index.index ≡ length states = omega (arith, c.loop-index-test.false, c.loop-index.auto.index-end, c.len-index-end.ensures, same) in
     c.loop-index.invariant ∙ ap (λ n. min (sum_below (notices_at states) n) greatest_number) all

@@ -12,7 +12,7 @@ loop-index-preserved g c =
     let was = c.loop-index.invariant in
     let now = c.loop-index.self-inside.segments.items in
     let index = c.loop-index.index in
-    let count : length c.self.inside.segments.items ≡ length c.args.self.now.segments = ap (λ (d : SegmentedData _ _ _ _ _ _). length d.segments) c.self.view_is in
+    let count : length c.self.inside.segments.items ≡ length c.args.self.now.segments = ap (λ (d : SegmentedData _ _ _ _ _ _ _). length d.segments) c.self.view_is in
     let within : index < length now = omega (arith, c.loop-index-test.true, c.len-index-end.ensures, count, ap length was.same) in
     let here : slice_get now index ≡ Some c.index_mut.result.now = slice_get_read now (length now) index c.index_mut.result.now refl within c.index_mut.ensures.value in
     let there : slice_get c.args.self.now.segments index ≡ Some c.index_mut.result.now = ap (λ l. slice_get l index) (sym was.same) ∙ here in
@@ -28,7 +28,7 @@ returns-in_err-predicate_room-clause-accepted g c =
     let was = c.loop-index.invariant in
     let now = c.loop-index.self-inside.segments.items in
     let index = c.loop-index.index in
-    let count : length c.self.inside.segments.items ≡ length c.args.self.now.segments = ap (λ (d : SegmentedData _ _ _ _ _ _). length d.segments) c.self.view_is in
+    let count : length c.self.inside.segments.items ≡ length c.args.self.now.segments = ap (λ (d : SegmentedData _ _ _ _ _ _ _). length d.segments) c.self.view_is in
     let within : index < length now = omega (arith, c.loop-index-test.true, c.len-index-end.ensures, count, ap length was.same) in
     let here : slice_get now index ≡ Some c.index_mut.result.now = slice_get_read now (length now) index c.index_mut.result.now refl within c.index_mut.ensures.value in
     let there : slice_get c.args.self.now.segments index ≡ Some c.index_mut.result.now = ap (λ l. slice_get l index) (sym was.same) ∙ here in
@@ -44,7 +44,7 @@ returns-in_err-predicate_room-clause-same g c =
 pub returns-clause-accepted : goal.returns-clause-accepted
 returns-clause-accepted g c =
     let was = c.loop-index.invariant in
-    let count : length c.self.inside.segments.items ≡ length c.args.self.now.segments = ap (λ (d : SegmentedData _ _ _ _ _ _). length d.segments) c.self.view_is in
+    let count : length c.self.inside.segments.items ≡ length c.args.self.now.segments = ap (λ (d : SegmentedData _ _ _ _ _ _ _). length d.segments) c.self.view_is in
     (λ ok j. ⊎_elim (λ lt. was.supported j (omega (arith, lt, count, c.loop-index-test.false, c.len-index-end.ensures))) (λ le. rw (slice_get_past c.args.self.now.segments j le) tt) (below-or-past j (length c.args.self.now.segments)), λ all. refl)
 
 pub returns-clause-same : goal.returns-clause-same

@@ -20,7 +20,7 @@ invariant-loop-step g l =
     record {
       kept : AllByRecursion (StepKeeps g.C.CacheTypes.keeps g.C.Predicate.Predicate.tests g.C.CacheTypes.test) l.left.items;
       room : vec_len l.replies + deque_len l.left ≤ vec_capacity l.replies;
-      so_far : (given : SegmentedSettings _ _) (before : List (Call _ _)) → AllStandFor g.K.PartialEq.eq g.V.Clone.is_clone given (view l.fn.self) before
+      so_far : (given : SegmentedSettings _ _) (before : List (Call _ _ _)) → AllStandFor g.K.PartialEq.eq g.V.Clone.is_clone given (view l.fn.self) before
           → (done : List (Step _ _ _ _ _ _ _ _ _ _ _ _)) × (l.fn.steps.items ≡ done ++ l.left.items) × IsRunIn g.C.CacheTypes.test g.K.PartialEq.eq g.V.Clone.is_clone g.V.Clone.is_infallible given before done l.replies.items × AllStandFor g.K.PartialEq.eq g.V.Clone.is_clone given (view l.self) (after_all_in g.C.CacheTypes.test done l.replies.items before);
     }
 

@@ -16,7 +16,7 @@ pub loop-index-preserved : goal.loop-index-preserved
 loop-index-preserved g c =
     let now = c.loop-index.self-inside.segments.items in
     let index = c.loop-index.index in
-    let count : length c.self.inside.segments.items ≡ length c.args.self.now.segments = ap (λ (d : SegmentedData _ _ _ _ _ _). length d.segments) c.self.view_is in
+    let count : length c.self.inside.segments.items ≡ length c.args.self.now.segments = ap (λ (d : SegmentedData _ _ _ _ _ _ _). length d.segments) c.self.view_is in
     let within : index < length now = omega (arith, c.loop-index-test.true, c.len-index-end.ensures, count, c.loop-index.invariant.together.progress.count) in
     let here : slice_get now index ≡ Some c.index_mut.result.now = slice_get_read now (length now) index c.index_mut.result.now refl within c.index_mut.ensures.value in
     record {
@@ -28,12 +28,12 @@ loop-index-preserved g c =
 pub returns-clause-stands : goal.returns-clause-stands
 returns-clause-stands g c =
     let was = c.loop-index.invariant in
-    let count : length c.self.inside.segments.items ≡ length c.args.self.now.segments = ap (λ (d : SegmentedData _ _ _ _ _ _). length d.segments) c.self.view_is in
+    let count : length c.self.inside.segments.items ≡ length c.args.self.now.segments = ap (λ (d : SegmentedData _ _ _ _ _ _ _). length d.segments) c.self.view_is in
     let all : c.loop-index.index ≡ length c.args.self.now.segments = omega (arith, c.loop-index-test.false, c.loop-index.auto.index-end, c.len-index-end.ensures, count) in
     broadcast-follows g.row.C-Error.Denot g.K.PartialEq.eq (behaviour_by (hash_by g.C.Hasher.BuildHasher.build_hasher g.C.Hasher.Hasher.Hasher.write g.C.Hasher.Hasher.Hasher.finish g.K.Hash.hash_input) g.C.CacheTypes.weight g.C.CacheTypes.lifetimes) (estimates g.C.Frequency.FrequencySource.noted g.C.Frequency.FrequencySource.count) g.C.Frequency.FrequencySource.opened (RunPendingTasksUpTo c.args.limit c.args.now) c.args.self.now c.loop-index.self-inside.bits (data_of c.loop-index.self-inside.settings) c.loop-index.self-inside.segments.items c.loop-index.index was.bits was.settings all was.together.progress (λ given calls. refl)
 
 pub returns-clause-reply : goal.returns-clause-reply
 returns-clause-reply g c =
-    let count : length c.self.inside.segments.items ≡ length c.args.self.now.segments = ap (λ (d : SegmentedData _ _ _ _ _ _). length d.segments) c.self.view_is in
+    let count : length c.self.inside.segments.items ≡ length c.args.self.now.segments = ap (λ (d : SegmentedData _ _ _ _ _ _ _). length d.segments) c.self.view_is in
     let all : c.loop-index.index ≡ length c.args.self.now.segments = omega (arith, c.loop-index-test.false, c.loop-index.auto.index-end, c.len-index-end.ensures, count) in
     together-answers g.row.C-Error.Denot g.K.PartialEq.eq (behaviour_by (hash_by g.C.Hasher.BuildHasher.build_hasher g.C.Hasher.Hasher.Hasher.write g.C.Hasher.Hasher.Hasher.finish g.K.Hash.hash_input) g.C.CacheTypes.weight g.C.CacheTypes.lifetimes) (estimates g.C.Frequency.FrequencySource.noted g.C.Frequency.FrequencySource.count) g.C.Frequency.FrequencySource.opened c.args.limit c.args.now c.args.self.now c.loop-index.self-inside.segments.items c.loop-index.is_left c.loop-index.index all c.loop-index.invariant.together

@@ -14,7 +14,7 @@ use Rattle.moka_segmented.proofs.segment.Segmented.take_notice.Goals as goal
 
 pub index_mut-requires : goal.index_mut-requires
 index_mut-requires g c =
-    let count = ap (λ (d : SegmentedData _ _ _ _ _ _). length d.segments) c.self.view_is in
+    let count = ap (λ (d : SegmentedData _ _ _ _ _ _ _). length d.segments) c.self.view_is in
     let it = first_from-passes (has_notice c.args.self.now.segments) 0 (length c.args.self.now.segments) c.in-Some.index (sym c.in-Some.ensures) in
     omega (arith, it.0, count, c.self.inside.segments.ok)
 

@@ -12,7 +12,7 @@ use Rattle.moka_segmented.proofs.segment.Segmented.weighted_size.Goals as goal
 pub loop-index-preserved : goal.loop-index-preserved
 loop-index-preserved g c =
     let states = c.args.self.now.segments in
-    let same = ap (λ (d : SegmentedData _ _ _ _ _ _). d.segments) c.self.view_is in
+    let same = ap (λ (d : SegmentedData _ _ _ _ _ _ _). d.segments) c.self.view_is in
     let index = c.loop-index.index in
     let within : index < length c.self.inside.segments.items = omega (arith, c.loop-index-test.true, c.len-index-end.ensures) in
     let here : slice_get states index ≡ Some c.index.result.now = rw same at (slice_get_read c.self.inside.segments.items _ index c.index.result.now refl within c.index.ensures) in
@@ -21,14 +21,14 @@ loop-index-preserved g c =
 pub returns-clause-counted : goal.returns-clause-counted
 returns-clause-counted g c =
     let states = c.args.self.now.segments in
-    let same = ap (λ (d : SegmentedData _ _ _ _ _ _). length d.segments) c.self.view_is in
+    let same = ap (λ (d : SegmentedData _ _ _ _ _ _ _). length d.segments) c.self.view_is in
     let all : c.loop-index.index ≡ length states = omega (arith, c.loop-index-test.false, c.loop-index.auto.index-end, c.len-index-end.ensures, same) in
     c.loop-index.invariant ∙ ap (λ n. min (sum_below (weight_at states) n) greatest_number) all
 
 pub returns-clause-reply : goal.returns-clause-reply
 returns-clause-reply g c =
     let states = c.args.self.now.segments in
-    let same = ap (λ (d : SegmentedData _ _ _ _ _ _). length d.segments) c.self.view_is in
+    let same = ap (λ (d : SegmentedData _ _ _ _ _ _ _). length d.segments) c.self.view_is in
     let all : c.loop-index.index ≡ length states = omega (arith, c.loop-index-test.false, c.loop-index.auto.index-end, c.len-index-end.ensures, same) in
     weight-answers g.row.C-Error.Denot g.K.PartialEq.eq (behaviour_by (hash_by g.C.Hasher.BuildHasher.build_hasher g.C.Hasher.Hasher.Hasher.write g.C.Hasher.Hasher.Hasher.finish g.K.Hash.hash_input) g.C.CacheTypes.weight g.C.CacheTypes.lifetimes) (estimates g.C.Frequency.FrequencySource.noted g.C.Frequency.FrequencySource.count) g.C.Frequency.FrequencySource.opened c.args.self.now c.loop-index.weight (c.loop-index.invariant ∙ ap (λ n. min (sum_below (weight_at states) n) greatest_number) all)
 
