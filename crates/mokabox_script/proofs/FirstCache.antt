@@ -85,9 +85,9 @@ built_so given told hasher is small =
 
 -- the cache of a session that was just built
 pub begins : (given : Settings) (cache : CacheData) (told : Told) (hasher : CacheHasher) → IsTold given told → (initial_hasher hasher).hash < 2 ^ 64 → cache.settings ≡ settings_built told hasher → cache.bits ≡ bits_for (wanted_segments given)
-    → AllStandFor Infallible nat_eq (segmented_settings_by cache_behaviour (estimates (noted 6) (estimated 6) (none_noted 6)) cache) (view cache) [] → IsAt cache 0 (cache_settings given) beginning
+    → AllStandFor nat_eq is_copy (segmented_settings_by cache_behaviour (estimates (noted 6) (estimated 6) (none_noted 6)) cache) (view cache) [] → IsAt cache 0 (cache_settings given) beginning
 begins given cache told hasher is small built parted stands =
     let same : segmented_settings_by cache_behaviour (estimates (noted 6) (estimated 6) (none_noted 6)) cache ≡ cache_settings given =
     ap (λ b. let s : CacheSettings = record { bits = b; whole = meant cache.settings } in s) parted
     ∙ ap (λ w. let s : CacheSettings = record { bits = bits_for (wanted_segments given); whole = w } in s) (ap meant built ∙ built_so given told hasher is small) in
-    record { stands = subst (λ settings. AllStandFor Infallible nat_eq settings (view cache) []) same stands; parted = (bits_for-few (wanted_segments given), λ key. mod-lt key (pow_pos 64)); now = refl }
+    record { stands = subst (λ settings. AllStandFor nat_eq is_copy settings (view cache) []) same stands; parted = (bits_for-few (wanted_segments given), λ key. mod-lt key (pow_pos 64)); now = refl }

@@ -4,7 +4,6 @@ use Rattle.std.proofs.lemmas.List.{map-append, append-nil}
 use Rattle.std.specs.declared.convert.Infallible.{Infallible}
 use Rattle.moka_model.specs.Calls as calls
 use Rattle.moka_model.specs.Calls.{Call}
-use Rattle.std.specs.declared.convert.Infallible.{Infallible}
 use Rattle.moka_policy.specs.Frequency.{none_noted, noted, estimated}
 use Rattle.moka_state.specs.StateData.{estimates}
 use Rattle.moka_segments.specs.Segments.{notices_in, AllStandFor}
@@ -21,8 +20,8 @@ use Rattle.mokabox_script.specs.Session.{CacheData, cache_behaviour, view, Print
 
 -- The cache goes from one state to another by a call with this reply.
 pub record Goes (old new : CacheData) (call : Call ℕ Text Infallible) (reply : Reply ℕ Text) : Type 0 where
-  pub reply_is : (settings : CacheSettings) (steps : List (Call ℕ Text Infallible)) → AllStandFor Infallible nat_eq is_copy settings (view old) steps → IsReplyIn Infallible nat_eq is_copy is_surely_copied settings steps call reply
-  pub stands : (settings : CacheSettings) (steps : List (Call ℕ Text Infallible)) → AllStandFor Infallible nat_eq is_copy settings (view old) steps → AllStandFor Infallible nat_eq is_copy settings (view new) (after_reply_in call reply steps)
+  pub reply_is : (settings : CacheSettings) (steps : List (Call ℕ Text Infallible)) → AllStandFor nat_eq is_copy settings (view old) steps → IsReplyIn Infallible nat_eq is_copy is_surely_copied settings steps call reply
+  pub stands : (settings : CacheSettings) (steps : List (Call ℕ Text Infallible)) → AllStandFor nat_eq is_copy settings (view old) steps → AllStandFor nat_eq is_copy settings (view new) (after_reply_in call reply steps)
 
 -- the moment of what follows
 pub moved : (cache : CacheData) (moment later : ℕ) → Prints cache moment (commands.At later) [] cache later
@@ -35,13 +34,13 @@ policy_told cache moment lines are settings before is =
     (before, ([], [], lines, refl, (refl, refl), are ∙ ap (λ s. policy_line s ∷ []) is.stands.settings, sym (append-nil lines), sym is.now ∙ is.now), is)
 
 -- A command is one call.
-pub record IsOneCall (moment : ℕ) (command : PlainCommand) (call : Call ℕ Text) : Type 0 where
+pub record IsOneCall (moment : ℕ) (command : PlainCommand) (call : Call ℕ Text Infallible) : Type 0 where
   pub makes : (notices : ℕ) → Makes notices moment command (call ∷ [])
   pub stays : (at : ℕ) → moment_after command at ≡ at
   pub tells_nothing : (settings : CacheSettings) (before : Course) → Tells settings before command []
 
 -- then its line is that of the reply to the call
-pub one_call : (old new : CacheData) (moment : ℕ) (command : PlainCommand) (call : Call ℕ Text) (reply : Reply ℕ Text) (answer : Answer) (items : List Answer) → IsOneCall moment command call → Goes old new call reply → answer ≡ answer_of reply → items ≡ answer ∷ [] → Prints old moment command (map answer_text items) new moment
+pub one_call : (old new : CacheData) (moment : ℕ) (command : PlainCommand) (call : Call ℕ Text Infallible) (reply : Reply ℕ Text) (answer : Answer) (items : List Answer) → IsOneCall moment command call → Goes old new call reply → answer ≡ answer_of reply → items ≡ answer ∷ [] → Prints old moment command (map answer_text items) new moment
 one_call old new moment command call reply answer items is_one goes is_answer are settings before is =
     let made : (notices : ℕ) → Makes notices before.moment command (call ∷ []) = subst (λ at. (notices : ℕ) → Makes notices at command (call ∷ [])) is.now is_one.makes in
     let line : map answer_text items ≡ answer_text (answer_of reply) ∷ [] = ap (map answer_text) are ∙ ap (λ a. answer_text a ∷ []) is_answer in (
@@ -54,9 +53,9 @@ one_call old new moment command call reply answer items is_one goes is_answer ar
 pub record HasTaken (cache : CacheData) (settings : CacheSettings) (steps : List (Call ℕ Text Infallible)) (count : ℕ) (printed : List (List ℕ)) : Type 0 where
   pub after : List (Call ℕ Text Infallible)
   pub prints : CallsPrint settings steps (replicate count calls.TakeNotice) printed after
-  pub stands : AllStandFor Infallible nat_eq is_copy settings (view cache) after
+  pub stands : AllStandFor nat_eq is_copy settings (view cache) after
 
-pub none_taken : (cache : CacheData) (settings : CacheSettings) (steps : List (Call ℕ Text Infallible)) → AllStandFor Infallible nat_eq is_copy settings (view cache) steps → HasTaken cache settings steps 0 []
+pub none_taken : (cache : CacheData) (settings : CacheSettings) (steps : List (Call ℕ Text Infallible)) → AllStandFor nat_eq is_copy settings (view cache) steps → HasTaken cache settings steps 0 []
 none_taken cache settings steps stands = record { after = steps; prints = (refl, refl); stands = stands }
 
 prints-more : (settings : CacheSettings) (count : ℕ) (steps after : List (Call ℕ Text Infallible)) (printed : List (List ℕ)) (reply : Reply ℕ Text) → CallsPrint settings steps (replicate count calls.TakeNotice) printed after → IsReplyIn Infallible nat_eq is_copy is_surely_copied settings after calls.TakeNotice reply
@@ -84,7 +83,7 @@ one_taken old new settings steps count printed reply taken goes = rw add-one (re
 
 -- all were taken, and then it was seen that none is left
 pub all_taken : (old new : CacheData) (moment : ℕ) (printed : List (List ℕ))
-    → ((settings : CacheSettings) (steps : List (Call ℕ Text Infallible)) → AllStandFor Infallible nat_eq is_copy settings (view old) steps → (count : ℕ) × (count ≡ notices_kept old.segments + 1) × HasTaken new settings steps count printed)
+    → ((settings : CacheSettings) (steps : List (Call ℕ Text Infallible)) → AllStandFor nat_eq is_copy settings (view old) steps → (count : ℕ) × (count ≡ notices_kept old.segments + 1) × HasTaken new settings steps count printed)
     → Prints old moment commands.Notices printed new moment
 all_taken old new moment printed has settings before is =
     let taken = has settings before.done is.stands in

@@ -26,7 +26,7 @@ use Rattle.mokabox_script.specs.Script.{Text, is_copy, is_surely_copied, CacheSe
 use Rattle.mokabox_script.specs.Session.{CacheData, SegmentState, segment_view, view, PartsHashes, Prints, segment_stands_for, IsWholeWalk}
 
 -- where one segment of a script's cache has come, as a history
-abbrev pub history_at : CacheSettings → List (Call ℕ Text) → ℕ → History ℕ Text Infallible
+abbrev pub history_at : CacheSettings → List (Call ℕ Text Infallible) → ℕ → History ℕ Text Infallible
 history_at settings done i = record { settings = share_settings settings; steps = steps_in Infallible nat_eq settings done i }
 
 -- a history for each state, by its place
@@ -58,15 +58,15 @@ all-mapped : {A B : Type 0} (P : B → Type 0) (f : A → B) (xs : List A) → A
 all-mapped P f [] each = tt
 all-mapped P f (x ∷ xs) each = (each.0, all-mapped P f xs each.1)
 
-module _ (cache : CacheData) (settings : CacheSettings) (done : List (Call ℕ Text)) (stand : AllStandFor Infallible nat_eq settings (view cache) done) (parted : PartsHashes settings) where
+module _ (cache : CacheData) (settings : CacheSettings) (done : List (Call ℕ Text Infallible)) (stand : AllStandFor nat_eq is_copy settings (view cache) done) (parted : PartsHashes settings) where
   -- the histories of all segments
   abbrev pub histories : List (History ℕ Text Infallible)
   histories = histories_by (history_at settings done) cache.segments
 
   they-stand : AllHaveHistories segment_stands_for cache.segments histories
-  they-stand = all-have (history_at settings done) cache.segments (λ i. by i (slice_get cache.segments i) (subst (λ o. IfSome o (λ one. StandsFor {E = Infallible} nat_eq (share_settings settings) one (steps_in Infallible nat_eq settings done i))) (slice_get-map segment_view cache.segments i) (stand.each i)))
+  they-stand = all-have (history_at settings done) cache.segments (λ i. by i (slice_get cache.segments i) (subst (λ o. IfSome o (λ one. StandsFor nat_eq is_copy (share_settings settings) one (steps_in Infallible nat_eq settings done i))) (slice_get-map segment_view cache.segments i) (stand.each i)))
     where
-      by : (i : ℕ) (o : Option SegmentState) → IfSome (option_map segment_view o) (λ one. StandsFor {E = Infallible} nat_eq (share_settings settings) one (steps_in Infallible nat_eq settings done i))
+      by : (i : ℕ) (o : Option SegmentState) → IfSome (option_map segment_view o) (λ one. StandsFor nat_eq is_copy (share_settings settings) one (steps_in Infallible nat_eq settings done i))
           → IfSome o (λ state. segment_stands_for (share_settings settings) state (steps_in Infallible nat_eq settings done i))
       by i None is = tt
       by i (Some state) is = is

@@ -13,7 +13,7 @@ use Rattle.moka_policy.specs.Frequency.{Counts, none_noted, noted, estimated}
 use Rattle.moka_policy.specs.NumberHash.{number_hash}
 use Rattle.moka_model.specs.Lives.{Settings as Whole, Behaviour, no_lifetimes}
 use Rattle.moka_model.specs.Steps.{AcceptedStep}
-use Rattle.moka_model.specs.StandsFor.{View, StandsFor}
+use Rattle.moka_model.specs.StandsFor.{WholeView, StandsFor}
 use Rattle.std.specs.declared.convert.Infallible.{Infallible}
 use Rattle.moka_segments.specs.Segments.{SegmentedView, AllStandFor}
 use Rattle.moka_segmented.specs.SegmentedData.{SegmentedData, segmented_view_by}
@@ -49,15 +49,15 @@ abbrev pub cache_behaviour : BehaviourData CacheHasher Bytes NoExpiry → Behavi
 cache_behaviour = behaviour_by cache_hash (λ weigher key text. byte_weight (string_bytes text)) (λ expiry. no_lifetimes)
 
 -- what a script's cache is, by what it keeps
-abbrev pub view : CacheData → SegmentedView ℕ Text
+abbrev pub view : CacheData → SegmentedView ℕ Text Infallible
 view = segmented_view_by cache_behaviour (estimates (noted 6) (estimated 6)) (none_noted 6)
 
 -- what one of its segments keeps
 abbrev pub SegmentState : Type 0
-SegmentState = StateData ℕ Text CacheHasher Bytes NoExpiry Counts
+SegmentState = StateData ℕ Text CacheHasher Bytes NoExpiry Counts Infallible
 
 -- what one of its segments is, by what it keeps
-abbrev pub segment_view : SegmentState → View ℕ Text
+abbrev pub segment_view : SegmentState → WholeView ℕ Text Infallible
 segment_view = view_by cache_behaviour (estimates (noted 6) (estimated 6)) (none_noted 6)
 
 -- what the builder of a script's cache was told
@@ -87,7 +87,7 @@ PartsHashes settings = (settings.bits < 64) × ((key : ℕ) → settings.whole.b
 
 -- A session is where the script has come: its cache stands for the calls done, and its moment is the script's.
 pub record IsAt (cache : CacheData) (moment : ℕ) (settings : CacheSettings) (course : Course) : Type 0 where
-  pub stands : AllStandFor Infallible nat_eq settings (view cache) course.done
+  pub stands : AllStandFor nat_eq is_copy settings (view cache) course.done
   pub parted : PartsHashes settings
   pub now : moment ≡ course.moment
 
@@ -99,7 +99,7 @@ Prints cache moment command printed cache_after moment_after =
 
 -- for which steps a segment of a session's cache stands
 abbrev pub segment_stands_for : Whole ℕ Text → SegmentState → List (AcceptedStep ℕ Text Infallible) → Type 0
-segment_stands_for settings state steps = StandsFor nat_eq settings (segment_view state) steps
+segment_stands_for settings state steps = StandsFor nat_eq is_copy settings (segment_view state) steps
 
 -- A walk of the cache at a moment, of which nothing is refused, yields these pairs, and then it ends.
 abbrev pub IsWholeWalk : CacheData → ℕ → List (ℕ × Text) → Type 0

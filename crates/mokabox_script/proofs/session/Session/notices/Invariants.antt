@@ -12,7 +12,7 @@ use Rattle.mokabox_script.proofs.session.Session.notices.Given as goal
 -- so many notices were taken and printed, and the others are left
 abbrev pub invariant-loop-notice : goal.invariant-loop-notice
 invariant-loop-notice l =
-    ((settings : CacheSettings) (steps : List (Call ℕ Text Infallible)) → AllStandFor Infallible nat_eq is_copy settings (view l.initial.self.cache) steps
+    ((settings : CacheSettings) (steps : List (Call ℕ Text Infallible)) → AllStandFor nat_eq is_copy settings (view l.initial.self.cache) steps
     → (count : ℕ) × (count + notices_kept l.self.cache.segments ≡ notices_kept l.initial.self.cache.segments) × HasTaken l.self.cache settings steps count (map answer_text l.answers.items))
     × (l.self.moment ≡ l.initial.self.moment)
 
