@@ -2,4 +2,4 @@ use Rattle.moka_sync.proofs.builder.CacheBuilder+K+V+C+Single.build_with_hasher.
 
 -- The state under the lock is the one that was opened.
 pub returns-clause-empty : goal.returns-clause-empty
-returns-clause-empty g c = rw (c.in_ok-share.ensures.shared, c.new.ensures) c.in_ok-state.ensures.empty
+returns-clause-empty g c = rw c.in_ok-share.ensures.shared c.in_ok-inside.ensures.empty
