@@ -1,2 +1,4 @@
+pub mod Hit
 pub mod Maintain
 pub mod Visits
+pub mod Write

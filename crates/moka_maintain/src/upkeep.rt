@@ -1,15 +1,22 @@
 //! What maintenances go by.
-ghost use Rattle.std.specs.Prelude.{◌≡◌, ◌≤◌, false, None};
+ghost use Rattle.std.specs.Prelude.{◌≡◌, ◌≤◌, ◌<◌, IsSome, IfSome, false, None};
 ghost use Rattle.moka_policy.specs.Policy.{is_lru};
 ghost use Rattle.moka_table.specs.Table.{entries};
 ghost use Rattle.moka_ways.specs.Lives.{AreDated};
 ghost use Rattle.moka_maintain.specs.Maintain.{IsMaintained, IsMaintainedUpTo};
+ghost use Rattle.moka_maintain.specs.Write.{HasPlace, WritesAt};
+ghost use Rattle.moka_maintain.specs.Hit.{UsesAt};
+ghost use Rattle.moka_rows.specs.Rows.{row_under};
 
 use crate::maintain::maintain_up_to;
-use moka_policy::policy::{EvictionPolicy, FrequencySource};
+use moka_policy::policy::{CacheTypes, EvictionPolicy, FrequencySource};
 use moka_rows::rows::RowStore;
 use moka_table::table::Table;
+use moka_table::target::{NewValue, Place};
+use moka_ways::behaviour::Behaviour;
 use moka_ways::lives::Lives;
+use moka_ways::view::BehaviourView;
+use std::hash::Hash;
 
 /// What a maintenance goes by, beside the rows and the policy.
 #[derive(Drop)]
@@ -65,5 +72,60 @@ impl<F: FrequencySource> Upkeep<F> {
             limit,
             &mut visits,
         )
+    }
+
+    /// Writes a value to its place, behind a maintenance within a limit where one comes first, and answers whether a
+    /// live value stood there just before. It takes none of the memory that was not made room for.
+    pub fn write<K: Hash + Drop, V: Clone, C: CacheTypes<K, V>, R: RowStore<K, V>>(
+        &self,
+        table: &mut Table<K, V, R>,
+        place: Place<K>,
+        new: NewValue<V>,
+        behaviour: &Behaviour<K, V, C>,
+        flush_limit: Option<u64>,
+    ) -> bool
+        requires place { HasPlace place table.old }
+        requires room { 0 < table.old.room }
+        ensures { AreDated self.now.lives (entries table.old) → WritesAt K.eq
+            (⟦<C as BehaviourView<K, V>>⟧.behaviour behaviour.now) self.now.lives
+            (F.count self.now.source) self.now.max_capacity flush_limit place new table.old table.new
+            result }
+    {
+        match place {
+            Place::Now(target) => table.write(target, new, behaviour, &self.lives),
+            Place::Later { lookup, key } => {
+                self.maintain_up_to(table, behaviour.policy(), new.now, flush_limit);
+                let target = table.target_now(lookup, key, new.hash);
+                table.write(target, new, behaviour, &self.lives)
+            }
+        }
+    }
+
+    /// A use of a row whose value is live: the value may get another life of its own, and the hash of
+    /// the key is noted. It takes no memory.
+    pub fn hit<K: Hash + Drop, V: Clone, C: CacheTypes<K, V>, R: RowStore<K, V>>(
+        &mut self,
+        table: &mut Table<K, V, R>,
+        number: usize,
+        hash: u64,
+        now: u64,
+        behaviour: &Behaviour<K, V, C>,
+    )
+        requires { IsSome (row_under number (entries table.old)) }
+        ensures used { IfSome (row_under number (entries table.old)) (λ row.
+            UsesAt (⟦<C as BehaviourView<K, V>>⟧.behaviour behaviour.now) self.old.lives
+            number row now table.old table.new) }
+        ensures notices { table.new.notices ≡ table.old.notices }
+        ensures noted { self.new.source ≡ F.noted self.old.source hash }
+        ensures lives { self.new.lives ≡ self.old.lives }
+        ensures max_capacity { self.new.max_capacity ≡ self.old.max_capacity }
+    {
+        let row = table.row(number);
+        let info = row.info();
+        let own_life = behaviour.life_of_hit(&row.key, &row.value, info, now);
+        let last_accessed = info.last_accessed.max(now);
+        let touch = self.lives.used(info, last_accessed, own_life);
+        table.touch(number, touch);
+        self.source.note(hash);
     }
 }

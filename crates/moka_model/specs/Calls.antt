@@ -65,6 +65,24 @@ pub data Answer (K V E : Type 0) : Type 0 where  -- An answer, with the values t
   WasAbandoned : Answer K V E
   HasEnded : Answer K V E
 
+pub data Refusal : Type 0 where  -- Why a call is not accepted.
+  UnknownTurn : Refusal
+  UnknownTicket : Refusal
+  ClosuresUnsupported : Refusal
+
+-- the refusal that is due where a call is not accepted; none of a call that is always accepted
+abbrev pub refusal_due : {K V E : Type 0} → Call K V E → Option Refusal
+refusal_due (InvalidateIf test) = Some ClosuresUnsupported
+refusal_due (Finish name outcome at) = Some UnknownTurn
+refusal_due (Abandon name) = Some UnknownTurn
+refusal_due (Collect name) = Some UnknownTicket
+refusal_due (Leave name) = Some UnknownTicket
+refusal_due call = None
+
+abbrev pub IsWait : {K V E : Type 0} → Answer K V E → Type 0  -- it tells the caller to wait for another's turn
+IsWait (Wait name) = ⊤
+IsWait answer = ⊥
+
 pub record Accepted (K V E : Type 0) : Type 0 where  -- What an accepted call answers, and the step that it is.
   pub answer : Answer K V E
   pub step : AcceptedStep K V E
@@ -265,6 +283,10 @@ module _ {K V E : Type 0} (eq : K → K → Bool) (settings : Settings K V) wher
   abbrev pub after : Call K V E → List (AcceptedStep K V E) → List (AcceptedStep K V E)
   after call steps = with_step (accepted eq settings steps call) steps
 
+  -- A call is not accepted after these steps, and this refusal is due.
+  abbrev pub IsRefusedAs : Refusal → List (AcceptedStep K V E) → Call K V E → Type 0
+  IsRefusedAs refusal steps call = (accepted eq settings steps call ≡ None) × (refusal_due call ≡ Some refusal)
+
   -- A list of accepted steps: each is what the definitions give for some call, after those before it.
   abbrev pub IsLegal : List (AcceptedStep K V E) → Type 0
   IsLegal [] = ⊤
@@ -279,7 +301,7 @@ module _ {K V E : Type 0} (eq : K → K → Bool) (settings : Settings K V) wher
 -- The values' type says of which values copies never fail.
 abbrev pub AnswerMayFail : {K V E : Type 0} → (V → Type 0) → Answer K V E → Type 0  -- What is handed out is a copy, which can fail.
 AnswerMayFail is_infallible (Found (Some v)) = ¬ (is_infallible v)
-AnswerMayFail is_infallible (Entered e) = ¬ (is_infallible e.value)
+AnswerMayFail is_infallible (Entered e) = ⊤  -- what a turn gave is kept as a copy, and copied again
 AnswerMayFail is_infallible (GaveError e) = ⊤
 AnswerMayFail is_infallible answer = ⊥
 

@@ -1,5 +1,6 @@
 pub mod Admission
 pub mod Calls
+pub mod Entries
 pub mod Events
 pub mod Lives
 pub mod Maintenance

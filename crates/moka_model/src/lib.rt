@@ -2,5 +2,6 @@
 //! what they need of code, and the lemmas that the crates above use (`proofs/Callers.antt`).
 #![tactic(auto)]
 
+pub mod entry;
 pub mod notification;
 pub mod turns;

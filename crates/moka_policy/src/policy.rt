@@ -71,9 +71,19 @@ pub enum Refused {
     /// Memory for a growth or a copy was refused.
     #[error("OutOfMemory")]
     OutOfMemory,
-    /// The step would have drawn a number, and all are used up.
+    /// The step would have drawn a number, and all are used up; or it would have waited for a turn
+    /// for which as many callers wait as can be counted.
     #[error("NumbersUsedUp")]
     NumbersUsedUp,
+    /// No open turn has the name that the step gave, or the outcome is none of its kind.
+    #[error("UnknownTurn")]
+    UnknownTurn,
+    /// No turn of the name that the step gave has an unspent ticket.
+    #[error("UnknownTicket")]
+    UnknownTicket,
+    /// A turn of the key is open, so the call would have to wait for it.
+    #[error("TurnIsOpen")]
+    TurnIsOpen,
 }
 
 /// Which keys leave where a cache has passed its capacity, and which new ones are admitted. The default is

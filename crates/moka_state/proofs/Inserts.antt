@@ -1,32 +1,40 @@
--- What a state stands for after a write: a write alone, one behind its flush, or a moment that passes.
-use Rattle.std.proofs.Common.{◌≡◌, ℕ, ◌+◌, ◌<◌, ◌≤◌, ◌^◌, max, nat_le, Bool, true, false, List, [], ◌∷◌, ◌++◌, length, sym, ap, ◌∙◌, subst, arith}
+-- What a write makes of the view of a state: a write alone, one behind its flush, or a moment that passes.
+use Rattle.std.proofs.Common.{◌≡◌, ℕ, ◌+◌, ◌<◌, ◌≤◌, ◌^◌, max, nat_le, Bool, true, false, not, ◌&&◌, ◌||◌, cond, is_some, Option, Some, None, List, [], ◌∷◌, ◌++◌, length, refl, sym, ap, ◌∙◌, subst, arith}
 use Rattle.std.specs.Arc.{arc_value}
-use Rattle.std.specs.declared.sync.Arc.{Arc}
-use Rattle.std.specs.declared.alloc.Global.{Global}
 use Rattle.std.specs.Cmp.{IsEquivalence}
+use Rattle.std.specs.Option.{option_to_list}
 use Rattle.std.proofs.lemmas.Bool.{le-leb, lt-leb}
 use Rattle.std.proofs.lemmas.List.{length-map}
-use Rattle.moka_model.specs.Lives.{Settings}
-use Rattle.moka_model.specs.Events.{Event, Written, Maintained, Passed}
-use Rattle.moka_model.specs.Numbers.{stores_nothing}
-use Rattle.moka_model.specs.Turns.{Turn}
-use Rattle.moka_model.specs.Steps.{AcceptedStep, events_in}
-use Rattle.moka_model.specs.Calls.{Insert, write_events, after}
-use Rattle.moka_model.specs.StandsFor.{View, StandsFor}
-use Rattle.moka_model.proofs.Callers.{IsViewOf, whole, unmoved, view-of, stands-after, write_events-nothing, write_events-plain, write_events-flushed}
+use Rattle.moka_model.specs.Lives.{Behaviour, Settings, Write, has_come, is_live, live_one}
+use Rattle.moka_model.specs.Events.{Event, Written, Maintained, Passed, latest}
+use Rattle.moka_model.specs.Orders.{live, standing}
+use Rattle.moka_model.specs.OrderLaws.{held, HasOneEach}
+use Rattle.moka_model.specs.Numbers.{flush_point, is_flush_due, stores_nothing}
+use Rattle.moka_model.specs.Calls.{flush, write_events, is_replacing}
+use Rattle.moka_model.specs.StandsFor.{Books, View}
+use Rattle.moka_model.proofs.Callers.{IsViewOf, held-orders, write_events-nothing, write_events-plain, write_events-flushed}
 use Rattle.moka_rows.specs.declared.rows.Row.{Row}
 use Rattle.moka_rows.specs.declared.rows.EntryInfo.{EntryInfo}
 use Rattle.moka_ways.specs.declared.lives.Lives.{Lives}
-use Rattle.moka_table.specs.declared.table.Lookup.{Lookup}
+use Rattle.moka_ways.specs.Lives.{IsDated, AreDated}
+use Rattle.moka_ways.proofs.Callers.{alive-kept}
+use Rattle.moka_table.specs.declared.table.Lookup.TheVariants.{Stored, Absent}
 use Rattle.moka_table.specs.declared.target.Target.{Target}
-use Rattle.moka_table.specs.Lookup.{IsLookupOf}
-use Rattle.moka_table.specs.Target.{IsTargetNow, IsInfoOf, Puts}
+use Rattle.moka_table.specs.declared.target.Target.TheVariants.{Over, New}
+use Rattle.moka_table.specs.declared.target.Place.{Place}
+use Rattle.moka_table.specs.declared.target.Place.TheVariants.{Now, Later}
+use Rattle.moka_table.specs.declared.target.NewValue.{NewValue}
+use Rattle.moka_table.specs.Target.{IsInfoOf, Puts, IsPlaceOf, Writes, is_live_row, is_over_live}
 use Rattle.moka_table.specs.Table.{Contents, SameRows, entries, stored_write, stored_writes}
 use Rattle.moka_maintain.specs.Maintain.{IsMaintainedUpTo}
+use Rattle.moka_maintain.specs.Write.{HasPlace, WritesAt}
+use Rattle.moka_table.proofs.Callers.{of-row}
 use Rattle.moka_state.specs.State.{IsSound}
+use Rattle.moka_state.proofs.Held.{held-row}
 use Rattle.moka_state.proofs.Maintained.{HasLives, becomes-maintained}
-use Rattle.moka_state.proofs.Targets.{becomes-put-now, one-kept, where-now}
-use Rattle.moka_state.proofs.Views.{view_with, Becomes, view-becomes, one-each, flush-counted}
+use Rattle.moka_state.proofs.Sound.{IsSound-maintained}
+use Rattle.moka_state.proofs.Targets.{goes_with-lookup, goes_with-now, IsSound-put, IsWhere, where-lookup, where-now, one-kept, becomes-put, becomes-put-now}
+use Rattle.moka_state.proofs.Views.{view_with, Becomes, option_to_list-same, view-becomes}
 
 -- the same rows are the same view
 pub same-view : {K V : Type 0} (settings : Settings K V) (frequency : List ℕ → ℕ → ℕ) (latest number : ℕ) (old new : Contents K V) → SameRows old new → view_with settings old frequency latest number ≡ view_with settings new frequency latest number
@@ -36,52 +44,148 @@ same-view {K} {V} settings frequency latest number old new same =
     ∙ ap (λ n. let c : Contents K V = record { admitted = new.admitted; waiting = new.waiting; notices = n; may_hide = old.may_hide; room = old.room } in view_with settings c frequency latest number) (sym same.2)
 
 -- fewer than 64 rows wait, or no fewer
-pub few-wait : {K V : Type 0} (contents : Contents K V) → length contents.waiting < 64 → nat_le 64 (length (stored_writes contents.waiting)) ≡ false
+few-wait : {K V : Type 0} (contents : Contents K V) → length contents.waiting < 64 → nat_le 64 (length (stored_writes contents.waiting)) ≡ false
 few-wait {K} {V} contents few = lt-leb 64 (length (stored_writes contents.waiting)) (let same = length-map contents.waiting (λ (p : ℕ × Row K V). stored_write p.1) in omega arith)
 
-pub many-wait : {K V : Type 0} (contents : Contents K V) → 64 ≤ length contents.waiting → nat_le 64 (length (stored_writes contents.waiting)) ≡ true
+many-wait : {K V : Type 0} (contents : Contents K V) → 64 ≤ length contents.waiting → nat_le 64 (length (stored_writes contents.waiting)) ≡ true
 many-wait {K} {V} contents many = le-leb 64 (length (stored_writes contents.waiting)) (let same = length-map contents.waiting (λ (p : ℕ × Row K V). stored_write p.1) in omega arith)
 
-module _ {K V E : Type 0} (eq : K → K → Bool) {is_clone : V → V → Type 0} {turns : List (Turn K V E)} (laws : IsEquivalence eq) (settings : Settings K V) (old new : View K V) (steps : List (AcceptedStep K V E)) (stands : StandsFor eq is_clone settings (whole old turns) steps) (k : K) (v : V) (at : ℕ) where
-  stores-alike : stores_nothing settings.max_capacity ≡ stores_nothing old.settings.max_capacity
-  stores-alike = ap (λ (s : Settings K V). stores_nothing s.max_capacity) (sym stands.settings)
+is_some-cond : {A : Type 0} (t : Bool) (x : A) → is_some (cond t (Some x) None) ≡ t
+is_some-cond true x = refl
+is_some-cond false x = refl
 
-  -- the new state stands for the steps and the write, where its view is that of these events more
-  by_events : (events : List (Event K V)) → write_events eq settings k v at (events_in steps) ≡ events → IsViewOf eq settings new (events ++ events_in steps) → StandsFor eq is_clone settings (whole new turns) (after eq settings (Insert k v at) steps)
-  by_events events is view = stands-after eq settings old steps stands (Insert k v at) new events (ap (λ es. unmoved es steps) is) view
+-- the row of a place is there
+pub has-place : {K V : Type 0} (eq : K → K → Bool) (key : K) (hash : ℕ) (contents : Contents K V) (place : Place K) → IsPlaceOf eq key hash contents place → HasPlace place contents
+has-place eq key hash contents (Now (Over m shared)) (few, Stored n stored, found, target) = rw (target.0, found.1) refl
+has-place eq key hash contents (Now (Over m shared)) (few, Absent, found, target) = absurd target
+has-place eq key hash contents (Now (New shared)) is = tt
+has-place eq key hash contents (Later lookup own) is = tt
 
-  pub stands-nothing : stores_nothing old.settings.max_capacity ≡ true → Becomes eq old (Passed at) new → StandsFor eq is_clone settings (whole new turns) (after eq settings (Insert k v at) steps)
-  stands-nothing nothing becomes =
-      by_events (Passed at ∷ []) (write_events-nothing eq settings k v at (events_in steps) (stores-alike ∙ nothing))
-      (view-becomes eq laws settings old new (events_in steps) (Passed at) (view-of eq settings old steps stands) becomes)
+module _ {K V : Type 0} (eq : K → K → Bool) (laws : IsEquivalence eq) (given : Settings K V) where
+  module _ (view : View K V) (h : List (Event K V)) (is : IsViewOf eq given view h) where
+    held-viewed : (k : K) → held eq k view.books.orders ≡ option_to_list (standing eq given k h)
+    held-viewed k = ap (λ (b : Books K V). held eq k b.orders) is.books ∙ held-orders eq given laws k h
 
-  pub stands-plain : stores_nothing old.settings.max_capacity ≡ false → nat_le 64 (length old.books.orders.waiting) ≡ false → Becomes eq old (Written k v at) new → StandsFor eq is_clone settings (whole new turns) (after eq settings (Insert k v at) steps)
-  stands-plain stores few becomes =
-      by_events (Written k v at ∷ []) (write_events-plain eq settings k v at (events_in steps) (stores-alike ∙ stores) (flush-counted eq settings old steps stands ∙ few))
-      (view-becomes eq laws settings old new (events_in steps) (Written k v at) (view-of eq settings old steps stands) becomes)
+    -- the view of a list of events stores one write at most of each key,
+    pub one-viewed : HasOneEach eq view.books.orders
+    one-viewed k = (standing eq given k h, held-viewed k)
 
-  stands-flushed : stores_nothing old.settings.max_capacity ≡ false → nat_le 64 (length old.books.orders.waiting) ≡ true → (between : View K V) → Becomes eq old (Maintained old.settings.flush_limit at) between → Becomes eq between (Written k v at) new
-      → StandsFor eq is_clone settings (whole new turns) (after eq settings (Insert k v at) steps)
-  stands-flushed stores many between flushed becomes =
-      let flush : Becomes eq old (Maintained settings.flush_limit at) between = subst (λ (s : Settings K V). Becomes eq old (Maintained s.flush_limit at) between) stands.settings flushed in
-      by_events (Written k v at ∷ Maintained settings.flush_limit at ∷ []) (write_events-flushed eq settings k v at (events_in steps) (stores-alike ∙ stores) (flush-counted eq settings old steps stands ∙ many))
-      (view-becomes eq laws settings between new (Maintained settings.flush_limit at ∷ events_in steps) (Written k v at)
-      (view-becomes eq laws settings old between (events_in steps) (Maintained settings.flush_limit at) (view-of eq settings old steps stands) flush) becomes)
+    -- and the one that is held of a key is the one that stands for it
+    live-viewed : (k : K) (at : ℕ) (o : Option (Write K V)) → held eq k view.books.orders ≡ option_to_list o → live eq given k (max (latest h) at) h ≡ live_one view.settings (max view.books.latest at) o
+    live-viewed k at o holds =
+        ap (live_one given (max (latest h) at)) (option_to_list-same (standing eq given k h) o (sym (held-viewed k) ∙ holds))
+        ∙ ap (λ (b : Books K V). live_one given (max b.latest at) o) (sym is.books)
+        ∙ ap (λ (s : Settings K V). live_one s (max view.books.latest at) o) (sym is.settings)
 
--- A value that is put where the key's target is once a maintenance has run: the state stands for the steps and the write.
-module _ {K V E : Type 0} (eq : K → K → Bool) {is_clone : V → V → Type 0} {turns : List (Turn K V E)} (laws : IsEquivalence eq) (settings : Settings K V) (lives : Lives) (expired_alike : HasLives settings lives) (contents kept new : Contents K V) (frequency : List ℕ → ℕ → ℕ) (moment number : ℕ)
-    (given : Settings K V) (steps : List (AcceptedStep K V E)) (stands : StandsFor eq is_clone given (whole (view_with settings contents frequency moment number) turns) steps) (key : K) (v : V) (at : ℕ)
-    (is_cut : Bool) (is : IsMaintainedUpTo lives settings.behaviour.is_lru (frequency []) settings.max_capacity (max moment at) settings.flush_limit contents kept is_cut) where
-  pub stands-put-flushed : {keeps : K → V → Type 0} {hash_of : K → ℕ} → IsSound keeps hash_of lives contents → IsSound keeps hash_of lives kept → ((a b : K) → eq a b ≡ true → hash_of a ≡ hash_of b)
-      → (hash weight : ℕ) (info : EntryInfo) (lookup : Lookup K) (own : Arc K Global) (target : Target K) → max moment at < 2 ^ 64 → hash ≡ hash_of key → arc_value own ≡ key → IsLookupOf eq key hash (entries contents) lookup → IsTargetNow eq hash lookup own (entries kept) target
-      → hash ≡ settings.behaviour.hash key → weight ≡ settings.behaviour.weight key v → IsInfoOf settings.behaviour target v weight (max moment at) kept info → Puts target hash v info kept new
-      → stores_nothing settings.max_capacity ≡ false → nat_le 64 (length (stored_writes contents.waiting)) ≡ true
-      → StandsFor eq is_clone given (whole (view_with settings new frequency (max moment at) (number + 1)) turns) (after eq given (Insert key v at) steps)
-  stands-put-flushed sound sound_then respects hash weight info lookup own target is_moment hashed owned found still hashes weighs info_is put stores many =
-      let one = one-each eq laws given (view_with settings contents frequency moment number) steps stands in
-      let flushed = becomes-maintained eq settings lives expired_alike contents frequency moment number at settings.flush_limit kept is_cut is in
-      let ones = one-kept eq laws settings (frequency []) settings.flush_limit (max moment at) contents kept one flushed.orders in
-      let there = where-now eq laws settings (frequency []) settings.flush_limit (max moment at) contents kept one flushed.orders key sound sound_then respects hash lookup own target hashed owned found still in
-      stands-flushed eq laws given (view_with settings contents frequency moment number) (view_with settings new frequency (max moment at) (number + 1)) steps stands key v at stores many
-      (view_with settings kept frequency (max moment at) number) flushed
-      (becomes-put-now eq laws key kept settings lives expired_alike frequency moment number ones sound_then.dated new v at hash weight info target is_moment there hashes weighs info_is put)
+    stores-alike : stores_nothing given.max_capacity ≡ stores_nothing view.settings.max_capacity
+    stores-alike = ap (λ (s : Settings K V). stores_nothing s.max_capacity) (sym is.settings)
+
+    flush-viewed : is_flush_due eq given h ≡ nat_le flush_point (length view.books.orders.waiting)
+    flush-viewed = ap (λ (b : Books K V). nat_le flush_point (length b.orders.waiting)) (sym is.books)
+
+    -- where the capacity is 0, just the moment passes
+    pub view-nothing : (new : View K V) (k : K) (v : V) (at : ℕ) → stores_nothing view.settings.max_capacity ≡ true → Becomes eq view (Passed at) new → IsViewOf eq given new (write_events eq given k v at h ++ h)
+    view-nothing new k v at nothing becomes =
+        subst (λ es. IsViewOf eq given new (es ++ h)) (sym (write_events-nothing eq given k v at h (stores-alike ∙ nothing)))
+        (view-becomes eq laws given view new h (Passed at) is becomes)
+
+  -- A target is over a live value where the definitions find one.
+  module _ (settings : Settings K V) (lives : Lives) (expired_alike : HasLives settings lives) (frequency : List ℕ → ℕ → ℕ) (contents : Contents K V) (moment number : ℕ) (h : List (Event K V))
+      (is : IsViewOf eq given (view_with settings contents frequency moment number) h) (dated : AreDated lives (entries contents)) (key : K) (at : ℕ) (is_moment : max moment at < 2 ^ 64) where
+    over_live : (target : Target K) → IsWhere eq laws key contents target → is_over_live target (max moment at) contents ≡ is_some (live eq given key (max (latest h) at) h)
+    over_live (Over n shared) there =
+        let row = there.0 in
+        let row_dated : IsDated lives row.info = of-row (λ (r : Row K V). IsDated lives r.info) n (entries contents) row dated there.1 in
+        let holds = held-row eq contents (one-viewed (view_with settings contents frequency moment number) h is) key n row there.1 there.2 in
+        ap (is_live_row (max moment at)) there.1
+        ∙ sym (ap is_some (live-viewed (view_with settings contents frequency moment number) h is key at (Some (stored_write row)) holds
+        ∙ ap (λ (expired : Row K V → ℕ → Bool). cond (not row.info.is_hidden && not (expired row (max moment at))) (Some (stored_write row)) None) expired_alike)
+        ∙ is_some-cond _ (stored_write row)
+        ∙ alive-kept lives row.info row_dated (max moment at) is_moment)
+    over_live (New shared) there = sym (ap is_some (live-viewed (view_with settings contents frequency moment number) h is key at None there.0))
+
+  -- A value that is written to its place.
+  module _ (settings : Settings K V) (lives : Lives) (expired_alike : HasLives settings lives) (frequency : List ℕ → ℕ → ℕ) (contents new : Contents K V) (moment number : ℕ) (h : List (Event K V))
+      (is : IsViewOf eq given (view_with settings contents frequency moment number) h) {keeps : K → V → Type 0} (sound : IsSound keeps settings.behaviour.hash lives contents)
+      (respects : (a b : K) → eq a b ≡ true → settings.behaviour.hash a ≡ settings.behaviour.hash b) (key : K) (at : ℕ) (it : NewValue V) (hashed : it.hash ≡ settings.behaviour.hash key) (weighed : it.weight ≡ settings.behaviour.weight key it.value)
+      (timed : it.now ≡ max moment at) (is_moment : max moment at < 2 ^ 64) where
+    abbrev old_view : View K V
+    old_view = view_with settings contents frequency moment number
+
+    abbrev new_view : View K V
+    new_view = view_with settings new frequency (max moment at) (number + 1)
+
+    one : HasOneEach eq old_view.books.orders
+    one = one-viewed old_view h is
+
+    abbrev Wrote : Place K → Bool → Type 0
+    Wrote place replaced = WritesAt eq settings.behaviour lives (frequency []) settings.max_capacity place it contents new replaced
+
+    module _ (kept : Contents K V) (now : IsMaintained lives settings.behaviour.is_lru (frequency []) settings.max_capacity it.now contents kept) where
+      abbrev between : View K V
+      between = view_with settings kept frequency (max moment at) number
+
+      maintained-then : IsMaintained lives settings.behaviour.is_lru (frequency []) settings.max_capacity (max moment at) contents kept
+      maintained-then = subst (λ m. IsMaintained lives settings.behaviour.is_lru (frequency []) settings.max_capacity m contents kept) timed now
+
+      flushed : Becomes eq old_view (Maintained None at) between
+      flushed = becomes-maintained eq settings lives expired_alike contents frequency moment number at kept maintained-then
+
+      view-flushed : IsViewOf eq given between (Maintained None at ∷ h)
+      view-flushed = view-becomes eq laws given old_view between h (Maintained None at) is flushed
+
+      sound-then : IsSound keeps settings.behaviour.hash lives kept
+      sound-then = IsSound-maintained keeps settings.behaviour.hash lives contents kept sound settings.behaviour.is_lru (frequency []) settings.max_capacity (max moment at) maintained-then
+
+    -- the view is that of the events of a write more,
+    pub view-written : (place : Place K) (replaced : Bool) → IsPlaceOf eq key it.hash contents place → Wrote place replaced → stores_nothing settings.max_capacity ≡ false → IsViewOf eq given new_view (write_events eq given key it.value at h ++ h)
+    view-written (Now target) replaced place wrote stores =
+        let there = where-lookup eq laws key contents sound respects it.hash place.1 target hashed place.2 place.3 in
+        let info_is = subst (λ m. IsInfoOf settings.behaviour target it.value it.weight m contents wrote.0) timed wrote.1 in
+        let becomes = becomes-put eq laws key contents settings lives expired_alike frequency moment number one sound.dated new it.value at it.hash it.weight wrote.0 target is_moment there hashed weighed info_is wrote.3 in
+        subst (λ es. IsViewOf eq given new_view (es ++ h)) (sym (write_events-plain eq given key it.value at h (stores-alike old_view h is ∙ stores) (flush-viewed old_view h is ∙ few-wait contents place.0)))
+        (view-becomes eq laws given old_view new_view h (Written key it.value at) is becomes)
+    view-written (Later lookup own) replaced place wrote stores =
+        let kept = wrote.0 in
+        let target = wrote.2 in
+        let writes = wrote.4 in
+        let flush_is = flushed kept wrote.1 in
+        let there = where-now eq laws settings (frequency []) (max moment at) contents kept one flush_is.orders key sound (sound-then kept wrote.1) respects it.hash lookup own target hashed place.2 place.1 wrote.3 in
+        let ones = one-kept eq laws settings (frequency []) (max moment at) contents kept one flush_is.orders in
+        let info_is = subst (λ m. IsInfoOf settings.behaviour target it.value it.weight m kept writes.0) timed writes.1 in
+        let becomes = becomes-put-now eq laws key kept settings lives expired_alike frequency moment number ones (sound-then kept wrote.1).dated new it.value at it.hash it.weight writes.0 target is_moment there hashed weighed info_is writes.3 in
+        subst (λ es. IsViewOf eq given new_view (es ++ h)) (sym (write_events-flushed eq given key it.value at h (stores-alike old_view h is ∙ stores) (flush-viewed old_view h is ∙ many-wait contents place.0)))
+        (view-becomes eq laws given (between kept wrote.1) new_view (Maintained None at ∷ h) (Written key it.value at) (view-flushed kept wrote.1) becomes)
+
+    -- it is known whether a live value stood there, behind the flush,
+    pub replaced-written : (place : Place K) (replaced : Bool) → IsPlaceOf eq key it.hash contents place → Wrote place replaced → replaced ≡ is_replacing eq given h key at
+    replaced-written (Now target) replaced place wrote =
+        let there = where-lookup eq laws key contents sound respects it.hash place.1 target hashed place.2 place.3 in
+        wrote.4 ∙ ap (λ m. is_over_live target m contents) timed
+        ∙ over_live settings lives expired_alike frequency contents moment number h is sound.dated key at is_moment target there
+        ∙ sym (ap (λ due. is_some (live eq given key (max (latest h) at) (cond due (Maintained None at ∷ []) [] ++ h))) (flush-viewed old_view h is ∙ few-wait contents place.0))
+    replaced-written (Later lookup own) replaced place wrote =
+        let kept = wrote.0 in
+        let target = wrote.2 in
+        let writes = wrote.4 in
+        let there = where-now eq laws settings (frequency []) (max moment at) contents kept one (flushed kept wrote.1).orders key sound (sound-then kept wrote.1) respects it.hash lookup own target hashed place.2 place.1 wrote.3 in
+        let idle : max (max moment at) at ≡ max moment at = omega arith in
+        let passed : max (max (latest h) at) at ≡ max (latest h) at = omega arith in
+        writes.4 ∙ ap (λ m. is_over_live target m kept) (timed ∙ sym idle)
+        ∙ over_live settings lives expired_alike frequency kept (max moment at) number (Maintained None at ∷ h) (view-flushed kept wrote.1) (sound-then kept wrote.1).dated key at (rw idle is_moment) target there
+        ∙ ap (λ m. is_some (live eq given key m (Maintained None at ∷ h))) passed
+        ∙ sym (ap (λ due. is_some (live eq given key (max (latest h) at) (cond due (Maintained None at ∷ []) [] ++ h))) (flush-viewed old_view h is ∙ many-wait contents place.0))
+
+-- and all that the state keeps to stays so
+module _ {K V : Type 0} (eq : K → K → Bool) (laws : IsEquivalence eq) (behaviour : Behaviour K V) (lives : Lives) (frequency_of : ℕ → ℕ) (capacity : Option ℕ) (contents new : Contents K V) {keeps : K → V → Type 0} (sound : IsSound keeps behaviour.hash lives contents)
+    (alike : (a b : K) (w : V) → eq a b ≡ true → keeps a w → keeps b w) (key : K) (it : NewValue V) (hashed : it.hash ≡ behaviour.hash key) (kept_is : keeps key it.value) where
+  pub sound-written : (place : Place K) (replaced : Bool) → IsPlaceOf eq key it.hash contents place → WritesAt eq behaviour lives frequency_of capacity place it contents new replaced → IsSound keeps behaviour.hash lives new
+  sound-written (Now target) replaced place wrote =
+      let goes = goes_with-lookup eq laws key contents it.hash place.1 target place.2 place.3 in
+      IsSound-put eq laws key contents keeps behaviour.hash lives new it.hash it.value wrote.0 target alike hashed kept_is sound goes wrote.3 wrote.2
+  sound-written (Later lookup own) replaced place wrote =
+      let kept = wrote.0 in
+      let writes = wrote.4 in
+      let then = IsSound-maintained keeps behaviour.hash lives contents kept sound behaviour.is_lru frequency_of capacity it.now wrote.1 in
+      let goes = goes_with-now eq laws key kept (entries contents) it.hash lookup own wrote.2 place.2 place.1 wrote.3 in
+      IsSound-put eq laws key kept keeps behaviour.hash lives new it.hash it.value writes.0 wrote.2 alike hashed kept_is then goes writes.3 writes.2

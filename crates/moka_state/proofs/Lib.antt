@@ -1,8 +1,11 @@
+pub mod Collects
 pub mod Becoming
+pub mod Begins
 pub mod Conserved
 pub mod Counts
 pub mod Elements
 pub mod Finds
+pub mod Finishes
 pub mod Held
 pub mod Inserts
 pub mod Maintained

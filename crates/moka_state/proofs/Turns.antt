@@ -1,11 +1,17 @@
 -- What a state stands for once a call without events has moved a turn.
-use Rattle.std.proofs.Common.{◌≡◌, ℕ, Bool, true, false, Option, Some, None, is_some, option_map, List, [], ◌∷◌, ◌++◌, refl, sym, ap, ◌∙◌, subst}
+use Rattle.std.proofs.Common.{◌≡◌, ℕ, Bool, true, false, Option, Some, None, is_some, option_map, List, [], ◌∷◌, ◌++◌, ◌<◌, refl, sym, ap, ◌∙◌, subst, arith}
 use Rattle.std.specs.Option.{MatchOption}
 use Rattle.std.specs.Cmp.{IsEquivalence}
 use Rattle.moka_model.specs.Lives.{Settings}
 use Rattle.moka_model.specs.Turns.{Turn, Move, moved}
 use Rattle.moka_model.specs.Steps.{AcceptedStep, events_in, turns}
-use Rattle.moka_model.specs.Calls.{Call, Accepted, accepted, after, with_step, IsLegal, Holds}
+use Rattle.std.specs.Prelude.{Result, Ok, Err}
+use Rattle.moka_policy.specs.declared.policy.Refused.{Refused}
+use Rattle.moka_policy.specs.declared.policy.Refused.TheVariants.{OutOfMemory}
+use Rattle.moka_model.specs.Numbers.{next_number}
+use Rattle.moka_model.specs.Calls.{Call, Answer, Accepted, accepted, after, with_step, IsLegal, IsAnswer, MayTakeMemory, WantsNumber, WantsNumberBy, Holds}
+use Rattle.moka_model.specs.StandsFor.{IsAnswerOf}
+use Rattle.moka_state.specs.Given.{Gives}
 use Rattle.moka_model.specs.StandsFor.{View, StandsFor, Books}
 use Rattle.moka_model.proofs.Callers.{IsViewOf, whole, view-of, stands-moved, legal-fit, turns-apart, one_is_open}
 use Rattle.moka_turns.specs.declared.turn_key.TurnKey.{TurnKey}
@@ -27,7 +33,7 @@ told Q (Some a) b is = is.0
 
 module _ {K V E : Type 0} (eq : K → K → Bool) {is_clone : V → V → Type 0} (settings : Settings K V) (view : View K V) (rows left : List (Turn K V E)) (steps : List (AcceptedStep K V E))
     (stands : StandsFor eq is_clone settings (whole view rows) steps) where
-  stands-by : (call : Call K V E) (move : Move K V E) → after eq settings call steps ≡ (record { events = []; move = Some move }) ∷ steps → Holds eq is_clone (moved move (turns steps)) left
+  pub stands-by : (call : Call K V E) (move : Move K V E) → after eq settings call steps ≡ (record { events = []; move = Some move }) ∷ steps → Holds eq is_clone (moved move (turns steps)) left
       → StandsFor eq is_clone settings (whole view left) (after eq settings call steps)
   stands-by call move is holds =
       stands-moved eq settings view steps stands call view left
@@ -62,3 +68,32 @@ both-empty (x ∷ xs) ys e = cc
 -- the books of a new state
 pub new-books : {K V : Type 0} (contents : Contents K V) (number : ℕ) → entries contents ≡ [] → contents.notices ≡ [] → books_by contents 0 number ≡ record { orders = record { admitted = []; waiting = [] }; notices = []; latest = 0; next_number = number }
 new-books contents number none no_notices = let both = both-empty contents.admitted contents.waiting none in rw (both.0, both.1, no_notices) refl
+
+-- What a call without a number to draw gives, by what a search finds.
+module _ {K V E : Type 0} (eq : K → K → Bool) (is_clone : V → V → Type 0) (is_infallible : V → Type 0) (settings : Settings K V) (steps : List (AcceptedStep K V E)) (call : Call K V E) where
+  abbrev GivesThis : Result (Answer K V E) Refused → Type 0
+  GivesThis = Gives eq is_clone is_infallible settings steps call
+
+  -- it is accepted, with an answer,
+  pub gives-accepted : (it : Accepted K V E) (answer : Answer K V E) → accepted eq settings steps call ≡ Some it → IsAnswer is_clone it.answer answer
+      → ¬ (WantsNumberBy (next_number settings (events_in steps)) (turns steps) it.step.events it.step.move) → GivesThis (Ok answer)
+  gives-accepted it answer is same draws =
+      (subst (λ a. IsAnswerOf is_clone a answer) (sym is) same, λ out. draws (subst (WantsNumber (next_number settings (events_in steps)) (turns steps)) is out))
+
+  -- or it may take memory
+  pub gives-memory : (it : Accepted K V E) → accepted eq settings steps call ≡ Some it → MayTakeMemory eq is_infallible settings steps call
+      → ¬ (WantsNumberBy (next_number settings (events_in steps)) (turns steps) it.step.events it.step.move) → GivesThis (Err OutOfMemory)
+  gives-memory it is may draws = (may, λ _ out. draws (subst (WantsNumber (next_number settings (events_in steps)) (turns steps)) is out))
+
+-- a search that was told
+pub found-told : {A : Type 0} (Q : A → Type 0) (o : Option A) (b : Bool) → MatchOption o (b ≡ false) (λ a. (b ≡ true) × Q a) → b ≡ true → (a : A) × (o ≡ Some a) × Q a
+found-told Q None b is on = let off : false ≡ true = sym is ∙ on in cc
+found-told Q (Some a) b is on = (a, refl, is.1)
+
+pub none-told : {A : Type 0} (Q : A → Type 0) (o : Option A) (b : Bool) → MatchOption o (b ≡ false) (λ a. (b ≡ true) × Q a) → b ≡ false → o ≡ None
+none-told Q None b is off = refl
+none-told Q (Some a) b is off = let on : true ≡ false = sym is.0 ∙ off in cc
+
+-- none is less than none
+pub no-less : 0 < 0 → ⊥
+no-less less = absurd (omega (arith, less))

@@ -1,12 +1,11 @@
 -- What a view becomes by an event, and what a state so comes to stand for.
-use Rattle.std.proofs.Common.{◌≡◌, ℕ, max, nat_le, Bool, true, cond, Option, Some, None, List, [], ◌∷◌, length, refl, sym, ap, ◌∙◌, subst}
+use Rattle.std.proofs.Common.{◌≡◌, ℕ, max, Bool, true, cond, Option, Some, None, List, [], ◌∷◌, refl, sym, ap, ◌∙◌, subst}
 use Rattle.std.specs.Option.{option_to_list}
 use Rattle.std.specs.Cmp.{IsEquivalence}
 use Rattle.moka_model.specs.Lives.{Settings, Write, live_one}
 use Rattle.moka_model.specs.Events.{Event, Hidden, latest}
 use Rattle.moka_model.specs.Orders.{standing}
 use Rattle.moka_model.specs.OrderLaws.{held, HasOneEach}
-use Rattle.moka_model.specs.Numbers.{flush_point, is_flush_due}
 use Rattle.moka_model.specs.Turns.{Turn}
 use Rattle.moka_model.specs.Steps.{AcceptedStep, events_in}
 use Rattle.moka_model.specs.Calls.{Call, InvalidateIf, Done, without_move, with_step, live_at, after}
@@ -19,7 +18,8 @@ use Rattle.moka_state.specs.State.{books_by}
 abbrev pub view_with : {K V : Type 0} → Settings K V → Contents K V → (List ℕ → ℕ → ℕ) → ℕ → ℕ → View K V
 view_with settings contents frequency latest next_number = record { settings = settings; books = books_by contents latest next_number; frequency = frequency }
 
-option_to_list-same : {A : Type 0} (a b : Option A) → option_to_list a ≡ option_to_list b → a ≡ b
+-- options with the same elements are the same
+pub option_to_list-same : {A : Type 0} (a b : Option A) → option_to_list a ≡ option_to_list b → a ≡ b
 option_to_list-same None None e = refl
 option_to_list-same None (Some b) e = cc
 option_to_list-same (Some a) None e = cc
@@ -85,7 +85,3 @@ module _ {K V : Type 0} (eq : K → K → Bool) where
   -- a question leaves what a state stands for
   pub follows-question : {E : Type 0} {is_clone : V → V → Type 0} {turns : List (Turn K V E)} (view : View K V) (call : Call K V E) → ((given : Settings K V) (steps : List (AcceptedStep K V E)) → after eq given call steps ≡ unmoved [] steps) → Follows eq is_clone (whole view turns) call (whole view turns)
   follows-question view call step given steps stands = stands-question eq given view steps stands call (step given steps)
-
-  -- a flush is due where so many wait
-  pub flush-counted : {E : Type 0} {is_clone : V → V → Type 0} {turns : List (Turn K V E)} (given : Settings K V) (view : View K V) (steps : List (AcceptedStep K V E)) → StandsFor eq is_clone given (whole view turns) steps → is_flush_due eq given (events_in steps) ≡ nat_le flush_point (length view.books.orders.waiting)
-  flush-counted given view steps stands = ap (λ (b : Books K V). nat_le flush_point (length b.orders.waiting)) (sym stands.books)

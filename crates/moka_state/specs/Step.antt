@@ -1,13 +1,13 @@
 -- Steps and replies as data, and what a run of steps answers.
-use Rattle.std.specs.Prelude.{⊤, ◌≡◌, Bool, List, [], ◌∷◌, Some, None, option_map}
+use Rattle.std.specs.Prelude.{⊤, ◌≡◌, Bool, List, [], ◌∷◌, Some, None, Err, option_map}
 use Rattle.std.specs.Arc.{arc_value}
-use Rattle.moka_policy.specs.declared.policy.Refused.TheVariants.{OutOfMemory, NumbersUsedUp}
 use Rattle.moka_predicate_ids.specs.declared.predicate_error.PredicateError.TheVariants.{InvalidationClosuresDisabled}
 use Rattle.moka_predicate_ids.specs.declared.predicate_error.PredicateError.TheVariants as predicates
 use Rattle.moka_model.specs.Lives.{Settings}
 use Rattle.moka_model.specs.Steps.{AcceptedStep}
-use Rattle.moka_model.specs.Calls.{Call, Answer, accepted, after, MayTakeMemory, IsOutOfNumbers}
+use Rattle.moka_model.specs.Calls.{Call, Answer, ClosuresUnsupported, accepted, after, IsOutOfNumbers, IsRefusedAs}
 use Rattle.moka_model.specs.StandsFor.{IsAnswerOf}
+use Rattle.moka_state.specs.Given.{Gives}
 use Rattle.moka_state.specs.declared.step.Step.{Step}
 use Rattle.moka_state.specs.declared.step.Step.TheVariants.{Get, ContainsKey, Insert, Invalidate, Remove, InvalidateAll, InvalidateIf}
 use Rattle.moka_state.specs.declared.step.Step.TheVariants.{RunPendingTasks, RunPendingTasksUpTo, EntryCount, WeightedSize, TakeNotice}
@@ -49,9 +49,8 @@ module _ {K V E : Type 0} (eq : K → K → Bool) (is_clone : V → V → Type 0
   IsReplyTo call (Counted n) = IsAccepted call (Answer.Counted n)
   IsReplyTo call (Left b) = IsAccepted call (Answer.Left b)
   IsReplyTo call (Noticed n) = IsAccepted call (Answer.Noticed (option_map removal_of n))
-  IsReplyTo call (Refused OutOfMemory) = MayTakeMemory eq is_infallible settings steps call × ¬ (IsOutOfNumbers eq settings steps call)
-  IsReplyTo call (Refused NumbersUsedUp) = IsOutOfNumbers eq settings steps call
-  IsReplyTo call (PredicateRefused InvalidationClosuresDisabled) = accepted eq settings steps call ≡ None
+  IsReplyTo call (Refused cause) = Gives eq is_clone is_infallible settings steps call (Err cause)
+  IsReplyTo call (PredicateRefused InvalidationClosuresDisabled) = IsRefusedAs eq settings ClosuresUnsupported steps call
   IsReplyTo call (PredicateRefused predicates.OutOfMemory) = ⊥
 
 module _ {K V E : Type 0} (eq : K → K → Bool) (settings : Settings K V) where

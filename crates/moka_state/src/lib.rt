@@ -1,11 +1,14 @@
 //! The cache as a plain value: its rows, its state, and its calls.
 #![tactic(auto)]
 
+pub mod answers;
+pub mod finish;
 pub mod invalidation;
 pub mod removal;
 pub mod scanning;
 pub mod state;
 pub mod step;
+pub mod value_initializer;
 
 pub use moka_due::due_rows;
 pub use moka_predicate_ids::{predicate_error, predicate_id};

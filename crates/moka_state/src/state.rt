@@ -8,15 +8,13 @@ ghost use Rattle.moka_model.specs.Events.{Maintained, latest};
 ghost use Rattle.moka_model.specs.Maintenance.{total};
 ghost use Rattle.moka_model.specs.Numbers.{greatest_number, flush_point, stores_nothing};
 ghost use Rattle.moka_model.specs.SizeLaws.{LimitsSome};
-ghost use Rattle.moka_model.specs.Steps.{events_in, turns};
-ghost use Rattle.moka_model.specs.Turns.{found, is_open_as, has_ticket_as};
-ghost use Rattle.moka_model.specs.Calls.{Get, ContainsKey, Insert, Invalidate, RunPendingTasks, RunPendingTasksUpTo, EntryCount, WeightedSize, TakeNotice, Found, Contains, Abandon, Leave, Counted, Left, Noticed, live_at};
+ghost use Rattle.moka_model.specs.Steps.{events_in};
+ghost use Rattle.moka_model.specs.Calls.{Get, ContainsKey, Insert, Invalidate, RunPendingTasks, RunPendingTasksUpTo, EntryCount, WeightedSize, TakeNotice, Found, Contains, Counted, Left, Noticed, live_at};
 ghost use Rattle.moka_policy.specs.Policy.{is_lru};
 ghost use Rattle.moka_table.specs.Table.{entries, removal_of};
 ghost use Rattle.moka_ways.specs.Behaviour.{hash_by};
 ghost use Rattle.moka_state.specs.State.{StateData, settings_of, books_by, all_writes, IsSound};
 ghost use Rattle.moka_state.specs.Write.{WriteEnds};
-ghost use Rattle.moka_turns.specs.Keeps.{name_of};
 ghost use Rattle.moka_turns.specs.Views.{turns_of};
 
 use moka_due::due_rows::DueRows;
@@ -27,7 +25,7 @@ use moka_rows::rows::RowStore;
 use moka_snapshot::snapshot::SharedSnapshot;
 use moka_table::shared_key::{IntoShared, Owned};
 use moka_table::table::Table;
-use moka_turns::handles::{Ticket, Turn};
+use moka_table::target::NewValue;
 use moka_turns::table::Turns;
 use moka_ways::behaviour::Behaviour;
 use moka_ways::lives::Lives;
@@ -94,23 +92,20 @@ impl<K: Drop, V: Drop> From<InsertRefused<K, V>> for Refused {
     }
 }
 
-/// A write that finds as many keys waiting runs a maintenance first.
-const FLUSH_POINT: usize = 64;
-
 /// A cache over a store of rows.
 #[derive(Drop)]
 pub struct State<K: Hash + Drop, V: Clone, C: CacheTypes<K, V>, R: RowStore<K, V>> {
     name: Option<String>,
     pub(crate) table: Table<K, V, R>,
-    upkeep: Upkeep<C::Frequency>,
+    pub(crate) upkeep: Upkeep<C::Frequency>,
     pub(crate) latest: u64,
     pub(crate) closures: bool,
     flush_limit: Option<u64>,
     first_number: u64,
-    next_number: u64,
+    pub(crate) next_number: u64,
     pub(crate) behaviour: Behaviour<K, V, C>,
     pub(crate) turns: Turns<K, V, C::Error>,
-    alloc: Global,
+    pub(crate) alloc: Global,
     // The table as it was at the start, for contracts alone.
     opening: SharedSnapshot<Table<K, V, R>>,
 }
@@ -336,30 +331,18 @@ impl<K: Hash + Drop, V: Clone, C: CacheTypes<K, V>, R: RowStore<K, V>> State<K, 
         let cause = Refused::OutOfMemory;
         let hash = self.behaviour.hash(key.key());
         let weight = self.behaviour.weight(key.key(), &value);
-        let Ok(lookup) = self.table.lookup(key.key(), hash) else {
-            return Err(InsertRefused { key, value, cause });
+        let place = match self.table.place(key, hash, self.alloc) {
+            Ok(place) => place,
+            Err(key) => return Err(InsertRefused { key, value, cause }),
         };
-        let target = if self.table.waiting_len() < FLUSH_POINT {
-            match lookup.target(key, self.alloc) {
-                Ok(target) => target,
-                Err(key) => return Err(InsertRefused { key, value, cause }),
-            }
-        } else {
-            match key.into_shared(self.alloc) {
-                Ok(key) => {
-                    let policy = self.behaviour.policy();
-                    self.upkeep
-                        .maintain_up_to(&mut self.table, policy, now, self.flush_limit);
-                    self.table.target_now(lookup, key, hash)
-                }
-                Err(key) => return Err(InsertRefused { key, value, cause }),
-            }
+        let new = NewValue {
+            hash,
+            value,
+            weight,
+            now,
         };
-        let lives = &self.upkeep.lives;
-        let info = self
-            .table
-            .info_of(&target, &value, weight, now, &self.behaviour, lives);
-        self.table.put(target, hash, value, info);
+        self.upkeep
+            .write(&mut self.table, place, new, &self.behaviour, self.flush_limit);
         self.latest = now;
         self.next_number += 1;
         Ok(())
@@ -524,33 +507,6 @@ impl<K: Hash + Drop, V: Clone, C: CacheTypes<K, V>, R: RowStore<K, V>> State<K, 
         ensures stands { ⟦<C as StateView<K, V>>⟧.follows self.now WeightedSize self.now }
     {
         self.table.weight().min(u128::from(u64::MAX)) as u64
-    }
-
-    /// Ends a turn without an outcome: those who wait for it are told that it was abandoned. The turn
-    /// is spent in any case. Whether it was an open turn of this cache; where it was not, nothing
-    /// has changed. It takes no memory.
-    pub fn abandon(&mut self, turn: Turn<K>) -> bool
-        ensures known { ⟦<C as StateView<K, V>>⟧.at_each_history self.old (λ settings steps.
-            result ≡ is_some (found (is_open_as K.eq (name_of turn.key turn.number)) (turns steps))) }
-        ensures stands { ⟦<C as StateView<K, V>>⟧.follows self.old
-            (Abandon (name_of turn.key turn.number)) self.new }
-        ensures refused { result ≡ false → self.new ≡ self.old }
-    {
-        let hash = self.behaviour.hash(turn.key());
-        self.turns.abandon(turn.rehashed(hash))
-    }
-
-    /// Spends a ticket and asks nothing. The ticket is spent in any case. Whether a turn of this cache
-    /// has its name and an unspent ticket; where none has, nothing has changed. It takes no memory.
-    pub fn leave(&mut self, ticket: Ticket<K>) -> bool
-        ensures known { ⟦<C as StateView<K, V>>⟧.at_each_history self.old (λ settings steps.
-            result ≡ is_some (found (has_ticket_as K.eq (name_of ticket.key ticket.number)) (turns steps))) }
-        ensures stands { ⟦<C as StateView<K, V>>⟧.follows self.old
-            (Leave (name_of ticket.key ticket.number)) self.new }
-        ensures refused { result ≡ false → self.new ≡ self.old }
-    {
-        let hash = self.behaviour.hash(ticket.key());
-        self.turns.leave(ticket.rehashed(hash))
     }
 
     /// What it is called.

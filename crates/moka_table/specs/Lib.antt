@@ -1,3 +1,4 @@
+pub mod Look
 pub mod Lookup
-pub mod Target
 pub mod Table
+pub mod Target

@@ -1,5 +1,6 @@
 -- Where a write goes, and what it does there.
-use Rattle.std.specs.Prelude.{⊤, ◌≡◌, ℕ, Bool, false, not, ◌||◌, if◌then◌else◌, Option, IsSome, IfSome, Some, List, [], ◌∷◌, ◌++◌}
+use Rattle.std.specs.Prelude.{⊤, ◌≡◌, ◌<◌, ◌≤◌, ℕ, Bool, false, not, ◌||◌, if◌then◌else◌, Option, IsSome, IfSome, Some, None, List, []}
+use Rattle.std.specs.Prelude.{◌∷◌, ◌++◌, length}
 use Rattle.std.specs.Arc.{arc_value}
 use Rattle.std.specs.declared.sync.Arc.{Arc}
 use Rattle.std.specs.declared.alloc.Global.{Global}
@@ -11,8 +12,13 @@ use Rattle.moka_table.specs.declared.table.Lookup.{Lookup}
 use Rattle.moka_table.specs.declared.table.Lookup.TheVariants.{Stored, Absent}
 use Rattle.moka_table.specs.declared.target.Target.{Target}
 use Rattle.moka_table.specs.declared.target.Target.TheVariants.{Over, New}
+use Rattle.moka_table.specs.declared.target.Place.{Place}
+use Rattle.moka_table.specs.declared.target.Place.TheVariants.{Now, Later}
+use Rattle.moka_table.specs.declared.target.NewValue.{NewValue}
+use Rattle.moka_ways.specs.declared.lives.Lives.{Lives}
 use Rattle.moka_rows.specs.Rows.{row_under, overwritten, cause_at, IsRowOf, NoneIsRowOf}
-use Rattle.moka_ways.specs.Lives.{own_of}
+use Rattle.moka_ways.specs.Lives.{own_of, IsDated}
+use Rattle.moka_table.specs.Lookup.{IsLookupOf}
 use Rattle.moka_table.specs.Table.{Contents, entries, UsesRow}
 
 -- the target of a write of a key, by what a look for it found
@@ -68,3 +74,26 @@ module _ {K V : Type 0} where
       (number : ℕ) × (new.admitted ≡ old.admitted)
       × (new.waiting ≡ old.waiting ++ (number, record { key = key; hash = hash; value = value; info = info }) ∷ [])
       × (new.notices ≡ old.notices)
+
+  -- the place of a write of a key in a table: a maintenance comes first where 64 rows or more wait
+  abbrev pub IsPlaceOf : (K → K → Bool) → K → ℕ → Contents K V → Place K → Type 0
+  IsPlaceOf eq key hash c (Now target) =
+      (length c.waiting < 64) × (lookup : Lookup K) × IsLookupOf eq key hash (entries c) lookup × IsTargetFor key lookup target
+  IsPlaceOf eq key hash c (Later lookup own) =
+      (64 ≤ length c.waiting) × IsLookupOf eq key hash (entries c) lookup × (arc_value own ≡ key)
+
+  -- a row's value is live at a moment
+  abbrev pub is_live_row : ℕ → Option (Row K V) → Bool
+  is_live_row at None = false
+  is_live_row at (Some row) = not (row.info.is_hidden || has_come row.info.deadline at)
+
+  -- a target is over a value that is live at a moment
+  abbrev pub is_over_live : Target K → ℕ → Contents K V → Bool
+  is_over_live (Over number key) at c = is_live_row at (row_under number (entries c))
+  is_over_live (New key) at c = false
+
+  -- A value is written to a target, with what is to be kept of it; this is whether a live value stood there.
+  abbrev pub Writes : Behaviour K V → Lives → Target K → NewValue V → Contents K V → Contents K V → Bool → Type 0
+  Writes behaviour lives target it old new replaced =
+      (info : EntryInfo) × IsInfoOf behaviour target it.value it.weight it.now old info × IsDated lives info
+      × Puts target it.hash it.value info old new × (replaced ≡ is_over_live target it.now old)

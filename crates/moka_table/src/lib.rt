@@ -2,6 +2,7 @@
 #![tactic(auto)]
 
 pub mod hiding;
+pub mod look;
 pub mod scanning;
 pub mod shared_key;
 pub mod table;

@@ -1,8 +1,8 @@
 //! Where a write goes, once all memory for it is taken.
-ghost use Rattle.std.specs.Prelude.{◌≡◌, ◌<◌, false, IfOk, IfErr};
-ghost use Rattle.moka_table.specs.Target.{IsTargetFor, IsTargetNow, HasTarget, IsInfoOf, Puts};
+ghost use Rattle.std.specs.Prelude.{◌≡◌, ◌<◌, false, IfOk, IfErr, OnOk};
+ghost use Rattle.moka_table.specs.Target.{IsTargetFor, IsTargetNow, HasTarget, IsInfoOf, Puts, IsPlaceOf, Writes, is_over_live};
 ghost use Rattle.moka_ways.specs.Lives.{IsDated};
-ghost use Rattle.moka_table.specs.Table.{entries};
+ghost use Rattle.moka_table.specs.Table.{entries, SameRows};
 
 use crate::shared_key::IntoShared;
 use crate::table::{Lookup, Table};
@@ -24,6 +24,32 @@ pub enum Target<K> {
     /// Into a new row, under this key.
     New { key: Arc<K> },
 }
+
+/// Where the value of a write goes, as it was found before the maintenance that may come first.
+#[derive(Drop)]
+pub enum Place<K> {
+    /// To this target: none comes first.
+    Now(Target<K>),
+    /// Behind a maintenance, to this key, whose row was here before it.
+    Later { lookup: Lookup<K>, key: Arc<K> },
+}
+
+/// A value that is to be written: with its key's hash, its weight under that key, and the moment of
+/// the write.
+#[derive(Drop)]
+pub struct NewValue<V> {
+    /// The hash of its key.
+    pub hash: u64,
+    /// The value.
+    pub value: V,
+    /// How heavy it is.
+    pub weight: u32,
+    /// When it is written.
+    pub now: u64,
+}
+
+/// A write that finds as many keys waiting runs a maintenance first.
+const FLUSH_POINT: usize = 64;
 
 impl<K: Drop> Lookup<K> {
     /// The target of a write of a key that was looked for. A key that has no row is shared; where
@@ -57,6 +83,47 @@ impl<K: Eq + Drop, V: Drop, R: RowStore<K, V>> Table<K, V, R> {
                 },
                 None => Target::New { key },
             },
+        }
+    }
+
+    /// Makes room for a write of a key, and finds its place. Where memory is refused, the key is
+    /// handed back and nothing has changed.
+    pub fn place<S: IntoShared<K>>(
+        &mut self,
+        key: S,
+        hash: u64,
+        alloc: Global,
+    ) -> Result<Place<K>, S>
+        ensures place { IfOk result (IsPlaceOf K.eq (S.key_of key) hash self.new) }
+        ensures handed_back { IfErr result (λ back. back ≡ key) }
+        ensures room { OnOk result (0 < self.new.room) }
+        ensures same { SameRows self.old self.new }
+        ensures may_hide { self.new.may_hide ≡ self.old.may_hide }
+    {
+        let Ok(lookup) = self.lookup(key.key(), hash) else {
+            return Err(key);
+        };
+        if self.waiting_len() < FLUSH_POINT {
+            match lookup.target(key, alloc) {
+                Ok(target) => Ok(Place::Now(target)),
+                Err(key) => Err(key),
+            }
+        } else {
+            match key.into_shared(alloc) {
+                Ok(key) => Ok(Place::Later { lookup, key }),
+                Err(key) => Err(key),
+            }
+        }
+    }
+
+    // Whether a target is over a value that is live at a moment.
+    fn is_over_live(&self, target: &Target<K>, now: u64) -> bool
+        requires { HasTarget target.now self.now }
+        ensures { result ≡ is_over_live target.now now self.now }
+    {
+        match target {
+            Target::Over { number, .. } => !self.row(*number).info().is_dead(now),
+            Target::New { .. } => false,
         }
     }
 
@@ -114,5 +181,31 @@ impl<K: Hash + Drop, V: Clone, R: RowStore<K, V>> Table<K, V, R> {
             is_hidden: false,
         };
         lives.dated(info)
+    }
+
+    /// Writes a value to a target, and answers whether a live value stood there. It takes none of the
+    /// memory that was not made room for.
+    pub fn write<C: CacheTypes<K, V>>(
+        &mut self,
+        target: Target<K>,
+        new: NewValue<V>,
+        behaviour: &Behaviour<K, V, C>,
+        lives: &Lives,
+    ) -> bool
+        requires stored { HasTarget target self.old }
+        requires room { 0 < self.old.room }
+        ensures writes { Writes (⟦<C as BehaviourView<K, V>>⟧.behaviour behaviour.now) lives.now
+            target new self.old self.new result }
+    {
+        let NewValue {
+            hash,
+            value,
+            weight,
+            now,
+        } = new;
+        let is_over_live = self.is_over_live(&target, now);
+        let info = self.info_of(&target, &value, weight, now, behaviour, lives);
+        self.put(target, hash, value, info);
+        is_over_live
     }
 }

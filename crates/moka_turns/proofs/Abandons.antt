@@ -142,7 +142,7 @@ module _ {K V E : Type 0} (eq : K → K → Bool) (laws : IsEquivalence eq) (is_
   abandoned-number = sym stands_for.number
 
   -- it ends
-  module _ (given : TurnEnd V E) (final : End V E) (copied : IsCopiedEnd is_clone (Some final) (Some (end_of given))) (new_open : TurnKey K → Option (OpenTurn V)) (new_ended : ℕ → Option (EndedTurn K V E)) (opened : (p : TurnKey K) → new_open p ≡ cond (same_key eq q p) None (old_open p))
+  module _ (given : TurnEnd V E) (final : End V E) (copied : 0 < row.unspent → IsCopiedEnd is_clone (Some final) (Some (end_of given))) (new_open : TurnKey K → Option (OpenTurn V)) (new_ended : ℕ → Option (EndedTurn K V E)) (opened : (p : TurnKey K) → new_open p ≡ cond (same_key eq q p) None (old_open p))
       (waited : 0 < row.unspent → (m : ℕ) → new_ended m ≡ cond (row.number == m) (Some (record { key = q; end = given; unspent = row.unspent })) (old_ended m))
       (alone : row.unspent ≡ 0 → (m : ℕ) → new_ended m ≡ old_ended m) where
     abbrev ts_after : List (Turn K V E)
@@ -181,7 +181,7 @@ module _ {K V E : Type 0} (eq : K → K → Bool) (laws : IsEquivalence eq) (is_
                 let now : new_ended t.name.number ≡ Some (record { key = q; end = given; unspent = row.unspent }) =
                 waited (leb_some row.unspent h) t.name.number ∙ ap (λ b. cond b (Some (record { key = q; end = given; unspent = row.unspent })) (old_ended t.name.number)) (eq-eqb row.number t.name.number stands_for.number) in
                 rw (own-ended eq ts sound.0 sound.1 t member.0 is_open_now final has, now)
-                (record { kind = sym (same_kind-is t.name.kind q.kind own_name.0); key = own_name.1; end = copied; unspent = stands_for.unspent })
+                (record { kind = sym (same_kind-is t.name.kind q.kind own_name.0); key = own_name.1; end = copied (leb_some row.unspent h); unspent = stands_for.unspent })
             go false h =
                 let none : has_ticket t ≡ false = ap (nat_le 1) (sym stands_for.unspent) ∙ h in
                 let before = own-before eq ts sound.0 sound.1 t member.0 is_open_now final in

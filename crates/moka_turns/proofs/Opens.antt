@@ -20,7 +20,7 @@ and-false true = refl
 and-false false = refl
 
 module _ {A B : Type 0} (P : A → B → Type 0) where
-  none-agree : (a : Option A) (b : Option B) → Agree P a b → b ≡ None → a ≡ None
+  pub none-agree : (a : Option A) (b : Option B) → Agree P a b → b ≡ None → a ≡ None
   none-agree None b agree is = refl
   none-agree (Some a) None agree is = absurd agree
   none-agree (Some a) (Some b) agree is = cc

@@ -1,5 +1,8 @@
+pub mod Begun
+pub mod Handles
 pub mod Keeps
+pub mod Open
 pub mod Table
+pub mod Told
 pub mod TurnKey
 pub mod Views
-pub mod Told

@@ -1,10 +1,13 @@
 //! What a caller holds of a turn. Neither may be let go: each is spent by one call, once.
-ghost use Rattle.std.specs.Prelude.{◌≡◌};
+ghost use Rattle.std.specs.Prelude.{◌≡◌, IfOk};
 ghost use Rattle.std.specs.Arc.{arc_value};
 ghost use Rattle.moka_turns.specs.Keeps.{name_of};
 
 use crate::turn_key::TurnKey;
 use moka_model::turns::Kind;
+use moka_policy::policy::Refused;
+use std::alloc::AllocError;
+use std::sync::Arc;
 
 /// The right and the duty to end a turn. Dropping one does not compile.
 pub struct Turn<K> {
@@ -17,6 +20,14 @@ pub struct Turn<K> {
 pub struct Ticket<K> {
     pub(crate) key: TurnKey<K>,
     pub(crate) number: u64,
+}
+
+/// A refused `collect`, with the ticket that it was given.
+pub struct CollectRefused<K> {
+    /// The ticket, as it was given.
+    pub ticket: Ticket<K>,
+    /// Why it was refused.
+    pub cause: Refused,
 }
 
 impl<K> Turn<K> {
@@ -52,6 +63,15 @@ impl<K> Turn<K> {
             key: TurnKey { hash, kind, key },
             number,
         }
+    }
+}
+
+impl<K: Drop> Turn<K> {
+    /// A share of its key. Refused for want of memory alone.
+    pub fn shared_key(&self) -> Result<Arc<K>, AllocError>
+        ensures { IfOk result (λ key. arc_value key ≡ arc_value self.now.key.key) }
+    {
+        self.key.key.clone()
     }
 }
 

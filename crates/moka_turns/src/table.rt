@@ -8,14 +8,16 @@ ghost use Rattle.moka_model.specs.Turns as turning;
 ghost use Rattle.moka_model.specs.Turns.{Abandoned, Ended, Opened, Spent, Waited, moved, found, has_ticket_as, is_open_as};
 ghost use Rattle.moka_model.specs.Calls.{IsCopiedEnd, IsCopyOf};
 ghost use Rattle.moka_turns.specs.Keeps.{Keeps, AreSound, end_of, name_of};
-ghost use Rattle.moka_turns.specs.Told.{IsTold, IfNotYet, IsUnspent};
+ghost use Rattle.moka_turns.specs.Told.{IsTold, IfNotYet, IfEnded, IsUnspent, TakesCopy};
+ghost use Rattle.moka_turns.specs.Open.{IsOpenWith, IsOpenFor};
 ghost use Rattle.moka_turns.specs.Table.{with_unspent, one_less, kept_ended, HasRoom};
 
-use crate::handles::{Ticket, Turn};
+use crate::handles::{CollectRefused, Ticket, Turn};
 use crate::turn_key::TurnKey;
 use indexmap::IndexMap;
 use moka_links::as_is::AsIs;
 use moka_model::turns::Kind;
+use moka_policy::policy::Refused;
 use std::alloc::{AllocError, Global};
 use std::hash::BuildHasherDefault;
 use std::sync::Arc;
@@ -67,16 +69,8 @@ type Ended<K, V, E> = IndexMap<u64, EndedTurn<K, V, E>, BuildHasherDefault<AsIs>
 pub enum Told<K, V, E> {
     /// Its turn is open.
     NotYet(Ticket<K>),
-    /// Its turn has ended, with this.
-    Ended(TurnEnd<V, E>),
-}
-
-/// A refused ticket, which is handed back.
-pub struct TicketRefused<K> {
-    /// The ticket, as it was given.
-    pub ticket: Ticket<K>,
-    /// Whether its turn is known, and has an unspent ticket: then memory for a copy was refused.
-    pub known: bool,
+    /// Its turn has ended, with this; and this is its key.
+    Ended(Arc<K>, TurnEnd<V, E>),
 }
 
 /// The turns that are kept: one is found without a look at others, whether open or ended. Each open
@@ -298,7 +292,9 @@ impl<K: Eq + Drop, V: Clone, E: Drop> Turns<K, V, E> {
             → Keeps K.eq V.is_clone hash_of ts (get ⟦<TurnKey<K> as PartialEq>⟧.eq self.old.opened) (get nat_eq self.old.ended)
             → Keeps K.eq V.is_clone hash_of (moved (Waited number) ts)
             (get ⟦<TurnKey<K> as PartialEq>⟧.eq self.new.opened) (get nat_eq self.new.ended)) }
-        ensures number { IfSome result (λ number. IfSome (get ⟦<TurnKey<K> as PartialEq>⟧.eq self.old.opened key.now) (λ turn. turn.number ≡ number)) }
+        ensures number { IfSome result (λ number.
+            IfSome (get ⟦<TurnKey<K> as PartialEq>⟧.eq self.old.opened key.now)
+            (λ turn. (turn.number ≡ number) × (turn.unspent < 2 ^ 64 - 1))) }
         ensures full { IfNone result (IfSome (get ⟦<TurnKey<K> as PartialEq>⟧.eq self.old.opened key.now) (λ turn. turn.unspent ≡ 2 ^ 64 - 1)) }
         ensures unchanged { IfNone result (IsUnchanged self.old.opened self.new.opened) }
         ensures ended { self.new.ended ≡ self.old.ended }
@@ -337,8 +333,10 @@ impl<K: Eq + Drop, V: Clone, E: Drop> Turns<K, V, E> {
     // A copy of the end of an ended turn.
     fn copy_of(&self, number: u64) -> Result<TurnEnd<V, E>, AllocError>
         requires { IsSome (get nat_eq self.now.ended number) }
-        ensures { IfOk result (λ copy. IfSome (get nat_eq self.now.ended number)
+        ensures copy { IfOk result (λ copy. IfSome (get nat_eq self.now.ended number)
             (λ turn. IsCopiedEnd V.is_clone (Some (end_of turn.end)) (Some (end_of copy)))) }
+        ensures refused { IfErr result (λ _. IfSome (get nat_eq self.now.ended number)
+            (λ turn. TakesCopy (Some (end_of turn.end)))) }
     {
         match self.ended.get(&number) {
             Some(turn) => turn.end.copied(),
@@ -347,10 +345,10 @@ impl<K: Eq + Drop, V: Clone, E: Drop> Turns<K, V, E> {
     }
 
     /// Spends a ticket of an ended turn, and answers a copy of the turn's end. Where the turn is open,
-    /// the ticket is handed back unspent. Refused where no turn of this table has its name and an
-    /// unspent ticket, and where the copy is refused memory; then the ticket is handed back, and nothing
-    /// has changed.
-    pub fn collect(&mut self, ticket: Ticket<K>) -> Result<Told<K, V, E>, TicketRefused<K>>
+    /// the ticket is handed back unspent. Refused with `UnknownTicket` where no turn of this table has its
+    /// name and an unspent ticket, and with `OutOfMemory` where the copy is refused memory; then the
+    /// ticket is handed back, and nothing has changed.
+    pub fn collect(&mut self, ticket: Ticket<K>) -> Result<Told<K, V, E>, CollectRefused<K>>
         ensures collects { (hash_of : K → ℕ) (ts : List (turning.Turn K V E))
             → ((a b : K) → K.eq a b ≡ true → hash_of a ≡ hash_of b)
             → ((u v w : V) → V.is_clone u v → V.is_clone v w → V.is_clone u w)
@@ -362,54 +360,94 @@ impl<K: Eq + Drop, V: Clone, E: Drop> Turns<K, V, E> {
             (found (has_ticket_as K.eq (name_of ticket.key ticket.number)) ts) result }
         ensures ticket_back { IfErr result (λ refused. refused.ticket ≡ ticket) }
         ensures unspent { IfOk result (λ told. IfNotYet (λ same. same ≡ ticket) told) }
+        ensures key { IfOk result (λ told.
+            IfEnded (λ own. arc_value own ≡ arc_value ticket.key.key) told) }
         ensures unchanged { IsUnspent result → IsUnchanged self.old.opened self.new.opened × IsUnchanged self.old.ended self.new.ended }
     {
         if self.is_awaited(&ticket.key, ticket.number) {
             return Ok(Told::NotYet(ticket));
         }
         if !self.is_its(&ticket.key, ticket.number) {
-            let known = false;
-            return Err(TicketRefused { ticket, known });
+            let cause = Refused::UnknownTicket;
+            return Err(CollectRefused { ticket, cause });
         }
         let Ok(end) = self.copy_of(ticket.number) else {
-            let known = true;
-            return Err(TicketRefused { ticket, known });
+            let cause = Refused::OutOfMemory;
+            return Err(CollectRefused { ticket, cause });
         };
-        let Ticket { key: _, number } = ticket;
+        let Ticket { key, number } = ticket;
         self.leave_ended(number);
-        Ok(Told::Ended(end))
+        let TurnKey { key, .. } = key;
+        Ok(Told::Ended(key, end))
     }
 
-    /// Whether a turn is an open turn of this table.
-    pub fn has(&self, turn: &Turn<K>) -> bool
-        ensures { MatchOption (get ⟦<TurnKey<K> as PartialEq>⟧.eq self.now.opened turn.now.key) (result ≡ false) (λ row. result ≡ (row.number == turn.now.number)) }
+    /// How many tickets of a turn are unspent; none where it is no open turn of this table.
+    pub fn waiting_for(&self, turn: &Turn<K>) -> Option<u64>
+        ensures there { IfSome result (λ waiting.
+            IsOpenWith turn.now.number waiting
+            (get ⟦<TurnKey<K> as PartialEq>⟧.eq self.now.opened turn.now.key)) }
+        ensures tells { (hash_of : K → ℕ) (ts : List (turning.Turn K V E))
+            → ((a b : K) → K.eq a b ≡ true → hash_of a ≡ hash_of b)
+            → turn.now.key.hash ≡ hash_of (arc_value turn.now.key.key)
+            → AreSound K.eq ts
+            → Keeps K.eq V.is_clone hash_of ts
+            (get ⟦<TurnKey<K> as PartialEq>⟧.eq self.now.opened) (get nat_eq self.now.ended)
+            → MatchOption (found (is_open_as K.eq (name_of turn.now.key turn.now.number)) ts)
+            (result ≡ None) (λ t. IsSome result × (t.name.number ≡ turn.now.number)) }
     {
-        self.is_open(&turn.key, turn.number)
+        match self.opened.get(&turn.key) {
+            Some(row) if row.number == turn.number => Some(row.unspent),
+            _ => None,
+        }
     }
 
-    /// Ends an open turn with what came of it, and answers what was kept of it. It takes no memory.
-    pub fn finish(&mut self, turn: Turn<K>, end: TurnEnd<V, E>) -> OpenTurn<V>
-        requires known { IsSome (get ⟦<TurnKey<K> as PartialEq>⟧.eq self.old.opened turn.key) }
-        requires number { IfSome (get ⟦<TurnKey<K> as PartialEq>⟧.eq self.old.opened turn.key) (λ row. row.number ≡ turn.number) }
-        ensures turn { Some result ≡ get ⟦<TurnKey<K> as PartialEq>⟧.eq self.old.opened turn.key }
-        ensures finishes { (hash_of : K → ℕ) (ts : List (turning.Turn K V E)) (final : turning.End V E)
+    // Ends the open turn of a kind and a key, for which nobody waits.
+    fn close(&mut self, key: &TurnKey<K>) -> OpenTurn<V>
+        requires known { IsSome (get ⟦<TurnKey<K> as PartialEq>⟧.eq self.old.opened key.now) }
+        ensures turn { Some result
+            ≡ get ⟦<TurnKey<K> as PartialEq>⟧.eq self.old.opened key.now }
+        ensures opened { Updates ⟦<TurnKey<K> as PartialEq>⟧.eq
+            self.old.opened self.new.opened key.now None }
+        ensures ended { self.new.ended ≡ self.old.ended }
+    {
+        let Some(turn) = self.opened.swap_remove(key) else {
+            unreachable!()
+        };
+        turn
+    }
+
+    /// Ends an open turn, and answers what was kept of it. What came of it is kept for those who wait,
+    /// and need be handed in only where somebody does. It takes no memory.
+    pub fn finish(&mut self, turn: Turn<K>, end: Option<TurnEnd<V, E>>) -> OpenTurn<V>
+        requires { IsOpenFor turn.number end
+            (get ⟦<TurnKey<K> as PartialEq>⟧.eq self.old.opened turn.key) }
+        ensures turn { Some result
+            ≡ get ⟦<TurnKey<K> as PartialEq>⟧.eq self.old.opened turn.key }
+        ensures finishes { (hash_of : K → ℕ) (ts : List (turning.Turn K V E))
+            → (final : turning.End V E)
             → ((a b : K) → K.eq a b ≡ true → hash_of a ≡ hash_of b)
             → turn.key.hash ≡ hash_of (arc_value turn.key.key)
             → AreSound K.eq ts
-            → IsCopiedEnd V.is_clone (Some final) (Some (end_of end))
-            → Keeps K.eq V.is_clone hash_of ts (get ⟦<TurnKey<K> as PartialEq>⟧.eq self.old.opened) (get nat_eq self.old.ended)
+            → IfSome end (λ kept. IsCopiedEnd V.is_clone (Some final) (Some (end_of kept)))
+            → Keeps K.eq V.is_clone hash_of ts
+            (get ⟦<TurnKey<K> as PartialEq>⟧.eq self.old.opened) (get nat_eq self.old.ended)
             → Keeps K.eq V.is_clone hash_of (moved (Ended turn.number final) ts)
             (get ⟦<TurnKey<K> as PartialEq>⟧.eq self.new.opened) (get nat_eq self.new.ended) }
     {
         let Turn { key, number: _ } = turn;
-        self.end(key, end)
+        match end {
+            Some(end) => self.end(key, end),
+            None => self.close(&key),
+        }
     }
 }
 
 impl<V: Clone, E: Drop> TurnEnd<V, E> {
-    /// A copy.
+    /// A copy. Refused for want of memory alone, and only where it has a value or an error.
     pub fn copied(&self) -> Result<TurnEnd<V, E>, AllocError>
-        ensures { IfOk result (λ copy. IsCopiedEnd V.is_clone (Some (end_of self.now)) (Some (end_of copy))) }
+        ensures copy { IfOk result (λ copy.
+            IsCopiedEnd V.is_clone (Some (end_of self.now)) (Some (end_of copy))) }
+        ensures refused { IfErr result (λ _. TakesCopy (Some (end_of self.now))) }
     {
         Ok(match self {
             TurnEnd::Value(value, replaced) => TurnEnd::Value(value.clone()?, *replaced),

@@ -18,6 +18,9 @@ use Rattle.mokabox_lines.specs.declared.answer.Answer.TheVariants.{Unfinished, N
 abbrev pub refusal_number : moka_refused.Refused → ℕ
 refusal_number refusals.OutOfMemory = 1
 refusal_number refusals.NumbersUsedUp = 2
+refusal_number refusals.UnknownTurn = 3
+refusal_number refusals.UnknownTicket = 4
+refusal_number refusals.TurnIsOpen = 5
 
 -- the number by which a refusal to build is printed
 abbrev pub build_refusal_number : BuildError → ℕ

@@ -127,6 +127,9 @@ fn refusal_number(refused: Refused) -> u8
     match refused {
         Refused::OutOfMemory => 1,
         Refused::NumbersUsedUp => 2,
+        Refused::UnknownTurn => 3,
+        Refused::UnknownTicket => 4,
+        Refused::TurnIsOpen => 5,
     }
 }
 

@@ -3,7 +3,10 @@ use Rattle.std.specs.Option.{option_eq}
 use Rattle.std.proofs.lemmas.Bool.{true≢false}
 use Rattle.moka_model.specs.Numbers.{stores_nothing}
 use Rattle.moka_state.proofs.Becoming.{becomes-passed}
-use Rattle.moka_state.proofs.Inserts.{stands-nothing}
+use Rattle.moka_model.specs.Steps.{events_in}
+use Rattle.moka_model.specs.Calls.{Insert}
+use Rattle.moka_model.proofs.Callers.{view-of, stands-after}
+use Rattle.moka_state.proofs.Inserts.{view-nothing}
 use Rattle.moka_state.proofs.state.State.write.Goals as goal
 
 -- a capacity of 0 is that at which nothing is stored
@@ -17,8 +20,9 @@ returns-then-eq g c =
     let nothing = nothing-at s.upkeep.max_capacity c.if-eq.ensures in
     rw (← c.self.view_is, c.max-self-inside.ensures) (record {
       stands = λ given steps stands.
-          stands-nothing g.K.PartialEq.eq g.met.K.Eq.laws given _ _ steps stands (g.S.IntoShared.key_of c.args.key) c.args.value c.args.now nothing
-          (becomes-passed g.K.PartialEq.eq _ s.table _ s.latest s.next_number c.args.now);
+          stands-after g.K.PartialEq.eq given _ steps stands (Insert (g.S.IntoShared.key_of c.args.key) c.args.value c.args.now) _ _ refl
+          (view-nothing g.K.PartialEq.eq g.met.K.Eq.laws given _ (events_in steps) (view-of g.K.PartialEq.eq given _ steps stands) _ (g.S.IntoShared.key_of c.args.key) c.args.value c.args.now nothing
+          (becomes-passed g.K.PartialEq.eq _ s.table _ s.latest s.next_number c.args.now));
       refused = tt;
       key_back = tt;
       value_back = tt;

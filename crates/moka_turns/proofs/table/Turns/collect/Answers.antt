@@ -4,7 +4,7 @@ use Rattle.moka_turns.specs.declared.table.OpenTurn.{OpenTurn}
 use Rattle.moka_turns.proofs.Abandons.{the_turn, is_open_now}
 use Rattle.moka_turns.proofs.Changes.{given-there}
 use Rattle.moka_turns.proofs.Leaves.{passes-there, is_its, its-kinds, awaited, the_ended, kept, ended-number, leave-keeps, no-ticket}
-use Rattle.moka_turns.proofs.Copies.{none-there, copied-twice}
+use Rattle.moka_turns.proofs.Copies.{none-there, copied-twice, takes-alike}
 use Rattle.moka_turns.proofs.table.Turns.collect.Goals as goal
 
 pub returns-then-is_awaited-clause-collects : goal.returns-then-is_awaited-clause-collects
@@ -34,7 +34,8 @@ returns-in_default-clause-collects g c hash_of ts respects compose hashed sound 
     let number = c.args.ticket.number in
     let row = passes-there (is_its eq laws copies hash_of respects ts sound _ _ keeps q hashed number) _ _ (its-kinds eq q _ _ c.is_its.ensures) c.if-not-is_its.false in
     let named = kept eq laws copies hash_of respects ts sound _ _ keeps q hashed number row.0 row.1 row.2 in
-    rw named refl
+    let it = the_ended eq laws copies hash_of respects ts sound _ _ keeps q hashed number row.0 row.1 in
+    rw named (refl, takes-alike copies _ _ it.2.end (given-there _ _ row.0 row.1 c.in_default.ensures.refused))
 
 pub returns-clause-collects : goal.returns-clause-collects
 returns-clause-collects g c hash_of ts respects compose hashed sound keeps =
@@ -48,6 +49,6 @@ returns-clause-collects g c hash_of ts respects compose hashed sound keeps =
     let its = ended-number eq laws copies hash_of respects ts sound _ _ keeps q hashed number row.0 row.1 in
     let it = the_ended eq laws copies hash_of respects ts sound _ _ keeps q hashed number row.0 row.1 in
     rw (named, c.leave_ended.ensures.opened, its) (
-      copied-twice copies compose _ _ _ it.2.end (given-there _ _ row.0 row.1 c.in-Ok.ensures),
+      copied-twice copies compose _ _ _ it.2.end (given-there _ _ row.0 row.1 c.in-Ok.ensures.copy),
       leave-keeps eq laws copies hash_of respects ts sound _ _ keeps q hashed number row.0 row.1 _ (given-there _ _ row.0 row.1 c.leave_ended.ensures.spent).0,
     )

@@ -1,0 +1,12 @@
+-- What an entry is to the definitions.
+use Rattle.std.specs.Arc.{arc_value}
+use Rattle.moka_model.specs.declared.entry.Entry.{Entry}
+use Rattle.moka_model.specs.Calls as calls
+
+abbrev pub entry_of : {K V : Type 0} → Entry K V → calls.Entry K V
+entry_of e = record {
+  key = arc_value e.key;
+  value = e.value;
+  fresh = e.is_fresh;
+  replaced = e.is_old_value_replaced;
+}

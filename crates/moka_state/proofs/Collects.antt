@@ -1,0 +1,104 @@
+-- What a collect gives, and what a state stands for after it.
+use Rattle.std.proofs.Common.{◌≡◌, ℕ, Bool, true, false, Option, Some, None, option_map, List, [], ◌∷◌, refl, sym, ap, ◌∙◌, subst}
+use Rattle.std.specs.Prelude.{Result, Ok, Err, OnOk}
+use Rattle.moka_policy.specs.declared.policy.Refused.{Refused}
+use Rattle.moka_policy.specs.declared.policy.Refused.TheVariants.{OutOfMemory, UnknownTicket}
+use Rattle.moka_model.specs.Lives.{Settings}
+use Rattle.moka_model.specs.Turns.{Turn, Name, End, Value, Nothing, Failed, Computed, Abandoned, Move, Spent, moved, found, has_ticket_as}
+use Rattle.moka_model.specs.Steps.{AcceptedStep, events_in, turns}
+use Rattle.moka_model.specs.Calls.{Call, Answer, Accepted, Collect, NotYet, answer_by, collected, accepted, after, with_step, with_move, without_move, IfAnswered, AnswerMayFail, MayTakeMemory, IsAnswer, IsCopiedEnd, Holds}
+use Rattle.moka_model.specs.StandsFor.{View, StandsFor}
+use Rattle.moka_model.proofs.Callers.{whole, unmoved, stands-question}
+use Rattle.moka_turns.specs.declared.table.Told.{Told}
+use Rattle.moka_turns.specs.declared.table.Told.TheVariants as tells
+use Rattle.moka_turns.specs.declared.handles.CollectRefused.{CollectRefused}
+use Rattle.moka_turns.specs.Keeps.{end_of}
+use Rattle.moka_turns.specs.declared.handles.Ticket.{Ticket}
+use Rattle.moka_turns.specs.Handles.{ticket_name}
+use Rattle.moka_turns.specs.Told.{IsTold, IfNotYet, TakesCopy, IsUnspent}
+use Rattle.moka_state.specs.Given.{Gives, told_as}
+use Rattle.moka_state.proofs.Turns.{gives-accepted, gives-memory, stands-by, no-less}
+
+-- what a ticket is told, or why it is refused
+abbrev pub result_as : {K V E : Type 0} → Name K → Result (Told K V E) (CollectRefused K) → Result (Answer K V E) Refused
+result_as name (Ok told) = Ok (told_as name told)
+result_as name (Err refused) = Err refused.cause
+
+-- a ticket that is handed back has the name of the one that was given
+pub unspent-named : {K V E : Type 0} (ticket : Ticket K) (told : Told K V E) → IfNotYet (λ same. same ≡ ticket) told → IfNotYet (λ same. ticket_name same ≡ ticket_name ticket) told
+unspent-named ticket (tells.NotYet same) is = ap ticket_name is
+unspent-named ticket (tells.Ended key end) is = tt
+
+-- the answer by an end that is there
+abbrev answer_by-some : {K V E : Type 0} → Name K → Option (End V E) → Answer K V E
+answer_by-some name None = NotYet
+answer_by-some name (Some end) = answer_by name end
+
+-- a copy of an end is answered as a copy
+answers-copied : {K V E : Type 0} (is_clone : V → V → Type 0) (name : Name K) (a b : End V E) → IsCopiedEnd is_clone (Some a) (Some b) → IsAnswer is_clone (answer_by name a) (answer_by name b)
+answers-copied is_clone name (Value v m) (Value w n) is = (refl, is.0, refl, is.1)
+answers-copied is_clone name (Value v m) Nothing is = cc
+answers-copied is_clone name (Value v m) (Failed e) is = cc
+answers-copied is_clone name (Value v m) Computed is = cc
+answers-copied is_clone name (Value v m) Abandoned is = cc
+answers-copied is_clone name Nothing b is = ap (answer_by-some name) is
+answers-copied is_clone name (Failed e) b is = ap (answer_by-some name) is
+answers-copied is_clone name Computed b is = ap (answer_by-some name) is
+answers-copied is_clone name Abandoned b is = ap (answer_by-some name) is
+
+module _ {K V E : Type 0} (eq : K → K → Bool) (is_clone : V → V → Type 0) (is_infallible : V → Type 0) (settings : Settings K V) (steps : List (AcceptedStep K V E)) (name : Name K) (After : Turn K V E → Type 0) where
+  abbrev its : Turn K V E → Accepted K V E
+  its t = collected name t.name.number t.end
+
+  abbrev Collects : Result (Answer K V E) Refused → Type 0
+  Collects = Gives eq is_clone is_infallible settings steps (Collect name)
+
+  -- by the end of the turn that has the ticket
+  gives-end : (t : Turn K V E) → accepted eq settings steps (Collect name) ≡ Some (its t) → (o : Option (End V E)) → t.end ≡ o → (end : End V E) → IsCopiedEnd is_clone o (Some end) → Collects (Ok (answer_by name end))
+  gives-end t is None ended end copied = cc
+  gives-end t is (Some e) ended end copied =
+      let it : Accepted K V E = collected name t.name.number (Some e) in
+      gives-accepted eq is_clone is_infallible settings steps (Collect name) it (answer_by name end) (is ∙ ap (λ o. Some (collected name t.name.number o)) ended) (answers-copied is_clone name e end copied) (λ out. no-less out.0)
+
+  memory : (t : Turn K V E) → accepted eq settings steps (Collect name) ≡ Some (its t) → (e : End V E) → t.end ≡ Some e → IfAnswered (AnswerMayFail is_infallible) (Some (collected name t.name.number (Some e))) → Collects (Err OutOfMemory)
+  memory t is e ended may =
+      let it = is ∙ ap (λ o. Some (collected name t.name.number o)) ended in
+      gives-memory eq is_clone is_infallible settings steps (Collect name) (collected name t.name.number (Some e)) it (subst (IfAnswered (AnswerMayFail is_infallible)) (sym it) may) (λ out. no-less out.0)
+
+  takes-end : (t : Turn K V E) → accepted eq settings steps (Collect name) ≡ Some (its t) → (o : Option (End V E)) → t.end ≡ o → TakesCopy o → Collects (Err OutOfMemory)
+  takes-end t is None ended takes = absurd takes
+  takes-end t is (Some (Value v m)) ended takes = memory t is (Value v m) ended tt
+  takes-end t is (Some (Failed e)) ended takes = memory t is (Failed e) ended tt
+  takes-end t is (Some Nothing) ended takes = absurd takes
+  takes-end t is (Some Computed) ended takes = absurd takes
+  takes-end t is (Some Abandoned) ended takes = absurd takes
+
+  pub collect-gives : (o : Option (Turn K V E)) → found (has_ticket_as eq name) (turns steps) ≡ o → (result : Result (Told K V E) (CollectRefused K)) → IsTold is_clone After o result → Collects (result_as name result)
+  collect-gives None is (Ok told) it = absurd it
+  collect-gives None is (Err refused) it = subst (λ cause. Collects (Err cause)) (sym it) (ap (option_map its) is, refl)
+  collect-gives (Some t) is (Ok (tells.NotYet ticket)) it =
+      gives-accepted eq is_clone is_infallible settings steps (Collect name) (without_move NotYet []) NotYet (ap (option_map its) is ∙ ap (λ o. Some (collected name t.name.number o)) it) refl (λ out. no-less out.0)
+  collect-gives (Some t) is (Ok (tells.Ended key end)) it = gives-end t (ap (option_map its) is) t.end refl (end_of end) it.0
+  collect-gives (Some t) is (Err refused) it = subst (λ cause. Collects (Err cause)) (sym it.0) (takes-end t (ap (option_map its) is) t.end refl it.1)
+
+module _ {K V E : Type 0} (eq : K → K → Bool) {is_clone : V → V → Type 0} (settings : Settings K V) (view : View K V) (rows left : List (Turn K V E)) (steps : List (AcceptedStep K V E))
+    (stands : StandsFor eq is_clone settings (whole view rows) steps) (name : Name K) (Keeps : List (Turn K V E) → Type 0) (holds : (ts : List (Turn K V E)) → Keeps ts → Holds eq is_clone ts left) where
+  abbrev Stands : Type 0
+  Stands = StandsFor eq is_clone settings (whole view left) (after eq settings (Collect name) steps)
+
+  spent-stands : (t : Turn K V E) → found (has_ticket_as eq name) (turns steps) ≡ Some t → (o : Option (End V E)) → t.end ≡ o → (end : End V E) → IsCopiedEnd is_clone o (Some end) → Keeps (moved (Spent t.name.number) (turns steps)) → Stands
+  spent-stands t is None ended end copied kept = cc
+  spent-stands t is (Some e) ended end copied kept =
+      stands-by eq settings view rows left steps stands (Collect name) (Spent t.name.number)
+      (ap (λ u. with_step (option_map (λ (t : Turn K V E). collected name t.name.number t.end) u) steps) is ∙ ap (λ o. with_step (Some (collected name t.name.number o)) steps) ended)
+      (holds (moved (Spent t.name.number) (turns steps)) kept)
+
+  pub collect-stands : (o : Option (Turn K V E)) → found (has_ticket_as eq name) (turns steps) ≡ o → (result : Result (Told K V E) (CollectRefused K)) → IsTold is_clone (λ t. Keeps (moved (Spent t.name.number) (turns steps))) o result
+      → (IsUnspent result → left ≡ rows) → OnOk result Stands
+  collect-stands None is (Ok told) it same = absurd it
+  collect-stands None is (Err refused) it same = tt
+  collect-stands (Some t) is (Ok (tells.NotYet ticket)) it same =
+      subst (λ l. StandsFor eq is_clone settings (whole view l) (after eq settings (Collect name) steps)) (sym (same tt))
+      (stands-question eq settings view steps stands (Collect name) (ap (λ u. with_step (option_map (λ (t : Turn K V E). collected name t.name.number t.end) u) steps) is ∙ ap (λ o. with_step (Some (collected name t.name.number o)) steps) it))
+  collect-stands (Some t) is (Ok (tells.Ended key end)) it same = spent-stands t is t.end refl (end_of end) it.0 it.1
+  collect-stands (Some t) is (Err refused) it same = tt

@@ -1,0 +1,7 @@
+use Rattle.moka_turns.proofs.table.Turns.begin.Goals as goal
+
+pub returns-then-is_awaitable-clause-begins : goal.returns-then-is_awaitable-clause-begins
+returns-then-is_awaitable-clause-begins g c = c.wait_for.ensures.begins c.args.number
+
+pub returns-clause-begins : goal.returns-clause-begins
+returns-clause-begins g c = c.open.ensures.begins c.args.may_wait

@@ -1,0 +1,27 @@
+-- What a begin in a table is told.
+use Rattle.std.specs.Prelude.{◌≡◌, ◌≢◌, ℕ, Bool, true, false, Option, Some, None, List, Result, Ok, Err}
+use Rattle.moka_model.specs.Turns.{Turn, Opened, Waited, moved}
+use Rattle.moka_model.specs.Numbers.{greatest_number}
+use Rattle.moka_policy.specs.declared.policy.Refused.{Refused}
+use Rattle.moka_policy.specs.declared.policy.Refused.TheVariants.{OutOfMemory, NumbersUsedUp, TurnIsOpen}
+use Rattle.moka_turns.specs.declared.turn_key.TurnKey.{TurnKey}
+use Rattle.moka_turns.specs.declared.begin.TurnBegun.{TurnBegun}
+use Rattle.moka_turns.specs.declared.begin.TurnBegun.TheVariants.{Run, Wait}
+use Rattle.moka_turns.specs.Keeps.{name_of}
+use Rattle.moka_turns.specs.Handles.{turn_name, ticket_name}
+
+-- What a begin for a kind and a key is told, with the number that it would draw, and by the open turn of the kind and key, if
+-- there is one: it waits for that, and else opens one, and `After` holds of the turns then. Numbers are used up where none is
+-- left for a turn, or for a ticket.
+abbrev pub IsBegun : {K V E : Type 0} → (List (Turn K V E) → Type 0) → TurnKey K → ℕ → Bool → List (Turn K V E) →
+    Option (Turn K V E) → Result (TurnBegun K) Refused → Type 0
+IsBegun After q number may_wait ts None (Ok (Run turn)) =
+    (turn_name turn ≡ name_of q number) × (number ≢ greatest_number) × After (moved (Opened (name_of q number) false None) ts)
+IsBegun After q number may_wait ts None (Err OutOfMemory) = number ≢ greatest_number
+IsBegun After q number may_wait ts None (Err NumbersUsedUp) = number ≡ greatest_number
+IsBegun After q number may_wait ts (Some t) (Ok (Wait ticket)) =
+    (may_wait ≡ true) × (ticket_name ticket ≡ name_of q t.name.number) × (t.unspent ≢ greatest_number)
+    × After (moved (Waited t.name.number) ts)
+IsBegun After q number may_wait ts (Some t) (Err NumbersUsedUp) = (may_wait ≡ true) × (t.unspent ≡ greatest_number)
+IsBegun After q number may_wait ts (Some t) (Err TurnIsOpen) = may_wait ≡ false
+IsBegun After q number may_wait ts o result = ⊥

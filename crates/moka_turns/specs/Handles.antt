@@ -1,0 +1,12 @@
+-- The names of what a caller holds.
+use Rattle.moka_model.specs.Turns.{Name}
+use Rattle.moka_turns.specs.declared.handles.Turn.{Turn}
+use Rattle.moka_turns.specs.declared.handles.Ticket.{Ticket}
+use Rattle.moka_turns.specs.Keeps.{name_of}
+
+module _ {K : Type 0} where
+  abbrev pub turn_name : Turn K → Name K
+  turn_name turn = name_of turn.key turn.number
+
+  abbrev pub ticket_name : Ticket K → Name K
+  ticket_name ticket = name_of ticket.key ticket.number
