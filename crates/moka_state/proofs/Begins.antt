@@ -7,7 +7,7 @@ use Rattle.moka_model.specs.Lives.{Settings}
 use Rattle.moka_model.specs.Events.{Event, TurnedDown, Drawn}
 use Rattle.moka_model.specs.Turns.{Turn, AreApart, IsIn, found, is_open_for}
 use Rattle.moka_model.specs.Calls.{Accepted, begun, begun_by, acceptable, live_at}
-use Rattle.moka_turn_laws.proofs.Callers.{alone}
+use Rattle.moka_model.proofs.Callers.{numbered-alone}
 use Rattle.moka_turns.proofs.Searches.{found-one}
 use Rattle.moka_table.specs.Table.{Contents}
 use Rattle.moka_state.proofs.Becoming.{HasNoted}
@@ -35,4 +35,4 @@ begun-initializer eq settings h ts k Compute replace at is = absurd (is refl)
 pub found-numbered : {K V E : Type 0} (ts : List (Turn K V E)) → AreApart ts → (t : Turn K V E) → IsIn t ts → found (λ u. u.name.number == t.name.number) ts ≡ Some t
 found-numbered ts apart t is =
     found-one (λ u. u.name.number == t.name.number) ts t is (eq-eqb t.name.number t.name.number refl)
-    (λ u is_u on_u. alone ts apart u t is_u is (eqb-true u.name.number t.name.number on_u))
+    (λ u is_u on_u. numbered-alone ts apart u t is_u is (eqb-true u.name.number t.name.number on_u))

@@ -73,7 +73,7 @@ pub never-replaced : {K V E : Type 0} (eq : K → K → Bool) (settings : Settin
 never-replaced {K} {V} eq settings none steps legal k at =
     let h : List (Event K V) = events_in steps in
     let m = max (latest h) at in
-    ap (λ (q : Queues (Write K V)). is_some (live eq settings k m (cond (nat_le flush_point (length q.waiting)) (Maintained None at ∷ []) [] ++ h))) (orders-empty eq settings none steps legal)
+    ap (λ (q : Queues (Write K V)). is_some (live eq settings k m (cond (nat_le flush_point (length q.waiting)) (Maintained settings.flush_limit at ∷ []) [] ++ h))) (orders-empty eq settings none steps legal)
     ∙ ap (λ o. is_some (live_one settings m o)) (standing-empty eq settings none k steps legal)
 
 -- an open turn that was told, and one that is not known
@@ -95,9 +95,9 @@ kept-copied E is_clone value is_replaced (Some v) copied = (copied, refl)
 pub same-books-of : {K V : Type 0} (latest number : ℕ) (old new : Contents K V) → SameRows old new → books_by new latest number ≡ books_by old latest number
 same-books-of latest number old new same = rw (same.0, same.1, same.2) refl
 
-pub with-books : {K V H W X F E : Type 0} (settings : SettingsData H W X) (books before : Books K V) (source : F) (rows : List (Turn K V E)) → books ≡ before
-    → (let a : StateData K V H W X F E = record { settings = settings; books = books; source = source; turns = rows } in a) ≡ record { settings = settings; books = before; source = source; turns = rows }
-with-books {K} {V} {H} {W} {X} {F} {E} settings books before source rows same = ap (λ b. let a : StateData K V H W X F E = record { settings = settings; books = b; source = source; turns = rows } in a) same
+pub with-books : {K V H W X F E : Type 0} (settings : SettingsData H W X) (books before : Books K V) (source : F) (room : ℕ) (rows : List (Turn K V E)) → books ≡ before
+    → (let a : StateData K V H W X F E = record { settings = settings; books = books; source = source; initial_room = room; turns = rows } in a) ≡ record { settings = settings; books = before; source = source; initial_room = room; turns = rows }
+with-books {K} {V} {H} {W} {X} {F} {E} settings books before source room rows same = ap (λ b. let a : StateData K V H W X F E = record { settings = settings; books = b; source = source; initial_room = room; turns = rows } in a) same
 
 -- what is kept of an error is that error
 pub failed-copied : {V E : Type 0} (is_clone : V → V → Type 0) (e : E) (end : Option (TurnEnd V E)) → IfSome end (λ kept. end_of kept ≡ turning.Failed e)

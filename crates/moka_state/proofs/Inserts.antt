@@ -119,23 +119,25 @@ module _ {K V : Type 0} (eq : K → K → Bool) (laws : IsEquivalence eq) (given
     one = one-viewed old_view h is
 
     abbrev Wrote : Place K → Bool → Type 0
-    Wrote place replaced = WritesAt eq settings.behaviour lives (frequency []) settings.max_capacity place it contents new replaced
+    Wrote place replaced = WritesAt eq settings.behaviour lives (frequency []) settings.max_capacity settings.flush_limit place it contents new replaced
 
-    module _ (kept : Contents K V) (now : IsMaintained lives settings.behaviour.is_lru (frequency []) settings.max_capacity it.now contents kept) where
+    module _ (kept : Contents K V) (is_cut : Bool) (now : IsMaintainedUpTo lives settings.behaviour.is_lru (frequency []) settings.max_capacity it.now settings.flush_limit contents kept is_cut) where
       abbrev between : View K V
       between = view_with settings kept frequency (max moment at) number
 
-      maintained-then : IsMaintained lives settings.behaviour.is_lru (frequency []) settings.max_capacity (max moment at) contents kept
-      maintained-then = subst (λ m. IsMaintained lives settings.behaviour.is_lru (frequency []) settings.max_capacity m contents kept) timed now
+      maintained-then : IsMaintainedUpTo lives settings.behaviour.is_lru (frequency []) settings.max_capacity (max moment at) settings.flush_limit contents kept is_cut
+      maintained-then = subst (λ m. IsMaintainedUpTo lives settings.behaviour.is_lru (frequency []) settings.max_capacity m settings.flush_limit contents kept is_cut) timed now
 
-      flushed : Becomes eq old_view (Maintained None at) between
-      flushed = becomes-maintained eq settings lives expired_alike contents frequency moment number at kept maintained-then
+      flushed : Becomes eq old_view (Maintained settings.flush_limit at) between
+      flushed = becomes-maintained eq settings lives expired_alike contents frequency moment number at settings.flush_limit kept is_cut maintained-then
 
-      view-flushed : IsViewOf eq given between (Maintained None at ∷ h)
-      view-flushed = view-becomes eq laws given old_view between h (Maintained None at) is flushed
+      view-flushed : IsViewOf eq given between (Maintained given.flush_limit at ∷ h)
+      view-flushed =
+          view-becomes eq laws given old_view between h (Maintained given.flush_limit at) is
+          (subst (λ (s : Settings K V). Becomes eq old_view (Maintained s.flush_limit at) between) is.settings flushed)
 
       sound-then : IsSound keeps settings.behaviour.hash lives kept
-      sound-then = IsSound-maintained keeps settings.behaviour.hash lives contents kept sound settings.behaviour.is_lru (frequency []) settings.max_capacity (max moment at) maintained-then
+      sound-then = IsSound-maintained keeps settings.behaviour.hash lives contents kept sound settings.behaviour.is_lru (frequency []) settings.max_capacity (max moment at) settings.flush_limit is_cut maintained-then
 
     -- the view is that of the events of a write more,
     pub view-written : (place : Place K) (replaced : Bool) → IsPlaceOf eq key it.hash contents place → Wrote place replaced → stores_nothing settings.max_capacity ≡ false → IsViewOf eq given new_view (write_events eq given key it.value at h ++ h)
@@ -147,15 +149,16 @@ module _ {K V : Type 0} (eq : K → K → Bool) (laws : IsEquivalence eq) (given
         (view-becomes eq laws given old_view new_view h (Written key it.value at) is becomes)
     view-written (Later lookup own) replaced place wrote stores =
         let kept = wrote.0 in
-        let target = wrote.2 in
-        let writes = wrote.4 in
-        let flush_is = flushed kept wrote.1 in
-        let there = where-now eq laws settings (frequency []) (max moment at) contents kept one flush_is.orders key sound (sound-then kept wrote.1) respects it.hash lookup own target hashed place.2 place.1 wrote.3 in
-        let ones = one-kept eq laws settings (frequency []) (max moment at) contents kept one flush_is.orders in
+        let cut = wrote.1 in
+        let target = wrote.3 in
+        let writes = wrote.5 in
+        let flush_is = flushed kept cut wrote.2 in
+        let there = where-now eq laws settings (frequency []) settings.flush_limit (max moment at) contents kept one flush_is.orders key sound (sound-then kept cut wrote.2) respects it.hash lookup own target hashed place.2 place.1 wrote.4 in
+        let ones = one-kept eq laws settings (frequency []) settings.flush_limit (max moment at) contents kept one flush_is.orders in
         let info_is = subst (λ m. IsInfoOf settings.behaviour target it.value it.weight m kept writes.0) timed writes.1 in
-        let becomes = becomes-put-now eq laws key kept settings lives expired_alike frequency moment number ones (sound-then kept wrote.1).dated new it.value at it.hash it.weight writes.0 target is_moment there hashed weighed info_is writes.3 in
+        let becomes = becomes-put-now eq laws key kept settings lives expired_alike frequency moment number ones (sound-then kept cut wrote.2).dated new it.value at it.hash it.weight writes.0 target is_moment there hashed weighed info_is writes.3 in
         subst (λ es. IsViewOf eq given new_view (es ++ h)) (sym (write_events-flushed eq given key it.value at h (stores-alike old_view h is ∙ stores) (flush-viewed old_view h is ∙ many-wait contents place.0)))
-        (view-becomes eq laws given (between kept wrote.1) new_view (Maintained None at ∷ h) (Written key it.value at) (view-flushed kept wrote.1) becomes)
+        (view-becomes eq laws given (between kept cut wrote.2) new_view (Maintained given.flush_limit at ∷ h) (Written key it.value at) (view-flushed kept cut wrote.2) becomes)
 
     -- it is known whether a live value stood there, behind the flush,
     pub replaced-written : (place : Place K) (replaced : Bool) → IsPlaceOf eq key it.hash contents place → Wrote place replaced → replaced ≡ is_replacing eq given h key at
@@ -163,29 +166,30 @@ module _ {K V : Type 0} (eq : K → K → Bool) (laws : IsEquivalence eq) (given
         let there = where-lookup eq laws key contents sound respects it.hash place.1 target hashed place.2 place.3 in
         wrote.4 ∙ ap (λ m. is_over_live target m contents) timed
         ∙ over_live settings lives expired_alike frequency contents moment number h is sound.dated key at is_moment target there
-        ∙ sym (ap (λ due. is_some (live eq given key (max (latest h) at) (cond due (Maintained None at ∷ []) [] ++ h))) (flush-viewed old_view h is ∙ few-wait contents place.0))
+        ∙ sym (ap (λ due. is_some (live eq given key (max (latest h) at) (cond due (Maintained given.flush_limit at ∷ []) [] ++ h))) (flush-viewed old_view h is ∙ few-wait contents place.0))
     replaced-written (Later lookup own) replaced place wrote =
         let kept = wrote.0 in
-        let target = wrote.2 in
-        let writes = wrote.4 in
-        let there = where-now eq laws settings (frequency []) (max moment at) contents kept one (flushed kept wrote.1).orders key sound (sound-then kept wrote.1) respects it.hash lookup own target hashed place.2 place.1 wrote.3 in
+        let cut = wrote.1 in
+        let target = wrote.3 in
+        let writes = wrote.5 in
+        let there = where-now eq laws settings (frequency []) settings.flush_limit (max moment at) contents kept one (flushed kept cut wrote.2).orders key sound (sound-then kept cut wrote.2) respects it.hash lookup own target hashed place.2 place.1 wrote.4 in
         let idle : max (max moment at) at ≡ max moment at = omega arith in
         let passed : max (max (latest h) at) at ≡ max (latest h) at = omega arith in
         writes.4 ∙ ap (λ m. is_over_live target m kept) (timed ∙ sym idle)
-        ∙ over_live settings lives expired_alike frequency kept (max moment at) number (Maintained None at ∷ h) (view-flushed kept wrote.1) (sound-then kept wrote.1).dated key at (rw idle is_moment) target there
-        ∙ ap (λ m. is_some (live eq given key m (Maintained None at ∷ h))) passed
-        ∙ sym (ap (λ due. is_some (live eq given key (max (latest h) at) (cond due (Maintained None at ∷ []) [] ++ h))) (flush-viewed old_view h is ∙ many-wait contents place.0))
+        ∙ over_live settings lives expired_alike frequency kept (max moment at) number (Maintained given.flush_limit at ∷ h) (view-flushed kept cut wrote.2) (sound-then kept cut wrote.2).dated key at (rw idle is_moment) target there
+        ∙ ap (λ m. is_some (live eq given key m (Maintained given.flush_limit at ∷ h))) passed
+        ∙ sym (ap (λ due. is_some (live eq given key (max (latest h) at) (cond due (Maintained given.flush_limit at ∷ []) [] ++ h))) (flush-viewed old_view h is ∙ many-wait contents place.0))
 
 -- and all that the state keeps to stays so
-module _ {K V : Type 0} (eq : K → K → Bool) (laws : IsEquivalence eq) (behaviour : Behaviour K V) (lives : Lives) (frequency_of : ℕ → ℕ) (capacity : Option ℕ) (contents new : Contents K V) {keeps : K → V → Type 0} (sound : IsSound keeps behaviour.hash lives contents)
+module _ {K V : Type 0} (eq : K → K → Bool) (laws : IsEquivalence eq) (behaviour : Behaviour K V) (lives : Lives) (frequency_of : ℕ → ℕ) (capacity limit : Option ℕ) (contents new : Contents K V) {keeps : K → V → Type 0} (sound : IsSound keeps behaviour.hash lives contents)
     (alike : (a b : K) (w : V) → eq a b ≡ true → keeps a w → keeps b w) (key : K) (it : NewValue V) (hashed : it.hash ≡ behaviour.hash key) (kept_is : keeps key it.value) where
-  pub sound-written : (place : Place K) (replaced : Bool) → IsPlaceOf eq key it.hash contents place → WritesAt eq behaviour lives frequency_of capacity place it contents new replaced → IsSound keeps behaviour.hash lives new
+  pub sound-written : (place : Place K) (replaced : Bool) → IsPlaceOf eq key it.hash contents place → WritesAt eq behaviour lives frequency_of capacity limit place it contents new replaced → IsSound keeps behaviour.hash lives new
   sound-written (Now target) replaced place wrote =
       let goes = goes_with-lookup eq laws key contents it.hash place.1 target place.2 place.3 in
       IsSound-put eq laws key contents keeps behaviour.hash lives new it.hash it.value wrote.0 target alike hashed kept_is sound goes wrote.3 wrote.2
   sound-written (Later lookup own) replaced place wrote =
       let kept = wrote.0 in
-      let writes = wrote.4 in
-      let then = IsSound-maintained keeps behaviour.hash lives contents kept sound behaviour.is_lru frequency_of capacity it.now wrote.1 in
-      let goes = goes_with-now eq laws key kept (entries contents) it.hash lookup own wrote.2 place.2 place.1 wrote.3 in
-      IsSound-put eq laws key kept keeps behaviour.hash lives new it.hash it.value writes.0 wrote.2 alike hashed kept_is then goes writes.3 writes.2
+      let writes = wrote.5 in
+      let then = IsSound-maintained keeps behaviour.hash lives contents kept sound behaviour.is_lru frequency_of capacity it.now limit wrote.1 wrote.2 in
+      let goes = goes_with-now eq laws key kept (entries contents) it.hash lookup own wrote.3 place.2 place.1 wrote.4 in
+      IsSound-put eq laws key kept keeps behaviour.hash lives new it.hash it.value writes.0 wrote.3 alike hashed kept_is then goes writes.3 writes.2

@@ -100,7 +100,7 @@ pub struct State<K: Hash + Drop, V: Clone, C: CacheTypes<K, V>, R: RowStore<K, V
     pub(crate) upkeep: Upkeep<C::Frequency>,
     pub(crate) latest: u64,
     pub(crate) closures: bool,
-    flush_limit: Option<u64>,
+    pub(crate) flush_limit: Option<u64>,
     first_number: u64,
     pub(crate) next_number: u64,
     pub(crate) behaviour: Behaviour<K, V, C>,

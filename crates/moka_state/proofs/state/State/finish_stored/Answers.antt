@@ -106,7 +106,7 @@ returns-in_default-place_for g c = rw c.refused-in_default-place_for.ensures (re
       let left : ¬ (FinishOutOfNumbers eq given steps (turn_name c.args.turn) (Value c.args.value) c.args.now c.requires.fits) = λ out. c.if-self.false (next ∙ out.1) in
       finish-memory eq given steps (turn_name c.args.turn) (Value c.args.value) c.args.now c.requires.fits g.V.Clone.is_clone g.V.Clone.is_infallible t.0 t.1 tt (λ out. left out);
   stands = tt;
-  refused = let s = c.self.inside in rw (← c.self.view_is) (with-books _ _ _ _ _ (same-books-of s.latest s.next_number s.table c.place_for.new.table c.place_for.ensures.same));
+  refused = let s = c.self.inside in rw (← c.self.view_is) (with-books _ _ _ _ _ _ (same-books-of s.latest s.next_number s.table c.place_for.new.table c.place_for.ensures.same));
   turn_back = c.rehashed-turn.ensures.name;
   outcome_back = refl;
 })
@@ -115,9 +115,9 @@ pub invariant_of-self-2 : goal.invariant_of-self-2
 invariant_of-self-2 g c =
     let s = c.self.inside in
     let keyed = ap (λ (n : Name _). n.key) c.rehashed-turn.ensures.name in
-    let kept = IsSound-same _ _ s.upkeep.lives s.table c.place_for.new.table c.in-Ok-place_for.ensures.same c.self.invariant in
-    sound-written g.K.PartialEq.eq g.met.K.Eq.laws _ s.upkeep.lives _ s.upkeep.max_capacity c.place_for.new.table c.write-is_replaced.new.table kept g.met.C.CacheTypes.equal_keys_keep (turn_name c.args.turn).key _ (rw c.key.ensures at c.hash-hash.ensures.hash) c.requires.kept
-    c.in-Ok-place_for.place c.write-is_replaced.result (rw keyed at c.in-Ok-place_for.ensures.place) (c.write-is_replaced.ensures kept.dated)
+    let kept = IsSound-same _ _ s.upkeep.lives s.table c.place_for.new.table c.in-Ok-place_for.ensures.same c.self.invariant.0 in
+    (sound-written g.K.PartialEq.eq g.met.K.Eq.laws _ s.upkeep.lives _ s.upkeep.max_capacity s.flush_limit c.place_for.new.table c.write-is_replaced.new.table kept g.met.C.CacheTypes.equal_keys_keep (turn_name c.args.turn).key _ (rw c.key.ensures at c.hash-hash.ensures.hash) c.requires.kept
+    c.in-Ok-place_for.place c.write-is_replaced.result (rw keyed at c.in-Ok-place_for.ensures.place) (c.write-is_replaced.ensures kept.dated), c.self.invariant.1)
 
 pub returns : goal.returns
 returns g c = record {
@@ -140,7 +140,7 @@ returns g c = record {
       let hash = rw c.key.ensures at c.hash-hash.ensures.hash in
       let weighed = rw (c.key-2.ensures ∙ keyed) at c.weight-weight.ensures in
       let place = rw keyed at c.in-Ok-place_for.ensures.place in
-      let kept = IsSound-same _ _ s.upkeep.lives s.table c.place_for.new.table c.in-Ok-place_for.ensures.same c.self.invariant in
+      let kept = IsSound-same _ _ s.upkeep.lives s.table c.place_for.new.table c.in-Ok-place_for.ensures.same c.self.invariant.0 in
       let same = subst (λ view. StandsFor eq g.V.Clone.is_clone given (whole view rows) steps) (same-view _ _ s.latest s.next_number s.table c.place_for.new.table c.in-Ok-place_for.ensures.same) there in
       let replaced = replaced-written eq laws given _ s.upkeep.lives refl _ c.place_for.new.table c.write-is_replaced.new.table s.latest s.next_number (events_in steps) (view-of eq given _ steps same) kept c.hash-hash.ensures.alike (turn_name c.args.turn).key c.args.now _
       hash weighed c.max-now.ensures (omega (arith, c.max-now.ensures)) c.in-Ok-place_for.place c.write-is_replaced.result place (c.write-is_replaced.ensures kept.dated) in
@@ -163,7 +163,7 @@ returns g c = record {
       let hash = rw c.key.ensures at c.hash-hash.ensures.hash in
       let weighed = rw (c.key-2.ensures ∙ keyed) at c.weight-weight.ensures in
       let place = rw keyed at c.in-Ok-place_for.ensures.place in
-      let kept = IsSound-same _ _ s.upkeep.lives s.table c.place_for.new.table c.in-Ok-place_for.ensures.same c.self.invariant in
+      let kept = IsSound-same _ _ s.upkeep.lives s.table c.place_for.new.table c.in-Ok-place_for.ensures.same c.self.invariant.0 in
       let same = subst (λ view. StandsFor eq g.V.Clone.is_clone given (whole view rows) steps) (same-view _ _ s.latest s.next_number s.table c.place_for.new.table c.in-Ok-place_for.ensures.same) there in
       let replaced = replaced-written eq laws given _ s.upkeep.lives refl _ c.place_for.new.table c.write-is_replaced.new.table s.latest s.next_number (events_in steps) (view-of eq given _ steps same) kept c.hash-hash.ensures.alike (turn_name c.args.turn).key c.args.now _
       hash weighed c.max-now.ensures (omega (arith, c.max-now.ensures)) c.in-Ok-place_for.place c.write-is_replaced.result place (c.write-is_replaced.ensures kept.dated) in

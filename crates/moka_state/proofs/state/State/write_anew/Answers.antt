@@ -12,9 +12,9 @@ use Rattle.moka_state.proofs.state.State.write_anew.Goals as goal
 pub invariant_of-self-2 : goal.invariant_of-self-2
 invariant_of-self-2 g c =
     let s = c.self.inside in
-    let sound = IsSound-same _ _ s.upkeep.lives s.table c.place.new.self c.in-Ok.ensures.same c.self.invariant in
-    sound-written g.K.PartialEq.eq g.met.K.Eq.laws _ s.upkeep.lives _ s.upkeep.max_capacity c.place.new.self c.write.new.table sound g.met.C.CacheTypes.equal_keys_keep (g.S.IntoShared.key_of c.args.key) _ (rw c.key.ensures at c.hash-hash.ensures.hash) c.requires.kept
-    c.in-Ok.place c.write.result c.in-Ok.ensures.place (c.write.ensures sound.dated)
+    let sound = IsSound-same _ _ s.upkeep.lives s.table c.place.new.self c.in-Ok.ensures.same c.self.invariant.0 in
+    (sound-written g.K.PartialEq.eq g.met.K.Eq.laws _ s.upkeep.lives _ s.upkeep.max_capacity s.flush_limit c.place.new.self c.write.new.table sound g.met.C.CacheTypes.equal_keys_keep (g.S.IntoShared.key_of c.args.key) _ (rw c.key.ensures at c.hash-hash.ensures.hash) c.requires.kept
+    c.in-Ok.place c.write.result c.in-Ok.ensures.place (c.write.ensures sound.dated), c.self.invariant.1)
 
 pub returns : goal.returns
 returns g c = record {
@@ -24,7 +24,7 @@ returns g c = record {
       let laws = g.met.K.Eq.laws in
       let key = g.S.IntoShared.key_of c.args.key in
       let rows = turns_of (hash_by g.C.Hasher.BuildHasher.build_hasher g.C.Hasher.Hasher.Hasher.write g.C.Hasher.Hasher.Hasher.finish g.K.Hash.hash_input s.behaviour.hasher) s.turns in
-      let sound = IsSound-same _ _ s.upkeep.lives s.table c.place.new.self c.in-Ok.ensures.same c.self.invariant in
+      let sound = IsSound-same _ _ s.upkeep.lives s.table c.place.new.self c.in-Ok.ensures.same c.self.invariant.0 in
       let same = subst (λ view. StandsFor eq g.V.Clone.is_clone given (whole view rows) steps) (same-view _ _ s.latest s.next_number s.table c.place.new.self c.in-Ok.ensures.same) (rw (← c.self.view_is) at stands) in
       let written = view-written eq laws given _ s.upkeep.lives refl _ c.place.new.self c.write.new.table s.latest s.next_number (events_in steps) (view-of eq given _ steps same) sound c.hash-hash.ensures.alike key c.args.now _
       (rw c.key.ensures at c.hash-hash.ensures.hash) (rw c.key-2.ensures at c.weight-weight.ensures) c.max-now.ensures (omega (arith, c.max-now.ensures)) c.in-Ok.place c.write.result c.in-Ok.ensures.place (c.write.ensures sound.dated) (rw (← c.self.view_is) at c.requires.stores) in
