@@ -2,6 +2,7 @@
 #![tactic(auto)]
 
 pub mod answers;
+pub mod begin;
 pub mod finish;
 pub mod invalidation;
 pub mod removal;

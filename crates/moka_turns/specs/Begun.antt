@@ -1,5 +1,5 @@
 -- What a begin in a table is told.
-use Rattle.std.specs.Prelude.{◌≡◌, ◌≢◌, ℕ, Bool, true, false, Option, Some, None, List, Result, Ok, Err}
+use Rattle.std.specs.Prelude.{⊤, ◌≡◌, ◌≢◌, ℕ, Bool, true, false, Option, Some, None, List, Result, Ok, Err}
 use Rattle.moka_model.specs.Turns.{Turn, Opened, Waited, moved}
 use Rattle.moka_model.specs.Numbers.{greatest_number}
 use Rattle.moka_policy.specs.declared.policy.Refused.{Refused}
@@ -25,3 +25,7 @@ IsBegun After q number may_wait ts (Some t) (Ok (Wait ticket)) =
 IsBegun After q number may_wait ts (Some t) (Err NumbersUsedUp) = (may_wait ≡ true) × (t.unspent ≡ greatest_number)
 IsBegun After q number may_wait ts (Some t) (Err TurnIsOpen) = may_wait ≡ false
 IsBegun After q number may_wait ts o result = ⊥
+
+abbrev pub IfRun : {K : Type 0} → Type 0 → TurnBegun K → Type 0  -- P holds where a turn was opened
+IfRun P (Run turn) = P
+IfRun P (Wait ticket) = ⊤

@@ -1,12 +1,12 @@
 //! The begin of a turn in a table.
-ghost use Rattle.std.specs.Prelude.{◌≡◌, ◌≢◌, ℕ, Bool, List, true, nat_eq, None, IsSome, is_some, OnErr};
+ghost use Rattle.std.specs.Prelude.{◌≡◌, ◌≢◌, ℕ, Bool, List, true, nat_eq, None, IsSome, is_some, IfOk, OnErr};
 ghost use Rattle.std.specs.Arc.{arc_value};
 ghost use Rattle.indexmap.specs.IndexMap.{get, IsUnchanged};
 ghost use Rattle.moka_model.specs.Turns as turning;
 ghost use Rattle.moka_model.specs.Turns.{found, is_open_for};
 ghost use Rattle.moka_model.specs.Numbers.{greatest_number};
 ghost use Rattle.moka_turns.specs.Keeps.{Keeps, AreSound};
-ghost use Rattle.moka_turns.specs.Begun.{IsBegun};
+ghost use Rattle.moka_turns.specs.Begun.{IsBegun, IfRun};
 
 use crate::handles::{Ticket, Turn};
 use crate::table::{OpenTurn, Turns};
@@ -42,6 +42,7 @@ impl<K: Eq + Drop, V: Clone, E: Drop> Turns<K, V, E> {
             (get ⟦<TurnKey<K> as PartialEq>⟧.eq self.new.opened) (get nat_eq self.new.ended))
             key number may_wait ts (found (is_open_for K.eq key.kind (arc_value key.key)) ts)
             result }
+        ensures number { IfOk result (IfRun (number ≢ greatest_number)) }
         ensures unchanged { OnErr result (IsUnchanged self.old.opened self.new.opened
             × IsUnchanged self.old.ended self.new.ended) }
     {
@@ -77,6 +78,7 @@ impl<K: Eq + Drop, V: Clone, E: Drop> Turns<K, V, E> {
             (get ⟦<TurnKey<K> as PartialEq>⟧.eq self.new.opened) (get nat_eq self.new.ended))
             key number may_wait ts (found (is_open_for K.eq key.kind (arc_value key.key)) ts)
             result }
+        ensures number { (number : ℕ) → IfOk result (IfRun (number ≢ greatest_number)) }
         ensures unchanged { OnErr result (IsUnchanged self.old.opened self.new.opened
             × IsUnchanged self.old.ended self.new.ended) }
     {

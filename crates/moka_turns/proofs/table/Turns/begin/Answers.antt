@@ -5,3 +5,6 @@ returns-then-is_awaitable-clause-begins g c = c.wait_for.ensures.begins c.args.n
 
 pub returns-clause-begins : goal.returns-clause-begins
 returns-clause-begins g c = c.open.ensures.begins c.args.may_wait
+
+pub returns-then-is_awaitable-clause-number : goal.returns-then-is_awaitable-clause-number
+returns-then-is_awaitable-clause-number g c = c.wait_for.ensures.number c.args.number
