@@ -3,13 +3,14 @@
 //! Every public name stands here under the module path that moka gives it.
 #![tactic(auto)]
 
+pub use moka_base::common::entry::Entry;
 pub use moka_base::policy::{Expiry, Policy};
 pub use moka_base::{notification, policy};
 pub use moka_state::predicate_error::PredicateError;
 
 /// What the modules have in common.
 pub mod common {
-    pub use moka_base::common::builder_utils;
+    pub use moka_base::common::{builder_utils, entry};
 
     /// Walks over caches.
     pub mod iter {
@@ -24,6 +25,14 @@ pub use moka_walks::walk_laws;
 /// Ready-made types of caches.
 pub use moka_ready::{copies, ready};
 
+/// What is to become of a value that was worked out from the one before.
+pub mod ops {
+    /// The outcomes of computes.
+    pub mod compute {
+        pub use moka_base::turns::Op;
+    }
+}
+
 /// Caches that threads share, and what builds caches.
 pub mod sync {
     pub use moka_state::predicate_id::PredicateId;
@@ -31,6 +40,13 @@ pub mod sync {
     pub use moka_sync::builder::CacheBuilder;
     pub use moka_sync::cache::Cache;
     pub use moka_walks::iter::Iter;
+
+    /// Turns: one caller works out a value for a key, while others wait for what comes of it.
+    pub mod value_initializer {
+        pub use moka_state::answers::{Answer, Begun, Collected, FinishRefused, Finished};
+        pub use moka_state::handles::{CollectRefused, Ticket, Turn};
+        pub use moka_base::turns::{Kind, Outcome};
+    }
 
     /// The cache of several segments as a plain value.
     pub mod segment {

@@ -4,7 +4,7 @@ ghost use Rattle.moka_model.specs.Lives.{Lifetimes, no_lifetimes};
 
 use crate::copies::CopiesCompose;
 use moka_policy::policy::{
-    CacheTypes, Clock, Expiry, ManualClock, NoExpiry, NoListener, NoPredicate, NoWeigher,
+    CacheTypes, Clock, Expiry, Listener, ManualClock, NoExpiry, NoListener, NoPredicate, NoWeigher,
     Predicate, Weigher,
 };
 use moka_sketch::frequency_sketch::FrequencySketch;
@@ -48,13 +48,22 @@ impl<K, V> SteadyPredicate<K, V> for NoPredicate {
 }
 
 /// The types of a cache of any keys and values: hashed by an `S`, weighed by a `W`, with lives of their own by an `E`, at
-/// the moments of a `T` where it is shared, and whose mass invalidations ask a `P`. It keeps whatever is written. Its source
-/// of frequencies is a sketch of 256 KiB.
-pub struct ReadyTypes<S, W = NoWeigher, E = NoExpiry, T = ManualClock, P = NoPredicate> {
-    types: PhantomData<(S, W, E, T, P)>,
+/// the moments of a `T` where it is shared, whose mass invalidations ask a `P`, whose initializers may fail with an `F`, and
+/// which tells an `L` of what leaves where it is shared. It keeps whatever is written. Its source of frequencies is a sketch
+/// of 256 KiB.
+pub struct ReadyTypes<
+    S,
+    W = NoWeigher,
+    E = NoExpiry,
+    T = ManualClock,
+    P = NoPredicate,
+    F = Infallible,
+    L = NoListener,
+> {
+    types: PhantomData<(S, W, E, T, P, F, L)>,
 }
 
-impl<K, V, S, W, E, T, P> CacheTypes<K, V> for ReadyTypes<S, W, E, T, P>
+impl<K, V, S, W, E, T, P, F, L> CacheTypes<K, V> for ReadyTypes<S, W, E, T, P, F, L>
 where
     K: Eq + Drop,
     V: CopiesCompose,
@@ -63,6 +72,8 @@ where
     E: SteadyExpiry<K, V> + Drop,
     T: Clock + Drop,
     P: SteadyPredicate<K, V> + Drop,
+    F: Drop,
+    L: Listener<K, V> + Drop,
 {
     type Hasher = S;
 
@@ -74,11 +85,11 @@ where
 
     type Frequency = FrequencySketch<16>;
 
-    type Listener = NoListener;
+    type Listener = L;
 
     type Clock = T;
 
-    type Error = Infallible;
+    type Error = F;
 
     ghost weight = { W.weight };
 
@@ -122,6 +133,9 @@ pub type WeighedExpiring<W, E, T = ManualClock> = ReadyTypes<FoldState, W, E, T>
 
 /// A cache whose mass invalidations ask a predicate.
 pub type Hiding<P, T = ManualClock> = ReadyTypes<FoldState, NoWeigher, NoExpiry, T, P>;
+
+/// A cache without a weigher or an expiry, whose initializers may fail with an `F`, of keys that nobody picks to collide.
+pub type Fallible<F, T = ManualClock> = ReadyTypes<FoldState, NoWeigher, NoExpiry, T, NoPredicate, F>;
 
 /// A relation of keys and values that a cache keeps: whoever writes owes it, and whoever reads gets it.
 ///

@@ -72,7 +72,7 @@ module _ {K V : Type 0} (E : Type 0) (eq : K → K → Bool) (is_clone : V → V
     where
       by : (b : Bool) → given.whole.supports_closures ≡ b → IsReplyIn E eq is_clone is_infallible given calls (InvalidateIf test) (PredicateRefused InvalidationClosuresDisabled)
       by true e = absurd (not e)
-      by false e = ap (λ b. let it : Option (Accepted K V E) = cond b (Some (without_move answers.Done (Hidden test ∷ []))) None in it) e
+      by false e = (ap (λ b. let it : Option (Accepted K V E) = cond b (Some (without_move answers.Done (Hidden test ∷ []))) None in it) e, refl)
 
   -- what taking a notice answers it replies
   pub taken-replies : (notice : Option (Notice K V)) → IsAnswerIn is_clone (answer_in E eq given calls TakeNotice) (answers.Noticed (option_map removal_of notice)) → IsReplyIn E eq is_clone is_infallible given calls TakeNotice (Noticed notice)

@@ -1,9 +1,12 @@
 -- How the begin of a turn goes.
-use Rattle.std.specs.Prelude.{◌≡◌, Bool, true, false, Option, Some, None, List, Result, Ok, Err, OnOk, OnErr}
+use Rattle.std.specs.Prelude.{⊤, ◌≡◌, Bool, true, false, Option, Some, None, List, Result, Ok, Err, OnOk, OnErr}
+use Rattle.std.specs.Arc.{arc_value}
 use denote.Ref.{Bor}
 use Rattle.std.specs.Fn.{Mut}
 use Rattle.moka_policy.specs.declared.policy.Refused.{Refused}
 use Rattle.moka_policy.specs.declared.policy.Refused.TheVariants as causes
+use Rattle.moka_model.specs.declared.turns.Kind.{Kind}
+use Rattle.moka_model.specs.Entries.{entry_of}
 use Rattle.moka_model.specs.Lives.{Settings, Write}
 use Rattle.moka_model.specs.Steps.{AcceptedStep}
 use Rattle.moka_model.specs.Calls.{Call, IsWait, IfAnswered, accepted}
@@ -34,3 +37,14 @@ pub record BeginEnds {K V H W X F E : Type 0} (gives : Result (Begun K V) Refuse
   pub reply : gives result
   pub stands : OnOk result follows
   pub refused : OnErr result (new ≡ old)
+
+-- a turn or a ticket that is handed out has this kind, and this very key
+abbrev pub IsNamed : {K V : Type 0} → Kind → K → Begun K V → Type 0
+IsNamed kind key (begins.Found entry) = ⊤
+IsNamed kind key (begins.Run turn) = (turn.key.kind ≡ kind) × (arc_value turn.key.key ≡ key)
+IsNamed kind key (begins.Wait ticket) = (ticket.key.kind ≡ kind) × (arc_value ticket.key.key ≡ key)
+
+-- the value that is found is kept, if one is
+abbrev pub FoundKeeps : {K V : Type 0} → (K → V → Type 0) → Begun K V → Type 0
+FoundKeeps keeps (begins.Found entry) = keeps (entry_of entry).key (entry_of entry).value
+FoundKeeps keeps begun = ⊤

@@ -1,9 +1,9 @@
 //! The begin of a turn.
-ghost use Rattle.std.specs.Prelude.{◌≡◌, ◌≢◌, Bool, Option, true, IfSome};
+ghost use Rattle.std.specs.Prelude.{◌≡◌, ◌≢◌, Bool, Option, true, IfOk, IfSome};
 ghost use Rattle.std.specs.Arc.{arc_value};
 ghost use Rattle.moka_model.specs.Steps.{events_in};
 ghost use Rattle.moka_model.specs.Calls.{Begin, live_at};
-ghost use Rattle.moka_state.specs.Begin.{BeginEnds, GivesBegun, IsSaidOf};
+ghost use Rattle.moka_state.specs.Begin.{BeginEnds, FoundKeeps, GivesBegun, IsNamed, IsSaidOf};
 
 use crate::answers::Begun;
 use crate::state::State;
@@ -35,7 +35,7 @@ impl<K: Hash + Drop, V: Clone, C: CacheTypes<K, V>, R: RowStore<K, V>> State<K, 
     ) -> Result<Begun<K, V>, Refused>
         requires initializer { kind ≢ Kind.Compute }
         requires asks { IfSome replace_if (λ f. F.IsAlwaysCallable f) }
-        ensures { (said : Option Bool) × BeginEnds
+        ensures begins { (said : Option Bool) × BeginEnds
             (λ given. ⟦<C as StateView<K, V>>⟧.at_each_history self.old (λ settings steps.
             IsSaidOf F.FnMut replace_if
             (live_at K.eq settings (arc_value key.now) now (events_in steps)) said
@@ -44,6 +44,8 @@ impl<K: Hash + Drop, V: Clone, C: CacheTypes<K, V>, R: RowStore<K, V>> State<K, 
             (⟦<C as StateView<K, V>>⟧.follows self.old
             (Begin (arc_value key.now) kind said now) self.new)
             self.old self.new result }
+        ensures named { IfOk result (IsNamed kind (arc_value key.now)) }
+        ensures kept { IfOk result (FoundKeeps C.keeps) }
     {
         self.begin_with(key, kind, replace_if, now, true)
     }
@@ -60,7 +62,7 @@ impl<K: Hash + Drop, V: Clone, C: CacheTypes<K, V>, R: RowStore<K, V>> State<K, 
     ) -> Result<Begun<K, V>, Refused>
         requires initializer { kind ≢ Kind.Compute }
         requires asks { IfSome replace_if (λ f. F.IsAlwaysCallable f) }
-        ensures { (said : Option Bool) × BeginEnds
+        ensures begins { (said : Option Bool) × BeginEnds
             (λ given. ⟦<C as StateView<K, V>>⟧.at_each_history self.old (λ settings steps.
             IsSaidOf F.FnMut replace_if
             (live_at K.eq settings (arc_value key.now) now (events_in steps)) said
@@ -69,6 +71,8 @@ impl<K: Hash + Drop, V: Clone, C: CacheTypes<K, V>, R: RowStore<K, V>> State<K, 
             (⟦<C as StateView<K, V>>⟧.follows self.old
             (Begin (arc_value key.now) kind said now) self.new)
             self.old self.new result }
+        ensures named { IfOk result (IsNamed kind (arc_value key.now)) }
+        ensures kept { IfOk result (FoundKeeps C.keeps) }
     {
         let now = self.latest.max(now);
         let hash = self.behaviour.hash(&**key);

@@ -15,4 +15,5 @@ pub use moka_due::due_rows;
 pub use moka_predicate_ids::{predicate_error, predicate_id};
 pub use moka_rows::{list_rows, packed, rows};
 pub use moka_slab::slab_rows;
+pub use moka_turns::handles;
 pub use moka_ways::view;

@@ -1,5 +1,7 @@
 -- What a begin in a table is told.
 use Rattle.std.specs.Prelude.{⊤, ◌≡◌, ◌≢◌, ℕ, Bool, true, false, Option, Some, None, List, Result, Ok, Err}
+use Rattle.std.specs.Arc.{arc_value}
+use Rattle.moka_model.specs.declared.turns.Kind.{Kind}
 use Rattle.moka_model.specs.Turns.{Turn, Opened, Waited, moved}
 use Rattle.moka_model.specs.Numbers.{greatest_number}
 use Rattle.moka_policy.specs.declared.policy.Refused.{Refused}
@@ -29,3 +31,8 @@ IsBegun After q number may_wait ts o result = ⊥
 abbrev pub IfRun : {K : Type 0} → Type 0 → TurnBegun K → Type 0  -- P holds where a turn was opened
 IfRun P (Run turn) = P
 IfRun P (Wait ticket) = ⊤
+
+-- what is handed out has this kind, and this very key
+abbrev pub IsNamed : {K : Type 0} → Kind → K → TurnBegun K → Type 0
+IsNamed kind key (Run turn) = (turn.key.kind ≡ kind) × (arc_value turn.key.key ≡ key)
+IsNamed kind key (Wait ticket) = (ticket.key.kind ≡ kind) × (arc_value ticket.key.key ≡ key)

@@ -6,7 +6,7 @@ ghost use Rattle.moka_model.specs.Turns as turning;
 ghost use Rattle.moka_model.specs.Turns.{found, is_open_for};
 ghost use Rattle.moka_model.specs.Numbers.{greatest_number};
 ghost use Rattle.moka_turns.specs.Keeps.{Keeps, AreSound};
-ghost use Rattle.moka_turns.specs.Begun.{IsBegun, IfRun};
+ghost use Rattle.moka_turns.specs.Begun.{IsBegun, IfRun, IsNamed};
 
 use crate::handles::{Ticket, Turn};
 use crate::table::{OpenTurn, Turns};
@@ -43,6 +43,7 @@ impl<K: Eq + Drop, V: Clone, E: Drop> Turns<K, V, E> {
             key number may_wait ts (found (is_open_for K.eq key.kind (arc_value key.key)) ts)
             result }
         ensures number { IfOk result (IfRun (number ≢ greatest_number)) }
+        ensures named { IfOk result (IsNamed key.kind (arc_value key.key)) }
         ensures unchanged { OnErr result (IsUnchanged self.old.opened self.new.opened
             × IsUnchanged self.old.ended self.new.ended) }
     {
@@ -79,6 +80,7 @@ impl<K: Eq + Drop, V: Clone, E: Drop> Turns<K, V, E> {
             key number may_wait ts (found (is_open_for K.eq key.kind (arc_value key.key)) ts)
             result }
         ensures number { (number : ℕ) → IfOk result (IfRun (number ≢ greatest_number)) }
+        ensures named { IfOk result (IsNamed key.kind (arc_value key.key)) }
         ensures unchanged { OnErr result (IsUnchanged self.old.opened self.new.opened
             × IsUnchanged self.old.ended self.new.ended) }
     {
@@ -105,6 +107,7 @@ impl<K: Eq + Drop, V: Clone, E: Drop> Turns<K, V, E> {
             (get ⟦<TurnKey<K> as PartialEq>⟧.eq self.new.opened) (get nat_eq self.new.ended))
             key number may_wait ts (found (is_open_for K.eq key.kind (arc_value key.key)) ts)
             result }
+        ensures named { IfOk result (IsNamed key.kind (arc_value key.key)) }
         ensures unchanged { OnErr result (IsUnchanged self.old.opened self.new.opened
             × IsUnchanged self.old.ended self.new.ended) }
     {

@@ -10,6 +10,7 @@ use Rattle.moka_model.proofs.Callers.{view-of, stands-after}
 use Rattle.moka_ways.specs.Behaviour.{hash_by}
 use Rattle.moka_turns.specs.declared.turn_key.TurnKey.{TurnKey}
 use Rattle.moka_turns.specs.Handles.{turn_name, ticket_name}
+use Rattle.moka_table.proofs.Callers.{of-row}
 use Rattle.moka_turns.proofs.Views.{table-keeps, table-holds}
 use Rattle.moka_state.proofs.Becoming.{estimates-noted}
 use Rattle.moka_state.proofs.Begins.{accepts-live, rejects-live, hits-live, gives-found, after-found, gives-wait, after-wait, gives-run, after-run, gives-refused, waits-told, runs-told, becomes-drawn, move-stands}
@@ -18,8 +19,8 @@ use Rattle.moka_state.proofs.Turns.{sound-turns, same-turns, with-turns}
 use Rattle.moka_state.proofs.Views.{view-becomes}
 use Rattle.moka_state.proofs.state.State.begin_with.Goals as goal
 
-pub returns-in_default-entry : goal.returns-in_default-entry
-returns-in_default-entry g c = (c.in-Some.ensures.0, record {
+pub returns-in_default-entry-clause-begins : goal.returns-in_default-entry-clause-begins
+returns-in_default-entry-clause-begins g c = (c.in-Some.ensures.0, record {
   reply = λ given steps stands.
       let s = c.self.inside in
       let eq = g.K.PartialEq.eq in
@@ -42,8 +43,8 @@ invariant_of-self g c =
     let used = rw accepts.1 at c.hit.ensures.used in
     rw c.hit.ensures.lives (IsSound-touched _ _ s.upkeep.lives s.table c.hit.new.table c.self.invariant.0 c.in-Some.number accepts.0 used.0 accepts.1 used.2 c.hit.ensures.notices used.1.dated, c.self.invariant.1)
 
-pub returns-in-Some : goal.returns-in-Some
-returns-in-Some g c = (c.in-Some.ensures.0, record {
+pub returns-in-Some-clause-begins : goal.returns-in-Some-clause-begins
+returns-in-Some-clause-begins g c = (c.in-Some.ensures.0, record {
   reply = λ given steps stands.
       let s = c.self.inside in
       let eq = g.K.PartialEq.eq in
@@ -75,8 +76,8 @@ returns-in-Some g c = (c.in-Some.ensures.0, record {
   refused = tt;
 })
 
-pub returns-in_default-clone : goal.returns-in_default-clone
-returns-in_default-clone g c = (c.in_default.ensures.0, record {
+pub returns-in_default-clone-clause-begins : goal.returns-in_default-clone-clause-begins
+returns-in_default-clone-clause-begins g c = (c.in_default.ensures.0, record {
   reply = λ given steps stands.
       let s = c.self.inside in
       let eq = g.K.PartialEq.eq in
@@ -92,8 +93,8 @@ returns-in_default-clone g c = (c.in_default.ensures.0, record {
   refused = rw (← c.self.view_is) refl;
 })
 
-pub returns-in-Err : goal.returns-in-Err
-returns-in-Err g c = (c.in_default.ensures.0, record {
+pub returns-in-Err-clause-begins : goal.returns-in-Err-clause-begins
+returns-in-Err-clause-begins g c = (c.in_default.ensures.0, record {
   reply = λ given steps stands.
       let s = c.self.inside in
       let eq = g.K.PartialEq.eq in
@@ -117,8 +118,8 @@ returns-in-Err g c = (c.in_default.ensures.0, record {
       rw (← c.self.view_is) (with-turns _ _ _ _ _ _ (same-turns (hash_by g.C.Hasher.BuildHasher.build_hasher g.C.Hasher.Hasher.Hasher.write g.C.Hasher.Hasher.Hasher.finish g.K.Hash.hash_input s.behaviour.hasher) _ _ _ _ c.in-Err.ensures.unchanged.0 c.in-Err.ensures.unchanged.1));
 })
 
-pub returns-in-Wait : goal.returns-in-Wait
-returns-in-Wait g c = (c.in_default.ensures.0, record {
+pub returns-in-Wait-clause-begins : goal.returns-in-Wait-clause-begins
+returns-in-Wait-clause-begins g c = (c.in_default.ensures.0, record {
   reply = λ given steps stands.
       let s = c.self.inside in
       let eq = g.K.PartialEq.eq in
@@ -162,8 +163,8 @@ returns-in-Wait g c = (c.in_default.ensures.0, record {
   refused = tt;
 })
 
-pub returns-in-Run : goal.returns-in-Run
-returns-in-Run g c = (c.in_default.ensures.0, record {
+pub returns-in-Run-clause-begins : goal.returns-in-Run-clause-begins
+returns-in-Run-clause-begins g c = (c.in_default.ensures.0, record {
   reply = λ given steps stands.
       let s = c.self.inside in
       let eq = g.K.PartialEq.eq in
@@ -208,3 +209,11 @@ returns-in-Run g c = (c.in_default.ensures.0, record {
       (table-holds eq laws g.V.Clone.is_clone hash_of c.hash-hash.ensures.alike c.begin.new.self.opened.entries c.begin.new.self.ended.entries _ (rw counted at told.3)));
   refused = tt;
 })
+
+pub returns-in-Some-clause-kept : goal.returns-in-Some-clause-kept
+returns-in-Some-clause-kept g c =
+    let accepts = c.in-Some.ensures.1 in
+    let row = accepts.0 in
+    let entry = rw accepts.1 at c.in-Ok.ensures in
+    let kept = of-row (λ r. g.C.CacheTypes.keeps (arc_value r.key) r.value) c.in-Some.number _ row c.self.invariant.0.kept accepts.1 in
+    subst (λ k. g.C.CacheTypes.keeps k c.in-Ok.entry.value) (sym entry.0) (g.met.C.CacheTypes.copies_keep (arc_value row.key) row.value c.in-Ok.entry.value entry.1 kept)
