@@ -20,10 +20,10 @@ fn given(alloc: Global, key: u64) -> Result<TurnKey<u64>, AllocError> {
 }
 
 /// Opens a turn. Where memory is refused, it asks once more.
-fn opens(alloc: Global, turns: &mut Texts, key: u64) -> Result<bool, AllocError> {
-    match open(turns, given(alloc, key)?, key + 100) {
+fn opens(alloc: Global, turns: &mut Texts, key: u64, number: u64) -> Result<bool, AllocError> {
+    match open(turns, given(alloc, key)?, number) {
         Ok(opened) => Ok(opened),
-        Err(_) => open(turns, given(alloc, key)?, key + 100),
+        Err(_) => open(turns, given(alloc, key)?, number),
     }
 }
 
@@ -35,7 +35,7 @@ fn every_turn_is_kept_where_memory_is_refused(rt: HostRuntime) -> Result<(), Fai
     let alloc = rt.alloc();
     let mut turns = Texts::new(alloc);
     for key in 0..TURNS {
-        assert!(rt; opens(alloc, &mut turns, key)?);
+        assert!(rt; opens(alloc, &mut turns, key, key + 100)?);
     }
     for key in 0..TURNS {
         let number = turns.find(&given(alloc, key)?).map(|turn| turn.number);
