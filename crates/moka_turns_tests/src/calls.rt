@@ -1,0 +1,192 @@
+//! The calls of a table of turns as data, and what they answer.
+use moka_model::turns::Kind;
+use moka_turns::table::{EndedTurn, OpenTurn, TurnEnd, Turns};
+use moka_turns::turn_key::TurnKey;
+use std::alloc::{AllocError, Global};
+use std::sync::Arc;
+
+/// What a turn ends with.
+#[derive(Clone, Copy, Debug, PartialEq)]
+pub enum Final {
+    Value(u64, bool),
+    Nothing,
+    Failed(u64),
+    Computed,
+    Abandoned,
+}
+
+/// A call of a table of turns. Those about an open turn name its kind and its key, and those about an
+/// ended one its number.
+#[derive(Clone, Copy)]
+pub enum Call {
+    Find(Kind, u64),
+    Ended(u64),
+    /// Opens a turn under a number, where none is open.
+    Open(Kind, u64, u64),
+    Wait(Kind, u64),
+    End(Kind, u64, Final),
+    LeaveOpen(Kind, u64),
+    LeaveEnded(u64),
+}
+
+/// What a call answers.
+#[derive(Clone, Copy, Debug, PartialEq)]
+pub enum Answer {
+    Done,
+    Absent,
+    Number(u64),
+    /// The number of an open turn, and how many of its tickets are unspent.
+    Open(u64, u64),
+    /// An ended turn: its kind and key, what it ended with, and how many of its tickets are unspent.
+    Kept(Kind, u64, Final, u64),
+}
+
+/// What the turn of a kind and a key is found by. All even keys have one hash, and all odd ones.
+pub fn key_of(alloc: Global, kind: Kind, key: u64) -> Result<TurnKey<u64>, AllocError> {
+    Ok(TurnKey {
+        hash: key % 2,
+        kind,
+        key: Arc::new(alloc, key)?,
+    })
+}
+
+/// An end, as a table keeps it.
+pub fn end_of(alloc: Global, end: Final) -> Result<TurnEnd<u64, u64>, AllocError> {
+    Ok(match end {
+        Final::Value(value, replaced) => TurnEnd::Value(value, replaced),
+        Final::Nothing => TurnEnd::Nothing,
+        Final::Failed(error) => TurnEnd::Failed(Arc::new(alloc, error)?),
+        Final::Computed => TurnEnd::Computed,
+        Final::Abandoned => TurnEnd::Abandoned,
+    })
+}
+
+/// What a turn has ended with.
+pub fn final_of(end: &TurnEnd<u64, u64>) -> Final {
+    match end {
+        TurnEnd::Value(value, replaced) => Final::Value(*value, *replaced),
+        TurnEnd::Nothing => Final::Nothing,
+        TurnEnd::Failed(error) => Final::Failed(**error),
+        TurnEnd::Computed => Final::Computed,
+        TurnEnd::Abandoned => Final::Abandoned,
+    }
+}
+
+/// A turn that nobody waits for yet.
+pub fn new_turn<V>(number: u64) -> OpenTurn<V> {
+    OpenTurn {
+        number,
+        shown: false,
+        kept: None,
+        unspent: 0,
+    }
+}
+
+/// Opens a turn, where none of its kind and key is open. Whether it did.
+pub fn open<V: Clone, E: Drop>(
+    turns: &mut Turns<u64, V, E>,
+    key: TurnKey<u64>,
+    number: u64,
+) -> Result<bool, AllocError> {
+    if turns.find(&key).is_some() {
+        return Ok(false);
+    }
+    turns.reserve()?;
+    turns.add(key, new_turn(number));
+    Ok(true)
+}
+
+/// Waits for an open turn, and answers its number.
+pub fn wait<V: Clone, E: Drop>(turns: &mut Turns<u64, V, E>, key: &TurnKey<u64>) -> Option<u64> {
+    if turns.find(key).is_none() {
+        return None;
+    }
+    turns.wait(key)
+}
+
+/// Ends an open turn, and answers what was kept of it.
+pub fn end<V: Clone, E: Drop>(
+    turns: &mut Turns<u64, V, E>,
+    key: TurnKey<u64>,
+    end: TurnEnd<V, E>,
+) -> Option<OpenTurn<V>> {
+    if turns.find(&key).is_none() {
+        return None;
+    }
+    Some(turns.end(key, end))
+}
+
+/// Spends a ticket of an open turn, where it has one. Whether it has.
+pub fn leave_open<V: Clone, E: Drop>(turns: &mut Turns<u64, V, E>, key: &TurnKey<u64>) -> bool {
+    let waits = match turns.find(key) {
+        Some(turn) => turn.unspent > 0,
+        None => false,
+    };
+    if waits {
+        turns.leave_open(key);
+    }
+    waits
+}
+
+/// Spends a ticket of an ended turn, which is answered with its last one.
+pub fn leave_ended<V: Clone, E: Drop>(
+    turns: &mut Turns<u64, V, E>,
+    number: u64,
+) -> Option<EndedTurn<u64, V, E>> {
+    if turns.ended(number).is_none() {
+        return None;
+    }
+    turns.leave_ended(number)
+}
+
+fn opened(turn: Option<&OpenTurn<u64>>) -> Answer {
+    match turn {
+        Some(turn) => Answer::Open(turn.number, turn.unspent),
+        None => Answer::Absent,
+    }
+}
+
+fn kept(turn: Option<&EndedTurn<u64, u64, u64>>) -> Answer {
+    match turn {
+        Some(turn) => Answer::Kept(
+            turn.key.kind,
+            *turn.key.key,
+            final_of(&turn.end),
+            turn.unspent,
+        ),
+        None => Answer::Absent,
+    }
+}
+
+fn done(done: bool) -> Answer {
+    if done { Answer::Done } else { Answer::Absent }
+}
+
+/// Makes a call.
+fn made(alloc: Global, turns: &mut Turns<u64, u64, u64>, call: Call) -> Result<Answer, AllocError> {
+    Ok(match call {
+        Call::Find(kind, key) => opened(turns.find(&key_of(alloc, kind, key)?)),
+        Call::Ended(number) => kept(turns.ended(number)),
+        Call::Open(kind, key, number) => done(open(turns, key_of(alloc, kind, key)?, number)?),
+        Call::Wait(kind, key) => match wait(turns, &key_of(alloc, kind, key)?) {
+            Some(number) => Answer::Number(number),
+            None => Answer::Absent,
+        },
+        Call::End(kind, key, last) => {
+            let key = key_of(alloc, kind, key)?;
+            opened(end(turns, key, end_of(alloc, last)?).as_ref())
+        }
+        Call::LeaveOpen(kind, key) => done(leave_open(turns, &key_of(alloc, kind, key)?)),
+        Call::LeaveEnded(number) => kept(leave_ended(turns, number).as_ref()),
+    })
+}
+
+/// What a new table answers to some calls, in turn.
+pub fn answers(alloc: Global, calls: &[Call]) -> Result<Vec<Answer>, AllocError> {
+    let mut turns = Turns::new(alloc);
+    let mut found = Vec::new(alloc);
+    for call in calls {
+        found.push(made(alloc, &mut turns, *call)?)?;
+    }
+    Ok(found)
+}

@@ -1,0 +1,101 @@
+//! What memory is taken, and what a refused call leaves. Each test passes, or says where it was refused, also where one
+//! request for memory is refused, whichever: `scripts/refused_memory` tries each.
+use crate::calls::{end, key_of, leave_ended, leave_open, new_turn, open, wait};
+use moka_model::turns::Kind;
+use moka_turns::table::{TurnEnd, Turns};
+use moka_turns::turn_key::TurnKey;
+use std::alloc::{AllocError, Global};
+use std::sync::Arc;
+use std::test::Fail;
+
+/// Turns that give texts for numbers.
+type Texts = Turns<u64, String, u64>;
+
+/// What the turn of a key is found by. Where memory is refused, it asks once more.
+fn given(alloc: Global, key: u64) -> Result<TurnKey<u64>, AllocError> {
+    match key_of(alloc, Kind::With, key) {
+        Ok(key) => Ok(key),
+        Err(_) => key_of(alloc, Kind::With, key),
+    }
+}
+
+/// Opens a turn. Where memory is refused, it asks once more.
+fn opens(alloc: Global, turns: &mut Texts, key: u64, number: u64) -> Result<bool, AllocError> {
+    match open(turns, given(alloc, key)?, number) {
+        Ok(opened) => Ok(opened),
+        Err(_) => open(turns, given(alloc, key)?, number),
+    }
+}
+
+/// How many turns are opened: room has to grow some times.
+const TURNS: u64 = 9;
+
+#[test]
+fn every_turn_is_kept_where_memory_is_refused(rt: HostRuntime) -> Result<(), Fail> {
+    let alloc = rt.alloc();
+    let mut turns = Texts::new(alloc);
+    for key in 0..TURNS {
+        assert!(rt; opens(alloc, &mut turns, key, key + 100)?);
+    }
+    for key in 0..TURNS {
+        let number = turns.find(&given(alloc, key)?).map(|turn| turn.number);
+        assert_eq!(rt; number, Some(key + 100));
+    }
+    for key in 0..TURNS {
+        let key = given(alloc, key)?;
+        let number = wait(&mut turns, &key);
+        let last = end(&mut turns, key, TurnEnd::Nothing).map(|turn| turn.number);
+        assert_eq!(rt; number, last);
+    }
+    for number in 100..100 + TURNS {
+        assert_eq!(rt; turns.ended(number).map(|turn| turn.unspent), Some(1));
+    }
+    Ok(())
+}
+
+/// The text of a copy of an end.
+fn copied(end: &TurnEnd<String, u64>) -> Result<Option<String>, AllocError> {
+    Ok(match end.copied()? {
+        TurnEnd::Value(text, _) => Some(text),
+        _ => None,
+    })
+}
+
+/// A text. Where memory is refused, it asks once more.
+fn text(alloc: Global, it: &str) -> Result<String, AllocError> {
+    match String::from_str(alloc, it) {
+        Ok(text) => Ok(text),
+        Err(_) => String::from_str(alloc, it),
+    }
+}
+
+#[test]
+fn an_end_is_copied_where_memory_is_refused(rt: HostRuntime) -> Result<(), Fail> {
+    let last = TurnEnd::Value(text(rt.alloc(), "worked out")?, false);
+    let copy = match copied(&last) {
+        Ok(copy) => copy,
+        Err(_) => copied(&last)?,
+    };
+    assert_eq!(rt; copy.as_deref(), Some("worked out"));
+    Ok(())
+}
+
+#[test]
+fn takes_no_memory_once_there_is_room(rt: HostRuntime) -> Result<(), Fail> {
+    let alloc = rt.alloc();
+    let mut turns = Texts::new(alloc);
+    let (key, same) = (given(alloc, 1)?, given(alloc, 1)?);
+    turns.reserve()?;
+    Arc::new(alloc, 0_u64).map_err(|_| "refused before the calls")?;
+    turns.add(key, new_turn(10));
+    for _ in 0..3 {
+        assert_eq!(rt; wait(&mut turns, &same), Some(10));
+    }
+    assert!(rt; leave_open(&mut turns, &same));
+    assert!(rt; end(&mut turns, same, TurnEnd::Computed).is_some());
+    assert!(rt; leave_ended(&mut turns, 10).is_none());
+    assert!(rt; leave_ended(&mut turns, 10).is_some());
+    assert!(rt; turns.ended(10).is_none());
+    Arc::new(alloc, 0_u64).map_err(|_| "refused behind the calls")?;
+    Ok(())
+}
