@@ -30,11 +30,12 @@ impl<K: Hash + Drop, V: Clone, C: CacheTypes<K, V>, R: RowStore<K, V>> Segmented
             (after_reply_in (call_of C.test step) result calls)) }
         ensures kept { ReplyKeeps C.keeps step result }
     {
-        let index = match key_of(&step) {
-            Some(key) => self.segment_of(key),
+        let hash = match key_of(&step) {
+            Some(key) => self.hash(key),
             None => return self.step_of_all(step),
         };
-        self.segments[index].step(step)
+        let index = self.segment_of(hash);
+        self.segments[index].step_with_hash(step, hash)
     }
 
     // A step without a key.

@@ -1,3 +1,4 @@
+pub mod Alike
 pub mod Becoming
 pub mod Conserved
 pub mod Counts

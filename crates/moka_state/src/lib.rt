@@ -1,6 +1,7 @@
 //! The cache as a plain value: its rows, its state, and its calls.
 #![tactic(auto)]
 
+pub mod hashed;
 pub mod invalidation;
 pub mod removal;
 pub mod scanning;
