@@ -4,10 +4,10 @@ pub returns-in-Ok-clause-stands : goal.returns-in-Ok-clause-stands
 returns-in-Ok-clause-stands g c given steps stands = rw c.in-Get.is (rw c.deref.ensures at (c.in-Ok.ensures.stands given steps stands))
 
 pub returns-in-Ok-write-clause-stands : goal.returns-in-Ok-write-clause-stands
-returns-in-Ok-write-clause-stands g c given steps stands = rw c.in-Insert.is (c.in-Ok-write.ensures.stands given steps stands)
+returns-in-Ok-write-clause-stands g c given steps stands = rw c.in-Insert.is (c.in-Ok-write.ensures.ends.stands given steps stands)
 
 pub returns-in-Invalidate-clause-stands : goal.returns-in-Invalidate-clause-stands
-returns-in-Invalidate-clause-stands g c given steps stands = rw c.in-Invalidate.is (rw c.deref-in-Invalidate.ensures at (c.invalidate.ensures.stands given steps stands))
+returns-in-Invalidate-clause-stands g c given steps stands = rw c.in-Invalidate.is (rw c.deref-in-Invalidate.ensures at (c.invalidate_with_hash.ensures.stands given steps stands))
 
 pub returns-in-RunPendingTasks-clause-stands : goal.returns-in-RunPendingTasks-clause-stands
 returns-in-RunPendingTasks-clause-stands g c given steps stands = rw c.in-RunPendingTasks.is (c.run_pending_tasks.ensures.stands given steps stands)
@@ -17,9 +17,6 @@ returns-in-RunPendingTasksUpTo-clause-stands g c given steps stands = rw c.in-Ru
 
 pub returns-clause-stands : goal.returns-clause-stands
 returns-clause-stands g c given steps stands = rw c.in-TakeNotice.is (c.take_notice.ensures.stands given steps stands)
-
-pub returns-in-Ok-remove-clause-stands : goal.returns-in-Ok-remove-clause-stands
-returns-in-Ok-remove-clause-stands g c given steps stands = rw c.in-Remove.is (rw c.deref-in-Remove.ensures at (c.in-Ok-remove.ensures.stands given steps stands))
 
 pub returns-in-InvalidateAll-clause-stands : goal.returns-in-InvalidateAll-clause-stands
 returns-in-InvalidateAll-clause-stands g c given steps stands = rw c.in-InvalidateAll.is (c.invalidate_all.ensures.stands given steps stands)
