@@ -36,6 +36,13 @@ pub struct Segmented<K: Hash + Drop, V: Clone, C: CacheTypes<K, V>, R: RowStore<
 /// with its share of the capacity. What happens in one changes no answer of another.
 pub type SegmentedState<K, V, C> = Segmented<K, V, C, DueRows<K, V>>;
 
+// Where a key belongs: its hash, and the number of the segment that the hash's highest bits name.
+#[derive(Clone, Copy)]
+pub(crate) struct Place {
+    pub(crate) hash: u64,
+    pub(crate) index: usize,
+}
+
 impl<K: Hash + Drop, V: Clone, C: CacheTypes<K, V>, R: RowStore<K, V>> Model
     for Segmented<K, V, C, R> {
     ghost Value = { SegmentedData K V C.Hasher C.Weigher C.Expiry C.Frequency C.Error };
@@ -74,9 +81,8 @@ impl<K: Hash + Drop, V: Clone, C: CacheTypes<K, V>, R: RowStore<K, V>> Segmented
             IfSome (live_in C.Error K.eq settings calls key.now now) (λ live.
             V.is_infallible live.value → IsOk result)) }
     {
-        let hash = self.hash(key);
-        let index = self.segment_of(hash);
-        self.segments[index].get_with_hash(key, hash, now)
+        let place = self.place_of(key);
+        self.segments[place.index].get_with_hash(key, place.hash, now)
     }
 
     /// Whether a key has a live value at a moment, in its segment. It is no use of the value, and
@@ -87,9 +93,8 @@ impl<K: Hash + Drop, V: Clone, C: CacheTypes<K, V>, R: RowStore<K, V>> Segmented
         ensures stands { ⟦<C as SegmentedStateView<K, V>>⟧.follows_in self.now
             (ContainsKey key.now now) self.now }
     {
-        let hash = self.hash(key);
-        let index = self.segment_of(hash);
-        self.segments[index].contains_key_with_hash(key, hash, now)
+        let place = self.place_of(key);
+        self.segments[place.index].contains_key_with_hash(key, place.hash, now)
     }
 
     /// Writes a value for a key, in its segment.
@@ -114,9 +119,8 @@ impl<K: Hash + Drop, V: Clone, C: CacheTypes<K, V>, R: RowStore<K, V>> Segmented
         ensures nothing { ⟦<C as SegmentedStateView<K, V>>⟧.at_each_list self.old (λ settings _.
             stores_nothing settings.whole.max_capacity ≡ true → IsOk result) }
     {
-        let hash = self.hash(&key);
-        let index = self.segment_of(hash);
-        self.segments[index].insert_with_hash(key, hash, value, now)
+        let place = self.place_of(&key);
+        self.segments[place.index].insert_with_hash(key, place.hash, value, now)
     }
 
     /// Removes a key, in its segment. Its value, live or expired, is noticed. It takes no memory.
@@ -124,9 +128,8 @@ impl<K: Hash + Drop, V: Clone, C: CacheTypes<K, V>, R: RowStore<K, V>> Segmented
         ensures { ⟦<C as SegmentedStateView<K, V>>⟧.follows_in
             self.old (Invalidate key.now now) self.new }
     {
-        let hash = self.hash(key);
-        let index = self.segment_of(hash);
-        self.segments[index].invalidate_with_hash(key, hash, now);
+        let place = self.place_of(key);
+        self.segments[place.index].invalidate_with_hash(key, place.hash, now);
     }
 
     /// Removes a key, in its segment, and answers its live value. What stood for the key, live or
@@ -151,9 +154,8 @@ impl<K: Hash + Drop, V: Clone, C: CacheTypes<K, V>, R: RowStore<K, V>> Segmented
             IfSome (live_in C.Error K.eq settings calls key.now now) (λ live.
             V.is_infallible live.value → IsOk result)) }
     {
-        let hash = self.hash(key);
-        let index = self.segment_of(hash);
-        self.segments[index].remove_with_hash(key, hash, now)
+        let place = self.place_of(key);
+        self.segments[place.index].remove_with_hash(key, place.hash, now)
     }
 
     /// The first notice of the first segment that has one; none exactly where no segment has one. It
@@ -214,24 +216,22 @@ impl<K: Hash + Drop, V: Clone, C: CacheTypes<K, V>, R: RowStore<K, V>> Segmented
         self.alloc
     }
 
-    // The hash of a key, in the whole and in each segment.
-    pub(crate) fn hash(&self, key: &K) -> u64
-        ensures whole { IsHashOf
-            (⟦<C as SegmentedStateView<K, V>>⟧.segmented_settings self.now).whole key.now result }
-        ensures each { AllByRecursion (λ state. IsHashOf
-            (⟦<C as StateView<K, V>>⟧.settings state.settings) key.now result) self.now.segments }
+    // The segment of a key, and its hash, which is that in each segment.
+    pub(crate) fn place_of(&self, key: &K) -> Place
+        ensures is { result.index ≡ segment_of_key
+            (⟦<C as SegmentedStateView<K, V>>⟧.segmented_settings self.now) key.now }
+        ensures within { result.index < length self.now.segments }
+        ensures hash { AllByRecursion (λ state. IsHashOf
+            (⟦<C as StateView<K, V>>⟧.settings state.settings) key.now result.hash)
+            self.now.segments }
     {
         let mut state = self.settings.hasher.build_hasher();
         key.hash(&mut state);
-        state.finish()
-    }
-
-    // The number of a hash's segment: its highest bits.
-    pub(crate) fn segment_of(&self, hash: u64) -> usize
-        ensures is { result ≡ segment_of self.now.bits hash }
-        ensures within { result < length self.now.segments }
-    {
-        number_of_segment(self.bits, hash)
+        let hash = state.finish();
+        Place {
+            hash,
+            index: number_of_segment(self.bits, hash),
+        }
     }
 
     // The first segment that has a notice.

@@ -30,12 +30,11 @@ impl<K: Hash + Drop, V: Clone, C: CacheTypes<K, V>, R: RowStore<K, V>> Segmented
             (after_reply_in (call_of C.test step) result calls)) }
         ensures kept { ReplyKeeps C.keeps step result }
     {
-        let hash = match key_of(&step) {
-            Some(key) => self.hash(key),
+        let place = match key_of(&step) {
+            Some(key) => self.place_of(key),
             None => return self.step_of_all(step),
         };
-        let index = self.segment_of(hash);
-        self.segments[index].step_with_hash(step, hash)
+        self.segments[place.index].step_with_hash(step, place.hash)
     }
 
     // A step without a key.

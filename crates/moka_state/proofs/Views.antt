@@ -1,5 +1,5 @@
 -- What a view becomes by an event, and what a state so comes to stand for.
-use Rattle.std.proofs.Common.{◌≡◌, ℕ, max, nat_le, Bool, true, cond, Option, Some, None, List, [], ◌∷◌, length, refl, sym, ap, ◌∙◌, subst}
+use Rattle.std.proofs.Common.{◌≡◌, ℕ, max, nat_le, Bool, true, cond, Option, Some, None, List, [], ◌∷◌, length, refl, sym, ap, ◌∙◌}
 use Rattle.std.specs.Option.{option_to_list}
 use Rattle.std.specs.Cmp.{IsEquivalence}
 use Rattle.moka_model.specs.Lives.{Settings, Write, live_one}

@@ -31,7 +31,7 @@ impl<K: Hash + Drop, V: Clone, C: CacheTypes<K, V>, R: RowStore<K, V>> State<K, 
     /// Refused for want of memory for the value's copy alone: a look that finds no live value takes
     /// none and succeeds. A `CacheState` reads no rows but those that have the key's hash.
     pub fn get_with_hash(&mut self, key: &K, hash: u64, now: u64) -> Result<Option<V>, Refused>
-        requires hash { IsHashOf (⟦<C as StateView<K, V>>⟧.settings self.old.settings)
+        requires { IsHashOf (⟦<C as StateView<K, V>>⟧.settings self.old.settings)
             key.now hash }
         ensures reply { IfOk result (λ found.
             ⟦<C as StateView<K, V>>⟧.answers self.old (Get key.now now) (Found found)) }
@@ -187,7 +187,7 @@ impl<K: Hash + Drop, V: Clone, C: CacheTypes<K, V>, R: RowStore<K, V>> State<K, 
     /// As [`State::contains_key`], with the key's hash, which is that of [`State::hash`]: the key is
     /// not hashed.
     pub fn contains_key_with_hash(&self, key: &K, hash: u64, now: u64) -> bool
-        requires hash { IsHashOf (⟦<C as StateView<K, V>>⟧.settings self.now.settings)
+        requires { IsHashOf (⟦<C as StateView<K, V>>⟧.settings self.now.settings)
             key.now hash }
         ensures reply { ⟦<C as StateView<K, V>>⟧.answers self.now
             (ContainsKey key.now now) (Contains result) }
@@ -204,7 +204,7 @@ impl<K: Hash + Drop, V: Clone, C: CacheTypes<K, V>, R: RowStore<K, V>> State<K, 
     /// As [`State::invalidate`], with the key's hash, which is that of [`State::hash`]: the key is not
     /// hashed. It takes no memory.
     pub fn invalidate_with_hash(&mut self, key: &K, hash: u64, now: u64)
-        requires hash { IsHashOf (⟦<C as StateView<K, V>>⟧.settings self.old.settings)
+        requires { IsHashOf (⟦<C as StateView<K, V>>⟧.settings self.old.settings)
             key.now hash }
         ensures stands { ⟦<C as StateView<K, V>>⟧.follows self.old (Invalidate key.now now) self.new }
         ensures settings { self.new.settings ≡ self.old.settings }
@@ -224,7 +224,7 @@ impl<K: Hash + Drop, V: Clone, C: CacheTypes<K, V>, R: RowStore<K, V>> State<K, 
     /// Refused for want of memory for the value's copy alone: where no live value stands it takes
     /// none and succeeds. A `CacheState` reads no rows but those that have the key's hash.
     pub fn remove_with_hash(&mut self, key: &K, hash: u64, now: u64) -> Result<Option<V>, Refused>
-        requires hash { IsHashOf (⟦<C as StateView<K, V>>⟧.settings self.old.settings)
+        requires { IsHashOf (⟦<C as StateView<K, V>>⟧.settings self.old.settings)
             key.now hash }
         ensures reply { IfOk result (λ found.
             ⟦<C as StateView<K, V>>⟧.answers self.old (Remove key.now now) (Found found)) }

@@ -1,4 +1,4 @@
-use Rattle.std.proofs.Common.{◌≡◌, refl, sym, ap, ◌∙◌}
+use Rattle.std.proofs.Common.{refl, sym, ap, ◌∙◌}
 use Rattle.moka_model.specs.Turns.{Abandoned, Ended, Name, found, is_open_as}
 use Rattle.moka_model.specs.Steps.{turns}
 use Rattle.moka_model.specs.Calls.{Abandon, abandons}

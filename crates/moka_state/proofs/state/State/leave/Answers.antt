@@ -1,4 +1,4 @@
-use Rattle.std.proofs.Common.{◌≡◌, refl, sym, ap, ◌∙◌}
+use Rattle.std.proofs.Common.{refl, sym, ap, ◌∙◌}
 use Rattle.moka_model.specs.Turns.{Spent, Name, found, has_ticket_as}
 use Rattle.moka_model.specs.Steps.{turns}
 use Rattle.moka_model.specs.Calls.{Leave, spends}

@@ -1,4 +1,4 @@
-use Rattle.std.proofs.Common.{[], subst, refl, arith}
+use Rattle.std.proofs.Common.{subst, refl, arith}
 use Rattle.moka_model.specs.StandsFor.{StandsFor}
 use Rattle.moka_model.proofs.Callers.{whole}
 use Rattle.moka_table.specs.Table.{entries}
