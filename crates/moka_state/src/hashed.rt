@@ -1,5 +1,5 @@
 //! The calls of a key that take its hash: for who has hashed it already, as to choose one of several states.
-ghost use Rattle.std.specs.Prelude.{◌≡◌, ◌≢◌, false, None, IsOk, IfOk, IfErr, IfSome, OnOk, OnErr};
+ghost use Rattle.std.specs.Prelude.{◌≡◌, ◌≢◌, ◌≤◌, false, None, IsOk, IfOk, IfErr, IfSome, OnOk, OnErr};
 ghost use Rattle.moka_model.specs.Numbers.{greatest_number, stores_nothing};
 ghost use Rattle.moka_model.specs.Steps.{events_in};
 ghost use Rattle.moka_model.specs.Calls.{Get, ContainsKey, Insert, Invalidate, Remove, Found, Contains, live_at};
@@ -31,8 +31,9 @@ impl<K: Hash + Drop, V: Clone, C: CacheTypes<K, V>, R: RowStore<K, V>> State<K, 
     /// Refused for want of memory for the value's copy alone: a look that finds no live value takes
     /// none and succeeds. A `CacheState` reads no rows but those that have the key's hash.
     pub fn get_with_hash(&mut self, key: &K, hash: u64, now: u64) -> Result<Option<V>, Refused>
-        requires { IsHashOf (⟦<C as StateView<K, V>>⟧.settings self.old.settings)
+        requires hash { IsHashOf (⟦<C as StateView<K, V>>⟧.settings self.old.settings)
             key.now hash }
+        requires within { hash ≤ greatest_number }
         ensures reply { IfOk result (λ found.
             ⟦<C as StateView<K, V>>⟧.answers self.old (Get key.now now) (Found found)) }
         ensures stands { OnOk result
@@ -187,8 +188,9 @@ impl<K: Hash + Drop, V: Clone, C: CacheTypes<K, V>, R: RowStore<K, V>> State<K, 
     /// As [`State::contains_key`], with the key's hash, which is that of [`State::hash`]: the key is
     /// not hashed.
     pub fn contains_key_with_hash(&self, key: &K, hash: u64, now: u64) -> bool
-        requires { IsHashOf (⟦<C as StateView<K, V>>⟧.settings self.now.settings)
+        requires hash { IsHashOf (⟦<C as StateView<K, V>>⟧.settings self.now.settings)
             key.now hash }
+        requires within { hash ≤ greatest_number }
         ensures reply { ⟦<C as StateView<K, V>>⟧.answers self.now
             (ContainsKey key.now now) (Contains result) }
         ensures stands { ⟦<C as StateView<K, V>>⟧.follows self.now
@@ -204,8 +206,9 @@ impl<K: Hash + Drop, V: Clone, C: CacheTypes<K, V>, R: RowStore<K, V>> State<K, 
     /// As [`State::invalidate`], with the key's hash, which is that of [`State::hash`]: the key is not
     /// hashed. It takes no memory.
     pub fn invalidate_with_hash(&mut self, key: &K, hash: u64, now: u64)
-        requires { IsHashOf (⟦<C as StateView<K, V>>⟧.settings self.old.settings)
+        requires hash { IsHashOf (⟦<C as StateView<K, V>>⟧.settings self.old.settings)
             key.now hash }
+        requires within { hash ≤ greatest_number }
         ensures stands { ⟦<C as StateView<K, V>>⟧.follows self.old (Invalidate key.now now) self.new }
         ensures settings { self.new.settings ≡ self.old.settings }
     {
@@ -224,8 +227,9 @@ impl<K: Hash + Drop, V: Clone, C: CacheTypes<K, V>, R: RowStore<K, V>> State<K, 
     /// Refused for want of memory for the value's copy alone: where no live value stands it takes
     /// none and succeeds. A `CacheState` reads no rows but those that have the key's hash.
     pub fn remove_with_hash(&mut self, key: &K, hash: u64, now: u64) -> Result<Option<V>, Refused>
-        requires { IsHashOf (⟦<C as StateView<K, V>>⟧.settings self.old.settings)
+        requires hash { IsHashOf (⟦<C as StateView<K, V>>⟧.settings self.old.settings)
             key.now hash }
+        requires within { hash ≤ greatest_number }
         ensures reply { IfOk result (λ found.
             ⟦<C as StateView<K, V>>⟧.answers self.old (Remove key.now now) (Found found)) }
         ensures stands { OnOk result

@@ -28,8 +28,8 @@ returns-clause-stands g c =
     record { here_is = c.index.ensures; is = rw (← c.self.view_is) at c.place_of-place.ensures.is; within = rw (← c.self.view_is) at c.place_of-place.ensures.within } in
     rw (← c.self.view_is) (routed-stays g.row.C-Error.Denot g.K.PartialEq.eq behaviour frequency g.C.Frequency.FrequencySource.opened cache _ _ c.args.key.now routing (ContainsKey c.args.key.now c.args.now) refl c.contains_key_with_hash.ensures.stands)
 
-pub contains_key_with_hash-requires : goal.contains_key_with_hash-requires
-contains_key_with_hash-requires g c =
+pub contains_key_with_hash-requires-clause-hash : goal.contains_key_with_hash-requires-clause-hash
+contains_key_with_hash-requires-clause-hash g c =
     let behaviour = behaviour_by (hash_by g.C.Hasher.BuildHasher.build_hasher g.C.Hasher.Hasher.Hasher.write g.C.Hasher.Hasher.Hasher.finish g.K.Hash.hash_input) g.C.CacheTypes.weight g.C.CacheTypes.lifetimes in
     let frequency = estimates g.C.Frequency.FrequencySource.noted g.C.Frequency.FrequencySource.count in
     hash-at (λ (state : StateData _ _ _ _ _ _ _). IsHashOf (settings_by behaviour (frequency g.C.Frequency.FrequencySource.opened) state.settings) c.args.key.now c.place_of-place.result.hash) c.self.inside.segments.items c.place_of-place.result.index c.index.result.now (rw (← c.self.view_is) at c.place_of-place.ensures.within) c.index.ensures (rw (← c.self.view_is) at c.place_of-place.ensures.hash)

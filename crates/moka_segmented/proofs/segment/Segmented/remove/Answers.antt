@@ -54,8 +54,8 @@ returns-clause-copied g c =
     record { here_is = c.index_mut.ensures.value; is = rw (← c.self.view_is) at c.place_of-place.ensures.is; within = rw (← c.self.view_is) at c.place_of-place.ensures.within } in
     rw (← c.self.view_is) (routed-history g.row.C-Error.Denot g.K.PartialEq.eq behaviour frequency g.C.Frequency.FrequencySource.opened cache _ _ c.args.key.now routing (λ s steps. IfSome (live_at g.K.PartialEq.eq s c.args.key.now c.args.now (events_in steps)) (λ live. g.V.Clone.is_infallible live.value → IsOk c.remove_with_hash.result)) c.remove_with_hash.ensures.copied)
 
-pub remove_with_hash-requires : goal.remove_with_hash-requires
-remove_with_hash-requires g c =
+pub remove_with_hash-requires-clause-hash : goal.remove_with_hash-requires-clause-hash
+remove_with_hash-requires-clause-hash g c =
     let behaviour = behaviour_by (hash_by g.C.Hasher.BuildHasher.build_hasher g.C.Hasher.Hasher.Hasher.write g.C.Hasher.Hasher.Hasher.finish g.K.Hash.hash_input) g.C.CacheTypes.weight g.C.CacheTypes.lifetimes in
     let frequency = estimates g.C.Frequency.FrequencySource.noted g.C.Frequency.FrequencySource.count in
     hash-at (λ (state : StateData _ _ _ _ _ _ _). IsHashOf (settings_by behaviour (frequency g.C.Frequency.FrequencySource.opened) state.settings) c.args.key.now c.place_of-place.result.hash) c.self.inside.segments.items c.place_of-place.result.index c.index_mut.result.now (rw (← c.self.view_is) at c.place_of-place.ensures.within) c.index_mut.ensures.value (rw (← c.self.view_is) at c.place_of-place.ensures.hash)

@@ -14,7 +14,7 @@ use Rattle.moka_state.proofs.state.State.contains_key_with_hash.Goals as goal
 pub returns-in-None-clause-reply : goal.returns-in-None-clause-reply
 returns-in-None-clause-reply g c given steps stands =
     let s = c.self.inside in
-    let none = live-absent g.K.PartialEq.eq g.met.K.Eq.laws _ s.table _ s.latest s.next_number given steps (rw (← c.self.view_is) at stands) _ (hash-alike g.C.Hasher.BuildHasher.build_hasher g.C.Hasher.Hasher.Hasher.write g.C.Hasher.Hasher.Hasher.finish s.behaviour.hasher g.met.K.Hash.respects_eq) c.self.invariant.0.hashed c.args.key.now c.args.now c.args.hash (rw (← c.self.view_is) at c.requires) c.in-None.ensures.absent in
+    let none = live-absent g.K.PartialEq.eq g.met.K.Eq.laws _ s.table _ s.latest s.next_number given steps (rw (← c.self.view_is) at stands) _ (hash-alike g.C.Hasher.BuildHasher.build_hasher g.C.Hasher.Hasher.Hasher.write g.C.Hasher.Hasher.Hasher.finish s.behaviour.hasher g.met.K.Hash.respects_eq) c.self.invariant.0.hashed c.args.key.now c.args.now c.args.hash (rw (← c.self.view_is) at c.requires.hash) c.in-None.ensures.absent in
     sym (ap (λ o. Contains (is_some o)) none)
 
 pub returns-in-None-clause-stands : goal.returns-in-None-clause-stands

@@ -19,15 +19,15 @@ use Rattle.moka_state.proofs.state.State.get_with_hash.Goals as goal
 pub returns-in_default-clause-reply : goal.returns-in_default-clause-reply
 returns-in_default-clause-reply g c given steps stands =
     let s = c.self.inside in
-    let none = live-absent g.K.PartialEq.eq g.met.K.Eq.laws _ s.table _ s.latest s.next_number given steps (rw (← c.self.view_is) at stands) _ (hash-alike g.C.Hasher.BuildHasher.build_hasher g.C.Hasher.Hasher.Hasher.write g.C.Hasher.Hasher.Hasher.finish s.behaviour.hasher g.met.K.Hash.respects_eq) c.self.invariant.0.hashed c.args.key.now c.args.now c.args.hash (rw (← c.self.view_is) at c.requires) c.in_default.ensures.absent in
+    let none = live-absent g.K.PartialEq.eq g.met.K.Eq.laws _ s.table _ s.latest s.next_number given steps (rw (← c.self.view_is) at stands) _ (hash-alike g.C.Hasher.BuildHasher.build_hasher g.C.Hasher.Hasher.Hasher.write g.C.Hasher.Hasher.Hasher.finish s.behaviour.hasher g.met.K.Hash.respects_eq) c.self.invariant.0.hashed c.args.key.now c.args.now c.args.hash (rw (← c.self.view_is) at c.requires.hash) c.in_default.ensures.absent in
     rw none tt
 
 pub returns-in_default-clause-stands : goal.returns-in_default-clause-stands
 returns-in_default-clause-stands g c =
     let s = c.self.inside in
-    let none = held-absent g.K.PartialEq.eq s.table _ (hash-alike g.C.Hasher.BuildHasher.build_hasher g.C.Hasher.Hasher.Hasher.write g.C.Hasher.Hasher.Hasher.finish s.behaviour.hasher g.met.K.Hash.respects_eq) c.self.invariant.0.hashed c.args.key.now c.args.hash (rw (← c.self.view_is) at c.requires) c.in_default.ensures.absent in
+    let none = held-absent g.K.PartialEq.eq s.table _ (hash-alike g.C.Hasher.BuildHasher.build_hasher g.C.Hasher.Hasher.Hasher.write g.C.Hasher.Hasher.Hasher.finish s.behaviour.hasher g.met.K.Hash.respects_eq) c.self.invariant.0.hashed c.args.key.now c.args.hash (rw (← c.self.view_is) at c.requires.hash) c.in_default.ensures.absent in
     rw (← c.self.view_is, c.max-now.ensures) (follows-event g.K.PartialEq.eq g.met.K.Eq.laws _ _ (Get c.args.key.now c.args.now) (Looked c.args.key.now c.args.now) (λ _ _. refl)
-    (λ _. becomes-absent g.K.PartialEq.eq _ s.table _ s.latest s.next_number _ c.args.key.now c.args.now (estimates-noted g.C.Frequency.FrequencySource.noted g.C.Frequency.FrequencySource.count s.upkeep.source c.note.new.self c.args.hash _ c.note.ensures (rw (← c.self.view_is) at c.requires)) none))
+    (λ _. becomes-absent g.K.PartialEq.eq _ s.table _ s.latest s.next_number _ c.args.key.now c.args.now (estimates-noted g.C.Frequency.FrequencySource.noted g.C.Frequency.FrequencySource.count s.upkeep.source c.note.new.self c.args.hash _ c.note.ensures (rw (← c.self.view_is) at c.requires.hash)) none))
 
 pub returns-then-is_dead-clause-reply : goal.returns-then-is_dead-clause-reply
 returns-then-is_dead-clause-reply g c given steps stands =
@@ -47,7 +47,7 @@ returns-then-is_dead-clause-stands g c =
     let key = same-key g.K.PartialEq.eq c.args.key.now c.args.hash row (rw c.row-row.ensures at c.in-Some.ensures.found) in
     let alive = alive-kept s.upkeep.lives row.info dated (max s.latest c.args.now) (omega (arith, c.max-now.ensures)) ∙ ap not (sym (ap (λ m. row.info.is_hidden || has_come row.info.deadline m) c.max-now.ensures) ∙ sym (ap (λ (i : EntryInfo). i.is_hidden || has_come i.deadline c.max-now.result) c.info-info.ensures) ∙ sym c.is_dead.ensures ∙ c.if-is_dead.true) in
     rw (← c.self.view_is, c.max-now.ensures) (follows-event g.K.PartialEq.eq g.met.K.Eq.laws _ _ (Get c.args.key.now c.args.now) (Looked c.args.key.now c.args.now) (λ _ _. refl)
-    (λ one. becomes-dead g.K.PartialEq.eq _ s.table _ s.latest s.next_number one s.table c.args.key.now c.args.now c.in-Some.number row c.row-row.ensures key _ (estimates-noted g.C.Frequency.FrequencySource.noted g.C.Frequency.FrequencySource.count s.upkeep.source c.note-then-is_dead.new.self c.args.hash _ c.note-then-is_dead.ensures (rw (← c.self.view_is) at c.requires)) alive))
+    (λ one. becomes-dead g.K.PartialEq.eq _ s.table _ s.latest s.next_number one s.table c.args.key.now c.args.now c.in-Some.number row c.row-row.ensures key _ (estimates-noted g.C.Frequency.FrequencySource.noted g.C.Frequency.FrequencySource.count s.upkeep.source c.note-then-is_dead.new.self c.args.hash _ c.note-then-is_dead.ensures (rw (← c.self.view_is) at c.requires.hash)) alive))
 
 pub returns-in_default-clone-clause-miss : goal.returns-in_default-clone-clause-miss
 returns-in_default-clone-clause-miss g c given steps stands nothing =
@@ -94,7 +94,7 @@ returns-clause-stands g c =
     let alive = alive-kept s.upkeep.lives row.info dated (max s.latest c.args.now) (omega (arith, c.max-now.ensures)) ∙ ap not (sym (ap (λ m. row.info.is_hidden || has_come row.info.deadline m) c.max-now.ensures) ∙ sym (ap (λ (i : EntryInfo). i.is_hidden || has_come i.deadline c.max-now.result) c.info-info.ensures) ∙ sym c.is_dead.ensures ∙ c.if-is_dead.false) in
     let life = rw (c.deref.ensures, c.info-info.ensures, c.max-now.ensures) at c.life_of_hit-own_life.ensures in
     rw (← c.self.view_is, c.max-now.ensures) (follows-event g.K.PartialEq.eq g.met.K.Eq.laws _ _ (Get c.args.key.now c.args.now) (Looked c.args.key.now c.args.now) (λ _ _. refl)
-    (λ one. becomes-hit g.K.PartialEq.eq _ s.table _ s.latest s.next_number one c.touch.new.self c.args.key.now c.args.now c.in-Some.number row c.row-row.ensures key _ _ (estimates-noted g.C.Frequency.FrequencySource.noted g.C.Frequency.FrequencySource.count s.upkeep.source c.note-2.new.self c.args.hash _ c.note-2.ensures (rw (← c.self.view_is) at c.requires))
+    (λ one. becomes-hit g.K.PartialEq.eq _ s.table _ s.latest s.next_number one c.touch.new.self c.args.key.now c.args.now c.in-Some.number row c.row-row.ensures key _ _ (estimates-noted g.C.Frequency.FrequencySource.noted g.C.Frequency.FrequencySource.count s.upkeep.source c.note-2.new.self c.args.hash _ c.note-2.ensures (rw (← c.self.view_is) at c.requires.hash))
     alive (stored-same _ (touched c.used-touch.result row) refl refl refl refl refl (sym (c.used-touch.ensures.accessed ∙ (rw c.info-info.ensures at c.max-last_accessed.ensures) ∙ ap (max row.info.last_accessed) c.max-now.ensures)) (sym (ap (option_map own_life) c.used-touch.ensures.own ∙ life)) refl) c.touch.ensures.rows c.touch.ensures.notices))
 
 pub returns-clause-kept : goal.returns-clause-kept

@@ -23,13 +23,13 @@ use Rattle.moka_state.proofs.state.State.remove_with_hash.Goals as goal
 pub returns-in_default-clause-reply : goal.returns-in_default-clause-reply
 returns-in_default-clause-reply g c given steps stands =
     let s = c.self.inside in
-    let none = live-absent g.K.PartialEq.eq g.met.K.Eq.laws _ s.table _ s.latest s.next_number given steps (rw (← c.self.view_is) at stands) _ (hash-alike g.C.Hasher.BuildHasher.build_hasher g.C.Hasher.Hasher.Hasher.write g.C.Hasher.Hasher.Hasher.finish s.behaviour.hasher g.met.K.Hash.respects_eq) c.self.invariant.0.hashed c.args.key.now c.args.now c.args.hash (rw (← c.self.view_is) at c.requires) c.in_default.ensures.absent in
+    let none = live-absent g.K.PartialEq.eq g.met.K.Eq.laws _ s.table _ s.latest s.next_number given steps (rw (← c.self.view_is) at stands) _ (hash-alike g.C.Hasher.BuildHasher.build_hasher g.C.Hasher.Hasher.Hasher.write g.C.Hasher.Hasher.Hasher.finish s.behaviour.hasher g.met.K.Hash.respects_eq) c.self.invariant.0.hashed c.args.key.now c.args.now c.args.hash (rw (← c.self.view_is) at c.requires.hash) c.in_default.ensures.absent in
     rw none tt
 
 pub returns-in_default-clause-stands : goal.returns-in_default-clause-stands
 returns-in_default-clause-stands g c =
     let s = c.self.inside in
-    let none = held-absent g.K.PartialEq.eq s.table _ (hash-alike g.C.Hasher.BuildHasher.build_hasher g.C.Hasher.Hasher.Hasher.write g.C.Hasher.Hasher.Hasher.finish s.behaviour.hasher g.met.K.Hash.respects_eq) c.self.invariant.0.hashed c.args.key.now c.args.hash (rw (← c.self.view_is) at c.requires) c.in_default.ensures.absent in
+    let none = held-absent g.K.PartialEq.eq s.table _ (hash-alike g.C.Hasher.BuildHasher.build_hasher g.C.Hasher.Hasher.Hasher.write g.C.Hasher.Hasher.Hasher.finish s.behaviour.hasher g.met.K.Hash.respects_eq) c.self.invariant.0.hashed c.args.key.now c.args.hash (rw (← c.self.view_is) at c.requires.hash) c.in_default.ensures.absent in
     rw (← c.self.view_is, c.max-now.ensures) (follows-event g.K.PartialEq.eq g.met.K.Eq.laws _ _ (Remove c.args.key.now c.args.now) (Invalidated c.args.key.now c.args.now) (λ _ _. refl)
     (λ _. becomes-unremoved g.K.PartialEq.eq _ s.table _ s.latest s.next_number c.args.key.now c.args.now none))
 
