@@ -1,6 +1,7 @@
 pub mod Bounds
 pub mod Broadcast
 pub mod Callers
+pub mod Hashing
 pub mod Noticing
 pub mod Numbers
 pub mod Opened

@@ -1,6 +1,7 @@
 -- What a cache of several segments keeps, and what this means.
-use Rattle.std.specs.Prelude.{ℕ, Bool, false, not, List, map, length, slice_get, option_map, Option, Some, None}
+use Rattle.std.specs.Prelude.{◌≡◌, ℕ, Bool, false, not, List, map, length, slice_get, option_map, Option, Some, None}
 use Rattle.std.specs.Arc.{arc_value}
+use Rattle.std.specs.List.{AllByRecursion}
 use Rattle.moka_model.specs.Lives.{Behaviour}
 use Rattle.moka_model.specs.Maintenance.{total}
 use Rattle.moka_model.specs.Calls.{Call, Answer}
@@ -55,6 +56,10 @@ module _ {K V E S : Type 0} (eq : K → K → Bool) (is_clone : V → V → Type
 
   abbrev pub AnswersInBy : S → Call K V E → Answer K V E → Type 0
   AnswersInBy it call answer = AnswersIn eq is_clone (view it) call answer
+
+-- each state hashes by this hasher
+abbrev pub AllHashBy : {K V H W X F E : Type 0} → H → List (StateData K V H W X F E) → Type 0
+AllHashBy hasher states = AllByRecursion (λ state. state.settings.behaviour.hasher ≡ hasher) states
 
 -- what is said of the state at a place, and something else where there is none
 abbrev pub state_at : {S Y : Type 0} → (S → Y) → Y → Option S → Y

@@ -3,12 +3,14 @@
 ghost use Rattle.std.specs.Prelude.{◌≡◌, ◌⊎◌, ◌+◌, ◌<◌, ◌^◌, ◌↔◌, true, None, length, option_map, IsNone, IsOk, IfOk, IfErr, IfSome, OnOk, OnErr, IsErrAnd};
 ghost use Rattle.std.specs.Arc.{arc_value};
 ghost use Rattle.std.specs.Duration.{as_nanos};
+ghost use Rattle.std.specs.List.{AllByRecursion};
 ghost use Rattle.moka_model.specs.Calls.{Get, ContainsKey, Insert, Invalidate, Remove, TakeNotice, Found, Contains, Noticed, IsOutOfNumbers};
 ghost use Rattle.moka_model.specs.Numbers.{stores_nothing};
 ghost use Rattle.moka_model.specs.SizeLaws.{LimitsSome};
+ghost use Rattle.moka_state.specs.Hashes.{IsHashOf};
 ghost use Rattle.moka_table.specs.Table.{removal_of};
 ghost use Rattle.moka_segments.specs.Segments.{segment_of, segment_of_key, first_from, share_settings, steps_in, live_in};
-ghost use Rattle.moka_segmented.specs.SegmentedData.{SegmentedData, data_of, has_notice, notices_kept};
+ghost use Rattle.moka_segmented.specs.SegmentedData.{SegmentedData, AllHashBy, data_of, has_notice, notices_kept};
 
 use crate::segmented_view::SegmentedStateView;
 use moka_due::due_rows::DueRows;
@@ -16,6 +18,7 @@ use moka_model::notification::Notice;
 use moka_policy::policy::{CacheTypes, Policy, Refused};
 use moka_rows::rows::RowStore;
 use moka_state::state::{InsertRefused, Settings, State};
+use moka_ways::view::StateView;
 use std::alloc::Global;
 use std::hash::{BuildHasher, Hash, Hasher};
 use std::marker::Model;
@@ -33,6 +36,13 @@ pub struct Segmented<K: Hash + Drop, V: Clone, C: CacheTypes<K, V>, R: RowStore<
 /// with its share of the capacity. What happens in one changes no answer of another.
 pub type SegmentedState<K, V, C> = Segmented<K, V, C, DueRows<K, V>>;
 
+// Where a key belongs: its hash, and the number of the segment that the hash's highest bits name.
+#[derive(Clone, Copy)]
+pub(crate) struct Place {
+    pub(crate) hash: u64,
+    pub(crate) index: usize,
+}
+
 impl<K: Hash + Drop, V: Clone, C: CacheTypes<K, V>, R: RowStore<K, V>> Model
     for Segmented<K, V, C, R> {
     ghost Value = { SegmentedData K V C.Hasher C.Weigher C.Expiry C.Frequency C.Error };
@@ -44,7 +54,8 @@ impl<K: Hash + Drop, V: Clone, C: CacheTypes<K, V>, R: RowStore<K, V>> Model
     } };
 
     ghost invariant = { λ it. (it.bits < 64) × (length it.segments.items ≡ 2 ^ it.bits)
-        × LimitsSome it.settings.flush_limit };
+        × LimitsSome it.settings.flush_limit
+        × AllHashBy (arc_value it.settings.hasher) it.segments.items };
 }
 
 impl<K: Hash + Drop, V: Clone, C: CacheTypes<K, V>, R: RowStore<K, V>> Segmented<K, V, C, R> {
@@ -70,8 +81,8 @@ impl<K: Hash + Drop, V: Clone, C: CacheTypes<K, V>, R: RowStore<K, V>> Segmented
             IfSome (live_in C.Error K.eq settings calls key.now now) (λ live.
             V.is_infallible live.value → IsOk result)) }
     {
-        let index = self.segment_of(key);
-        self.segments[index].get(key, now)
+        let place = self.place_of(key);
+        self.segments[place.index].get_with_hash(key, place.hash, now)
     }
 
     /// Whether a key has a live value at a moment, in its segment. It is no use of the value, and
@@ -82,8 +93,8 @@ impl<K: Hash + Drop, V: Clone, C: CacheTypes<K, V>, R: RowStore<K, V>> Segmented
         ensures stands { ⟦<C as SegmentedStateView<K, V>>⟧.follows_in self.now
             (ContainsKey key.now now) self.now }
     {
-        let index = self.segment_of(key);
-        self.segments[index].contains_key(key, now)
+        let place = self.place_of(key);
+        self.segments[place.index].contains_key_with_hash(key, place.hash, now)
     }
 
     /// Writes a value for a key, in its segment.
@@ -108,8 +119,8 @@ impl<K: Hash + Drop, V: Clone, C: CacheTypes<K, V>, R: RowStore<K, V>> Segmented
         ensures nothing { ⟦<C as SegmentedStateView<K, V>>⟧.at_each_list self.old (λ settings _.
             stores_nothing settings.whole.max_capacity ≡ true → IsOk result) }
     {
-        let index = self.segment_of(&key);
-        self.segments[index].insert(key, value, now)
+        let place = self.place_of(&key);
+        self.segments[place.index].insert_with_hash(key, place.hash, value, now)
     }
 
     /// Removes a key, in its segment. Its value, live or expired, is noticed. It takes no memory.
@@ -117,8 +128,8 @@ impl<K: Hash + Drop, V: Clone, C: CacheTypes<K, V>, R: RowStore<K, V>> Segmented
         ensures { ⟦<C as SegmentedStateView<K, V>>⟧.follows_in
             self.old (Invalidate key.now now) self.new }
     {
-        let index = self.segment_of(key);
-        self.segments[index].invalidate(key, now);
+        let place = self.place_of(key);
+        self.segments[place.index].invalidate_with_hash(key, place.hash, now);
     }
 
     /// Removes a key, in its segment, and answers its live value. What stood for the key, live or
@@ -143,8 +154,8 @@ impl<K: Hash + Drop, V: Clone, C: CacheTypes<K, V>, R: RowStore<K, V>> Segmented
             IfSome (live_in C.Error K.eq settings calls key.now now) (λ live.
             V.is_infallible live.value → IsOk result)) }
     {
-        let index = self.segment_of(key);
-        self.segments[index].remove(key, now)
+        let place = self.place_of(key);
+        self.segments[place.index].remove_with_hash(key, place.hash, now)
     }
 
     /// The first notice of the first segment that has one; none exactly where no segment has one. It
@@ -205,15 +216,22 @@ impl<K: Hash + Drop, V: Clone, C: CacheTypes<K, V>, R: RowStore<K, V>> Segmented
         self.alloc
     }
 
-    // The number of a key's segment: the highest bits of its hash.
-    pub(crate) fn segment_of(&self, key: &K) -> usize
-        ensures is { result ≡ segment_of_key
+    // The segment of a key, and its hash, which is that in each segment.
+    pub(crate) fn place_of(&self, key: &K) -> Place
+        ensures is { result.index ≡ segment_of_key
             (⟦<C as SegmentedStateView<K, V>>⟧.segmented_settings self.now) key.now }
-        ensures within { result < length self.now.segments }
+        ensures within { result.index < length self.now.segments }
+        ensures hash { AllByRecursion (λ state. IsHashOf
+            (⟦<C as StateView<K, V>>⟧.settings state.settings) key.now result.hash)
+            self.now.segments }
     {
         let mut state = self.settings.hasher.build_hasher();
         key.hash(&mut state);
-        number_of_segment(self.bits, state.finish())
+        let hash = state.finish();
+        Place {
+            hash,
+            index: number_of_segment(self.bits, hash),
+        }
     }
 
     // The first segment that has a notice.

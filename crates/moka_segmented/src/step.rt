@@ -30,11 +30,11 @@ impl<K: Hash + Drop, V: Clone, C: CacheTypes<K, V>, R: RowStore<K, V>> Segmented
             (after_reply_in (call_of C.test step) result calls)) }
         ensures kept { ReplyKeeps C.keeps step result }
     {
-        let index = match key_of(&step) {
-            Some(key) => self.segment_of(key),
+        let place = match key_of(&step) {
+            Some(key) => self.place_of(key),
             None => return self.step_of_all(step),
         };
-        self.segments[index].step(step)
+        self.segments[place.index].step_with_hash(step, place.hash)
     }
 
     // A step without a key.

@@ -1,6 +1,8 @@
-pub mod Collects
+mod Scans
+pub mod Alike
 pub mod Becoming
 pub mod Begins
+pub mod Collects
 pub mod Conserved
 pub mod Counts
 pub mod Elements
@@ -10,10 +12,9 @@ pub mod Held
 pub mod Inserts
 pub mod Maintained
 pub mod Orders
+pub mod Removing
 pub mod Runs
-mod Scans
 pub mod Sound
 pub mod Targets
 pub mod Turns
 pub mod Views
-pub mod Removing

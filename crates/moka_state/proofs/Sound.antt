@@ -1,5 +1,5 @@
 -- What a state keeps to stays so: after a change of one row, and after a maintenance.
-use Rattle.std.proofs.Common.{◌≡◌, ◌≢◌, ℕ, zero, suc, ◌<◌, arith, Bool, List, [], ◌∷◌, ◌++◌, map, Option, Some, None, refl, sym, ap, ◌∙◌, subst, append_assoc}
+use Rattle.std.proofs.Common.{◌≡◌, ◌≢◌, ℕ, zero, suc, arith, Bool, List, [], ◌∷◌, ◌++◌, map, Option, Some, None, refl, sym, ap, ◌∙◌, subst, append_assoc}
 use Rattle.std.specs.Arc.{arc_value}
 use Rattle.moka_model.specs.declared.notification.Notice.{Notice}
 use Rattle.moka_rows.specs.declared.rows.EntryInfo.{EntryInfo}

@@ -67,6 +67,7 @@ impl<K: Hash + Drop, V: Clone, C: CacheTypes<K, V>, R: RowStore<K, V>> State<K, 
         ensures cause { IfErr result
             (λ cause. cause ≡ PredicateError.InvalidationClosuresDisabled) }
         ensures refused { OnErr result (self.new ≡ self.old) }
+        ensures settings { self.new.settings ≡ self.old.settings }
     {
         self.predicate_room()?; // Where it is refused nothing is hidden.
         self.hide_where(&predicate);
@@ -95,8 +96,9 @@ impl<K: Hash + Drop, V: Clone, C: CacheTypes<K, V>, R: RowStore<K, V>> State<K, 
     pub fn hide_where(&mut self, predicate: &C::Predicate)
         requires tests { C.Predicate.tests predicate.now (C.test predicate.now) }
         requires supported { self.old.settings.supports_closures ≡ true }
-        ensures { ⟦<C as StateView<K, V>>⟧.follows
+        ensures stands { ⟦<C as StateView<K, V>>⟧.follows
             self.old (InvalidateIf (C.test predicate.now)) self.new }
+        ensures settings { self.new.settings ≡ self.old.settings }
     {
         let mut visits = 0;
         self.table.hide_where(predicate, &mut visits);

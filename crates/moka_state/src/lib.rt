@@ -4,6 +4,7 @@
 pub mod answers;
 pub mod begin;
 pub mod finish;
+pub mod hashed;
 pub mod invalidation;
 pub mod removal;
 pub mod scanning;

@@ -35,25 +35,16 @@ impl<K: Hash + Drop, V: Clone, C: CacheTypes<K, V>, R: RowStore<K, V>> State<K, 
             IfSome (live_at K.eq settings key.now now (events_in steps)) (λ live.
             V.is_infallible live.value → IsOk result)) }
     {
-        let now = self.latest.max(now);
-        let hash = self.behaviour.hash(key);
-        let Some(number) = self.table.find(key, hash) else {
-            self.latest = now;
-            return Ok(None);
-        };
-        let row = self.table.row(number);
-        let cause = row.info().cause(now, RemovalCause::Explicit);
-        let found = copy_of_live(row, now)?;
-        self.table.evict(number, cause);
-        self.latest = now;
-        Ok(found)
+        let hash = self.hash(key);
+        self.remove_with_hash(key, hash, now)
     }
 
     /// Removes all keys. From then on no value that stood is found; each is noticed once it leaves,
     /// at a maintenance or where its key is written or removed. It has no moment, and takes no
     /// memory. Visits each row.
     pub fn invalidate_all(&mut self)
-        ensures { ⟦<C as StateView<K, V>>⟧.follows self.old InvalidateAll self.new }
+        ensures stands { ⟦<C as StateView<K, V>>⟧.follows self.old InvalidateAll self.new }
+        ensures settings { self.new.settings ≡ self.old.settings }
     {
         let mut visits = 0;
         self.table.hide_all(&mut visits);

@@ -23,9 +23,7 @@ use moka_model::notification::{Notice, RemovalCause};
 use moka_policy::policy::{CacheTypes, EvictionPolicy, FrequencySource, Policy, Refused};
 use moka_rows::rows::RowStore;
 use moka_snapshot::snapshot::SharedSnapshot;
-use moka_table::shared_key::{IntoShared, Owned};
 use moka_table::table::Table;
-use moka_table::target::NewValue;
 use moka_turns::table::Turns;
 use moka_ways::behaviour::Behaviour;
 use moka_ways::lives::Lives;
@@ -230,30 +228,8 @@ impl<K: Hash + Drop, V: Clone, C: CacheTypes<K, V>, R: RowStore<K, V>> State<K, 
             IfSome (live_at K.eq settings key.now now (events_in steps)) (λ live.
             V.is_infallible live.value → IsOk result)) }
     {
-        let now = self.latest.max(now);
-        let hash = self.behaviour.hash(key);
-        let Some(number) = self.table.find(key, hash) else {
-            self.upkeep.source.note(hash);
-            self.latest = now;
-            return Ok(None);
-        };
-        let row = self.table.row(number);
-        let info = row.info();
-        if info.is_dead(now) {
-            self.upkeep.source.note(hash);
-            self.latest = now;
-            return Ok(None);
-        }
-        let Ok(value) = row.value.clone() else {
-            return Err(Refused::OutOfMemory);
-        };
-        let own_life = self.behaviour.life_of_hit(&row.key, &row.value, info, now);
-        let last_accessed = info.last_accessed.max(now);
-        let touch = self.upkeep.lives.used(info, last_accessed, own_life);
-        self.table.touch(number, touch);
-        self.upkeep.source.note(hash);
-        self.latest = now;
-        Ok(Some(value))
+        let hash = self.hash(key);
+        self.get_with_hash(key, hash, now)
     }
 
     /// Writes a value for a key. The value that stands for the key, live or expired, leaves and is
@@ -280,72 +256,8 @@ impl<K: Hash + Drop, V: Clone, C: CacheTypes<K, V>, R: RowStore<K, V>> State<K, 
             (⟦<C as StateView<K, V>>⟧.follows self.old (Insert key value now) self.new)
             self.old self.new key value result }
     {
-        match self.write(Owned(key), value, now) {
-            Ok(()) => Ok(()),
-            Err(InsertRefused { key, value, cause }) => Err(InsertRefused {
-                key: key.0,
-                value,
-                cause,
-            }),
-        }
-    }
-
-    // A write of a key that is shared already, or is to be.
-    pub(crate) fn write<S: IntoShared<K>>(
-        &mut self,
-        key: S,
-        value: V,
-        now: u64,
-    ) -> Result<(), InsertRefused<S, V>>
-        requires { C.keeps (S.key_of key) value }
-        ensures { WriteEnds
-            (⟦<C as StateView<K, V>>⟧.follows self.old (Insert (S.key_of key) value now) self.new)
-            self.old self.new key value result }
-    {
-        if self.upkeep.max_capacity == Some(0) {
-            self.latest = self.latest.max(now);
-            return Ok(());
-        }
-        if self.next_number == u64::MAX {
-            let cause = Refused::NumbersUsedUp;
-            return Err(InsertRefused { key, value, cause });
-        }
-        self.write_anew(key, value, now)
-    }
-
-    // A write that draws a number. The weight is asked for the call's key, before anything changes.
-    fn write_anew<S: IntoShared<K>>(
-        &mut self,
-        key: S,
-        value: V,
-        now: u64,
-    ) -> Result<(), InsertRefused<S, V>>
-        requires kept { C.keeps (S.key_of key) value }
-        requires stores { stores_nothing self.old.settings.max_capacity ≡ false }
-        requires number { self.old.books.next_number ≢ greatest_number }
-        ensures { WriteEnds
-            (⟦<C as StateView<K, V>>⟧.follows self.old (Insert (S.key_of key) value now) self.new)
-            self.old self.new key value result }
-    {
-        let now = self.latest.max(now);
-        let cause = Refused::OutOfMemory;
-        let hash = self.behaviour.hash(key.key());
-        let weight = self.behaviour.weight(key.key(), &value);
-        let place = match self.table.place(key, hash, self.alloc) {
-            Ok(place) => place,
-            Err(key) => return Err(InsertRefused { key, value, cause }),
-        };
-        let new = NewValue {
-            hash,
-            value,
-            weight,
-            now,
-        };
-        self.upkeep
-            .write(&mut self.table, place, new, &self.behaviour, self.flush_limit);
-        self.latest = now;
-        self.next_number += 1;
-        Ok(())
+        let hash = self.hash(&key);
+        self.insert_with_hash(key, hash, value, now)
     }
 
     /// Whether a key has a live value at a moment. It is no use of the value, and records nothing.
@@ -355,26 +267,16 @@ impl<K: Hash + Drop, V: Clone, C: CacheTypes<K, V>, R: RowStore<K, V>> State<K, 
         ensures stands { ⟦<C as StateView<K, V>>⟧.follows self.now
             (ContainsKey key.now now) self.now }
     {
-        let now = self.latest.max(now);
-        let hash = self.behaviour.hash(key);
-        match self.table.find(key, hash) {
-            None => false,
-            Some(number) => !self.table.row(number).info().is_dead(now),
-        }
+        let hash = self.hash(key);
+        self.contains_key_with_hash(key, hash, now)
     }
 
     /// Removes a key. Its value, live or expired, is noticed. It takes no memory.
     pub fn invalidate(&mut self, key: &K, now: u64)
         ensures { ⟦<C as StateView<K, V>>⟧.follows self.old (Invalidate key.now now) self.new }
     {
-        let now = self.latest.max(now);
-        self.latest = now;
-        let hash = self.behaviour.hash(key);
-        if let Some(number) = self.table.find(key, hash) {
-            let info = self.table.row(number).info();
-            let cause = info.cause(now, RemovalCause::Explicit);
-            self.table.evict(number, cause);
-        }
+        let hash = self.hash(key);
+        self.invalidate_with_hash(key, hash, now);
     }
 
     /// The first notice that has not been taken, in the order of leaving; none exactly where all
@@ -396,6 +298,7 @@ impl<K: Hash + Drop, V: Clone, C: CacheTypes<K, V>, R: RowStore<K, V>> State<K, 
         ensures none { IsNone result ↔ (self.old.books.notices ≡ []) }
         ensures fewer { IfSome result (λ _.
             length self.old.books.notices ≡ length self.new.books.notices + 1) }
+        ensures settings { self.new.settings ≡ self.old.settings }
     {
         self.table.take_notice()
     }
@@ -434,6 +337,7 @@ impl<K: Hash + Drop, V: Clone, C: CacheTypes<K, V>, R: RowStore<K, V>> State<K, 
             self.new.settings.behaviour.weigher ≡ None →
             IfSome self.new.settings.max_capacity (λ capacity.
             length (all_writes self.new) ≤ capacity)) }
+        ensures settings { self.new.settings ≡ self.old.settings }
     {
         let now = self.latest.max(now);
         self.upkeep
@@ -474,6 +378,7 @@ impl<K: Hash + Drop, V: Clone, C: CacheTypes<K, V>, R: RowStore<K, V>> State<K, 
             self.new.settings.behaviour.weigher ≡ None →
             IfSome self.new.settings.max_capacity (λ capacity.
             length (all_writes self.new) ≤ capacity)) }
+        ensures settings { self.new.settings ≡ self.old.settings }
     {
         let now = self.latest.max(now);
         let policy = self.behaviour.policy();

@@ -5,6 +5,7 @@ ghost use Rattle.moka_model.specs.Numbers.{flush_point};
 ghost use Rattle.moka_model.specs.Steps.{events_in};
 ghost use Rattle.moka_conserved.specs.Conserved.{given_out, IsConserved};
 ghost use Rattle.moka_state.specs.State.{all_writes};
+ghost use Rattle.moka_state.specs.Hashes.{IsHashOfStep};
 ghost use Rattle.moka_state.specs.Noticed.{noticed_in};
 ghost use Rattle.moka_state.specs.Step.{call_of, IsReplyTo, StepKeeps, ReplyKeeps, after_reply, IsRun, after_all};
 
@@ -112,21 +113,42 @@ impl<K: Hash + Drop, V: Clone, C: CacheTypes<K, V>, R: RowStore<K, V>> State<K, 
             (after_reply K.eq settings (call_of C.test step) result steps)) }
         ensures kept { ReplyKeeps C.keeps step result }
     {
+        let hash = self.hash_of_step(&step);
+        self.step_with_hash(step, hash)
+    }
+
+    /// As [`State::step`], with the hash of the step's key, which is that of [`State::hash`]: the key is
+    /// not hashed. Where the step has no key, any number does.
+    pub fn step_with_hash(&mut self, step: Step<K, V, C>, hash: u64) -> Reply<K, V>
+        requires hash { IsHashOfStep (⟦<C as StateView<K, V>>⟧.settings self.old.settings)
+            step hash }
+        requires keeps { StepKeeps C.keeps C.Predicate.tests C.test step }
+        ensures reply { ⟦<C as StateView<K, V>>⟧.at_each_history self.old (λ settings steps.
+            IsReplyTo K.eq V.is_clone V.is_infallible settings steps
+            (call_of C.test step) result) }
+        ensures stands { ⟦<C as StateView<K, V>>⟧.at_each_history self.old (λ settings steps.
+            ⟦<C as StateView<K, V>>⟧.stands_for settings self.new
+            (after_reply K.eq settings (call_of C.test step) result steps)) }
+        ensures kept { ReplyKeeps C.keeps step result }
+        ensures settings { self.new.settings ≡ self.old.settings }
+    {
         match step {
-            Step::Get { key, now } => match self.get(&*key, now) {
+            Step::Get { key, now } => match self.get_with_hash(&*key, hash, now) {
                 Ok(found) => Reply::Found(found),
                 Err(refused) => Reply::Refused(refused),
             },
-            Step::ContainsKey { key, now } => Reply::Contains(self.contains_key(&*key, now)),
-            Step::Insert { key, value, now } => match self.write(key, value, now) {
+            Step::ContainsKey { key, now } => {
+                Reply::Contains(self.contains_key_with_hash(&*key, hash, now))
+            }
+            Step::Insert { key, value, now } => match self.write(key, hash, value, now) {
                 Ok(()) => Reply::Done,
                 Err(InsertRefused { cause, .. }) => Reply::Refused(cause),
             },
             Step::Invalidate { key, now } => {
-                self.invalidate(&*key, now);
+                self.invalidate_with_hash(&*key, hash, now);
                 Reply::Done
             }
-            Step::Remove { key, now } => match self.remove(&*key, now) {
+            Step::Remove { key, now } => match self.remove_with_hash(&*key, hash, now) {
                 Ok(removed) => Reply::Found(removed),
                 Err(refused) => Reply::Refused(refused),
             },
@@ -150,6 +172,21 @@ impl<K: Hash + Drop, V: Clone, C: CacheTypes<K, V>, R: RowStore<K, V>> State<K, 
             Step::EntryCount => Reply::Counted(self.entry_count()),
             Step::WeightedSize => Reply::Counted(self.weighted_size()),
             Step::TakeNotice => Reply::Noticed(self.take_notice()),
+        }
+    }
+
+    // The hash of the key of a step, and some number where it has none.
+    fn hash_of_step(&self, step: &Step<K, V, C>) -> u64
+        ensures { IsHashOfStep (⟦<C as StateView<K, V>>⟧.settings self.now.settings)
+            step.now result }
+    {
+        match step {
+            Step::Get { key, .. }
+            | Step::ContainsKey { key, .. }
+            | Step::Insert { key, .. }
+            | Step::Invalidate { key, .. }
+            | Step::Remove { key, .. } => self.hash(&**key),
+            _ => 0,
         }
     }
 

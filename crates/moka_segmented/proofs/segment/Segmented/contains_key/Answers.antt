@@ -1,8 +1,10 @@
-use Rattle.std.proofs.Common.{refl}
+use Rattle.std.proofs.Common.{refl, ◌∙◌, ap}
 use Rattle.moka_ways.specs.Behaviour.{hash_by, behaviour_by}
-use Rattle.moka_ways.specs.StateData.{estimates}
+use Rattle.moka_ways.specs.StateData.{StateData, estimates, settings_by}
+use Rattle.moka_state.specs.Hashes.{IsHashOf}
 use Rattle.moka_model.specs.Calls.{ContainsKey, Contains}
 use Rattle.moka_segmented.specs.SegmentedData.{SegmentedData, data_of, segmented_settings_by}
+use Rattle.moka_segmented.proofs.Hashing.{hash-at, all-hash-set}
 use Rattle.moka_segmented.proofs.Routed.{Routing, routed-answers, routed-stays}
 use Rattle.moka_segmented.proofs.segment.Segmented.contains_key.Goals as goal
 
@@ -12,9 +14,9 @@ returns-clause-reply g c =
     let frequency = estimates g.C.Frequency.FrequencySource.noted g.C.Frequency.FrequencySource.count in
     let it = c.self.inside in
     let cache : SegmentedData _ _ _ _ _ _ _ = record { bits = it.bits; settings = data_of it.settings; segments = it.segments.items } in
-    let routing : Routing (segmented_settings_by behaviour (frequency g.C.Frequency.FrequencySource.opened) cache) it.segments.items c.index.result.now c.segment_of-index.result c.args.key.now =
-    record { here_is = c.index.ensures; is = rw (← c.self.view_is) at c.segment_of-index.ensures.is; within = rw (← c.self.view_is) at c.segment_of-index.ensures.within } in
-    rw (← c.self.view_is) (routed-answers g.row.C-Error.Denot g.K.PartialEq.eq behaviour frequency g.C.Frequency.FrequencySource.opened cache _ _ c.args.key.now routing (ContainsKey c.args.key.now c.args.now) (Contains c.contains_key.result) refl c.contains_key.ensures.reply)
+    let routing : Routing (segmented_settings_by behaviour (frequency g.C.Frequency.FrequencySource.opened) cache) it.segments.items c.index.result.now c.place_of-place.result.index c.args.key.now =
+    record { here_is = c.index.ensures; is = rw (← c.self.view_is) at c.place_of-place.ensures.is; within = rw (← c.self.view_is) at c.place_of-place.ensures.within } in
+    rw (← c.self.view_is) (routed-answers g.row.C-Error.Denot g.K.PartialEq.eq behaviour frequency g.C.Frequency.FrequencySource.opened cache _ _ c.args.key.now routing (ContainsKey c.args.key.now c.args.now) (Contains c.contains_key_with_hash.result) refl c.contains_key_with_hash.ensures.reply)
 
 pub returns-clause-stands : goal.returns-clause-stands
 returns-clause-stands g c =
@@ -22,6 +24,12 @@ returns-clause-stands g c =
     let frequency = estimates g.C.Frequency.FrequencySource.noted g.C.Frequency.FrequencySource.count in
     let it = c.self.inside in
     let cache : SegmentedData _ _ _ _ _ _ _ = record { bits = it.bits; settings = data_of it.settings; segments = it.segments.items } in
-    let routing : Routing (segmented_settings_by behaviour (frequency g.C.Frequency.FrequencySource.opened) cache) it.segments.items c.index.result.now c.segment_of-index.result c.args.key.now =
-    record { here_is = c.index.ensures; is = rw (← c.self.view_is) at c.segment_of-index.ensures.is; within = rw (← c.self.view_is) at c.segment_of-index.ensures.within } in
-    rw (← c.self.view_is) (routed-stays g.row.C-Error.Denot g.K.PartialEq.eq behaviour frequency g.C.Frequency.FrequencySource.opened cache _ _ c.args.key.now routing (ContainsKey c.args.key.now c.args.now) refl c.contains_key.ensures.stands)
+    let routing : Routing (segmented_settings_by behaviour (frequency g.C.Frequency.FrequencySource.opened) cache) it.segments.items c.index.result.now c.place_of-place.result.index c.args.key.now =
+    record { here_is = c.index.ensures; is = rw (← c.self.view_is) at c.place_of-place.ensures.is; within = rw (← c.self.view_is) at c.place_of-place.ensures.within } in
+    rw (← c.self.view_is) (routed-stays g.row.C-Error.Denot g.K.PartialEq.eq behaviour frequency g.C.Frequency.FrequencySource.opened cache _ _ c.args.key.now routing (ContainsKey c.args.key.now c.args.now) refl c.contains_key_with_hash.ensures.stands)
+
+pub contains_key_with_hash-requires-clause-hash : goal.contains_key_with_hash-requires-clause-hash
+contains_key_with_hash-requires-clause-hash g c =
+    let behaviour = behaviour_by (hash_by g.C.Hasher.BuildHasher.build_hasher g.C.Hasher.Hasher.Hasher.write g.C.Hasher.Hasher.Hasher.finish g.K.Hash.hash_input) g.C.CacheTypes.weight g.C.CacheTypes.lifetimes in
+    let frequency = estimates g.C.Frequency.FrequencySource.noted g.C.Frequency.FrequencySource.count in
+    hash-at (λ (state : StateData _ _ _ _ _ _ _). IsHashOf (settings_by behaviour (frequency g.C.Frequency.FrequencySource.opened) state.settings) c.args.key.now c.place_of-place.result.hash) c.self.inside.segments.items c.place_of-place.result.index c.index.result.now (rw (← c.self.view_is) at c.place_of-place.ensures.within) c.index.ensures (rw (← c.self.view_is) at c.place_of-place.ensures.hash)

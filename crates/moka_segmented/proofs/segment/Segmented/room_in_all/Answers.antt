@@ -2,7 +2,9 @@ use Rattle.std.proofs.Common.{◌≡◌, ◌<◌, length, Some, ap, sym, ◌∙�
 use Rattle.std.specs.List.{slice_get}
 use Rattle.std.proofs.lemmas.Bool.Decides.{eqb_tells}
 use Rattle.std.proofs.lemmas.Option.{slice_get_read, slice_get_past}
+use Rattle.moka_ways.specs.StateData.{StateData}
 use Rattle.moka_segmented.specs.SegmentedData.{SegmentedData, data_of}
+use Rattle.moka_segmented.proofs.Hashing.{all-hash-by}
 use Rattle.moka_segmented.proofs.Broadcast.{below-or-past}
 use Rattle.moka_segmented.proofs.Routed.{not-both, set-same, same-data}
 use Rattle.moka_segmented.proofs.segment.Segmented.room_in_all.Goals as goal
@@ -19,6 +21,7 @@ loop-index-preserved g c =
     record {
       bits = was.bits;
       settings = was.settings;
+      hashed = all-hash-by _ now index c.index_mut.result.now c.predicate_room.new.self c.index_mut.ensures.value (ap (λ (state : StateData _ _ _ _ _ _ _). state.settings) c.predicate_room.ensures.same) was.hashed;
       same = set-same now index c.index_mut.result.now c.predicate_room.new.self c.index_mut.ensures.value c.predicate_room.ensures.same ∙ was.same;
       supported = λ j lt. ⊎_elim (λ same. rw (same.1, there) (c.in_ok-predicate_room.ensures.accepted.0 refl)) (λ other. was.supported j (omega (arith, lt, other.1))) (eqb_tells j index);
     }

@@ -5,12 +5,13 @@ use Rattle.moka_ways.specs.Behaviour.{hash_by, behaviour_by}
 use Rattle.moka_ways.specs.StateData.{estimates, view_by}
 use Rattle.moka_model.specs.Calls.{RunPendingTasks}
 use Rattle.moka_segmented.specs.SegmentedData.{SegmentedData, data_of}
+use Rattle.moka_segmented.proofs.Hashing.{all-hash-by}
 use Rattle.moka_segmented.proofs.Broadcast.{progress-none, progress-more, broadcast-follows}
 use Rattle.moka_segmented.proofs.segment.Segmented.run_pending_tasks.Goals as goal
 
 pub loop-index-init : goal.loop-index-init
 loop-index-init g c =
-    rw (← c.self.view_is) (record { bits = refl; settings = refl; progress = progress-none g.K.PartialEq.eq g.V.Clone.is_clone (view_by (behaviour_by (hash_by g.C.Hasher.BuildHasher.build_hasher g.C.Hasher.Hasher.Hasher.write g.C.Hasher.Hasher.Hasher.finish g.K.Hash.hash_input) g.C.CacheTypes.weight g.C.CacheTypes.lifetimes) (estimates g.C.Frequency.FrequencySource.noted g.C.Frequency.FrequencySource.count) g.C.Frequency.FrequencySource.opened) (RunPendingTasks c.args.now) c.self.inside.segments.items })
+    rw (← c.self.view_is) (record { bits = refl; settings = refl; hashed = c.self.invariant.3; progress = progress-none g.K.PartialEq.eq g.V.Clone.is_clone (view_by (behaviour_by (hash_by g.C.Hasher.BuildHasher.build_hasher g.C.Hasher.Hasher.Hasher.write g.C.Hasher.Hasher.Hasher.finish g.K.Hash.hash_input) g.C.CacheTypes.weight g.C.CacheTypes.lifetimes) (estimates g.C.Frequency.FrequencySource.noted g.C.Frequency.FrequencySource.count) g.C.Frequency.FrequencySource.opened) (RunPendingTasks c.args.now) c.self.inside.segments.items })
 
 pub loop-index-preserved : goal.loop-index-preserved
 loop-index-preserved g c =
@@ -22,6 +23,7 @@ loop-index-preserved g c =
     record {
       bits = c.loop-index.invariant.bits;
       settings = c.loop-index.invariant.settings;
+      hashed = all-hash-by _ now index c.index_mut.result.now c.run_pending_tasks.new.self c.index_mut.ensures.value c.run_pending_tasks.ensures.settings c.loop-index.invariant.hashed;
       progress = progress-more g.K.PartialEq.eq g.V.Clone.is_clone (view_by (behaviour_by (hash_by g.C.Hasher.BuildHasher.build_hasher g.C.Hasher.Hasher.Hasher.write g.C.Hasher.Hasher.Hasher.finish g.K.Hash.hash_input) g.C.CacheTypes.weight g.C.CacheTypes.lifetimes) (estimates g.C.Frequency.FrequencySource.noted g.C.Frequency.FrequencySource.count) g.C.Frequency.FrequencySource.opened) (RunPendingTasks c.args.now) c.args.self.now.segments now index c.index_mut.result.now c.run_pending_tasks.new.self here c.run_pending_tasks.ensures.stands c.loop-index.invariant.progress;
     }
 

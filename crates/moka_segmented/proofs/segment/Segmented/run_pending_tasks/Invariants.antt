@@ -1,8 +1,9 @@
 use Rattle.std.proofs.Common.{◌≡◌}
+use Rattle.std.specs.Arc.{arc_value}
 use Rattle.moka_ways.specs.Behaviour.{hash_by, behaviour_by}
 use Rattle.moka_ways.specs.StateData.{estimates, view_by}
 use Rattle.moka_model.specs.Calls.{RunPendingTasks}
-use Rattle.moka_segmented.specs.SegmentedData.{data_of}
+use Rattle.moka_segmented.specs.SegmentedData.{AllHashBy, data_of}
 use Rattle.moka_segmented.proofs.Broadcast.{Progress}
 use Rattle.moka_segmented.proofs.segment.Segmented.run_pending_tasks.Given as goal
 
@@ -11,5 +12,6 @@ abbrev pub invariant-loop-index : goal.invariant-loop-index
 invariant-loop-index g l = record {
   bits : l.self-inside.bits ≡ l.fn.self.bits;
   settings : data_of l.self-inside.settings ≡ l.fn.self.settings;
+  hashed : AllHashBy (arc_value l.self-inside.settings.hasher) l.self-inside.segments.items;
   progress : Progress g.K.PartialEq.eq g.V.Clone.is_clone (view_by (behaviour_by (hash_by g.C.Hasher.BuildHasher.build_hasher g.C.Hasher.Hasher.Hasher.write g.C.Hasher.Hasher.Hasher.finish g.K.Hash.hash_input) g.C.CacheTypes.weight g.C.CacheTypes.lifetimes) (estimates g.C.Frequency.FrequencySource.noted g.C.Frequency.FrequencySource.count) g.C.Frequency.FrequencySource.opened) (RunPendingTasks l.fn.now) l.fn.self.segments l.self-inside.segments.items l.index;
 }

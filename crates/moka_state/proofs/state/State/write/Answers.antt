@@ -14,8 +14,8 @@ nothing-at : (capacity : Option ℕ) → true ≡ option_eq (λ a b. a == b) cap
 nothing-at None e = cc
 nothing-at (Some capacity) e = sym e
 
-pub returns-then-eq : goal.returns-then-eq
-returns-then-eq g c =
+pub returns-then-eq-clause-ends : goal.returns-then-eq-clause-ends
+returns-then-eq-clause-ends g c =
     let s = c.self.inside in
     let nothing = nothing-at s.upkeep.max_capacity c.if-eq.ensures in
     rw (← c.self.view_is, c.max-self-inside.ensures) (record {

@@ -1,0 +1,249 @@
+//! The calls of a key that take its hash: for who has hashed it already, as to choose one of several states.
+ghost use Rattle.std.specs.Prelude.{◌≡◌, ◌≢◌, ◌≤◌, false, None, IsOk, IfOk, IfErr, IfSome, OnOk, OnErr};
+ghost use Rattle.moka_model.specs.Numbers.{greatest_number, stores_nothing};
+ghost use Rattle.moka_model.specs.Steps.{events_in};
+ghost use Rattle.moka_model.specs.Calls.{Get, ContainsKey, Insert, Invalidate, Remove, Found, Contains, live_at};
+ghost use Rattle.moka_state.specs.Hashes.{IsHashOf};
+ghost use Rattle.moka_state.specs.Write.{WriteEnds};
+
+use crate::state::{InsertRefused, State};
+use moka_model::notification::RemovalCause;
+use moka_policy::policy::{CacheTypes, FrequencySource, Refused};
+use moka_rows::rows::RowStore;
+use moka_table::shared_key::{IntoShared, Owned};
+use moka_table::target::NewValue;
+use moka_ways::live_value::copy_of_live;
+use moka_ways::view::StateView;
+use std::hash::Hash;
+
+impl<K: Hash + Drop, V: Clone, C: CacheTypes<K, V>, R: RowStore<K, V>> State<K, V, C, R> {
+    /// The hash of a key, as the calls want it that take one. It hashes the key once.
+    pub fn hash(&self, key: &K) -> u64
+        ensures { IsHashOf (⟦<C as StateView<K, V>>⟧.settings self.now.settings) key.now result }
+    {
+        self.behaviour.hash(key)
+    }
+
+    /// As [`State::get`], with the key's hash, which is that of [`State::hash`]: the key is not hashed.
+    ///
+    /// Refused for want of memory for the value's copy alone: a look that finds no live value takes
+    /// none and succeeds. A `CacheState` reads no rows but those that have the key's hash.
+    pub fn get_with_hash(&mut self, key: &K, hash: u64, now: u64) -> Result<Option<V>, Refused>
+        requires hash { IsHashOf (⟦<C as StateView<K, V>>⟧.settings self.old.settings)
+            key.now hash }
+        requires within { hash ≤ greatest_number }
+        ensures reply { IfOk result (λ found.
+            ⟦<C as StateView<K, V>>⟧.answers self.old (Get key.now now) (Found found)) }
+        ensures stands { OnOk result
+            (⟦<C as StateView<K, V>>⟧.follows self.old (Get key.now now) self.new) }
+        ensures kept { IfOk result (λ found. IfSome found (C.keeps key.now)) }
+
+        // Only the copy can be refused, and then nothing has changed.
+        ensures refused { OnErr result (self.new ≡ self.old) }
+        ensures cause { IfErr result (λ cause. cause ≡ Refused.OutOfMemory) }
+
+        // It is not where nothing is live, nor where the copies of the live value never fail.
+        ensures miss { ⟦<C as StateView<K, V>>⟧.at_each_history self.old (λ settings steps.
+            live_at K.eq settings key.now now (events_in steps) ≡ None → IsOk result) }
+        ensures copied { ⟦<C as StateView<K, V>>⟧.at_each_history self.old (λ settings steps.
+            IfSome (live_at K.eq settings key.now now (events_in steps)) (λ live.
+            V.is_infallible live.value → IsOk result)) }
+        ensures settings { self.new.settings ≡ self.old.settings }
+    {
+        let now = self.latest.max(now);
+        let Some(number) = self.table.find(key, hash) else {
+            self.upkeep.source.note(hash);
+            self.latest = now;
+            return Ok(None);
+        };
+        let row = self.table.row(number);
+        let info = row.info();
+        if info.is_dead(now) {
+            self.upkeep.source.note(hash);
+            self.latest = now;
+            return Ok(None);
+        }
+        let Ok(value) = row.value.clone() else {
+            return Err(Refused::OutOfMemory);
+        };
+        let own_life = self.behaviour.life_of_hit(&row.key, &row.value, info, now);
+        let last_accessed = info.last_accessed.max(now);
+        let touch = self.upkeep.lives.used(info, last_accessed, own_life);
+        self.table.touch(number, touch);
+        self.upkeep.source.note(hash);
+        self.latest = now;
+        Ok(Some(value))
+    }
+
+    /// As [`State::insert`], with the key's hash, which is that of [`State::hash`]: the key is not
+    /// hashed.
+    ///
+    /// Refused with `NumbersUsedUp` exactly where a number is to be drawn and none is left, and
+    /// else with `OutOfMemory` alone. A refused write hands back the key and the value, and changes
+    /// nothing. Where the capacity is 0 it succeeds without memory. Beside a maintenance, a
+    /// `CacheState` reads no rows but those that have the key's hash.
+    pub fn insert_with_hash(
+        &mut self,
+        key: K,
+        hash: u64,
+        value: V,
+        now: u64,
+    ) -> Result<(), InsertRefused<K, V>>
+        requires hash { IsHashOf (⟦<C as StateView<K, V>>⟧.settings self.old.settings) key hash }
+        requires keeps { C.keeps key value }
+        ensures ends { WriteEnds
+            (⟦<C as StateView<K, V>>⟧.follows self.old (Insert key value now) self.new)
+            self.old self.new key value result }
+        ensures settings { self.new.settings ≡ self.old.settings }
+    {
+        match self.write(Owned(key), hash, value, now) {
+            Ok(()) => Ok(()),
+            Err(InsertRefused { key, value, cause }) => Err(InsertRefused {
+                key: key.0,
+                value,
+                cause,
+            }),
+        }
+    }
+
+    // A write of a key that is shared already, or is to be, with its hash.
+    pub(crate) fn write<S: IntoShared<K>>(
+        &mut self,
+        key: S,
+        hash: u64,
+        value: V,
+        now: u64,
+    ) -> Result<(), InsertRefused<S, V>>
+        requires hash { IsHashOf (⟦<C as StateView<K, V>>⟧.settings self.old.settings)
+            (S.key_of key) hash }
+        requires kept { C.keeps (S.key_of key) value }
+        ensures ends { WriteEnds
+            (⟦<C as StateView<K, V>>⟧.follows self.old (Insert (S.key_of key) value now) self.new)
+            self.old self.new key value result }
+        ensures settings { self.new.settings ≡ self.old.settings }
+    {
+        if self.upkeep.max_capacity == Some(0) {
+            self.latest = self.latest.max(now);
+            return Ok(());
+        }
+        if self.next_number == u64::MAX {
+            let cause = Refused::NumbersUsedUp;
+            return Err(InsertRefused { key, value, cause });
+        }
+        self.write_anew(key, hash, value, now)
+    }
+
+    // A write that draws a number. The weight is asked for the call's key, before anything changes.
+    fn write_anew<S: IntoShared<K>>(
+        &mut self,
+        key: S,
+        hash: u64,
+        value: V,
+        now: u64,
+    ) -> Result<(), InsertRefused<S, V>>
+        requires hash { IsHashOf (⟦<C as StateView<K, V>>⟧.settings self.old.settings)
+            (S.key_of key) hash }
+        requires kept { C.keeps (S.key_of key) value }
+        requires stores { stores_nothing self.old.settings.max_capacity ≡ false }
+        requires number { self.old.books.next_number ≢ greatest_number }
+        ensures ends { WriteEnds
+            (⟦<C as StateView<K, V>>⟧.follows self.old (Insert (S.key_of key) value now) self.new)
+            self.old self.new key value result }
+        ensures settings { self.new.settings ≡ self.old.settings }
+    {
+        let now = self.latest.max(now);
+        let cause = Refused::OutOfMemory;
+        let weight = self.behaviour.weight(key.key(), &value);
+        let place = match self.table.place(key, hash, self.alloc) {
+            Ok(place) => place,
+            Err(key) => return Err(InsertRefused { key, value, cause }),
+        };
+        let new = NewValue {
+            hash,
+            value,
+            weight,
+            now,
+        };
+        self.upkeep
+            .write(&mut self.table, place, new, &self.behaviour, self.flush_limit);
+        self.latest = now;
+        self.next_number += 1;
+        Ok(())
+    }
+
+    /// As [`State::contains_key`], with the key's hash, which is that of [`State::hash`]: the key is
+    /// not hashed.
+    pub fn contains_key_with_hash(&self, key: &K, hash: u64, now: u64) -> bool
+        requires hash { IsHashOf (⟦<C as StateView<K, V>>⟧.settings self.now.settings)
+            key.now hash }
+        requires within { hash ≤ greatest_number }
+        ensures reply { ⟦<C as StateView<K, V>>⟧.answers self.now
+            (ContainsKey key.now now) (Contains result) }
+        ensures stands { ⟦<C as StateView<K, V>>⟧.follows self.now
+            (ContainsKey key.now now) self.now }
+    {
+        let now = self.latest.max(now);
+        match self.table.find(key, hash) {
+            None => false,
+            Some(number) => !self.table.row(number).info().is_dead(now),
+        }
+    }
+
+    /// As [`State::invalidate`], with the key's hash, which is that of [`State::hash`]: the key is not
+    /// hashed. It takes no memory.
+    pub fn invalidate_with_hash(&mut self, key: &K, hash: u64, now: u64)
+        requires hash { IsHashOf (⟦<C as StateView<K, V>>⟧.settings self.old.settings)
+            key.now hash }
+        requires within { hash ≤ greatest_number }
+        ensures stands { ⟦<C as StateView<K, V>>⟧.follows self.old (Invalidate key.now now) self.new }
+        ensures settings { self.new.settings ≡ self.old.settings }
+    {
+        let now = self.latest.max(now);
+        self.latest = now;
+        if let Some(number) = self.table.find(key, hash) {
+            let info = self.table.row(number).info();
+            let cause = info.cause(now, RemovalCause::Explicit);
+            self.table.evict(number, cause);
+        }
+    }
+
+    /// As [`State::remove`], with the key's hash, which is that of [`State::hash`]: the key is not
+    /// hashed.
+    ///
+    /// Refused for want of memory for the value's copy alone: where no live value stands it takes
+    /// none and succeeds. A `CacheState` reads no rows but those that have the key's hash.
+    pub fn remove_with_hash(&mut self, key: &K, hash: u64, now: u64) -> Result<Option<V>, Refused>
+        requires hash { IsHashOf (⟦<C as StateView<K, V>>⟧.settings self.old.settings)
+            key.now hash }
+        requires within { hash ≤ greatest_number }
+        ensures reply { IfOk result (λ found.
+            ⟦<C as StateView<K, V>>⟧.answers self.old (Remove key.now now) (Found found)) }
+        ensures stands { OnOk result
+            (⟦<C as StateView<K, V>>⟧.follows self.old (Remove key.now now) self.new) }
+        ensures kept { IfOk result (λ found. IfSome found (C.keeps key.now)) }
+
+        // Only the copy can be refused, and then nothing has changed.
+        ensures refused { OnErr result (self.new ≡ self.old) }
+        ensures cause { IfErr result (λ cause. cause ≡ Refused.OutOfMemory) }
+
+        // It is not where nothing is live, nor where the copies of the live value never fail.
+        ensures miss { ⟦<C as StateView<K, V>>⟧.at_each_history self.old (λ settings steps.
+            live_at K.eq settings key.now now (events_in steps) ≡ None → IsOk result) }
+        ensures copied { ⟦<C as StateView<K, V>>⟧.at_each_history self.old (λ settings steps.
+            IfSome (live_at K.eq settings key.now now (events_in steps)) (λ live.
+            V.is_infallible live.value → IsOk result)) }
+        ensures settings { self.new.settings ≡ self.old.settings }
+    {
+        let now = self.latest.max(now);
+        let Some(number) = self.table.find(key, hash) else {
+            self.latest = now;
+            return Ok(None);
+        };
+        let row = self.table.row(number);
+        let cause = row.info().cause(now, RemovalCause::Explicit);
+        let found = copy_of_live(row, now)?;
+        self.table.evict(number, cause);
+        self.latest = now;
+        Ok(found)
+    }
+}
