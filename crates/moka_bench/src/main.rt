@@ -6,6 +6,7 @@ mod measure;
 mod numbers;
 mod own_lives;
 mod removals;
+mod segments;
 mod shared;
 mod subject;
 mod table;

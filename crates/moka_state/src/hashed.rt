@@ -1,4 +1,5 @@
-//! The calls of a key that take its hash: for who has hashed it already, as to choose one of several states.
+//! The calls of a key that take its hash, for who has hashed it already, as to choose one of several
+//! states.
 ghost use Rattle.std.specs.Prelude.{◌≡◌, ◌≢◌, ◌≤◌, false, None, IsOk, IfOk, IfErr, IfSome, OnOk, OnErr};
 ghost use Rattle.moka_model.specs.Numbers.{greatest_number, stores_nothing};
 ghost use Rattle.moka_model.specs.Steps.{events_in};
@@ -17,14 +18,15 @@ use moka_ways::view::StateView;
 use std::hash::Hash;
 
 impl<K: Hash + Drop, V: Clone, C: CacheTypes<K, V>, R: RowStore<K, V>> State<K, V, C, R> {
-    /// The hash of a key, as the calls want it that take one. It hashes the key once.
+    /// The hash of a key by the cache's hasher, as the calls want it that take one. It reads no row.
     pub fn hash(&self, key: &K) -> u64
         ensures { IsHashOf (⟦<C as StateView<K, V>>⟧.settings self.now.settings) key.now result }
     {
         self.behaviour.hash(key)
     }
 
-    /// As [`State::get`], with the key's hash, which is that of [`State::hash`]: the key is not hashed.
+    /// As [`State::get`], with the key's hash, as [`State::hash`] answers it: the key is not
+    /// hashed again.
     ///
     /// Refused for want of memory for the value's copy alone: a look that finds no live value takes
     /// none and succeeds. A `CacheState` reads no rows but those that have the key's hash.
@@ -75,8 +77,8 @@ impl<K: Hash + Drop, V: Clone, C: CacheTypes<K, V>, R: RowStore<K, V>> State<K, 
         Ok(Some(value))
     }
 
-    /// As [`State::insert`], with the key's hash, which is that of [`State::hash`]: the key is not
-    /// hashed.
+    /// As [`State::insert`], with the key's hash, as [`State::hash`] answers it: the key is not
+    /// hashed again.
     ///
     /// Refused with `NumbersUsedUp` exactly where a number is to be drawn and none is left, and
     /// else with `OutOfMemory` alone. A refused write hands back the key and the value, and changes
@@ -171,8 +173,8 @@ impl<K: Hash + Drop, V: Clone, C: CacheTypes<K, V>, R: RowStore<K, V>> State<K, 
         Ok(())
     }
 
-    /// As [`State::contains_key`], with the key's hash, which is that of [`State::hash`]: the key is
-    /// not hashed.
+    /// As [`State::contains_key`], with the key's hash, as [`State::hash`] answers it: the key is not
+    /// hashed again.
     pub fn contains_key_with_hash(&self, key: &K, hash: u64, now: u64) -> bool
         requires hash { IsHashOf (⟦<C as StateView<K, V>>⟧.settings self.now.settings)
             key.now hash }
@@ -189,13 +191,14 @@ impl<K: Hash + Drop, V: Clone, C: CacheTypes<K, V>, R: RowStore<K, V>> State<K, 
         }
     }
 
-    /// As [`State::invalidate`], with the key's hash, which is that of [`State::hash`]: the key is not
-    /// hashed. It takes no memory.
+    /// As [`State::invalidate`], with the key's hash, as [`State::hash`] answers it: the key is not
+    /// hashed again. It takes no memory.
     pub fn invalidate_with_hash(&mut self, key: &K, hash: u64, now: u64)
         requires hash { IsHashOf (⟦<C as StateView<K, V>>⟧.settings self.old.settings)
             key.now hash }
         requires within { hash ≤ greatest_number }
-        ensures stands { ⟦<C as StateView<K, V>>⟧.follows self.old (Invalidate key.now now) self.new }
+        ensures stands { ⟦<C as StateView<K, V>>⟧.follows
+            self.old (Invalidate key.now now) self.new }
         ensures settings { self.new.settings ≡ self.old.settings }
     {
         let now = self.latest.max(now);
@@ -207,8 +210,8 @@ impl<K: Hash + Drop, V: Clone, C: CacheTypes<K, V>, R: RowStore<K, V>> State<K, 
         }
     }
 
-    /// As [`State::remove`], with the key's hash, which is that of [`State::hash`]: the key is not
-    /// hashed.
+    /// As [`State::remove`], with the key's hash, as [`State::hash`] answers it: the key is not
+    /// hashed again.
     ///
     /// Refused for want of memory for the value's copy alone: where no live value stands it takes
     /// none and succeeds. A `CacheState` reads no rows but those that have the key's hash.

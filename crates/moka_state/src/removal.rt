@@ -5,10 +5,8 @@ ghost use Rattle.moka_model.specs.Steps.{events_in};
 ghost use Rattle.moka_model.specs.Calls.{Remove, InvalidateAll, Found, live_at};
 
 use crate::state::State;
-use moka_model::notification::RemovalCause;
 use moka_policy::policy::{CacheTypes, Refused};
 use moka_rows::rows::RowStore;
-use moka_ways::live_value::copy_of_live;
 use moka_ways::view::StateView;
 use std::hash::Hash;
 

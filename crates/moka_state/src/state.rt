@@ -6,7 +6,7 @@ ghost use Rattle.std.specs.List.{AllByRecursion};
 ghost use Rattle.moka_model.specs.Lives.{is_live};
 ghost use Rattle.moka_model.specs.Events.{Maintained, latest};
 ghost use Rattle.moka_model.specs.Maintenance.{total};
-ghost use Rattle.moka_model.specs.Numbers.{greatest_number, flush_point, stores_nothing};
+ghost use Rattle.moka_model.specs.Numbers.{greatest_number, flush_point};
 ghost use Rattle.moka_model.specs.SizeLaws.{LimitsSome};
 ghost use Rattle.moka_model.specs.Steps.{events_in};
 ghost use Rattle.moka_model.specs.Calls.{Get, ContainsKey, Insert, Invalidate, RunPendingTasks, RunPendingTasksUpTo, EntryCount, WeightedSize, TakeNotice, Found, Contains, Counted, Left, Noticed, live_at};
@@ -19,7 +19,7 @@ ghost use Rattle.moka_turns.specs.Views.{turns_of};
 
 use moka_due::due_rows::DueRows;
 use moka_maintain::upkeep::Upkeep;
-use moka_model::notification::{Notice, RemovalCause};
+use moka_model::notification::Notice;
 use moka_policy::policy::{CacheTypes, EvictionPolicy, FrequencySource, Policy, Refused};
 use moka_rows::rows::RowStore;
 use moka_snapshot::snapshot::SharedSnapshot;

@@ -117,8 +117,8 @@ impl<K: Hash + Drop, V: Clone, C: CacheTypes<K, V>, R: RowStore<K, V>> State<K, 
         self.step_with_hash(step, hash)
     }
 
-    /// As [`State::step`], with the hash of the step's key, which is that of [`State::hash`]: the key is
-    /// not hashed. Where the step has no key, any number does.
+    /// As [`State::step`], with the hash of the step's key, as [`State::hash`] answers it: the key is
+    /// not hashed again. Where the step has no key, any number does.
     pub fn step_with_hash(&mut self, step: Step<K, V, C>, hash: u64) -> Reply<K, V>
         requires hash { IsHashOfStep (⟦<C as StateView<K, V>>⟧.settings self.old.settings)
             step hash }

@@ -8,6 +8,7 @@ use Rattle.moka_table.specs.Table.{removal_of}
 use Rattle.moka_segments.specs.Segments.{first_from}
 use Rattle.moka_segments.proofs.Callers.{first_from-passes}
 use Rattle.moka_segmented.specs.SegmentedData.{SegmentedData, data_of, has_notice}
+use Rattle.moka_segmented.proofs.Hashing.{all-hash-set}
 use Rattle.moka_segmented.proofs.Noticing.{taken-answers, taken-follows, none-answers, none-follows, kept-some, kept-fewer, kept-none}
 use Rattle.moka_segmented.proofs.Routed.{IfSome-by}
 use Rattle.moka_segmented.proofs.segment.Segmented.take_notice.Goals as goal
@@ -71,3 +72,8 @@ returns-in-Some-clause-fewer g c =
 
 pub returns-in-None-clause-none : goal.returns-in-None-clause-none
 returns-in-None-clause-none g c = (λ is_none. kept-none c.args.self.now.segments c.in-None.ensures, λ zero. refl)
+
+pub invariant_of-self : goal.invariant_of-self
+invariant_of-self g c =
+    let it = c.self.inside in
+    all-hash-set _ it.segments.items c.in-Some.index c.index_mut.result.now c.take_notice.new.self c.index_mut.ensures.value c.take_notice.ensures.settings c.self.invariant
