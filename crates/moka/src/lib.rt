@@ -43,9 +43,9 @@ pub mod sync {
 
     /// Turns: one caller works out a value for a key, while others wait for what comes of it.
     pub mod value_initializer {
+        pub use moka_base::turns::{Kind, Outcome};
         pub use moka_state::answers::{Answer, Begun, Collected, FinishRefused, Finished};
         pub use moka_state::handles::{CollectRefused, Ticket, Turn};
-        pub use moka_base::turns::{Kind, Outcome};
     }
 
     /// The cache of several segments as a plain value.

@@ -11,7 +11,7 @@ use moka::policy::{
 use moka::ready::ReadyTypes;
 use moka::state::{CacheState, Settings};
 use moka::sync::value_initializer::{
-    Answer, Begun, Collected, CollectRefused, FinishRefused, Finished, Kind, Outcome, Ticket, Turn,
+    Answer, Begun, CollectRefused, Collected, FinishRefused, Finished, Kind, Outcome, Ticket, Turn,
 };
 use std::alloc::{AllocError, Global};
 use std::hash::BuildHasherDefault;

@@ -107,7 +107,9 @@ fn a_value_that_is_turned_down_is_replaced(rt: HostRuntime) -> Result<(), Fail> 
         Err(_) => panic!(rt; "it is refused"),
     }
     let notice = cache.take_notice();
-    assert!(rt; matches!(notice, Some(left) if left.value == 30 && left.cause == RemovalCause::Replaced));
+    assert!(rt;
+        matches!(notice, Some(left) if left.value == 30 && left.cause == RemovalCause::Replaced)
+    );
     Ok(())
 }
 
@@ -119,11 +121,13 @@ fn what_another_cache_handed_out_is_not_known(rt: HostRuntime) -> Result<(), Fai
     let turn = ran(&rt, &mut cache, &key, Kind::With);
     let ticket = waited(&rt, &mut cache, &key, Kind::With);
     let turn = match other.finish(turn, Outcome::Value(7), 0) {
-        Err(FinishRefused {
-            turn,
-            outcome,
-            cause,
-        }) => {
+        Err(
+            FinishRefused {
+                turn,
+                outcome,
+                cause,
+            },
+        ) => {
             assert!(rt; matches!(outcome, Outcome::Value(7)));
             assert_eq!(rt; cause, Refused::UnknownTurn);
             turn
@@ -154,11 +158,13 @@ fn numbers_are_used_up(rt: HostRuntime) -> Result<(), Fail> {
     let key = shared(rt.alloc(), 5)?;
     let turn = ran(&rt, &mut cache, &key, Kind::With);
     let turn = match cache.finish(turn, Outcome::Value(7), 0) {
-        Err(FinishRefused {
-            turn,
-            outcome,
-            cause,
-        }) => {
+        Err(
+            FinishRefused {
+                turn,
+                outcome,
+                cause,
+            },
+        ) => {
             assert!(rt; matches!(outcome, Outcome::Value(7)));
             assert_eq!(rt; cause, Refused::NumbersUsedUp);
             turn

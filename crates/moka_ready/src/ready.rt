@@ -135,7 +135,14 @@ pub type WeighedExpiring<W, E, T = ManualClock> = ReadyTypes<FoldState, W, E, T>
 pub type Hiding<P, T = ManualClock> = ReadyTypes<FoldState, NoWeigher, NoExpiry, T, P>;
 
 /// A cache without a weigher or an expiry, whose initializers may fail with an `F`, of keys that nobody picks to collide.
-pub type Fallible<F, T = ManualClock> = ReadyTypes<FoldState, NoWeigher, NoExpiry, T, NoPredicate, F>;
+pub type Fallible<F, T = ManualClock> = ReadyTypes<
+    FoldState,
+    NoWeigher,
+    NoExpiry,
+    T,
+    NoPredicate,
+    F,
+>;
 
 /// A relation of keys and values that a cache keeps: whoever writes owes it, and whoever reads gets it.
 ///

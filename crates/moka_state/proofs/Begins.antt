@@ -148,17 +148,21 @@ module _ {K V E F : Type 0} (eq : K → K → Bool) {is_clone : V → V → Type
   -- where none is accepted, none is acceptable, and the look changes no row
   pub rejects-live : Accepts eq call replace_if k hash (max latest at) (entries contents) said None → IsSaidOf call replace_if live_here said × (acceptable said live_here ≡ None) × LooksAt
   rejects-live (inl (nothing, none)) =
-      let here = live-absent eq laws settings contents frequency latest number given steps stands hash_of respects hashed k at hash is none in
-      (rw here nothing, rw here (none-acceptable said),
-      λ noted notes. rw nothing (becomes-absent eq settings contents frequency latest number noted k at notes (held-absent eq contents hash_of respects hashed k hash is none)))
+      let here = live-absent eq laws settings contents frequency latest number given steps stands hash_of respects hashed k at hash is none in (
+        rw here nothing,
+        rw here (none-acceptable said),
+        λ noted notes. rw nothing (becomes-absent eq settings contents frequency latest number noted k at notes (held-absent eq contents hash_of respects hashed k hash is none)),
+      )
   rejects-live (inr (n, row, there, of_key, inl (dead, nothing))) =
       let same = same-key eq k hash row of_key in
       let here = live-is n row there same false dead in
       let one = one-each eq laws given (view_with settings contents frequency latest number) steps stands in
       let dead_then : is_live settings (stored_write row) (max latest at) ≡ false =
-      ap (λ (expired : Row K V → ℕ → Bool). not row.info.is_hidden && not (expired row (max latest at))) expired_alike ∙ alive-is n row there false dead in
-      (rw here nothing, rw here (none-acceptable said),
-      λ noted notes. rw nothing (becomes-dead eq settings contents frequency latest number one contents k at n row there same noted notes dead_then))
+      ap (λ (expired : Row K V → ℕ → Bool). not row.info.is_hidden && not (expired row (max latest at))) expired_alike ∙ alive-is n row there false dead in (
+        rw here nothing,
+        rw here (none-acceptable said),
+        λ noted notes. rw nothing (becomes-dead eq settings contents frequency latest number one contents k at n row there same noted notes dead_then),
+      )
   rejects-live (inr (n, row, there, of_key, inr (live, says, asks))) =
       let here = live-is n row there (same-key eq k hash row of_key) true live in
       let told = said-yes said asks in

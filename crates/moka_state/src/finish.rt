@@ -238,9 +238,13 @@ impl<K: Hash + Drop, V: Clone, C: CacheTypes<K, V>, R: RowStore<K, V>> State<K, 
             weight,
             now,
         };
-        let is_replaced = self
-            .upkeep
-            .write(&mut self.table, place, new, &self.behaviour, self.flush_limit);
+        let is_replaced = self.upkeep.write(
+            &mut self.table,
+            place,
+            new,
+            &self.behaviour,
+            self.flush_limit,
+        );
         self.latest = now;
         self.next_number += 1;
         let answer = conclude(&mut self.turns, turn, copies, is_replaced);

@@ -166,8 +166,13 @@ impl<K: Hash + Drop, V: Clone, C: CacheTypes<K, V>, R: RowStore<K, V>> State<K, 
             weight,
             now,
         };
-        self.upkeep
-            .write(&mut self.table, place, new, &self.behaviour, self.flush_limit);
+        self.upkeep.write(
+            &mut self.table,
+            place,
+            new,
+            &self.behaviour,
+            self.flush_limit,
+        );
         self.latest = now;
         self.next_number += 1;
         Ok(())

@@ -115,9 +115,11 @@ pub invariant_of-self-2 : goal.invariant_of-self-2
 invariant_of-self-2 g c =
     let s = c.self.inside in
     let keyed = ap (λ (n : Name _). n.key) c.rehashed-turn.ensures.name in
-    let kept = IsSound-same _ _ s.upkeep.lives s.table c.place_for.new.table c.in-Ok-place_for.ensures.same c.self.invariant.0 in
-    (sound-written g.K.PartialEq.eq g.met.K.Eq.laws _ s.upkeep.lives _ s.upkeep.max_capacity s.flush_limit c.place_for.new.table c.write-is_replaced.new.table kept g.met.C.CacheTypes.equal_keys_keep (turn_name c.args.turn).key _ (rw c.key.ensures at c.hash-hash.ensures.hash) c.requires.kept
-    c.in-Ok-place_for.place c.write-is_replaced.result (rw keyed at c.in-Ok-place_for.ensures.place) (c.write-is_replaced.ensures kept.dated), c.self.invariant.1)
+    let kept = IsSound-same _ _ s.upkeep.lives s.table c.place_for.new.table c.in-Ok-place_for.ensures.same c.self.invariant.0 in (
+      sound-written g.K.PartialEq.eq g.met.K.Eq.laws _ s.upkeep.lives _ s.upkeep.max_capacity s.flush_limit c.place_for.new.table c.write-is_replaced.new.table kept g.met.C.CacheTypes.equal_keys_keep (turn_name c.args.turn).key _ (rw c.key.ensures at c.hash-hash.ensures.hash) c.requires.kept
+          c.in-Ok-place_for.place c.write-is_replaced.result (rw keyed at c.in-Ok-place_for.ensures.place) (c.write-is_replaced.ensures kept.dated),
+      c.self.invariant.1,
+    )
 
 pub returns : goal.returns
 returns g c = record {

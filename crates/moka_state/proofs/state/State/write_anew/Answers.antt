@@ -13,9 +13,11 @@ use Rattle.moka_state.proofs.state.State.write_anew.Goals as goal
 pub invariant_of-self-2 : goal.invariant_of-self-2
 invariant_of-self-2 g c =
     let s = c.self.inside in
-    let sound = IsSound-same _ _ s.upkeep.lives s.table c.place.new.self c.in-Ok.ensures.same c.self.invariant.0 in
-    (sound-written g.K.PartialEq.eq g.met.K.Eq.laws _ s.upkeep.lives _ s.upkeep.max_capacity s.flush_limit c.place.new.self c.write.new.table sound g.met.C.CacheTypes.equal_keys_keep (g.S.IntoShared.key_of c.args.key) _ (rw (← c.self.view_is) at c.requires.hash) c.requires.kept
-    c.in-Ok.place c.write.result c.in-Ok.ensures.place (c.write.ensures sound.dated), c.self.invariant.1)
+    let sound = IsSound-same _ _ s.upkeep.lives s.table c.place.new.self c.in-Ok.ensures.same c.self.invariant.0 in (
+      sound-written g.K.PartialEq.eq g.met.K.Eq.laws _ s.upkeep.lives _ s.upkeep.max_capacity s.flush_limit c.place.new.self c.write.new.table sound g.met.C.CacheTypes.equal_keys_keep (g.S.IntoShared.key_of c.args.key) _ (rw (← c.self.view_is) at c.requires.hash) c.requires.kept
+          c.in-Ok.place c.write.result c.in-Ok.ensures.place (c.write.ensures sound.dated),
+      c.self.invariant.1,
+    )
 
 pub returns-clause-ends : goal.returns-clause-ends
 returns-clause-ends g c = record {
