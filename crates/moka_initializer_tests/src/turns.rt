@@ -38,9 +38,9 @@ fn kinds_do_not_meet(rt: HostRuntime) -> Result<(), Fail> {
     assert_eq!(rt; tried.number(), 1);
     let ticket = waited(&rt, &mut cache, &key, Kind::Try);
     let told = finished(&rt, &mut cache, tried, Outcome::Failed(error));
-    assert!(rt; matches!(told, Answer::Failed(error) if *error == 9));
+    assert!(rt; matches!(&told, Answer::Failed(error) if **error == 9));
     let told = ready(&rt, &mut cache, ticket);
-    assert!(rt; matches!(told, Answer::Failed(error) if *error == 9));
+    assert!(rt; matches!(&told, Answer::Failed(error) if **error == 9));
     let maybe = ran(&rt, &mut cache, &key, Kind::Optionally);
     let told = finished(&rt, &mut cache, maybe, Outcome::Nothing);
     assert!(rt; matches!(told, Answer::Nothing));
@@ -108,7 +108,7 @@ fn a_value_that_is_turned_down_is_replaced(rt: HostRuntime) -> Result<(), Fail> 
     }
     let notice = cache.take_notice();
     assert!(rt;
-        matches!(notice, Some(left) if left.value == 30 && left.cause == RemovalCause::Replaced)
+        matches!(&notice, Some(left) if left.value == 30 && left.cause == RemovalCause::Replaced)
     );
     Ok(())
 }
