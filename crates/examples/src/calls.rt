@@ -1,7 +1,9 @@
 //! Names that weigh as much as they are long and live a minute, by types and by closures, in a cache whose calls are data.
 
-ghost use Rattle.std.specs.Prelude.{◌≡◌, false, refl};
+ghost use Rattle.std.specs.Prelude.{◌≡◌, false, refl, IfOk};
+ghost use Rattle.std.specs.List.{AllByRecursion};
 ghost use Rattle.std.proofs.Math.Path.{◌∙◌};
+ghost use Rattle.moka_state.specs.Step.{StepKeeps};
 ghost use Rattle.examples.specs.Calls.{length_of, a_minute};
 
 use anyhow::Result;
@@ -126,7 +128,11 @@ where
 fn steps<C: CacheTypes<u64, String>>(
     alloc: Global,
     name: String,
-) -> Result<Vec<Step<u64, String, C>>, AllocError> {
+) -> Result<Vec<Step<u64, String, C>>, AllocError>
+    requires { C.keeps 97 name }
+    ensures { IfOk result (λ steps.
+        AllByRecursion (StepKeeps C.keeps C.Predicate.tests C.test) steps.items) }
+{
     let key: Arc<u64> = Arc::new(alloc, 97)?;
     let again = key.clone()?;
     let mut steps = Vec::new(alloc);

@@ -28,12 +28,7 @@ impl Keeps<u32, u64> for Triangles {
 fn memoized(cache: &mut CacheState<u32, u64, Keeping<Triangles>>, n: u32) -> Result<u64, Refused>
     ensures { IfOk result (λ value. value ≡ triangle n) }
 {
-    if let Some(value) = cache.get(&n, 0)? {
-        return Ok(value);
-    }
-    let value = sum_to(n);
-    cache.insert(n, value, 0)?;
-    Ok(value)
+    cache.get_with(n, || sum_to(n), 0)
 }
 
 // The function itself.

@@ -29,6 +29,7 @@ pub use moka_ready::{copies, ready};
 pub mod ops {
     /// The outcomes of computes.
     pub mod compute {
+        pub use moka_base::comp_result::CompResult;
         pub use moka_base::turns::Op;
     }
 }
@@ -44,8 +45,11 @@ pub mod sync {
     /// Turns: one caller works out a value for a key, while others wait for what comes of it.
     pub mod value_initializer {
         pub use moka_base::turns::{Kind, Outcome};
-        pub use moka_state::answers::{Answer, Begun, Collected, FinishRefused, Finished};
+        pub use moka_state::answers::{
+            Answer, Begun, BegunCompute, Collected, FinishRefused, Finished,
+        };
         pub use moka_state::handles::{CollectRefused, Ticket, Turn};
+        pub use moka_state::turn_name::TurnName;
     }
 
     /// The cache of several segments as a plain value.
@@ -61,7 +65,9 @@ pub use moka_state::step;
 /// The cache as a plain value.
 pub mod state {
     pub use moka_state::due_rows::DueRows;
+    pub use moka_state::entry_selector::StateEntrySelector;
     pub use moka_state::list_rows::ListRows;
+    pub use moka_state::or_insert::OrInsertRefused;
     pub use moka_state::packed::PackedInfo;
     pub use moka_state::rows::{Before, EntryInfo, Order, OwnLife, Row, RowStore, Touch};
     pub use moka_state::slab_rows::SlabRows;

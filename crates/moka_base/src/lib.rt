@@ -7,7 +7,7 @@ pub use moka_laws::{
     own_life_laws, size_laws, sketch_laws, worked, worked_admission, worked_calls, worked_expiry,
     worked_frequency, worked_maintenance, worked_size, worked_sketch,
 };
-pub use moka_model::{notification, turns};
+pub use moka_model::{comp_result, notification, turns};
 pub use moka_policy::{clock, expiry, frequency, listener, predicate, weigher};
 pub use moka_sketch::frequency_sketch;
 pub use moka_turn_laws::{turn_laws, worked_turns};

@@ -25,6 +25,8 @@ pub(crate) enum Kind {
     Insert,
     /// The key is looked for. All keys were written before.
     Hit,
+    /// The key is looked for, a new one, and then written.
+    Miss,
     /// The key is written. All keys were written before.
     Overwrite,
     /// The key is written, a new one, where the cache is full.
@@ -64,6 +66,16 @@ const HITS: Load = Load {
     kind: Kind::Hit,
     ..LOOKS
 };
+
+/// The loads on which initializers are measured.
+pub(crate) const INITIALIZED: [Load; 2] = [
+    HITS,
+    Load {
+        name: "misses",
+        kind: Kind::Miss,
+        ..LOOKS
+    },
+];
 
 /// The loads, each of which every cache is measured on.
 pub(crate) const LOADS: [Load; 8] = [
@@ -224,7 +236,7 @@ impl Load {
         for call in 0..calls {
             keys.push(match self.kind {
                 Kind::Look => u64::from(numbers.skewed(self.octaves)),
-                Kind::Insert | Kind::Walk => u64::from(call),
+                Kind::Insert | Kind::Miss | Kind::Walk => u64::from(call),
                 Kind::Replace => u64::from(self.capacity).wrapping_add(u64::from(call)),
                 Kind::Hit | Kind::Overwrite => u64::from(numbers.below(self.capacity)),
             })?;

@@ -139,7 +139,7 @@ pub(crate) fn prepare<S: Subject>(
     load: &Load,
     before: &[u64],
 ) -> Result<(), AllocError> {
-    if !matches!(load.kind, Kind::Look | Kind::Insert) {
+    if !matches!(load.kind, Kind::Look | Kind::Insert | Kind::Miss) {
         for key in 0..load.capacity {
             subject.insert(u64::from(key), 0)?;
         }
@@ -162,7 +162,7 @@ pub(crate) fn hits_of<S: Subject>(
     let mut hits = 0_u64;
     for (place, key) in keys.iter().enumerate() {
         let now = first.wrapping_add(place) as u64;
-        if matches!(kind, Kind::Look | Kind::Hit) && subject.look(*key, now)? {
+        if matches!(kind, Kind::Look | Kind::Hit | Kind::Miss) && subject.look(*key, now)? {
             hits = hits.wrapping_add(1);
         } else if kind != Kind::Hit {
             subject.insert(*key, now)?;

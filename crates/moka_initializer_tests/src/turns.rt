@@ -1,190 +1,184 @@
 //! What begins, finishes, collects and leaves answer.
-use crate::caches::{collected, entry_of, finished, opened, ran, ready, shared, waited};
-use moka::notification::RemovalCause;
-use moka::policy::Refused;
-use moka::sync::value_initializer::{
-    Answer, Begun, CollectRefused, Collected, FinishRefused, Kind, Outcome,
+ghost use Rattle.std.specs.Prelude.{◌≡◌};
+ghost use Rattle.moka_model.specs.declared.turns.Kind.{Kind};
+
+use crate::caches::{
+    Numbers, abandoned, begin, begin_if, error_of, finished, gave, gave_nothing, insert, left,
+    not_yet, opened, ran, ready, refused_to_finish, shared, spent, unknown, waited,
 };
+use moka_model::notification::RemovalCause;
+use moka_model::turns::{Kind, Outcome};
+use moka_policy::policy::Refused;
+use moka_state::answers::{Answer, Begun};
+use moka_state::handles::{Ticket, Turn};
+use std::alloc::Global;
+use std::process::Abort;
 use std::sync::Arc;
 use std::test::Fail;
 
 #[test]
 fn one_caller_runs_and_the_others_wait(rt: HostRuntime) -> Result<(), Fail> {
-    let mut cache = opened(rt.alloc(), 0, 100)?;
     let key = shared(rt.alloc(), 5)?;
-    let turn = ran(&rt, &mut cache, &key, Kind::With);
-    assert_eq!(rt; (turn.number(), *turn.key()), (0, 5));
-    let ticket = waited(&rt, &mut cache, &key, Kind::With);
-    assert_eq!(rt; (ticket.number(), *ticket.key()), (0, 5));
-    assert!(rt; !cache.contains_key(&5, 0));
-    let given = finished(&rt, &mut cache, turn, Outcome::Value(7));
-    assert_eq!(rt; entry_of(&rt, &given), (5, 7, true, false));
-    cache.invalidate(&5, 0);
-    let told = ready(&rt, &mut cache, ticket);
-    assert_eq!(rt; entry_of(&rt, &told), (5, 7, false, false));
-    let next = ran(&rt, &mut cache, &key, Kind::With);
-    assert_eq!(rt; next.number(), 2);
-    assert!(rt; cache.abandon(next).is_ok());
+    let mut cache = opened(rt.alloc(), 0, 100)?;
+    one_runs_and_one_waits(&rt, &mut cache, &key);
     Ok(())
+}
+
+fn one_runs_and_one_waits(rt: &impl Abort, cache: &mut Numbers, key: &Arc<u64>) {
+    let turn = ran(rt, cache, key, Kind::With);
+    assert!(rt; turn.number() == 0 && *turn.key() == 5);
+    let ticket = waited(rt, cache, key, Kind::With);
+    assert!(rt; ticket.number() == 0 && *ticket.key() == 5);
+    assert!(rt; !cache.contains_key(&5, 0));
+    let given = finished(rt, cache, turn, Outcome::Value(7));
+    gave(rt, &given, (5, 7, true, false));
+    cache.invalidate(&5, 0);
+    let told = ready(rt, cache, ticket);
+    gave(rt, &told, (5, 7, false, false));
+    let next = ran(rt, cache, key, Kind::With);
+    assert_eq!(rt; next.number(), 2);
+    abandoned(rt, cache, next);
 }
 
 #[test]
 fn kinds_do_not_meet(rt: HostRuntime) -> Result<(), Fail> {
-    let mut cache = opened(rt.alloc(), 0, 100)?;
     let key = shared(rt.alloc(), 5)?;
-    let error = Arc::new(rt.alloc(), 9)?;
-    let given = ran(&rt, &mut cache, &key, Kind::With);
-    let tried = ran(&rt, &mut cache, &key, Kind::Try);
-    assert_eq!(rt; tried.number(), 1);
-    let ticket = waited(&rt, &mut cache, &key, Kind::Try);
-    let told = finished(&rt, &mut cache, tried, Outcome::Failed(error));
-    assert!(rt; matches!(&told, Answer::Failed(error) if **error == 9));
-    let told = ready(&rt, &mut cache, ticket);
-    assert!(rt; matches!(&told, Answer::Failed(error) if **error == 9));
-    let maybe = ran(&rt, &mut cache, &key, Kind::Optionally);
-    let told = finished(&rt, &mut cache, maybe, Outcome::Nothing);
-    assert!(rt; matches!(told, Answer::Nothing));
-    let told = finished(&rt, &mut cache, given, Outcome::Value(7));
-    assert_eq!(rt; entry_of(&rt, &told), (5, 7, true, false));
+    let error = shared(rt.alloc(), 9)?;
+    let mut cache = opened(rt.alloc(), 0, 100)?;
+    do_not_meet(&rt, &mut cache, &key, error);
     Ok(())
+}
+
+fn do_not_meet(rt: &impl Abort, cache: &mut Numbers, key: &Arc<u64>, error: Arc<u64>) {
+    let given = ran(rt, cache, key, Kind::With);
+    fails(rt, cache, key, error);
+    let maybe = ran(rt, cache, key, Kind::Optionally);
+    let told = finished(rt, cache, maybe, Outcome::Nothing);
+    assert!(rt; matches!(told, Answer::Nothing));
+    let told = finished(rt, cache, given, Outcome::Value(7));
+    gave(rt, &told, (5, 7, true, false));
+}
+
+/// A turn that may fail does, and who waits is told.
+fn fails(rt: &impl Abort, cache: &mut Numbers, key: &Arc<u64>, error: Arc<u64>) {
+    let tried = ran(rt, cache, key, Kind::Try);
+    assert_eq!(rt; tried.number(), 1);
+    let ticket = waited(rt, cache, key, Kind::Try);
+    let told = finished(rt, cache, tried, Outcome::Failed(error));
+    assert_eq!(rt; error_of(rt, &told), 9);
+    let told = ready(rt, cache, ticket);
+    assert_eq!(rt; error_of(rt, &told), 9);
 }
 
 #[test]
 fn an_abandoned_turn_gives_nothing(rt: HostRuntime) -> Result<(), Fail> {
-    let mut cache = opened(rt.alloc(), 0, 100)?;
     let key = shared(rt.alloc(), 5)?;
-    let turn = ran(&rt, &mut cache, &key, Kind::With);
-    let first = waited(&rt, &mut cache, &key, Kind::With);
-    let second = waited(&rt, &mut cache, &key, Kind::With);
-    let first = match collected(&rt, &mut cache, first) {
-        Collected::NotYet(ticket) => ticket,
-        Collected::Ready(_) | Collected::Abandoned | Collected::Ended => {
-            panic!(rt; "it has ended")
-        }
-    };
-    assert!(rt; cache.leave(second).is_ok());
-    assert!(rt; cache.abandon(turn).is_ok());
-    let next = ran(&rt, &mut cache, &key, Kind::With);
-    match collected(&rt, &mut cache, first) {
-        Collected::Abandoned => {}
-        Collected::NotYet(ticket) => {
-            let _ = cache.leave(ticket);
-            panic!(rt; "it is open still")
-        }
-        Collected::Ready(_) | Collected::Ended => panic!(rt; "it gave something"),
-    }
-    assert!(rt; cache.abandon(next).is_ok());
+    let mut cache = opened(rt.alloc(), 0, 100)?;
+    one_abandons(&rt, &mut cache, &key);
     Ok(())
+}
+
+fn one_abandons(rt: &impl Abort, cache: &mut Numbers, key: &Arc<u64>) {
+    let turn = ran(rt, cache, key, Kind::With);
+    let first = waited(rt, cache, key, Kind::With);
+    let second = waited(rt, cache, key, Kind::With);
+    let first = not_yet(rt, cache, first);
+    left(rt, cache, second);
+    abandoned(rt, cache, turn);
+    let next = ran(rt, cache, key, Kind::With);
+    gave_nothing(rt, cache, first);
+    abandoned(rt, cache, next);
 }
 
 #[test]
 fn a_value_that_is_turned_down_is_replaced(rt: HostRuntime) -> Result<(), Fail> {
-    let mut cache = opened(rt.alloc(), 0, 100)?;
     let key = shared(rt.alloc(), 1)?;
-    cache.insert(1, 30, 0)?;
-    let turn = match cache.begin(&key, Kind::With, Some(|value: &u64| *value == 30), 0) {
-        Ok(Begun::Run(turn)) => turn,
-        Ok(Begun::Wait(ticket)) => {
-            let _ = cache.leave(ticket);
-            panic!(rt; "it waits")
-        }
-        Ok(Begun::Found(_)) | Err(_) => panic!(rt; "it is not turned down"),
-    };
-    let told = finished(&rt, &mut cache, turn, Outcome::Value(31));
-    assert_eq!(rt; entry_of(&rt, &told), (1, 31, true, true));
-    match cache.begin(&key, Kind::With, Some(|value: &u64| *value == 30), 0) {
-        Ok(Begun::Found(entry)) => {
-            assert_eq!(rt; (*entry.value(), entry.is_fresh()), (31, false));
-        }
-        Ok(Begun::Run(turn)) => {
-            let _ = cache.abandon(turn);
-            panic!(rt; "it runs")
-        }
-        Ok(Begun::Wait(ticket)) => {
-            let _ = cache.leave(ticket);
-            panic!(rt; "it waits")
-        }
-        Err(_) => panic!(rt; "it is refused"),
-    }
+    let mut cache = opened(rt.alloc(), 0, 100)?;
+    is_replaced(&rt, &mut cache, &key);
+    Ok(())
+}
+
+fn is_replaced(rt: &impl Abort, cache: &mut Numbers, key: &Arc<u64>) {
+    insert(rt, cache, 1, 30);
+    let turn = ran_over(rt, cache, key, 30);
+    let told = finished(rt, cache, turn, Outcome::Value(31));
+    gave(rt, &told, (1, 31, true, true));
+    is_found(rt, cache, key, 31);
     let notice = cache.take_notice();
     assert!(rt;
-        matches!(&notice, Some(left) if left.value == 30 && left.cause == RemovalCause::Replaced)
+        matches!(&notice, Some(it) if it.value == 30 && it.cause == RemovalCause::Replaced)
     );
-    Ok(())
+}
+
+/// The turn of a begin that turns this live value down.
+fn ran_over(rt: &impl Abort, cache: &mut Numbers, key: &Arc<u64>, unwanted: u64) -> Turn<u64>
+    ensures { result.key.kind ≡ Kind.With }
+{
+    match begin_if(cache, key, unwanted) {
+        Ok(Begun::Run(turn)) => turn,
+        begun => panic!(rt; "{}", spent(cache, begun)),
+    }
+}
+
+/// A begin that turns 30 down finds this value, which was written before.
+fn is_found(rt: &impl Abort, cache: &mut Numbers, key: &Arc<u64>, value: u64) {
+    match begin_if(cache, key, 30) {
+        Ok(Begun::Found(entry)) => {
+            assert_eq!(rt; (*entry.value(), entry.is_fresh()), (value, false));
+        }
+        begun => panic!(rt; "{}", spent(cache, begun)),
+    }
 }
 
 #[test]
 fn what_another_cache_handed_out_is_not_known(rt: HostRuntime) -> Result<(), Fail> {
-    let mut cache = opened(rt.alloc(), 0, 100)?;
-    let mut other = opened(rt.alloc(), 0, 100)?;
     let key = shared(rt.alloc(), 5)?;
-    let turn = ran(&rt, &mut cache, &key, Kind::With);
-    let ticket = waited(&rt, &mut cache, &key, Kind::With);
-    let turn = match other.finish(turn, Outcome::Value(7), 0) {
-        Err(
-            FinishRefused {
-                turn,
-                outcome,
-                cause,
-            },
-        ) => {
-            assert!(rt; matches!(outcome, Outcome::Value(7)));
-            assert_eq!(rt; cause, Refused::UnknownTurn);
-            turn
-        }
-        Ok(_) => panic!(rt; "it is known"),
-    };
-    let ticket = match other.collect(ticket) {
-        Err(CollectRefused { ticket, cause }) => {
-            assert_eq!(rt; cause, Refused::UnknownTicket);
-            ticket
-        }
-        Ok(Collected::NotYet(ticket)) => {
-            let _ = cache.leave(ticket);
-            panic!(rt; "it is known")
-        }
-        Ok(Collected::Ready(_) | Collected::Abandoned | Collected::Ended) => {
-            panic!(rt; "it is known")
-        }
-    };
-    assert_eq!(rt; other.leave(ticket), Err(Refused::UnknownTicket));
-    assert_eq!(rt; other.abandon(turn), Err(Refused::UnknownTurn));
+    let mut other = opened(rt.alloc(), 0, 100)?;
+    is_not_known_to(&rt, rt.alloc(), &mut other, &key)
+}
+
+fn is_not_known_to(
+    rt: &impl Abort,
+    alloc: Global,
+    other: &mut Numbers,
+    key: &Arc<u64>,
+) -> Result<(), Fail> {
+    let mut cache = opened(alloc, 0, 100)?;
+    hands_out(rt, &mut cache, other, key);
     Ok(())
+}
+
+fn hands_out(rt: &impl Abort, cache: &mut Numbers, other: &mut Numbers, key: &Arc<u64>) {
+    let turn = ran(rt, cache, key, Kind::With);
+    let ticket = waited(rt, cache, key, Kind::With);
+    are_not_known(rt, other, turn, ticket);
+}
+
+fn are_not_known(rt: &impl Abort, other: &mut Numbers, turn: Turn<u64>, ticket: Ticket<u64>)
+    requires { turn.key.kind ≡ Kind.With }
+{
+    let turn = refused_to_finish(rt, other, turn, Refused::UnknownTurn);
+    let ticket = unknown(rt, other, ticket);
+    assert!(rt; other.leave(ticket) == Err(Refused::UnknownTicket));
+    assert!(rt; other.abandon(turn) == Err(Refused::UnknownTurn));
 }
 
 #[test]
 fn numbers_are_used_up(rt: HostRuntime) -> Result<(), Fail> {
-    let mut cache = opened(rt.alloc(), u64::MAX - 1, 100)?;
     let key = shared(rt.alloc(), 5)?;
-    let turn = ran(&rt, &mut cache, &key, Kind::With);
-    let turn = match cache.finish(turn, Outcome::Value(7), 0) {
-        Err(
-            FinishRefused {
-                turn,
-                outcome,
-                cause,
-            },
-        ) => {
-            assert!(rt; matches!(outcome, Outcome::Value(7)));
-            assert_eq!(rt; cause, Refused::NumbersUsedUp);
-            turn
-        }
-        Ok(_) => panic!(rt; "a number was left"),
-    };
-    let ticket = waited(&rt, &mut cache, &key, Kind::With);
-    assert!(rt; cache.leave(ticket).is_ok());
-    assert!(rt; cache.abandon(turn).is_ok());
-    match cache.begin(&key, Kind::With, None::<fn(&u64) -> bool>, 0) {
-        Err(cause) => assert_eq!(rt; cause, Refused::NumbersUsedUp),
-        Ok(Begun::Run(turn)) => {
-            let _ = cache.abandon(turn);
-            panic!(rt; "a number was left")
-        }
-        Ok(Begun::Wait(ticket)) => {
-            let _ = cache.leave(ticket);
-            panic!(rt; "it waits")
-        }
-        Ok(Begun::Found(_)) => panic!(rt; "it is found"),
-    }
+    let mut cache = opened(rt.alloc(), u64::MAX - 1, 100)?;
+    are_used_up(&rt, &mut cache, &key);
     Ok(())
+}
+
+fn are_used_up(rt: &impl Abort, cache: &mut Numbers, key: &Arc<u64>) {
+    let turn = ran(rt, cache, key, Kind::With);
+    let turn = refused_to_finish(rt, cache, turn, Refused::NumbersUsedUp);
+    let ticket = waited(rt, cache, key, Kind::With);
+    left(rt, cache, ticket);
+    abandoned(rt, cache, turn);
+    match begin(cache, key, Kind::With) {
+        Err(cause) => assert_eq!(rt; cause, Refused::NumbersUsedUp),
+        begun => panic!(rt; "{}", spent(cache, begun)),
+    }
 }

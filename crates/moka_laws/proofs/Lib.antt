@@ -23,6 +23,7 @@ pub mod Moves
 pub mod Names
 pub mod Noted
 pub mod Notices
+pub mod OrInserts
 pub mod OwnLives
 pub mod Places
 pub mod Positions

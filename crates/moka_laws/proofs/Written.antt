@@ -1,14 +1,17 @@
 -- A look after a write finds its value, unless a life of nothing has ended.
-use Rattle.std.proofs.Common.{◌≡◌, ◌≢◌, ◌⊎◌, inl, inr, ⊎_elim, ℕ, zero, suc, ◌+◌, ◌≤◌, max, Bool, true, false, if◌then◌else◌, Option, Some, None, List, [], ◌∷◌, ◌++◌, refl, sym, ap, ◌∙◌, arith}
+use Rattle.std.proofs.Common.{◌≡◌, ◌≢◌, ◌⊎◌, inl, inr, ⊎_elim, ℕ, zero, suc, ◌+◌, ◌≤◌, max, Bool, true, false, if◌then◌else◌, Option, Some, None, IsSome, List, [], ◌∷◌, ◌++◌, refl, sym, ap, ◌∙◌, arith}
 use Rattle.std.specs.Option.{option_map}
 use Rattle.std.specs.Cmp.{IsEquivalence}
 use Rattle.std.proofs.lemmas.Bool.{cases_Bool, cond-true, le-leb, lt-leb}
+use Rattle.std.proofs.lemmas.List.{append_assoc}
+use Rattle.moka_model.specs.declared.turns.Outcome.TheVariants as outcomes
 use Rattle.moka_model.specs.Lives.{Settings, Write, ends_at, earlier, has_come, own_end, given, is_expired, live_one, life_given, after_write}
-use Rattle.moka_model.specs.Events.{Event, Written, Passed, latest}
+use Rattle.moka_model.specs.Events.{Event, Looked, Written, Passed, latest}
 use Rattle.moka_model.specs.Orders.{standing}
 use Rattle.moka_model.specs.Numbers.{stores_nothing}
-use Rattle.moka_model.specs.Steps.{AcceptedStep, events_in}
-use Rattle.moka_model.specs.Calls.{Get, Insert, Found, live_at, flush, after, IsLegal}
+use Rattle.moka_model.specs.Turns.{Name, Turn, fits, found, is_open_as}
+use Rattle.moka_model.specs.Steps.{AcceptedStep, events_in, turns}
+use Rattle.moka_model.specs.Calls.{Get, Insert, OrInsert, Finish, Found, Entered, accepted, entry_of, fresh_entry, finished, or_inserted, with_step, live_at, flush, after, IsLegal}
 use Rattle.moka_laws.specs.Laws.{answer, and_then, life_by_write}
 use Rattle.moka_laws.proofs.Deadlines.{has_come-earlier}
 use Rattle.moka_model.proofs.Callers.{standing_congr, standing-empty, IsLegal-after}
@@ -117,6 +120,52 @@ module _ {K V : Type 0} (eq : K → K → Bool) (settings : Settings K V) (laws 
         let behind : List (Event K V) = flush eq settings at h in
         ap (λ t. Some (Found (option_map (λ (w : Write K V). w.value) (live_at eq settings q now ((if t then Passed at ∷ [] else Written k v at ∷ behind) ++ h))))) stores
         ∙ ap (λ o. Some (Found o)) (found-written (behind ++ h) le live idle own)
+
+-- a call that finds a value or writes one
+module _ {K V E : Type 0} (eq : K → K → Bool) (settings : Settings K V) (k : K) (v : V) (at : ℕ) (steps : List (AcceptedStep K V E)) where
+  -- is a hit where a value is live,
+  pub or_inserted-hit : (w : Write K V) → live_at eq settings k at (events_in steps) ≡ Some w
+      → (answer eq settings (OrInsert k v at) steps ≡ Some (Entered (entry_of w))) × (answer eq settings (Get k at) steps ≡ Some (Found (Some w.value))) × (after eq settings (OrInsert k v at) steps ≡ after eq settings (Get k at) steps)
+  or_inserted-hit w live = (
+    ap (λ o. Some ((or_inserted {E = E} eq settings (events_in steps) k v at o).answer)) live,
+    ap (λ o. Some (Found (option_map (λ (w : Write K V). w.value) o))) live,
+    ap (λ o. with_step (Some (or_inserted {E = E} eq settings (events_in steps) k v at o)) steps) live,
+  )
+
+  -- and fresh where none is
+  pub or_inserted-fresh : live_at eq settings k at (events_in steps) ≡ None → answer eq settings (OrInsert k v at) steps ≡ Some (Entered (fresh_entry k v false))
+  or_inserted-fresh none = ap (λ o. Some ((or_inserted {E = E} eq settings (events_in steps) k v at o).answer)) none
+
+  -- Then it is a look, and a write behind it.
+  module _ (laws : IsEquivalence eq) (q : K) (now : ℕ) (same : eq k q ≡ true) where
+    pub get-or_inserted : now ≤ at → stores_nothing settings.max_capacity ≡ false → settings.time_to_live ≢ Some 0 → settings.time_to_idle ≢ Some 0
+        → life_by_write eq settings k v at (flush eq settings at (Looked k at ∷ events_in steps) ++ Looked k at ∷ events_in steps) ≢ Some 0
+        → live_at eq settings k at (events_in steps) ≡ None
+        → answer eq settings (Get q now) (after eq settings (OrInsert k v at) steps) ≡ Some (Found (Some v))
+    get-or_inserted le stores live idle own none =
+        let looked : List (Event K V) = Looked k at ∷ events_in steps in
+        let behind : List (Event K V) = flush eq settings at looked in
+        ap (λ o. answer eq settings (Get q now) (with_step (Some (or_inserted {E = E} eq settings (events_in steps) k v at o)) steps)) none
+        ∙ ap (λ t. Some (Found (option_map (λ (w : Write K V). w.value) (live_at eq settings q now (((if t then Passed at ∷ [] else Written k v at ∷ behind) ++ Looked k at ∷ []) ++ events_in steps))))) stores
+        ∙ ap (λ l. Some (Found (option_map (λ (w : Write K V). w.value) (live_at eq settings q now (Written k v at ∷ l))))) (append_assoc behind (Looked k at ∷ []) (events_in steps))
+        ∙ ap (λ o. Some (Found o)) (found-written eq settings laws k q v at now same (behind ++ looked) le live idle own)
+
+-- the end of a turn with a value is behind it as a write is
+module _ {K V E : Type 0} (eq : K → K → Bool) (settings : Settings K V) (laws : IsEquivalence eq) (name : Name K) (q : K) (v : V) (at now : ℕ) (same : eq name.key q ≡ true)
+    (steps : List (AcceptedStep K V E)) where
+  pub get-finished : now ≤ at → stores_nothing settings.max_capacity ≡ false → settings.time_to_live ≢ Some 0 → settings.time_to_idle ≢ Some 0
+      → life_by_write eq settings name.key v at (flush eq settings at (events_in steps) ++ events_in steps) ≢ Some 0
+      → IsSome (accepted eq settings steps (Finish name (outcomes.Value v) at))
+      → answer eq settings (Get q now) (after eq settings (Finish name (outcomes.Value v) at) steps) ≡ Some (Found (Some v))
+  get-finished le stores live idle own some =
+      by (fits name.kind (outcomes.Value v)) (found (is_open_as eq name) (turns steps)) some
+    where
+      by : (b : Bool) (o : Option (Turn K V E))
+          → IsSome (if b then option_map (finished eq settings (events_in steps) name (outcomes.Value v) at) o else None)
+          → answer eq settings (Get q now) (with_step (if b then option_map (finished eq settings (events_in steps) name (outcomes.Value v) at) o else None) steps) ≡ Some (Found (Some v))
+      by true (Some t) some = get-accepted eq settings laws name.key q v at now same steps le stores live idle own
+      by true None some = let never = some in cc
+      by false o some = let never = some in cc
 
 -- with a capacity of 0 no look finds anything after a write
 pub get-not_stored : {K V E : Type 0} (eq : K → K → Bool) (settings : Settings K V) (steps : List (AcceptedStep K V E)) (k q : K) (v : V) (at now : ℕ) → stores_nothing settings.max_capacity ≡ true → IsLegal eq settings steps

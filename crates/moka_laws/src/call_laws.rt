@@ -1,12 +1,12 @@
 //! The laws of calls, over every list of accepted steps: what each records and draws, and that all
 //! lists which calls give are legal.
-ghost use Rattle.std.specs.Prelude.{◌≡◌, ◌⊎◌, ◌↔◌, ◌≢◌, ℕ, max, false, Option, Some, List, [], ◌++◌};
+ghost use Rattle.std.specs.Prelude.{◌≡◌, ◌⊎◌, ◌↔◌, ◌≢◌, ℕ, max, false, Option, Some, None, List, [], ◌++◌};
 ghost use Rattle.std.specs.List.{AllByRecursion};
 ghost use Rattle.moka_model.specs.Lives.{Settings};
 ghost use Rattle.moka_model.specs.Events.{recorded, latest};
 ghost use Rattle.moka_model.specs.Numbers.{next_number, greatest_number, stores_nothing};
 ghost use Rattle.moka_model.specs.Steps.{AcceptedStep, events_in};
-ghost use Rattle.moka_model.specs.Calls.{Call, Insert, Accepted, accepted, after, IsLegal, IfAnswered, IsOutOfNumbers, AnswerMayFail, MayTakeMemory};
+ghost use Rattle.moka_model.specs.Calls.{Call, Insert, OrInsert, Accepted, accepted, after, live_at, IsLegal, IfAnswered, IsOutOfNumbers, AnswerMayFail, MayTakeMemory};
 ghost use Rattle.moka_laws.specs.Laws.{moment_of, IsWrite};
 
 /// Before any call there are no steps, which is legal, and each call leaves a legal list legal.
@@ -33,10 +33,14 @@ pub fn a_step_is_at_one_moment<K: Eq, V, E>()
 {}
 
 /// A write is refused for want of numbers exactly where something is stored and the next number is
-/// the greatest, and no call ever is that neither writes nor begins.
+/// the greatest; an `or_insert` exactly where besides no value is live; and no call ever is that neither
+/// writes nor begins.
 pub fn writes_alone_run_out_of_numbers<K: Eq, V, E>()
     ensures write { (settings : Settings K V) (steps : List (AcceptedStep K V E)) (k : K) (v : V) (at : ℕ)
         → IsOutOfNumbers K.eq settings steps (Insert k v at) ↔ ((stores_nothing settings.max_capacity ≡ false) × (next_number settings (events_in steps) ≡ greatest_number)) }
+    ensures or_insert { (settings : Settings K V) (steps : List (AcceptedStep K V E)) (k : K) (v : V) (at : ℕ)
+        → IsOutOfNumbers K.eq settings steps (OrInsert k v at) ↔ ((live_at K.eq settings k at (events_in steps) ≡ None)
+        × (stores_nothing settings.max_capacity ≡ false) × (next_number settings (events_in steps) ≡ greatest_number)) }
     ensures others { (settings : Settings K V) (steps : List (AcceptedStep K V E)) (call : Call K V E)
         → IsOutOfNumbers K.eq settings steps call → IsWrite call }
 {}

@@ -1,16 +1,18 @@
 //! The laws of the definitions over the list of events, and over the list of accepted steps, in the
 //! words of the subject. Each stands as the contract of a function that does nothing, so that the
 //! check proves it for every such list.
-ghost use Rattle.std.specs.Prelude.{◌≡◌, ◌≢◌, ◌⊎◌, ◌↔◌, ℕ, ◌+◌, ◌<◌, ◌≤◌, max, Bool, not, if◌then◌else◌, Option, Some, None, option_to_list, true, false, List, [], ◌∷◌, ◌++◌, length, filter, slice_get, ◌^◌, fold};
+ghost use Rattle.std.specs.Prelude.{◌≡◌, ◌≢◌, ◌⊎◌, ◌↔◌, ℕ, ◌+◌, ◌<◌, ◌≤◌, max, Bool, not, if◌then◌else◌, Option, Some, None, IsSome, option_to_list, true, false, List, [], ◌∷◌, ◌++◌, length, filter, slice_get, ◌^◌, fold};
 ghost use Rattle.moka_model.specs.declared.notification.RemovalCause.TheVariants.{Explicit, Replaced, Size};
+ghost use Rattle.moka_model.specs.declared.turns.Outcome.{Outcome};
 ghost use Rattle.moka_model.specs.Lives.{Settings, Write, is_expired, is_live};
-ghost use Rattle.moka_model.specs.Events.{Event, Written, Invalidated, Maintained, Drawn, latest};
+ghost use Rattle.moka_model.specs.Events.{Event, Looked, Written, Invalidated, Maintained, Drawn, latest};
 ghost use Rattle.moka_model.specs.Admission.{frequency};
 ghost use Rattle.moka_model.specs.Orders.{is_evicted, orders, standing};
 ghost use Rattle.moka_model.specs.Removals.{Removal, removals_at, removals, taken, notices_left};
 ghost use Rattle.moka_model.specs.Numbers.{next_number, stores_nothing, is_flush_due};
+ghost use Rattle.moka_model.specs.Turns.{Name};
 ghost use Rattle.moka_model.specs.Steps.{AcceptedStep, events_in};
-ghost use Rattle.moka_model.specs.Calls.{Call, Get, ContainsKey, Insert, TakeNotice, Found, Contains, Noticed, flush, after, IsLegal};
+ghost use Rattle.moka_model.specs.Calls.{Call, Get, ContainsKey, Insert, OrInsert, Finish, TakeNotice, Found, Contains, Entered, Noticed, accepted, entry_of, fresh_entry, live_at, flush, after, IsLegal};
 ghost use Rattle.moka_laws.specs.Laws.{answer, and_then, IsQuestion, ends, IsUnwritten, IsUntouched, LastWrite, FirstWrite, FirstEnd, NothingStands, up_to_write, IsAsWritten, hidden_since, IsRemovalOf, HasEnded, OwnHasEnded, draws, life_by_write, values_written, values_left, removals_under, value_standing};
 ghost use Rattle.moka_conserved.specs.Conserved.{given_out};
 ghost use Rattle.moka_policy.specs.NumberHash.{number_hash};
@@ -34,6 +36,37 @@ pub fn get_after_insert<K: Eq, V, E>()
     ensures not_stored { (settings : Settings K V) (steps : List (AcceptedStep K V E)) (k q : K) (v : V) (at now : ℕ)
         → stores_nothing settings.max_capacity ≡ true → IsLegal K.eq settings steps
         → answer K.eq settings (Get q now) (after K.eq settings (Insert k v at) steps) ≡ Some (Found None) }
+{}
+
+/// After a turn has ended with a value, a look at the same moment, or at an earlier one, finds that
+/// value: so who gets a value by an initializer of his own finds it by the next look. It does not
+/// where the capacity is 0, or where the value has a life of nothing.
+pub fn get_after_finish<K: Eq, V, E>()
+    ensures { (settings : Settings K V) (steps : List (AcceptedStep K V E)) (name : Name K) (q : K) (v : V) (at now : ℕ) → K.eq name.key q ≡ true → now ≤ at
+        → stores_nothing settings.max_capacity ≡ false → settings.time_to_live ≢ Some 0 → settings.time_to_idle ≢ Some 0
+        → life_by_write K.eq settings name.key v at (flush K.eq settings at (events_in steps) ++ events_in steps) ≢ Some 0
+        → IsSome (accepted K.eq settings steps (Finish name (Outcome.Value v) at))
+        → answer K.eq settings (Get q now) (after K.eq settings (Finish name (Outcome.Value v) at) steps) ≡ Some (Found (Some v)) }
+{}
+
+/// An `or_insert` on a live value is a hit as by `get`: it answers that value, not fresh and not
+/// replaced, and is the same step. Else it is a look and a write: it answers its own value, fresh, and
+/// a look at the same moment, or at an earlier one, finds that, but where the capacity is 0, or where
+/// the value has a life of nothing.
+pub fn get_after_or_insert<K: Eq, V, E>()
+    ensures hit { (settings : Settings K V) (steps : List (AcceptedStep K V E)) (k : K) (v : V) (at : ℕ) (w : Write K V)
+        → live_at K.eq settings k at (events_in steps) ≡ Some w
+        → (answer K.eq settings (OrInsert k v at) steps ≡ Some (Entered (entry_of w)))
+        × (answer K.eq settings (Get k at) steps ≡ Some (Found (Some w.value)))
+        × (after K.eq settings (OrInsert k v at) steps ≡ after K.eq settings (Get k at) steps) }
+    ensures fresh { (settings : Settings K V) (steps : List (AcceptedStep K V E)) (k : K) (v : V) (at : ℕ)
+        → live_at K.eq settings k at (events_in steps) ≡ None
+        → answer K.eq settings (OrInsert k v at) steps ≡ Some (Entered (fresh_entry k v false)) }
+    ensures found { (settings : Settings K V) (steps : List (AcceptedStep K V E)) (k q : K) (v : V) (at now : ℕ) → K.eq k q ≡ true → now ≤ at
+        → stores_nothing settings.max_capacity ≡ false → settings.time_to_live ≢ Some 0 → settings.time_to_idle ≢ Some 0
+        → life_by_write K.eq settings k v at (flush K.eq settings at (Looked k at ∷ events_in steps) ++ Looked k at ∷ events_in steps) ≢ Some 0
+        → live_at K.eq settings k at (events_in steps) ≡ None
+        → answer K.eq settings (Get q now) (after K.eq settings (OrInsert k v at) steps) ≡ Some (Found (Some v)) }
 {}
 
 /// A question is a step without events, and such a step, where it moves no turn either, changes

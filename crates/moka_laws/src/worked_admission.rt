@@ -29,8 +29,8 @@ pub fn a_key_enters_that_is_asked_for_more_often()
 {}
 
 /// Weights of 10, 15 and 5 at a capacity of 31. A fourth of 15 needs the room of the third and the
-/// first, and is not admitted until it was looked for more often than both together. An overwrite
-/// that is heavier, or lighter, changes what fits.
+/// first, and is not admitted until its frequency is greater than theirs together. An overwrite that
+/// is heavier, or lighter, changes what fits.
 pub fn a_key_enters_by_its_weight()
     ensures four_times { removals nat_eq (by_weight 31) (fourth_tries 4) ≡ left_as 4 15 Size ∷ left_as 4 15 Size ∷ left_as 4 15 Size ∷ left_as 4 15 Size ∷ [] }
     ensures misses { answer_after nat_eq (by_weight 31) (Get 4 11) (fourth_tries 4) ≡ found None }

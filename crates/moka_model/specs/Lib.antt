@@ -1,5 +1,6 @@
 pub mod Admission
 pub mod Calls
+pub mod CompResults
 pub mod Entries
 pub mod Events
 pub mod Lives

@@ -107,8 +107,8 @@ impl EvictionPolicy {
         EvictionPolicy { kind: Kind::Lru }
     }
 
-    /// The least recently used keys leave too, but only for a new key that, by the estimate of the cache's source of
-    /// counts, was looked for more often than all of them together; a key that was not is not admitted.
+    /// The least recently used keys leave too, but only for a new key whose frequency, as the cache's source of
+    /// frequencies estimates it, is greater than theirs together; any other key is not admitted.
     pub fn tiny_lfu() -> Self
         ensures { is_lru result ≡ false }
     {

@@ -1,11 +1,12 @@
 -- The hashers of a vector of states.
-use Rattle.std.proofs.Common.{◌≡◌, ℕ, zero, suc, ◌<◌, ◌^◌, Option, Some, Bool, List, [], ◌∷◌, length, ap, ◌∙◌, sym, get_or, set, arith}
+use Rattle.std.proofs.Common.{◌≡◌, ℕ, zero, suc, ◌<◌, ◌^◌, Some, Bool, List, [], ◌∷◌, length, ap, ◌∙◌, get_or, set, arith}
 use Rattle.std.specs.List.{AllByRecursion}
 use Rattle.moka_model.specs.Lives.{Settings}
 use Rattle.moka_ways.specs.StateData.{StateData}
 use Rattle.moka_state.specs.declared.step.Step.{Step}
 use Rattle.moka_state.specs.declared.step.Step.TheVariants.{Get, ContainsKey, Insert, Invalidate, Remove, InvalidateAll, InvalidateIf}
 use Rattle.moka_state.specs.declared.step.Step.TheVariants.{RunPendingTasks, RunPendingTasksUpTo, EntryCount, WeightedSize, TakeNotice}
+use Rattle.moka_state.specs.declared.step.Step.TheVariants.{OrInsert, Begin, BeginCompute, Finish, Abandon, Collect, Leave}
 use Rattle.moka_state.specs.Step.{call_of}
 use Rattle.moka_state.specs.Hashes.{IsHashOf, IsHashOfStep}
 use Rattle.moka_segments.specs.Segments.{key_in}
@@ -34,8 +35,15 @@ pub hash-of-step : {K V C H W X P F L T E S : Type 0} (test : P → K → V → 
 hash-of-step test settings k hash (Get key now) of is = cc
 hash-of-step test settings k hash (ContainsKey key now) of is = cc
 hash-of-step test settings k hash (Insert key value now) of is = cc
+hash-of-step test settings k hash (OrInsert key value now) of is = cc
 hash-of-step test settings k hash (Invalidate key now) of is = cc
 hash-of-step test settings k hash (Remove key now) of is = cc
+hash-of-step test settings k hash (Begin key kind replace now) of is = cc
+hash-of-step test settings k hash (BeginCompute key keep now) of is = cc
+hash-of-step test settings k hash (Finish name outcome now) of is = cc
+hash-of-step test settings k hash (Abandon name) of is = cc
+hash-of-step test settings k hash (Collect name) of is = cc
+hash-of-step test settings k hash (Leave name) of is = cc
 hash-of-step test settings k hash InvalidateAll of is = tt
 hash-of-step test settings k hash (InvalidateIf predicate) of is = tt
 hash-of-step test settings k hash (RunPendingTasks now) of is = tt

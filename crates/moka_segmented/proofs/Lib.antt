@@ -1,6 +1,8 @@
+pub mod Asked
 pub mod Bounds
 pub mod Broadcast
 pub mod Callers
+pub mod Forms
 pub mod Hashing
 pub mod Noticing
 pub mod Numbers

@@ -73,7 +73,7 @@ pub record Routing {K V S : Type 0} (settings : SegmentedSettings K V) (states :
 
 module _ {K V H W X F : Type 0} (E : Type 0) (eq : K → K → Bool) (behaviour : BehaviourData H W X → Behaviour K V) (frequency : F → List ℕ → ℕ → ℕ) (opened : F) (cache : SegmentedData K V H W X F E)
     (here : StateData K V H W X F E) (index : ℕ) (k : K) (routing : Routing (segmented_settings_by behaviour (frequency opened) cache) cache.segments here index k) where
-  here-view : slice_get (map (view_by behaviour frequency opened) cache.segments) index ≡ Some (view_by behaviour frequency opened here)
+  pub here-view : slice_get (map (view_by behaviour frequency opened) cache.segments) index ≡ Some (view_by behaviour frequency opened here)
   here-view = view-at (view_by behaviour frequency opened) cache.segments index here routing.within routing.here_is
 
   module _ {is_clone : V → V → Type 0} where

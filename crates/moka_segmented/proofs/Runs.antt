@@ -9,7 +9,7 @@ use Rattle.moka_segmented.specs.Step.{IsReplyIn, IsRunIn, after_reply_in, after_
 
 module _ {K V C H W X P F L T E S : Type 0} (eq : K → K → Bool) (test : P → K → V → Bool) (is_clone : V → V → Type 0) (is_infallible : V → Type 0) (given : SegmentedSettings K V) where
   -- a reply to the step after a run makes a longer run
-  pub IsRunIn-more : (before : List (Call K V E)) (steps : List (Step K V C H W X P F L T E S)) (replies : List (Reply K V)) (step : Step K V C H W X P F L T E S) (reply : Reply K V)
+  pub IsRunIn-more : (before : List (Call K V E)) (steps : List (Step K V C H W X P F L T E S)) (replies : List (Reply K V C H W X P F L T E S)) (step : Step K V C H W X P F L T E S) (reply : Reply K V C H W X P F L T E S)
       → IsRunIn test eq is_clone is_infallible given before steps replies → IsReplyIn E eq is_clone is_infallible given (after_all_in test steps replies before) (call_of test step) reply → IsRunIn test eq is_clone is_infallible given before (steps ++ step ∷ []) (replies ++ reply ∷ [])
   IsRunIn-more before [] [] step reply run is = (is, tt)
   IsRunIn-more before [] (r ∷ rs) step reply run is = absurd run
@@ -17,7 +17,7 @@ module _ {K V C H W X P F L T E S : Type 0} (eq : K → K → Bool) (test : P �
   IsRunIn-more before (s ∷ ss) (r ∷ rs) step reply run is = (run.0, IsRunIn-more (after_reply_in (call_of test s) r before) ss rs step reply run.1 is)
 
   -- and leaves what that step accepts too
-  after_all_in-more : (before : List (Call K V E)) (steps : List (Step K V C H W X P F L T E S)) (replies : List (Reply K V)) (step : Step K V C H W X P F L T E S) (reply : Reply K V)
+  after_all_in-more : (before : List (Call K V E)) (steps : List (Step K V C H W X P F L T E S)) (replies : List (Reply K V C H W X P F L T E S)) (step : Step K V C H W X P F L T E S) (reply : Reply K V C H W X P F L T E S)
       → IsRunIn test eq is_clone is_infallible given before steps replies → after_all_in test (steps ++ step ∷ []) (replies ++ reply ∷ []) before ≡ after_reply_in (call_of test step) reply (after_all_in test steps replies before)
   after_all_in-more before [] [] step reply run = refl
   after_all_in-more before [] (r ∷ rs) step reply run = absurd run
@@ -25,7 +25,7 @@ module _ {K V C H W X P F L T E S : Type 0} (eq : K → K → Bool) (test : P �
   after_all_in-more before (s ∷ ss) (r ∷ rs) step reply run = after_all_in-more (after_reply_in (call_of test s) r before) ss rs step reply run.1
 
   -- so what the states stand for after that step they stand for after the longer run
-  pub all-stand-more : (view : SegmentedView K V E) (before : List (Call K V E)) (steps : List (Step K V C H W X P F L T E S)) (replies : List (Reply K V)) (step : Step K V C H W X P F L T E S) (reply : Reply K V)
+  pub all-stand-more : (view : SegmentedView K V E) (before : List (Call K V E)) (steps : List (Step K V C H W X P F L T E S)) (replies : List (Reply K V C H W X P F L T E S)) (step : Step K V C H W X P F L T E S) (reply : Reply K V C H W X P F L T E S)
       → IsRunIn test eq is_clone is_infallible given before steps replies → AllStandFor eq is_clone given view (after_reply_in (call_of test step) reply (after_all_in test steps replies before)) → AllStandFor eq is_clone given view (after_all_in test (steps ++ step ∷ []) (replies ++ reply ∷ []) before)
   all-stand-more view before steps replies step reply run stand = subst (AllStandFor eq is_clone given view) (sym (after_all_in-more before steps replies step reply run)) stand
 

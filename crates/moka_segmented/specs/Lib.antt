@@ -1,5 +1,7 @@
 -- The definitions of this crate, and those of the crates below that its public clauses cite.
 pub use Rattle.moka_segments.specs.Segments
 pub use Rattle.moka_state.specs.State
+pub mod Forms
 pub mod SegmentedData
 pub mod Step
+pub mod Turns

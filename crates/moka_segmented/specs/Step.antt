@@ -8,15 +8,15 @@ use Rattle.moka_state.specs.Step.{call_of, IsReplyTo}
 use Rattle.moka_segments.specs.Segments.{SegmentedSettings, share_settings, steps_in, asked, place_of, Joint, Total, AnyLeft, joint_in}
 
 -- a reply to what all segments answer together is that, and to any other call it is such as is said
-abbrev pub IsReplyBy : {K V : Type 0} → Option Joint → Type 0 → Reply K V → Type 0
+abbrev pub IsReplyBy : {K V C H W X P F L T E S : Type 0} → Option Joint → Type 0 → Reply K V C H W X P F L T E S → Type 0
 IsReplyBy (Some (Total total)) Otherwise reply = reply ≡ Counted total
 IsReplyBy (Some (AnyLeft left)) Otherwise reply = reply ≡ Left left
 IsReplyBy None Otherwise reply = Otherwise
 
 -- What a call replies after others: what all segments answer together, and else what the segment that is asked replies, as a
 -- state of its share that was given its own list alone.
-abbrev pub IsReplyIn : {K V : Type 0} (E : Type 0) → (K → K → Bool) → (V → V → Type 0) → (V → Type 0) → SegmentedSettings K V →
-    List (Call K V E) → Call K V E → Reply K V → Type 0
+abbrev pub IsReplyIn : {K V C H W X P F L T S : Type 0} (E : Type 0) → (K → K → Bool) → (V → V → Type 0) → (V → Type 0) →
+    SegmentedSettings K V → List (Call K V E) → Call K V E → Reply K V C H W X P F L T E S → Type 0
 IsReplyIn E eq is_clone is_infallible settings calls call reply =
     IsReplyBy (joint_in E eq settings calls call)
     (IsReplyTo eq is_clone is_infallible (share_settings settings)
@@ -24,21 +24,23 @@ IsReplyIn E eq is_clone is_infallible settings calls call reply =
     reply
 
 -- The calls after a reply to one more: a refused call leaves them as they are.
-abbrev pub after_reply_in : {K V E : Type 0} → Call K V E → Reply K V → List (Call K V E) → List (Call K V E)
+abbrev pub after_reply_in : {K V C H W X P F L T E S : Type 0} → Call K V E → Reply K V C H W X P F L T E S → List (Call K V E) →
+    List (Call K V E)
 after_reply_in call (Refused cause) calls = calls
 after_reply_in call (PredicateRefused cause) calls = calls
 after_reply_in call reply calls = call ∷ calls
 
 module _ {K V C H W X P F L T E S : Type 0} (test : P → K → V → Bool) where
   -- those after a run, on those before it
-  abbrev pub after_all_in : List (Step K V C H W X P F L T E S) → List (Reply K V) → List (Call K V E) → List (Call K V E)
+  abbrev pub after_all_in : List (Step K V C H W X P F L T E S) → List (Reply K V C H W X P F L T E S) → List (Call K V E) →
+      List (Call K V E)
   after_all_in [] replies calls = calls
   after_all_in (step ∷ rest) [] calls = calls
   after_all_in (step ∷ rest) (reply ∷ replies) calls = after_all_in rest replies (after_reply_in (call_of test step) reply calls)
 
   -- Each reply is the step's, after the calls before it, and there are as many replies as steps.
   abbrev pub IsRunIn : (K → K → Bool) → (V → V → Type 0) → (V → Type 0) → SegmentedSettings K V → List (Call K V E) →
-      List (Step K V C H W X P F L T E S) → List (Reply K V) → Type 0
+      List (Step K V C H W X P F L T E S) → List (Reply K V C H W X P F L T E S) → Type 0
   IsRunIn eq is_clone is_infallible settings calls [] [] = ⊤
   IsRunIn eq is_clone is_infallible settings calls (step ∷ rest) (reply ∷ replies) =
       IsReplyIn E eq is_clone is_infallible settings calls (call_of test step) reply

@@ -17,10 +17,10 @@ use std::collections::VecDeque;
 use std::hash::Hash;
 
 impl<K: Hash + Drop, V: Clone, C: CacheTypes<K, V>, R: RowStore<K, V>> Segmented<K, V, C, R> {
-    /// Does one step: of a key in its segment, and any other in all. A step and the call that it
-    /// stands for answer the same. A refused step has changed nothing, and what it carried is
-    /// dropped.
-    pub fn step(&mut self, step: Step<K, V, C>) -> Reply<K, V>
+    /// Does one step: of a key in its segment, one of a turn in that of the key of its name, and any
+    /// other in all. A step and the call that it stands for answer the same. A refused step has
+    /// changed nothing, and what it carried is dropped.
+    pub fn step(&mut self, step: Step<K, V, C>) -> Reply<K, V, C>
         requires { StepKeeps C.keeps C.Predicate.tests C.test step }
         ensures reply { ⟦<C as SegmentedStateView<K, V>>⟧.at_each_list self.old (λ settings calls.
             IsReplyIn C.Error K.eq V.is_clone V.is_infallible settings calls
@@ -38,7 +38,7 @@ impl<K: Hash + Drop, V: Clone, C: CacheTypes<K, V>, R: RowStore<K, V>> Segmented
     }
 
     // A step without a key.
-    fn step_of_all(&mut self, step: Step<K, V, C>) -> Reply<K, V>
+    fn step_of_all(&mut self, step: Step<K, V, C>) -> Reply<K, V, C>
         requires keeps { StepKeeps C.keeps C.Predicate.tests C.test step }
         requires keyless { key_in (call_of C.test step) ≡ None }
         ensures reply { ⟦<C as SegmentedStateView<K, V>>⟧.at_each_list self.old (λ settings calls.
@@ -73,8 +73,15 @@ impl<K: Hash + Drop, V: Clone, C: CacheTypes<K, V>, R: RowStore<K, V>> Segmented
             Step::Get { .. }
             | Step::ContainsKey { .. }
             | Step::Insert { .. }
+            | Step::OrInsert { .. }
             | Step::Invalidate { .. }
-            | Step::Remove { .. } => unreachable!(),
+            | Step::Remove { .. }
+            | Step::Begin { .. }
+            | Step::BeginCompute { .. }
+            | Step::Finish { .. }
+            | Step::Abandon { .. }
+            | Step::Collect { .. }
+            | Step::Leave { .. } => unreachable!(),
         }
     }
 
@@ -82,7 +89,7 @@ impl<K: Hash + Drop, V: Clone, C: CacheTypes<K, V>, R: RowStore<K, V>> Segmented
     /// calls, a filter of the whole one, as a cache of its share, and each reply is that of such a
     /// cache. With a capacity and without a weigher no more keys are stored in a segment then than
     /// its share allows, and 64. Where the list of replies finds no room, no step was done.
-    pub fn run(&mut self, steps: Vec<Step<K, V, C>>) -> Result<Vec<Reply<K, V>>, Refused>
+    pub fn run(&mut self, steps: Vec<Step<K, V, C>>) -> Result<Vec<Reply<K, V, C>>, Refused>
         requires { AllByRecursion (StepKeeps C.keeps C.Predicate.tests C.test) steps.items }
         ensures replies { IfOk result (λ replies.
             ⟦<C as SegmentedStateView<K, V>>⟧.at_each_list self.old (λ settings before.
@@ -123,8 +130,15 @@ fn key_of<'a, K: Hash + Drop, V: Clone, C: CacheTypes<K, V>>(
         Step::Get { key, .. }
         | Step::ContainsKey { key, .. }
         | Step::Insert { key, .. }
+        | Step::OrInsert { key, .. }
         | Step::Invalidate { key, .. }
-        | Step::Remove { key, .. } => Some(&**key),
+        | Step::Remove { key, .. }
+        | Step::Begin { key, .. }
+        | Step::BeginCompute { key, .. } => Some(&**key),
+        Step::Finish { name, .. }
+        | Step::Abandon { name }
+        | Step::Collect { name }
+        | Step::Leave { name } => Some(&*name.key),
         _ => None,
     }
 }

@@ -6,8 +6,12 @@ mod caches;
 #[cfg(test)]
 mod calls;
 #[cfg(test)]
+mod forms;
+#[cfg(test)]
 mod refusals;
 #[cfg(test)]
 mod runs;
 #[cfg(test)]
 mod shares;
+#[cfg(test)]
+mod turns;

@@ -53,7 +53,7 @@ module _ {K V : Type 0} (eq : K → K → Bool) (settings : Settings K V) (conte
   HasNoted k noted = (more : List ℕ) (hash : ℕ) → noted more hash ≡ frequency (settings.behaviour.hash k ∷ more) hash
 
   -- a look at a key of which no write is live
-  becomes-missed : (noted : List ℕ → ℕ → ℕ) (k : K) (at : ℕ) → HasNoted k noted → filter (λ w. is_live settings w (max latest at)) (held eq k (stored_orders contents)) ≡ []
+  pub becomes-missed : (noted : List ℕ → ℕ → ℕ) (k : K) (at : ℕ) → HasNoted k noted → filter (λ w. is_live settings w (max latest at)) (held eq k (stored_orders contents)) ≡ []
       → Becomes eq (view_with settings contents frequency latest number) (Looked k at) (view_with settings contents noted (max latest at) number)
   becomes-missed noted k at notes none = record {
     settings = refl;

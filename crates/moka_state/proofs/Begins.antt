@@ -4,12 +4,14 @@ use Rattle.std.specs.Prelude.{Result, Ok, Err}
 use Rattle.std.specs.Arc.{arc_value}
 use Rattle.std.specs.Cmp.{IsEquivalence}
 use Rattle.std.specs.Fn.{Mut}
-use Rattle.std.specs.List.{AllByRecursion}
+use Rattle.std.specs.List.{AllByRecursion, filter}
+use Rattle.std.specs.Option.{option_to_list}
 use Rattle.std.proofs.lemmas.Bool.{eq-eqb, eqb-true, and_parts}
+use Rattle.std.proofs.lemmas.List.Elements.{filter_agree}
 use denote.Ref.{Bor}
 use Rattle.moka_model.specs.declared.turns.Kind.{Kind}
 use Rattle.moka_model.specs.declared.turns.Kind.TheVariants.{With, Optionally, Try, Compute}
-use Rattle.moka_model.specs.Lives.{Settings, Write, has_come, is_live}
+use Rattle.moka_model.specs.Lives.{Settings, Write, has_come, is_live, live_one}
 use Rattle.moka_model.specs.Events.{Event, Looked, TurnedDown, Drawn}
 use Rattle.moka_model.specs.Numbers.{drawn_in, next_number, greatest_number}
 use Rattle.moka_model.specs.OrderLaws.{HasOneEach}
@@ -45,12 +47,12 @@ use Rattle.moka_state.specs.Begin.{IsSaidOf, GivesBegun}
 use Rattle.moka_state.specs.Given.{Gives}
 use Rattle.moka_state.specs.State.{stored_orders}
 use Rattle.moka_maintain.specs.Hit.{UsesAt}
-use Rattle.moka_state.proofs.Becoming.{HasNoted, stored-same, becomes-absent, becomes-dead, becomes-hit}
+use Rattle.moka_state.proofs.Becoming.{HasNoted, stored-same, becomes-missed, becomes-hit}
 use Rattle.moka_state.proofs.Finds.{live-row, live-absent}
-use Rattle.moka_state.proofs.Held.{held-absent, same-key}
+use Rattle.moka_state.proofs.Held.{same-key}
 use Rattle.moka_state.proofs.Maintained.{HasLives}
 use Rattle.moka_state.proofs.Turns.{gives-accepted}
-use Rattle.moka_state.proofs.Views.{view_with, Becomes, view-becomes, one-each}
+use Rattle.moka_state.proofs.Views.{view_with, Becomes, view-becomes, one-each, live-held}
 
 module _ {K V : Type 0} (eq : K → K → Bool) (settings : Settings K V) (contents : Contents K V) (frequency : List ℕ → ℕ → ℕ) (latest number : ℕ) where
   -- a look at a live value that the caller turned down
@@ -140,33 +142,59 @@ module _ {K V E F : Type 0} (eq : K → K → Bool) {is_clone : V → V → Type
       (becomes-hit eq settings contents frequency latest number one new k at n row there same noted used.0 notes live_then
       (stored-same _ (touched used.0 row) refl refl refl refl refl (sym touch_is.accessed) (sym touch_is.own) refl) used.2 notices)
 
-  abbrev LooksAt : Type 0
-  LooksAt =
-      (noted : List ℕ → ℕ → ℕ) → HasNoted eq settings contents frequency latest number k noted
-      → Becomes eq (view_with settings contents frequency latest number) (look_event said k at) (view_with settings contents noted (max latest at) number)
-
-  -- where none is accepted, none is acceptable, and the look changes no row
-  pub rejects-live : Accepts eq call replace_if k hash (max latest at) (entries contents) said None → IsSaidOf call replace_if live_here said × (acceptable said live_here ≡ None) × LooksAt
+  -- where none is accepted, none is acceptable
+  pub rejects-live : Accepts eq call replace_if k hash (max latest at) (entries contents) said None → IsSaidOf call replace_if live_here said × (acceptable said live_here ≡ None)
   rejects-live (inl (nothing, none)) =
       let here = live-absent eq laws settings contents frequency latest number given steps stands hash_of respects hashed k at hash is none in (
         rw here nothing,
         rw here (none-acceptable said),
-        λ noted notes. rw nothing (becomes-absent eq settings contents frequency latest number noted k at notes (held-absent eq contents hash_of respects hashed k hash is none)),
       )
   rejects-live (inr (n, row, there, of_key, inl (dead, nothing))) =
-      let same = same-key eq k hash row of_key in
-      let here = live-is n row there same false dead in
-      let one = one-each eq laws given (view_with settings contents frequency latest number) steps stands in
-      let dead_then : is_live settings (stored_write row) (max latest at) ≡ false =
-      ap (λ (expired : Row K V → ℕ → Bool). not row.info.is_hidden && not (expired row (max latest at))) expired_alike ∙ alive-is n row there false dead in (
+      let here = live-is n row there (same-key eq k hash row of_key) false dead in (
         rw here nothing,
         rw here (none-acceptable said),
-        λ noted notes. rw nothing (becomes-dead eq settings contents frequency latest number one contents k at n row there same noted notes dead_then),
       )
   rejects-live (inr (n, row, there, of_key, inr (live, says, asks))) =
       let here = live-is n row there (same-key eq k hash row of_key) true live in
       let told = said-yes said asks in
-      (rw here says, rw (here, told) refl, λ noted notes. rw told (becomes-turned-down eq settings contents frequency latest number noted k at notes))
+      (rw here says, rw (here, told) refl)
+
+-- a write that is not live is none that passes
+none-live : {K V : Type 0} (settings : Settings K V) (at : ℕ) (o : Option (Write K V)) → live_one settings at o ≡ None → filter (λ w. is_live settings w at) (option_to_list o) ≡ []
+none-live settings at None none = refl
+none-live {K} {V} settings at (Some w) none = go (is_live settings w at) refl
+  where
+    go : (b : Bool) → is_live settings w at ≡ b → filter (λ w. is_live settings w at) (w ∷ []) ≡ []
+    go true is = let no : Some w ≡ None = sym (ap (λ b. cond b (Some w) None) is) ∙ none in cc
+    go false is = ap (λ b. cond b (w ∷ []) []) is
+
+-- a look that finds no acceptable value changes no row
+pub looks-in-vain : {K V E : Type 0} (eq : K → K → Bool) {is_clone : V → V → Type 0} {rows : List (Turn K V E)} (laws : IsEquivalence eq) (settings : Settings K V) (contents : Contents K V) (frequency : List ℕ → ℕ → ℕ) (latest number : ℕ)
+    (given : Settings K V) (steps : List (AcceptedStep K V E)) → StandsFor eq is_clone given (whole (view_with settings contents frequency latest number) rows) steps
+    → (said : Option Bool) (k : K) (at : ℕ) → acceptable said (live_at eq given k at (events_in steps)) ≡ None → (noted : List ℕ → ℕ → ℕ) → HasNoted eq settings contents frequency latest number k noted
+    → Becomes eq (view_with settings contents frequency latest number) (look_event said k at) (view_with settings contents noted (max latest at) number)
+looks-in-vain {K} {V} eq laws settings contents frequency latest number given steps stands said k at none noted notes = go said none
+  where
+    missed : live_at eq given k at (events_in steps) ≡ None → Becomes eq (view_with settings contents frequency latest number) (Looked k at) (view_with settings contents noted (max latest at) number)
+    missed nothing =
+        let view : View K V = view_with settings contents frequency latest number in
+        let one = one-each eq laws given view steps stands k in
+        let live = sym (live-held eq laws given view steps stands k at one.0 one.1) ∙ nothing in
+        becomes-missed eq settings contents frequency latest number noted k at notes
+        (ap (filter (λ w. is_live settings w (max latest at))) one.1 ∙ none-live settings (max latest at) one.0 live)
+
+    go : (said : Option Bool) → acceptable said (live_at eq given k at (events_in steps)) ≡ None → Becomes eq (view_with settings contents frequency latest number) (look_event said k at) (view_with settings contents noted (max latest at) number)
+    go None nothing = missed nothing
+    go (Some false) nothing = missed nothing
+    go (Some true) nothing = becomes-turned-down eq settings contents frequency latest number noted k at notes
+
+-- equal keys have the same live write
+pub live-alike : {K V E : Type 0} (eq : K → K → Bool) {is_clone : V → V → Type 0} {rows : List (Turn K V E)} (laws : IsEquivalence eq) (given : Settings K V) (view : View K V) (steps : List (AcceptedStep K V E)) → StandsFor eq is_clone given (whole view rows) steps
+    → (k q : K) → eq q k ≡ true → (at : ℕ) → live_at eq given k at (events_in steps) ≡ live_at eq given q at (events_in steps)
+live-alike {K} {V} eq laws given view steps stands k q same at =
+    let one = one-each eq laws given view steps stands k in
+    let agree = filter_agree (λ (w : Write K V). eq w.key q) (λ (w : Write K V). eq w.key k) (λ w. laws.symm w.key q ∙ laws.congr q k w.key same ∙ laws.symm k w.key) (view.books.orders.admitted ++ view.books.orders.waiting) in
+    live-held eq laws given view steps stands k at one.0 one.1 ∙ sym (live-held eq laws given view steps stands q at one.0 (agree ∙ one.1))
 
 -- What a begin gives, by what its look finds.
 module _ {K V E : Type 0} (eq : K → K → Bool) (is_clone : V → V → Type 0) (is_infallible : V → Type 0) (settings : Settings K V) (steps : List (AcceptedStep K V E)) (k : K) (kind : Kind) (said : Option Bool) (at : ℕ) (initializer : kind ≢ Compute) where

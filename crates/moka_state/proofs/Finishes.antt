@@ -5,6 +5,7 @@ use Rattle.std.specs.Option.{MatchOption, IfSome}
 use Rattle.moka_policy.specs.declared.policy.Refused.{Refused}
 use Rattle.moka_policy.specs.declared.policy.Refused.TheVariants.{OutOfMemory, NumbersUsedUp, UnknownTurn}
 use Rattle.moka_model.specs.declared.turns.Outcome.{Outcome}
+use Rattle.moka_model.specs.declared.turns.Outcome.TheVariants as outcomes
 use Rattle.moka_model.specs.Lives.{Settings, Write, live_one}
 use Rattle.moka_model.specs.Events.{Event, Maintained, latest}
 use Rattle.moka_model.specs.Maintenance.{Queues}
@@ -12,7 +13,9 @@ use Rattle.moka_model.specs.Orders.{live}
 use Rattle.moka_model.specs.Numbers.{drawn_in, next_number, greatest_number, flush_point, stores_nothing}
 use Rattle.moka_model.specs.Turns.{Turn, Name, Move, Ended, fits, moved, found, is_open_as}
 use Rattle.moka_model.specs.Steps.{AcceptedStep, events_in, turns}
-use Rattle.moka_model.specs.Calls.{Answer, Accepted, Finish, end_by, finish_answer, finish_events, finished, is_replacing, accepted, after, with_step, FinishMayFail, WantsNumber, IsAnswer, IsCopiedEnd, IsLegal, Holds}
+use Rattle.moka_model.specs.Calls as calls
+use Rattle.moka_model.specs.Entries.{entry_of}
+use Rattle.moka_model.specs.Calls.{Answer, Entered, Accepted, Finish, end_by, finish_answer, finish_events, finished, is_replacing, accepted, after, with_step, FinishMayFail, WantsNumber, IsAnswer, IsCopiedEnd, IsLegal, Holds}
 use Rattle.moka_model.specs.Turns as turning
 use Rattle.moka_turns.specs.declared.table.TurnEnd.{TurnEnd}
 use Rattle.moka_turns.specs.declared.table.TurnEnd.TheVariants as ends_of
@@ -23,7 +26,10 @@ use Rattle.moka_table.specs.Table.{Contents, SameRows}
 use Rattle.moka_state.specs.State.{books_by}
 use Rattle.moka_model.proofs.Callers.{IsViewOf, whole, stands-moved, orders-empty, standing-empty}
 use Rattle.moka_turns.proofs.Begins.{nobody}
-use Rattle.moka_state.specs.Given.{Gives}
+use Rattle.moka_state.specs.declared.answers.Answer as answers
+use Rattle.moka_state.specs.declared.answers.Answer.TheVariants as gives
+use Rattle.moka_state.specs.Given.{Gives, of_answer}
+use Rattle.moka_state.specs.Finish.{IsGiven}
 use Rattle.moka_state.proofs.Turns.{gives-accepted, gives-memory}
 
 module _ {K V E : Type 0} (eq : K → K → Bool) (settings : Settings K V) (steps : List (AcceptedStep K V E)) (name : Name K) (outcome : Outcome V E) (at : ℕ) (fit : fits name.kind outcome ≡ true) where
@@ -104,3 +110,16 @@ pub failed-copied : {V E : Type 0} (is_clone : V → V → Type 0) (e : E) (end 
     → IfSome end (λ kept. IsCopiedEnd is_clone (Some (turning.Failed e)) (Some (end_of kept)))
 failed-copied is_clone e None is = tt
 failed-copied is_clone e (Some kept) is = ap (λ o. Some o) is
+
+-- the entry of an answer, if it is one
+abbrev entered : {K V E : Type 0} → calls.Entry K V → Answer K V E → calls.Entry K V
+entered default (Entered e) = e
+entered default answer = default
+
+-- a copy of a value under its turn's key is what the turn was given
+pub given-entry : {K V E : Type 0} (is_clone : V → V → Type 0) (key : K) (v : V) (answer : answers.Answer K V E) (e : calls.Entry K V) → of_answer answer ≡ Entered e → e.key ≡ key → is_clone v e.value → IsGiven is_clone key (outcomes.Value v) answer
+given-entry {K} {V} {E} is_clone key v (gives.Entry entry) e is keyed copied =
+    let same : entry_of entry ≡ e = ap (entered {E = E} e) is in
+    (ap (λ (x : calls.Entry K V). x.key) same ∙ keyed, subst (λ (x : calls.Entry K V). is_clone v x.value) (sym same) copied)
+given-entry is_clone key v gives.Nothing e is keyed copied = cc
+given-entry is_clone key v (gives.Failed error) e is keyed copied = cc

@@ -1,15 +1,17 @@
 -- How the begin of a turn goes.
-use Rattle.std.specs.Prelude.{⊤, ◌≡◌, Bool, true, false, Option, Some, None, List, Result, Ok, Err, OnOk, OnErr}
+use Rattle.std.specs.Prelude.{⊤, ◌≡◌, ◌≢◌, ◌⊎◌, ℕ, Bool, true, false, Option, Some, None, List, Result, Ok, Err, OnOk, OnErr}
 use Rattle.std.specs.Arc.{arc_value}
 use denote.Ref.{Bor}
 use Rattle.std.specs.Fn.{Mut}
 use Rattle.moka_policy.specs.declared.policy.Refused.{Refused}
 use Rattle.moka_policy.specs.declared.policy.Refused.TheVariants as causes
 use Rattle.moka_model.specs.declared.turns.Kind.{Kind}
+use Rattle.moka_model.specs.declared.turns.Kind.TheVariants.{Compute}
+use Rattle.moka_model.specs.declared.entry.Entry.{Entry}
 use Rattle.moka_model.specs.Entries.{entry_of}
 use Rattle.moka_model.specs.Lives.{Settings, Write}
-use Rattle.moka_model.specs.Steps.{AcceptedStep}
-use Rattle.moka_model.specs.Calls.{Call, IsWait, IfAnswered, accepted}
+use Rattle.moka_model.specs.Steps.{AcceptedStep, events_in}
+use Rattle.moka_model.specs.Calls.{Call, Begin, Entered, IsWait, IfAnswered, accepted, acceptable, live_at}
 use Rattle.moka_ways.specs.StateData.{StateData}
 use Rattle.moka_table.specs.Look.{IsSaid}
 use Rattle.moka_state.specs.declared.answers.Begun.{Begun}
@@ -20,6 +22,27 @@ use Rattle.moka_state.specs.Given.{Gives, of_begin}
 abbrev pub IsSaidOf : {K V F : Type 0} → Mut F (Bor V × Unit {0}) Bool → Option F → Option (Write K V) → Option Bool → Type 0
 IsSaidOf call replace_if None said = said ≡ None
 IsSaidOf call replace_if (Some w) said = IsSaid call replace_if w.value said
+
+-- A look finds no live value that is acceptable. Or it finds one, and its entry is the answer of a begin of any initializer; or
+-- the copy is refused for want of memory.
+abbrev pub GivesLook : {K V E : Type 0} → (K → K → Bool) → (V → V → Type 0) → (V → Type 0) → Settings K V →
+    List (AcceptedStep K V E) → K → Option Bool → ℕ → Result (Option (Entry K V)) Refused → Type 0
+GivesLook eq is_clone is_infallible settings steps key said at (Ok None) =
+    acceptable said (live_at eq settings key at (events_in steps)) ≡ None
+GivesLook eq is_clone is_infallible settings steps key said at (Ok (Some entry)) =
+    (kind : Kind) → kind ≢ Compute → Gives eq is_clone is_infallible settings steps (Begin key kind said at) (Ok (Entered (entry_of entry)))
+GivesLook eq is_clone is_infallible settings steps key said at (Err cause) = cause ≡ causes.OutOfMemory
+
+-- P holds where an entry is found, and Q where none is
+abbrev pub ByFound : {K V : Type 0} → Type 0 → Type 0 → Result (Option (Entry K V)) Refused → Type 0
+ByFound P Q (Ok (Some entry)) = P
+ByFound P Q result = Q
+
+-- A look goes as is given: where it finds an entry, what follows holds, and else nothing has changed.
+pub record LookEnds {K V H W X F E : Type 0} (gives : Result (Option (Entry K V)) Refused → Type 0) (follows : Type 0)
+    (old new : StateData K V H W X F E) (result : Result (Option (Entry K V)) Refused) : Type 0 where
+  pub reply : gives result
+  pub stands : ByFound follows (new ≡ old) result
 
 -- A begin that may not wait is refused where it would have to; else the definitions give what is answered or refused.
 abbrev pub GivesBegun : {K V E : Type 0} → (K → K → Bool) → (V → V → Type 0) → (V → Type 0) → Settings K V →
@@ -48,3 +71,21 @@ IsNamed kind key (begins.Wait ticket) = (ticket.key.kind ≡ kind) × (arc_value
 abbrev pub FoundKeeps : {K V : Type 0} → (K → V → Type 0) → Begun K V → Type 0
 FoundKeeps keeps (begins.Found entry) = keeps (entry_of entry).key (entry_of entry).value
 FoundKeeps keeps begun = ⊤
+
+-- the value of an entry that is found is kept, under the stored key and under the one that was looked for
+abbrev pub EntryKeeps : {K V : Type 0} → (K → V → Type 0) → K → Entry K V → Type 0
+EntryKeeps keeps key entry = keeps (entry_of entry).key (entry_of entry).value × keeps key (entry_of entry).value
+
+-- P holds where a ticket is handed out
+abbrev pub IfWait : {K V : Type 0} → Type 0 → Begun K V → Type 0
+IfWait P (begins.Wait ticket) = P
+IfWait P begun = ⊤
+
+-- the value that is found is kept under the key that was looked for, if one is
+abbrev pub FoundKeepsFor : {K V : Type 0} → (K → V → Type 0) → K → Begun K V → Type 0
+FoundKeepsFor keeps key (begins.Found entry) = keeps key (entry_of entry).value
+FoundKeepsFor keeps key begun = ⊤
+
+-- the key that a call by reference asks for: the one that is lent, or an equal copy of it
+abbrev pub IsAsked : {K : Type 0} → (K → K → Bool) → (K → K → Type 0) → K → K → Type 0
+IsAsked eq is_clone key asked = (eq key asked ≡ true) × ((asked ≡ key) ⊎ is_clone key asked)

@@ -1,5 +1,5 @@
 -- How the end of a turn goes.
-use Rattle.std.specs.Prelude.{⊤, ◌≡◌, ◌<◌, ℕ, true, Option, Some, IsSome, IfSome, Result, OnOk, OnErr, IfErr}
+use Rattle.std.specs.Prelude.{⊤, ◌≡◌, ◌<◌, ℕ, true, Option, Some, IsSome, IfSome, Result, OnOk, OnErr, IfOk, IfErr}
 use Rattle.std.specs.Arc.{arc_value}
 use Rattle.std.specs.declared.sync.Arc.{Arc}
 use Rattle.std.specs.declared.alloc.Global.{Global}
@@ -7,13 +7,20 @@ use Rattle.moka_policy.specs.declared.policy.Refused.{Refused}
 use Rattle.moka_model.specs.declared.turns.Kind.{Kind}
 use Rattle.moka_model.specs.declared.turns.Outcome.{Outcome}
 use Rattle.moka_model.specs.declared.turns.Outcome.TheVariants as outcomes
+use Rattle.moka_model.specs.declared.turns.Op.{Op}
 use Rattle.moka_model.specs.declared.turns.Op.TheVariants as ops
+use Rattle.moka_model.specs.declared.comp_result.CompResult.{CompResult}
+use Rattle.moka_model.specs.declared.comp_result.CompResult.TheVariants as results
 use Rattle.moka_model.specs.Turns.{fits}
 use Rattle.moka_model.specs.Calls as calls
+use Rattle.moka_model.specs.Entries.{entry_of}
 use Rattle.moka_ways.specs.StateData.{StateData}
 use Rattle.moka_turns.specs.declared.handles.Turn.{Turn}
 use Rattle.moka_turns.specs.Handles.{turn_name}
+use Rattle.moka_state.specs.declared.answers.Answer.{Answer}
+use Rattle.moka_state.specs.declared.answers.Answer.TheVariants as answers
 use Rattle.moka_state.specs.declared.answers.Finished.{Finished}
+use Rattle.moka_state.specs.declared.answers.Finished.TheVariants as finishes
 use Rattle.moka_state.specs.declared.answers.FinishRefused.{FinishRefused}
 use Rattle.moka_state.specs.declared.finish.Copies.{Copies}
 use Rattle.moka_state.specs.Given.{of_finish}
@@ -43,13 +50,37 @@ pub record IsCopiesOf {K V : Type 0} (is_clone : V → V → Type 0) (turn : Tur
   pub waited : 0 < waiting → IsSome copies.kept
   pub kept : IfSome copies.kept (is_clone value)
 
--- A turn ends with an outcome: the definitions give what is answered, or what is refused. Where it is done, what follows holds.
--- Where it is refused, nothing has changed, and turn and outcome come back.
-pub record FinishEnds {K V H W X F E : Type 0} (gives : Result (calls.Answer K V E) Refused → Type 0) (follows : Type 0)
-    (old new : StateData K V H W X F E) (turn : Turn K) (outcome : Outcome V (Arc E Global))
+-- what an ended turn is answered is its outcome: under its key a copy of the value, or the error itself
+abbrev pub IsGiven : {K V E : Type 0} → (V → V → Type 0) → K → Outcome V (Arc E Global) → Answer K V E → Type 0
+IsGiven is_clone key (outcomes.Value v) (answers.Entry entry) = ((entry_of entry).key ≡ key) × is_clone v (entry_of entry).value
+IsGiven is_clone key outcomes.Nothing answers.Nothing = ⊤
+IsGiven is_clone key (outcomes.Failed e) (answers.Failed f) = f ≡ e
+IsGiven is_clone key outcome answer = ⊥
+
+-- what an ended compute is answered is what was to be done: under its key a copy of the value that was put, or what stood, if anything
+abbrev pub IsComputed : {K V : Type 0} → (V → V → Type 0) → K → Op V → CompResult K V → Type 0
+IsComputed is_clone key (ops.Put v) (results.Inserted entry) = ((entry_of entry).key ≡ key) × is_clone v (entry_of entry).value
+IsComputed is_clone key (ops.Put v) (results.ReplacedWith entry) = ((entry_of entry).key ≡ key) × is_clone v (entry_of entry).value
+IsComputed is_clone key ops.Remove (results.StillNone own) = arc_value own ≡ key
+IsComputed is_clone key ops.Remove (results.Removed entry) = (entry_of entry).key ≡ key
+IsComputed is_clone key ops.Nop (results.StillNone own) = arc_value own ≡ key
+IsComputed is_clone key ops.Nop (results.Unchanged entry) = (entry_of entry).key ≡ key
+IsComputed is_clone key op result = ⊥
+
+abbrev pub IsFinished : {K V E : Type 0} → (V → V → Type 0) → K → Outcome V (Arc E Global) → Finished K V E → Type 0
+IsFinished is_clone key outcome (finishes.Answer answer) = IsGiven is_clone key outcome answer
+IsFinished is_clone key (outcomes.Op op) (finishes.Computed result) = IsComputed is_clone key op result
+IsFinished is_clone key outcome (finishes.Computed result) = ⊥
+
+-- A turn ends with an outcome: the definitions give what is answered, or what is refused. Where it is done, what follows holds,
+-- and the answer is the outcome. Where it is refused, nothing has changed, and turn and outcome come back. The settings stay.
+pub record FinishEnds {K V H W X F E : Type 0} (is_clone : V → V → Type 0) (gives : Result (calls.Answer K V E) Refused → Type 0)
+    (follows : Type 0) (old new : StateData K V H W X F E) (turn : Turn K) (outcome : Outcome V (Arc E Global))
     (result : Result (Finished K V E) (FinishRefused K V E)) : Type 0 where
   pub reply : gives (of_finish result)
   pub stands : OnOk result follows
+  pub given : IfOk result (IsFinished is_clone (arc_value turn.key.key) outcome)
   pub refused : OnErr result (new ≡ old)
   pub turn_back : IfErr result (λ refused. turn_name refused.turn ≡ turn_name turn)
   pub outcome_back : IfErr result (λ refused. refused.outcome ≡ outcome)
+  pub settings : new.settings ≡ old.settings

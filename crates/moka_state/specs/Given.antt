@@ -1,5 +1,5 @@
 -- What a call gives: an answer, or a refusal.
-use Rattle.std.specs.Prelude.{⊤, ◌≡◌, Bool, Option, List, Result, Ok, Err}
+use Rattle.std.specs.Prelude.{⊤, ◌≡◌, Bool, Option, List, Result, Ok, Err, option_map}
 use Rattle.std.specs.Arc.{arc_value}
 use Rattle.moka_policy.specs.declared.policy.Refused.{Refused}
 use Rattle.moka_policy.specs.declared.policy.Refused.TheVariants as causes
@@ -10,6 +10,7 @@ use Rattle.moka_model.specs.Calls.{accepted, MayTakeMemory, IsOutOfNumbers, Begi
 use Rattle.moka_model.specs.Calls.{IsRefusedAs}
 use Rattle.moka_model.specs.Calls as calls
 use Rattle.moka_model.specs.Entries.{entry_of}
+use Rattle.moka_model.specs.CompResults.{of_computed}
 use Rattle.moka_model.specs.StandsFor.{IsAnswerOf}
 use Rattle.moka_model.specs.Turns.{Name}
 use Rattle.moka_turns.specs.Keeps.{end_of}
@@ -27,6 +28,8 @@ use Rattle.moka_state.specs.declared.answers.Finished.TheVariants as finishes
 use Rattle.moka_state.specs.declared.answers.FinishRefused.{FinishRefused}
 use Rattle.moka_state.specs.declared.answers.Begun.{Begun}
 use Rattle.moka_state.specs.declared.answers.Begun.TheVariants as begins
+use Rattle.moka_state.specs.declared.answers.BegunCompute.{BegunCompute}
+use Rattle.moka_state.specs.declared.answers.BegunCompute.TheVariants as computes
 
 -- A call finds out that it is out of numbers before it asks for memory; a begin takes its share of the key before that.
 abbrev pub CountsFirst : {K V E : Type 0} → Call K V E → Type 0
@@ -71,6 +74,7 @@ module _ {K V E : Type 0} where
 
   abbrev pub of_finish : Result (Finished K V E) (FinishRefused K V E) → Result (calls.Answer K V E) Refused
   of_finish (Ok (finishes.Answer answer)) = Ok (of_answer answer)
+  of_finish (Ok (finishes.Computed result)) = Ok (of_computed result)
   of_finish (Err refused) = Err refused.cause
 
   abbrev pub of_begun : Begun K V → calls.Answer K V E
@@ -81,6 +85,14 @@ module _ {K V E : Type 0} where
   abbrev pub of_begin : Result (Begun K V) Refused → Result (calls.Answer K V E) Refused
   of_begin (Ok begun) = Ok (of_begun begun)
   of_begin (Err cause) = Err cause
+
+  abbrev pub of_begun_compute : BegunCompute K V → calls.Answer K V E
+  of_begun_compute (computes.Run turn entry) = Run (turn_name turn) (option_map entry_of entry)
+  of_begun_compute (computes.Wait ticket) = Wait (ticket_name ticket)
+
+  abbrev pub of_begin_compute : Result (BegunCompute K V) Refused → Result (calls.Answer K V E) Refused
+  of_begin_compute (Ok begun) = Ok (of_begun_compute begun)
+  of_begin_compute (Err cause) = Err cause
 
   -- P holds of a ticket that is handed back
   abbrev pub IfUnspent : (Ticket K → Type 0) → Collected K V E → Type 0

@@ -6,7 +6,7 @@ use Rattle.moka_state.specs.declared.step.Reply.{Reply}
 use Rattle.moka_state.specs.declared.step.Reply.TheVariants.{Noticed}
 
 -- the notices in some replies, in order
-abbrev pub noticed_in : {K V : Type 0} → List (Reply K V) → List (Removal K V)
+abbrev pub noticed_in : {K V C H W X P F L T E S : Type 0} → List (Reply K V C H W X P F L T E S) → List (Removal K V)
 noticed_in [] = []
 noticed_in (Noticed (Some notice) ∷ replies) = removal_of notice ∷ noticed_in replies
 noticed_in (reply ∷ replies) = noticed_in replies

@@ -1,18 +1,24 @@
 -- Steps and replies as data, and what a run of steps answers.
-use Rattle.std.specs.Prelude.{⊤, ◌≡◌, Bool, List, [], ◌∷◌, Some, None, Err, option_map}
+use Rattle.std.specs.Prelude.{⊤, Bool, List, [], ◌∷◌, Some, None, Err, option_map}
 use Rattle.std.specs.Arc.{arc_value}
 use Rattle.moka_predicate_ids.specs.declared.predicate_error.PredicateError.TheVariants.{InvalidationClosuresDisabled}
 use Rattle.moka_predicate_ids.specs.declared.predicate_error.PredicateError.TheVariants as predicates
 use Rattle.moka_model.specs.Lives.{Settings}
 use Rattle.moka_model.specs.Steps.{AcceptedStep}
 use Rattle.moka_model.specs.Calls.{Call, Answer, ClosuresUnsupported, accepted, after, IsOutOfNumbers, IsRefusedAs}
+use Rattle.moka_model.specs.Entries.{entry_of}
+use Rattle.moka_model.specs.CompResults.{of_computed}
 use Rattle.moka_model.specs.StandsFor.{IsAnswerOf}
+use Rattle.moka_turns.specs.Handles.{name_by}
+use Rattle.moka_state.specs.Finish.{OutcomeKeeps, outcome_of}
 use Rattle.moka_state.specs.Given.{Gives}
 use Rattle.moka_state.specs.declared.step.Step.{Step}
 use Rattle.moka_state.specs.declared.step.Step.TheVariants.{Get, ContainsKey, Insert, Invalidate, Remove, InvalidateAll, InvalidateIf}
 use Rattle.moka_state.specs.declared.step.Step.TheVariants.{RunPendingTasks, RunPendingTasksUpTo, EntryCount, WeightedSize, TakeNotice}
+use Rattle.moka_state.specs.declared.step.Step.TheVariants.{OrInsert, Begin, BeginCompute, Finish, Abandon, Collect, Leave}
 use Rattle.moka_state.specs.declared.step.Reply.{Reply}
 use Rattle.moka_state.specs.declared.step.Reply.TheVariants.{Found, Contains, Done, Counted, Left, Noticed, Refused, PredicateRefused}
+use Rattle.moka_state.specs.declared.step.Reply.TheVariants.{Entered, Run, Wait, Nothing, Failed, Computed, NotYet, Abandoned, Ended}
 use Rattle.moka_table.specs.Table.{removal_of}
 
 -- Steps of a cache's own types: of its keys and values, its predicates P, and the others that it names.
@@ -31,45 +37,64 @@ module _ {K V C H W X P F L T E S : Type 0} where
   call_of test EntryCount = Call.EntryCount
   call_of test WeightedSize = Call.WeightedSize
   call_of test TakeNotice = Call.TakeNotice
+  call_of test (OrInsert key value now) = Call.OrInsert (arc_value key) value now
+  call_of test (Begin key kind replace now) = Call.Begin (arc_value key) kind replace now
+  call_of test (BeginCompute key keep now) = Call.BeginCompute (arc_value key) keep now
+  call_of test (Finish name outcome now) = Call.Finish (name_by name) (outcome_of outcome) now
+  call_of test (Abandon name) = Call.Abandon (name_by name)
+  call_of test (Collect name) = Call.Collect (name_by name)
+  call_of test (Leave name) = Call.Leave (name_by name)
 
 -- The values' type says what a copy is, and of which values copies never fail.
-module _ {K V E : Type 0} (eq : K → K → Bool) (is_clone : V → V → Type 0) (is_infallible : V → Type 0) (settings : Settings K V)
+module _ {K V E : Type 0} (eq : K → K → Bool) (is_clone : V → V → Type 0) (settings : Settings K V)
     (steps : List (AcceptedStep K V E)) where
   -- a call is accepted with this answer, and it is not out of numbers
   abbrev pub IsAccepted : Call K V E → Answer K V E → Type 0
   IsAccepted call answer = IsAnswerOf is_clone (accepted eq settings steps call) answer × ¬ (IsOutOfNumbers eq settings steps call)
 
+module _ {K V C H W X P F L T E S : Type 0} (eq : K → K → Bool) (is_clone : V → V → Type 0) (is_infallible : V → Type 0)
+    (settings : Settings K V) (steps : List (AcceptedStep K V E)) where
   -- An accepted call answers what the definitions give, and one that draws a number is accepted only where one is left. A
   -- refused one says for want of what it was refused, and that is so: for want of memory only where it was not for want of
   -- numbers. A predicate is refused exactly where the call is refused by its name.
-  abbrev pub IsReplyTo : Call K V E → Reply K V → Type 0
-  IsReplyTo call (Found v) = IsAccepted call (Answer.Found v)
-  IsReplyTo call (Contains b) = IsAccepted call (Answer.Contains b)
-  IsReplyTo call Done = IsAccepted call Answer.Done
-  IsReplyTo call (Counted n) = IsAccepted call (Answer.Counted n)
-  IsReplyTo call (Left b) = IsAccepted call (Answer.Left b)
-  IsReplyTo call (Noticed n) = IsAccepted call (Answer.Noticed (option_map removal_of n))
+  abbrev pub IsReplyTo : Call K V E → Reply K V C H W X P F L T E S → Type 0
+  IsReplyTo call (Found v) = IsAccepted eq is_clone settings steps call (Answer.Found v)
+  IsReplyTo call (Contains b) = IsAccepted eq is_clone settings steps call (Answer.Contains b)
+  IsReplyTo call Done = IsAccepted eq is_clone settings steps call Answer.Done
+  IsReplyTo call (Counted n) = IsAccepted eq is_clone settings steps call (Answer.Counted n)
+  IsReplyTo call (Left b) = IsAccepted eq is_clone settings steps call (Answer.Left b)
+  IsReplyTo call (Noticed n) = IsAccepted eq is_clone settings steps call (Answer.Noticed (option_map removal_of n))
+  IsReplyTo call (Entered entry) = IsAccepted eq is_clone settings steps call (Answer.Entered (entry_of entry))
+  IsReplyTo call (Run name entry) = IsAccepted eq is_clone settings steps call (Answer.Run (name_by name) (option_map entry_of entry))
+  IsReplyTo call (Wait name) = IsAccepted eq is_clone settings steps call (Answer.Wait (name_by name))
+  IsReplyTo call Nothing = IsAccepted eq is_clone settings steps call Answer.GaveNothing
+  IsReplyTo call (Failed error) = IsAccepted eq is_clone settings steps call (Answer.GaveError (arc_value error))
+  IsReplyTo call (Computed result) = IsAccepted eq is_clone settings steps call (of_computed result)
+  IsReplyTo call NotYet = IsAccepted eq is_clone settings steps call Answer.NotYet
+  IsReplyTo call Abandoned = IsAccepted eq is_clone settings steps call Answer.WasAbandoned
+  IsReplyTo call Ended = IsAccepted eq is_clone settings steps call Answer.HasEnded
   IsReplyTo call (Refused cause) = Gives eq is_clone is_infallible settings steps call (Err cause)
   IsReplyTo call (PredicateRefused InvalidationClosuresDisabled) = IsRefusedAs eq settings ClosuresUnsupported steps call
   IsReplyTo call (PredicateRefused predicates.OutOfMemory) = ⊥
 
-module _ {K V E : Type 0} (eq : K → K → Bool) (settings : Settings K V) where
+module _ {K V C H W X P F L T E S : Type 0} (eq : K → K → Bool) (settings : Settings K V) where
   -- The accepted steps after a reply to a call: a refused call leaves them as they are.
-  abbrev pub after_reply : Call K V E → Reply K V → List (AcceptedStep K V E) → List (AcceptedStep K V E)
+  abbrev pub after_reply : Call K V E → Reply K V C H W X P F L T E S → List (AcceptedStep K V E) → List (AcceptedStep K V E)
   after_reply call (Refused cause) steps = steps
   after_reply call (PredicateRefused cause) steps = steps
   after_reply call reply steps = after eq settings call steps
 
 module _ {K V C H W X P F L T E S : Type 0} (eq : K → K → Bool) (test : P → K → V → Bool) (settings : Settings K V) where
   -- those after a run, on those before it
-  abbrev pub after_all : List (Step K V C H W X P F L T E S) → List (Reply K V) → List (AcceptedStep K V E) → List (AcceptedStep K V E)
+  abbrev pub after_all : List (Step K V C H W X P F L T E S) → List (Reply K V C H W X P F L T E S) → List (AcceptedStep K V E) →
+      List (AcceptedStep K V E)
   after_all [] replies steps = steps
   after_all (step ∷ rest) [] steps = steps
   after_all (step ∷ rest) (reply ∷ replies) steps = after_all rest replies (after_reply eq settings (call_of test step) reply steps)
 
   -- Each reply is the step's, after the accepted steps before it, and there are as many replies as steps.
   abbrev pub IsRun : (V → V → Type 0) → (V → Type 0) → List (AcceptedStep K V E) → List (Step K V C H W X P F L T E S) →
-      List (Reply K V) → Type 0
+      List (Reply K V C H W X P F L T E S) → Type 0
   IsRun is_clone is_infallible steps [] [] = ⊤
   IsRun is_clone is_infallible steps (step ∷ rest) (reply ∷ replies) =
       IsReplyTo eq is_clone is_infallible settings steps (call_of test step) reply
@@ -78,15 +103,22 @@ module _ {K V C H W X P F L T E S : Type 0} (eq : K → K → Bool) (test : P �
   IsRun is_clone is_infallible steps (step ∷ rest) [] = ⊥
 
 module _ {K V C H W X P F L T E S : Type 0} (keeps : K → V → Type 0) where
-  -- What a caller owes of a step: a writer that the pair keeps, and who hides by a predicate that it answers its test.
+  -- What a caller owes of a step: a writer that the pair keeps, also who ends a turn with a value; and who hides by a predicate
+  -- that it answers its test.
   abbrev pub StepKeeps : (P → (K → V → Bool) → Type 0) → (P → K → V → Bool) → Step K V C H W X P F L T E S → Type 0
   StepKeeps tests test (Insert key value now) = keeps (arc_value key) value
+  StepKeeps tests test (OrInsert key value now) = keeps (arc_value key) value
   StepKeeps tests test (InvalidateIf predicate) = tests (arc_value predicate) (test (arc_value predicate))
+  StepKeeps tests test (Finish name outcome now) = OutcomeKeeps (keeps (arc_value name.key)) outcome
   StepKeeps tests test step = ⊤
 
   -- what a reader gets
-  abbrev pub ReplyKeeps : Step K V C H W X P F L T E S → Reply K V → Type 0
+  abbrev pub ReplyKeeps : Step K V C H W X P F L T E S → Reply K V C H W X P F L T E S → Type 0
   ReplyKeeps (Get key now) (Found (Some v)) = keeps (arc_value key) v
   ReplyKeeps (Remove key now) (Found (Some v)) = keeps (arc_value key) v
+  ReplyKeeps (OrInsert key value now) (Entered entry) = keeps (entry_of entry).key (entry_of entry).value
+  ReplyKeeps (Begin key kind replace now) (Entered entry) = keeps (entry_of entry).key (entry_of entry).value
+  ReplyKeeps (Begin key kind replace now) (Run name (Some entry)) = keeps (entry_of entry).key (entry_of entry).value
+  ReplyKeeps (BeginCompute key keep now) (Run name (Some entry)) = keeps (entry_of entry).key (entry_of entry).value
   ReplyKeeps step (Noticed (Some n)) = keeps (arc_value n.key) n.value
   ReplyKeeps step reply = ⊤

@@ -8,6 +8,7 @@ ghost use Rattle.moka_turns.specs.Keeps.{end_of};
 ghost use Rattle.moka_turns.specs.Told.{IfEnded, IfNotYet};
 ghost use Rattle.moka_state.specs.Given.{IfUnspent, of_collected, told_as};
 
+use moka_model::comp_result::CompResult;
 use moka_model::entry::Entry;
 use moka_model::turns::Outcome;
 use moka_policy::policy::Refused;
@@ -23,6 +24,15 @@ pub enum Begun<K, V> {
     /// The caller is to work the value out, and to end this turn.
     Run(Turn<K>),
     /// Another caller works it out: this ticket is for what comes of that.
+    Wait(Ticket<K>),
+}
+
+/// The answer of the begin of a compute. It can't be dropped: a turn is ended, and a ticket spent.
+pub enum BegunCompute<K, V> {
+    /// The caller is to say what is to be done with the value of the key, by the end of this turn. It is
+    /// shown the entry of the live value, if there is one.
+    Run(Turn<K>, Option<Entry<K, V>>),
+    /// Another caller computes: this ticket is for the end of that.
     Wait(Ticket<K>),
 }
 
@@ -42,6 +52,8 @@ pub enum Answer<K, V, E> {
 pub enum Finished<K, V, E> {
     /// What the initializer gave.
     Answer(Answer<K, V, E>),
+    /// What became of the value, where the turn was a compute.
+    Computed(CompResult<K, V>),
 }
 
 /// What a ticket is told. It can't be dropped, since the ticket of a turn that is open is handed back.

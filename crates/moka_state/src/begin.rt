@@ -1,18 +1,21 @@
 //! The begin of a turn.
-ghost use Rattle.std.specs.Prelude.{◌≡◌, ◌≢◌, Bool, Option, true, IfOk, IfSome};
+ghost use Rattle.std.specs.Prelude.{◌≡◌, ◌≢◌, Bool, Option, None, true, IfOk, IfSome, IsSome, OnErr};
 ghost use Rattle.std.specs.Arc.{arc_value};
 ghost use Rattle.moka_model.specs.Steps.{events_in};
-ghost use Rattle.moka_model.specs.Calls.{Begin, live_at};
-ghost use Rattle.moka_state.specs.Begin.{BeginEnds, FoundKeeps, GivesBegun, IsNamed, IsSaidOf};
+ghost use Rattle.moka_model.specs.Calls.{Begin, acceptable, live_at};
+ghost use Rattle.moka_state.specs.Begin.{BeginEnds, EntryKeeps, FoundKeeps, FoundKeepsFor, GivesBegun, GivesLook, IfWait, IsAsked, IsNamed, IsSaidOf, LookEnds};
+ghost use Rattle.moka_state.specs.Hashes.{IsHashOf};
 
 use crate::answers::Begun;
 use crate::state::State;
+use moka_model::entry::Entry;
 use moka_model::turns::Kind;
 use moka_policy::policy::{CacheTypes, FrequencySource, Refused};
 use moka_rows::rows::RowStore;
 use moka_turns::begin::TurnBegun;
 use moka_turns::turn_key::TurnKey;
 use moka_ways::view::StateView;
+use std::alloc::AllocError;
 use std::hash::Hash;
 use std::sync::Arc;
 
@@ -46,53 +49,90 @@ impl<K: Hash + Drop, V: Clone, C: CacheTypes<K, V>, R: RowStore<K, V>> State<K, 
             self.old self.new result }
         ensures named { IfOk result (IsNamed kind (arc_value key.now)) }
         ensures kept { IfOk result (FoundKeeps C.keeps) }
+        ensures settings { self.new.settings ≡ self.old.settings }
     {
-        self.begin_with(key, kind, replace_if, now, true)
+        let hash = self.hash(&**key);
+        match self.acceptable_entry(&**key, hash, replace_if, now) {
+            Ok(Some(entry)) => Ok(Begun::Found(entry)),
+            Ok(None) => match key.clone() {
+                Ok(shared) => self.begin_turn(shared, hash, kind, now, true),
+                Err(_) => Err(Refused::OutOfMemory),
+            },
+            Err(cause) => Err(cause),
+        }
     }
 
-    // A begin of an initializer, which may wait or not: where it would have to and may not, it is
-    // refused with `TurnIsOpen`.
-    pub(crate) fn begin_with<F: FnMut(&V) -> bool + Drop>(
+    // The entry of a key's live value, where there is one and the caller, who is shown it, does not ask
+    // to replace it. It is then used at this moment, as by a begin of any kind; a look that finds none
+    // changes nothing. It shares the stored key, and takes no memory but for the copy of the value: so
+    // it is refused only where a value is live.
+    pub(crate) fn acceptable_entry<F: FnMut(&V) -> bool + Drop>(
         &mut self,
-        key: &Arc<K>,
-        kind: Kind,
+        key: &K,
+        hash: u64,
         replace_if: Option<F>,
+        now: u64,
+    ) -> Result<Option<Entry<K, V>>, Refused>
+        requires hash { IsHashOf (⟦<C as StateView<K, V>>⟧.settings self.old.settings)
+            key.now hash }
+        requires asks { IfSome replace_if (λ f. F.IsAlwaysCallable f) }
+        ensures looks { (said : Option Bool) × LookEnds
+            (λ given. ⟦<C as StateView<K, V>>⟧.at_each_history self.old (λ settings steps.
+            IsSaidOf F.FnMut replace_if
+            (live_at K.eq settings key.now now (events_in steps)) said
+            × GivesLook K.eq V.is_clone V.is_infallible settings steps key.now said now given))
+            ((kind : Kind) → kind ≢ Kind.Compute → ⟦<C as StateView<K, V>>⟧.follows self.old
+            (Begin key.now kind said now) self.new)
+            self.old self.new result }
+        ensures live { ⟦<C as StateView<K, V>>⟧.at_each_history self.old (λ settings steps.
+            OnErr result (IsSome (live_at K.eq settings key.now now (events_in steps)))) }
+        ensures kept { IfOk result (λ found. IfSome found (EntryKeeps C.keeps key.now)) }
+        ensures settings { self.new.settings ≡ self.old.settings }
+    {
+        let now = self.latest.max(now);
+        let Some(number) = self.table.acceptable(key, hash, replace_if, now) else {
+            return Ok(None);
+        };
+        let Ok(entry) = self.table.entry(number) else {
+            return Err(Refused::OutOfMemory);
+        };
+        self.upkeep
+            .hit(&mut self.table, number, hash, now, &self.behaviour);
+        self.latest = now;
+        Ok(Some(entry))
+    }
+
+    // Waits for the open turn of a kind and a key, or opens one, where a look at the key has just found
+    // no acceptable value. Where it would have to wait and may not, it is refused with `TurnIsOpen`.
+    pub(crate) fn begin_turn(
+        &mut self,
+        key: Arc<K>,
+        hash: u64,
+        kind: Kind,
         now: u64,
         may_wait: bool,
     ) -> Result<Begun<K, V>, Refused>
+        requires hash { IsHashOf (⟦<C as StateView<K, V>>⟧.settings self.old.settings)
+            (arc_value key) hash }
         requires initializer { kind ≢ Kind.Compute }
-        requires asks { IfSome replace_if (λ f. F.IsAlwaysCallable f) }
-        ensures begins { (said : Option Bool) × BeginEnds
+        ensures begins { (said : Option Bool)
+            → ⟦<C as StateView<K, V>>⟧.at_each_history self.old (λ settings steps.
+            acceptable said (live_at K.eq settings (arc_value key) now (events_in steps)) ≡ None)
+            → BeginEnds
             (λ given. ⟦<C as StateView<K, V>>⟧.at_each_history self.old (λ settings steps.
-            IsSaidOf F.FnMut replace_if
-            (live_at K.eq settings (arc_value key.now) now (events_in steps)) said
-            × GivesBegun K.eq V.is_clone V.is_infallible settings steps
-            (Begin (arc_value key.now) kind said now) may_wait given))
+            GivesBegun K.eq V.is_clone V.is_infallible settings steps
+            (Begin (arc_value key) kind said now) may_wait given))
             (⟦<C as StateView<K, V>>⟧.follows self.old
-            (Begin (arc_value key.now) kind said now) self.new)
+            (Begin (arc_value key) kind said now) self.new)
             self.old self.new result }
-        ensures named { IfOk result (IsNamed kind (arc_value key.now)) }
+        ensures named { IfOk result (IsNamed kind (arc_value key)) }
+        ensures waits { IfOk result (IfWait (may_wait ≡ true)) }
         ensures kept { IfOk result (FoundKeeps C.keeps) }
+        ensures kept_for { (q : K) → IfOk result (FoundKeepsFor C.keeps q) }
+        ensures settings { self.new.settings ≡ self.old.settings }
     {
         let now = self.latest.max(now);
-        let hash = self.behaviour.hash(&**key);
-        if let Some(number) = self.table.acceptable(&**key, hash, replace_if, now) {
-            let Ok(entry) = self.table.entry(number) else {
-                return Err(Refused::OutOfMemory);
-            };
-            self.upkeep
-                .hit(&mut self.table, number, hash, now, &self.behaviour);
-            self.latest = now;
-            return Ok(Begun::Found(entry));
-        }
-        let Ok(shared) = key.clone() else {
-            return Err(Refused::OutOfMemory);
-        };
-        let wanted = TurnKey {
-            hash,
-            kind,
-            key: shared,
-        };
+        let wanted = TurnKey { hash, kind, key };
         let begun = match self.turns.begin(wanted, self.next_number, may_wait) {
             Ok(begun) => begun,
             Err(cause) => return Err(cause),
@@ -105,6 +145,87 @@ impl<K: Hash + Drop, V: Clone, C: CacheTypes<K, V>, R: RowStore<K, V>> State<K, 
                 self.next_number += 1;
                 Ok(Begun::Run(turn))
             }
+        }
+    }
+}
+
+impl<K: Hash + Clone + Drop, V: Clone, C: CacheTypes<K, V>, R: RowStore<K, V>> State<K, V, C, R> {
+    /// As [`State::begin`], for who lends the key. Where a turn is opened or waited for, it is that of a
+    /// copy of the key; a look that finds an acceptable value copies none.
+    ///
+    /// It asks that a copy of a key equals it. Refused as [`State::begin`], and with `OutOfMemory` for
+    /// the copy of the key and its share.
+    pub fn begin_by_ref<F: FnMut(&V) -> bool + Drop>(
+        &mut self,
+        key: &K,
+        kind: Kind,
+        replace_if: Option<F>,
+        now: u64,
+    ) -> Result<Begun<K, V>, Refused>
+        requires copies { (a b : K) → K.is_clone a b → K.eq a b ≡ true }
+        requires initializer { kind ≢ Kind.Compute }
+        requires asks { IfSome replace_if (λ f. F.IsAlwaysCallable f) }
+        ensures begins { (asked : K) × IsAsked K.eq K.is_clone key.now asked × (said : Option Bool)
+            × BeginEnds
+            (λ given. ⟦<C as StateView<K, V>>⟧.at_each_history self.old (λ settings steps.
+            IsSaidOf F.FnMut replace_if (live_at K.eq settings asked now (events_in steps)) said
+            × GivesBegun K.eq V.is_clone V.is_infallible settings steps
+            (Begin asked kind said now) true given))
+            (⟦<C as StateView<K, V>>⟧.follows self.old (Begin asked kind said now) self.new)
+            self.old self.new result
+            × IfOk result (IsNamed kind asked) }
+        ensures kept { IfOk result (FoundKeeps C.keeps) }
+        ensures settings { self.new.settings ≡ self.old.settings }
+    {
+        self.begin_lent(key, kind, replace_if, now, true)
+    }
+
+    // A begin by reference, which may wait or not: where it would have to and may not, it is refused
+    // with `TurnIsOpen`.
+    pub(crate) fn begin_lent<F: FnMut(&V) -> bool + Drop>(
+        &mut self,
+        key: &K,
+        kind: Kind,
+        replace_if: Option<F>,
+        now: u64,
+        may_wait: bool,
+    ) -> Result<Begun<K, V>, Refused>
+        requires copies { (a b : K) → K.is_clone a b → K.eq a b ≡ true }
+        requires initializer { kind ≢ Kind.Compute }
+        requires asks { IfSome replace_if (λ f. F.IsAlwaysCallable f) }
+        ensures begins { (asked : K) × IsAsked K.eq K.is_clone key.now asked × (said : Option Bool)
+            × BeginEnds
+            (λ given. ⟦<C as StateView<K, V>>⟧.at_each_history self.old (λ settings steps.
+            IsSaidOf F.FnMut replace_if (live_at K.eq settings asked now (events_in steps)) said
+            × GivesBegun K.eq V.is_clone V.is_infallible settings steps
+            (Begin asked kind said now) may_wait given))
+            (⟦<C as StateView<K, V>>⟧.follows self.old (Begin asked kind said now) self.new)
+            self.old self.new result
+            × IfOk result (IsNamed kind asked) }
+        ensures waits { IfOk result (IfWait (may_wait ≡ true)) }
+        ensures kept { IfOk result (FoundKeeps C.keeps) }
+        ensures kept_for { IfOk result (FoundKeepsFor C.keeps key.now) }
+        ensures settings { self.new.settings ≡ self.old.settings }
+    {
+        let hash = self.hash(key);
+        match self.acceptable_entry(key, hash, replace_if, now) {
+            Ok(Some(entry)) => Ok(Begun::Found(entry)),
+            Ok(None) => match self.share_copy(key) {
+                Ok(copy) => self.begin_turn(copy, hash, kind, now, may_wait),
+                Err(_) => Err(Refused::OutOfMemory),
+            },
+            Err(cause) => Err(cause),
+        }
+    }
+
+    // A copy of a key that several may hold. Refused for want of memory alone.
+    pub(crate) fn share_copy(&self, key: &K) -> Result<Arc<K>, AllocError>
+        ensures { IfOk result (λ shared. K.is_clone key.now (arc_value shared)) }
+    {
+        let copy = key.clone()?;
+        match Arc::new(self.alloc, copy) {
+            Ok(shared) => Ok(shared),
+            Err(_) => Err(AllocError),
         }
     }
 }

@@ -1,5 +1,5 @@
 //! The end of a turn with what its initializer gave.
-ghost use Rattle.std.specs.Prelude.{◌≡◌, ◌≢◌, ◌<◌, ℕ, List, true, false, nat_eq, option_map, IsSome, IfOk, OnOk, IfSome};
+ghost use Rattle.std.specs.Prelude.{◌≡◌, ◌<◌, ℕ, List, true, false, nat_eq, option_map, IsSome, IfOk, OnOk, IfSome};
 ghost use Rattle.std.specs.Arc.{arc_value};
 ghost use Rattle.indexmap.specs.IndexMap.{get};
 ghost use Rattle.moka_model.specs.Turns as turning;
@@ -17,7 +17,7 @@ ghost use Rattle.moka_state.specs.Finish.{FinishEnds, Fits, IsCopiesOf, OutcomeK
 use crate::answers::{Answer, FinishRefused, Finished};
 use crate::state::State;
 use moka_model::entry::Entry;
-use moka_model::turns::{Kind, Outcome};
+use moka_model::turns::Outcome;
 use moka_policy::policy::{CacheTypes, Refused};
 use moka_rows::rows::RowStore;
 use moka_table::table::Table;
@@ -113,7 +113,7 @@ fn conclude<K: Eq + Drop, V: Clone, E: Drop>(
 }
 
 // The place of a write of a turn's key, once there is room for it. Refused for want of memory alone.
-fn place_for<K: Eq + Drop, V: Drop, R: RowStore<K, V>>(
+pub(crate) fn place_for<K: Eq + Drop, V: Drop, R: RowStore<K, V>>(
     table: &mut Table<K, V, R>,
     turn: &Turn<K>,
     hash: u64,
@@ -153,7 +153,7 @@ impl<K: Hash + Drop, V: Clone, C: CacheTypes<K, V>, R: RowStore<K, V>> State<K, 
     ) -> Result<Finished<K, V, C::Error>, FinishRefused<K, V, C::Error>>
         requires fits { Fits C.Error turn.key.kind (Outcome.Value value) }
         requires kept { C.keeps (arc_value turn.key.key) value }
-        ensures { FinishEnds
+        ensures { FinishEnds V.is_clone
             (λ given. ⟦<C as StateView<K, V>>⟧.at_each_history self.old (λ settings steps.
             Gives K.eq V.is_clone V.is_infallible settings steps
             (Finish (turn_name turn) (Outcome.Value value) now) given))
@@ -177,7 +177,7 @@ impl<K: Hash + Drop, V: Clone, C: CacheTypes<K, V>, R: RowStore<K, V>> State<K, 
         requires fits { Fits C.Error turn.key.kind (Outcome.Value value) }
         requires kept { C.keeps (arc_value turn.key.key) value }
         requires nothing { stores_nothing self.old.settings.max_capacity ≡ true }
-        ensures { FinishEnds
+        ensures { FinishEnds V.is_clone
             (λ given. ⟦<C as StateView<K, V>>⟧.at_each_history self.old (λ settings steps.
             Gives K.eq V.is_clone V.is_infallible settings steps
             (Finish (turn_name turn) (Outcome.Value value) now) given))
@@ -208,7 +208,7 @@ impl<K: Hash + Drop, V: Clone, C: CacheTypes<K, V>, R: RowStore<K, V>> State<K, 
         requires fits { Fits C.Error turn.key.kind (Outcome.Value value) }
         requires kept { C.keeps (arc_value turn.key.key) value }
         requires stores { stores_nothing self.old.settings.max_capacity ≡ false }
-        ensures { FinishEnds
+        ensures { FinishEnds V.is_clone
             (λ given. ⟦<C as StateView<K, V>>⟧.at_each_history self.old (λ settings steps.
             Gives K.eq V.is_clone V.is_infallible settings steps
             (Finish (turn_name turn) (Outcome.Value value) now) given))
@@ -258,7 +258,7 @@ impl<K: Hash + Drop, V: Clone, C: CacheTypes<K, V>, R: RowStore<K, V>> State<K, 
         now: u64,
     ) -> Result<Finished<K, V, C::Error>, FinishRefused<K, V, C::Error>>
         requires { Fits {V = V} C.Error turn.key.kind Outcome.Nothing }
-        ensures { FinishEnds
+        ensures { FinishEnds V.is_clone
             (λ given. ⟦<C as StateView<K, V>>⟧.at_each_history self.old (λ settings steps.
             Gives K.eq V.is_clone V.is_infallible settings steps
             (Finish (turn_name turn) Outcome.Nothing now) given))
@@ -288,7 +288,7 @@ impl<K: Hash + Drop, V: Clone, C: CacheTypes<K, V>, R: RowStore<K, V>> State<K, 
         now: u64,
     ) -> Result<Finished<K, V, C::Error>, FinishRefused<K, V, C::Error>>
         requires { Fits {V = V} C.Error turn.key.kind (Outcome.Failed (arc_value error)) }
-        ensures { FinishEnds
+        ensures { FinishEnds V.is_clone
             (λ given. ⟦<C as StateView<K, V>>⟧.at_each_history self.old (λ settings steps.
             Gives K.eq V.is_clone V.is_infallible settings steps
             (Finish (turn_name turn) (Outcome.Failed (arc_value error)) now) given))
@@ -321,11 +321,16 @@ impl<K: Hash + Drop, V: Clone, C: CacheTypes<K, V>, R: RowStore<K, V>> State<K, 
     /// entry is fresh, and marked as replacing where a live value stood just before the write. What
     /// came of the turn is kept for those who wait for it, until the last of them has collected it.
     ///
+    /// A compute ends with what is to be done, and only its caller is answered what became of the value:
+    /// one that is put is written so too, and replaces where the begin showed a value, whatever became
+    /// of that since; a removal is that of [`State::remove`]; and a `Nop` answers the copy that was kept
+    /// aside, if one was, and takes no memory.
+    ///
     /// It asks for an outcome that fits the turn's kind. Refused with `UnknownTurn` exactly where it
     /// is no open turn of this cache, with `NumbersUsedUp` exactly where a value is to be written and
-    /// no number is left, and else with `OutOfMemory`; no outcome but a value or an error takes
-    /// memory. A refused finish hands back the turn and the outcome, and changes nothing. It costs an
-    /// insert, and two look-ups in the table of turns.
+    /// no number is left, and else with `OutOfMemory`; no outcome but a value, an error or the removal of
+    /// a live value takes memory. A refused finish hands back the turn and the outcome, and changes
+    /// nothing. It costs an insert, and two look-ups in the table of turns.
     pub fn finish(
         &mut self,
         turn: Turn<K>,
@@ -333,9 +338,8 @@ impl<K: Hash + Drop, V: Clone, C: CacheTypes<K, V>, R: RowStore<K, V>> State<K, 
         now: u64,
     ) -> Result<Finished<K, V, C::Error>, FinishRefused<K, V, C::Error>>
         requires fits { Fits C.Error turn.key.kind (outcome_of outcome) }
-        requires initializer { turn.key.kind ≢ Kind.Compute }
         requires kept { OutcomeKeeps (C.keeps (arc_value turn.key.key)) outcome }
-        ensures { FinishEnds
+        ensures { FinishEnds V.is_clone
             (λ given. ⟦<C as StateView<K, V>>⟧.at_each_history self.old (λ settings steps.
             Gives K.eq V.is_clone V.is_infallible settings steps
             (Finish (turn_name turn) (outcome_of outcome) now) given))
@@ -347,7 +351,7 @@ impl<K: Hash + Drop, V: Clone, C: CacheTypes<K, V>, R: RowStore<K, V>> State<K, 
             Outcome::Value(value) => self.finish_with(turn, value, now),
             Outcome::Nothing => self.finish_without(turn, now),
             Outcome::Failed(error) => self.finish_failed(turn, error, now),
-            Outcome::Op(_) => unreachable!(),
+            Outcome::Op(op) => self.finish_op(turn, op, now),
         }
     }
 }

@@ -3,18 +3,27 @@
 
 pub mod answers;
 pub mod begin;
+pub mod by_ref;
+pub mod compute;
+mod entry_forms;
+pub mod entry_selector;
 pub mod finish;
+pub mod get_with;
 pub mod hashed;
 pub mod invalidation;
+pub mod or_insert;
 pub mod removal;
 pub mod scanning;
 pub mod state;
 pub mod step;
+mod step_text;
+mod turn_replies;
+mod turn_step;
 pub mod value_initializer;
 
 pub use moka_due::due_rows;
 pub use moka_predicate_ids::{predicate_error, predicate_id};
 pub use moka_rows::{list_rows, packed, rows};
 pub use moka_slab::slab_rows;
-pub use moka_turns::handles;
+pub use moka_turns::{handles, turn_name};
 pub use moka_ways::view;

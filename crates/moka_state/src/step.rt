@@ -9,15 +9,18 @@ ghost use Rattle.moka_state.specs.Hashes.{IsHashOfStep};
 ghost use Rattle.moka_state.specs.Noticed.{noticed_in};
 ghost use Rattle.moka_state.specs.Step.{call_of, IsReplyTo, StepKeeps, ReplyKeeps, after_reply, IsRun, after_all};
 
+use crate::or_insert::OrInsertRefused;
 use crate::state::{InsertRefused, State};
+use moka_model::comp_result::CompResult;
+use moka_model::entry::Entry;
 use moka_model::notification::Notice;
+use moka_model::turns::{Kind, Outcome};
 use moka_policy::policy::{CacheTypes, Refused};
 use moka_predicate_ids::predicate_error::PredicateError;
 use moka_rows::rows::RowStore;
+use moka_turns::turn_name::TurnName;
 use moka_ways::view::StateView;
 use std::collections::VecDeque;
-use std::fmt;
-use std::fmt::{Debug, Formatter};
 use std::hash::Hash;
 use std::sync::Arc;
 
@@ -25,34 +28,95 @@ use std::sync::Arc;
 #[derive(Drop)]
 pub enum Step<K: Eq, V: Clone, C: CacheTypes<K, V>> {
     /// A look that uses the value that it finds.
-    Get { key: Arc<K>, now: u64 },
+    Get {
+        key: Arc<K>,
+        now: u64,
+    },
     /// A look that uses nothing.
-    ContainsKey { key: Arc<K>, now: u64 },
+    ContainsKey {
+        key: Arc<K>,
+        now: u64,
+    },
     /// A write.
-    Insert { key: Arc<K>, value: V, now: u64 },
+    Insert {
+        key: Arc<K>,
+        value: V,
+        now: u64,
+    },
+    /// A look that uses the value that it finds, and where it finds none, a write.
+    OrInsert {
+        key: Arc<K>,
+        value: V,
+        now: u64,
+    },
     /// A removal.
-    Invalidate { key: Arc<K>, now: u64 },
+    Invalidate {
+        key: Arc<K>,
+        now: u64,
+    },
     /// A removal that answers the live value.
-    Remove { key: Arc<K>, now: u64 },
+    Remove {
+        key: Arc<K>,
+        now: u64,
+    },
     /// A removal of all keys.
     InvalidateAll,
     /// A removal of each value of which a predicate holds.
-    InvalidateIf { predicate: Arc<C::Predicate> },
+    InvalidateIf {
+        predicate: Arc<C::Predicate>,
+    },
     /// A maintenance.
-    RunPendingTasks { now: u64 },
+    RunPendingTasks {
+        now: u64,
+    },
     /// A maintenance within a limit.
-    RunPendingTasksUpTo { limit: u64, now: u64 },
+    RunPendingTasksUpTo {
+        limit: u64,
+        now: u64,
+    },
     /// A count of the stored keys.
     EntryCount,
     /// The weight of all that is stored.
     WeightedSize,
     /// The first notice is taken.
     TakeNotice,
+    /// The begin of a turn, with what its caller says of the live value that is shown: whether to
+    /// replace it, or none where it asks nothing.
+    Begin {
+        key: Arc<K>,
+        kind: Kind,
+        replace: Option<bool>,
+        now: u64,
+    },
+    /// The begin of a compute, and whether a copy of the live value is to be kept aside.
+    BeginCompute {
+        key: Arc<K>,
+        keep: bool,
+        now: u64,
+    },
+    /// The end of a turn with an outcome.
+    Finish {
+        name: TurnName<K>,
+        outcome: Outcome<V, Arc<C::Error>>,
+        now: u64,
+    },
+    /// The end of a turn without one.
+    Abandon {
+        name: TurnName<K>,
+    },
+    /// A ticket asks what came of its turn.
+    Collect {
+        name: TurnName<K>,
+    },
+    /// A ticket is spent, and asks nothing.
+    Leave {
+        name: TurnName<K>,
+    },
 }
 
-/// The answer of a call.
-#[derive(Debug, Drop)]
-pub enum Reply<K, V> {
+/// The answer of a call. In it a turn and a ticket stand by name.
+#[derive(Drop)]
+pub enum Reply<K: Eq, V: Clone, C: CacheTypes<K, V>> {
     /// What `Get` found, or what `Remove` removed.
     Found(Option<V>),
     /// What `ContainsKey` found.
@@ -65,45 +129,40 @@ pub enum Reply<K, V> {
     Left(bool),
     /// The notice that was taken, if there was one.
     Noticed(Option<Notice<K, V>>),
+    /// The entry that `Begin` or `OrInsert` found, that `Finish` or `OrInsert` wrote, or that
+    /// `Collect` was told.
+    Entered(Entry<K, V>),
+    /// `Begin` or `BeginCompute` opened this turn, and a compute is shown this entry, if one is live.
+    Run(TurnName<K>, Option<Entry<K, V>>),
+    /// `Begin` or `BeginCompute` waits for this turn.
+    Wait(TurnName<K>),
+    /// The turn gave no value.
+    Nothing,
+    /// The turn gave an error in place of a value.
+    Failed(Arc<C::Error>),
+    /// What became of the value of a compute that `Finish` ended.
+    Computed(CompResult<K, V>),
+    /// The turn of `Collect` is open still.
+    NotYet,
+    /// The turn of `Collect` was abandoned.
+    Abandoned,
+    /// The turn of `Collect` was a compute, and has ended.
+    Ended,
     /// The call was refused, and changed nothing.
     Refused(Refused),
     /// `InvalidateIf` was refused, and changed nothing.
     PredicateRefused(PredicateError),
 }
 
-/// A predicate is written as `..`, so none needs `Debug`.
-impl<K: Eq + Debug, V: Clone + Debug, C: CacheTypes<K, V>> Debug for Step<K, V, C> {
-    fn fmt<W: fmt::Write>(&self, f: &mut Formatter<W>) -> fmt::Result {
-        match self {
-            Step::Get { key, now } => write!(f, "Get {{ key: {key:?}, now: {now} }}"),
-            Step::ContainsKey { key, now } => {
-                write!(f, "ContainsKey {{ key: {key:?}, now: {now} }}")
-            }
-            Step::Insert { key, value, now } => {
-                write!(f, "Insert {{ key: {key:?}, value: {value:?}, now: {now} }}")
-            }
-            Step::Invalidate { key, now } => {
-                write!(f, "Invalidate {{ key: {key:?}, now: {now} }}")
-            }
-            Step::Remove { key, now } => write!(f, "Remove {{ key: {key:?}, now: {now} }}"),
-            Step::InvalidateAll => f.write_str("InvalidateAll"),
-            Step::InvalidateIf { .. } => f.write_str("InvalidateIf { predicate: .. }"),
-            Step::RunPendingTasks { now } => write!(f, "RunPendingTasks {{ now: {now} }}"),
-            Step::RunPendingTasksUpTo { limit, now } => {
-                write!(f, "RunPendingTasksUpTo {{ limit: {limit}, now: {now} }}")
-            }
-            Step::EntryCount => f.write_str("EntryCount"),
-            Step::WeightedSize => f.write_str("WeightedSize"),
-            Step::TakeNotice => f.write_str("TakeNotice"),
-        }
-    }
-}
-
 impl<K: Hash + Drop, V: Clone, C: CacheTypes<K, V>, R: RowStore<K, V>> State<K, V, C, R> {
     /// Does one step. A step and the call that it stands for answer the same. A refused step has
-    /// changed nothing, and what it carried is dropped. Memory is refused to writes, and to looks
-    /// that find a live value whose copy can fail; to no other step.
-    pub fn step(&mut self, step: Step<K, V, C>) -> Reply<K, V>
+    /// changed nothing, and what it carried is dropped. Memory is refused to writes, to looks that
+    /// find a live value whose copy can fail, to each `OrInsert`, to begins, and to ends of turns and
+    /// tickets that are handed a value or an error; to no other step. A `Finish` whose outcome does not
+    /// fit the kind of its name is refused with `UnknownTurn`. An `or_default` stands in a step as the
+    /// `OrInsert` of the default value, and a `Begin` of kind `Compute` as a `BeginCompute` that keeps no
+    /// copy.
+    pub fn step(&mut self, step: Step<K, V, C>) -> Reply<K, V, C>
         requires { StepKeeps C.keeps C.Predicate.tests C.test step }
         ensures reply { ⟦<C as StateView<K, V>>⟧.at_each_history self.old (λ settings steps.
             IsReplyTo K.eq V.is_clone V.is_infallible settings steps
@@ -118,8 +177,8 @@ impl<K: Hash + Drop, V: Clone, C: CacheTypes<K, V>, R: RowStore<K, V>> State<K, 
     }
 
     /// As [`State::step`], with the hash of the step's key, as [`State::hash`] answers it: the key is
-    /// not hashed again. Where the step has no key, any number does.
-    pub fn step_with_hash(&mut self, step: Step<K, V, C>, hash: u64) -> Reply<K, V>
+    /// not hashed again, but for a step of a turn. Where the step has no key, any number does.
+    pub fn step_with_hash(&mut self, step: Step<K, V, C>, hash: u64) -> Reply<K, V, C>
         requires hash { IsHashOfStep (⟦<C as StateView<K, V>>⟧.settings self.old.settings)
             step hash }
         requires keeps { StepKeeps C.keeps C.Predicate.tests C.test step }
@@ -144,6 +203,12 @@ impl<K: Hash + Drop, V: Clone, C: CacheTypes<K, V>, R: RowStore<K, V>> State<K, 
                 Ok(()) => Reply::Done,
                 Err(InsertRefused { cause, .. }) => Reply::Refused(cause),
             },
+            Step::OrInsert { key, value, now } => {
+                match self.or_insert_with_hash(&key, hash, value, now) {
+                    Ok(entry) => Reply::Entered(entry),
+                    Err(OrInsertRefused { cause, .. }) => Reply::Refused(cause),
+                }
+            }
             Step::Invalidate { key, now } => {
                 self.invalidate_with_hash(&*key, hash, now);
                 Reply::Done
@@ -172,6 +237,17 @@ impl<K: Hash + Drop, V: Clone, C: CacheTypes<K, V>, R: RowStore<K, V>> State<K, 
             Step::EntryCount => Reply::Counted(self.entry_count()),
             Step::WeightedSize => Reply::Counted(self.weighted_size()),
             Step::TakeNotice => Reply::Noticed(self.take_notice()),
+            Step::Begin {
+                key,
+                kind,
+                replace,
+                now,
+            } => self.step_begin(key, kind, replace, now),
+            Step::BeginCompute { key, keep, now } => self.step_begin_compute(key, keep, now),
+            Step::Finish { name, outcome, now } => self.step_finish(name, outcome, now),
+            Step::Abandon { name } => self.step_abandon(name),
+            Step::Collect { name } => self.step_collect(name),
+            Step::Leave { name } => self.step_leave(name),
         }
     }
 
@@ -184,8 +260,15 @@ impl<K: Hash + Drop, V: Clone, C: CacheTypes<K, V>, R: RowStore<K, V>> State<K, 
             Step::Get { key, .. }
             | Step::ContainsKey { key, .. }
             | Step::Insert { key, .. }
+            | Step::OrInsert { key, .. }
             | Step::Invalidate { key, .. }
-            | Step::Remove { key, .. } => self.hash(&**key),
+            | Step::Remove { key, .. }
+            | Step::Begin { key, .. }
+            | Step::BeginCompute { key, .. } => self.hash(&**key),
+            Step::Finish { name, .. }
+            | Step::Abandon { name }
+            | Step::Collect { name }
+            | Step::Leave { name } => self.hash(&*name.key),
             _ => 0,
         }
     }
@@ -193,7 +276,7 @@ impl<K: Hash + Drop, V: Clone, C: CacheTypes<K, V>, R: RowStore<K, V>> State<K, 
     /// Does steps in order, and answers their replies. With a capacity and without a weigher no more
     /// keys are stored then than it allows, and 64. Where the list of replies finds no room, no step
     /// was done.
-    pub fn run(&mut self, steps: Vec<Step<K, V, C>>) -> Result<Vec<Reply<K, V>>, Refused>
+    pub fn run(&mut self, steps: Vec<Step<K, V, C>>) -> Result<Vec<Reply<K, V, C>>, Refused>
         requires { AllByRecursion (StepKeeps C.keeps C.Predicate.tests C.test) steps.items }
         ensures replies { IfOk result (λ replies.
             ⟦<C as StateView<K, V>>⟧.at_each_history self.old (λ settings before.

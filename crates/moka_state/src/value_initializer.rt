@@ -27,6 +27,7 @@ impl<K: Hash + Drop, V: Clone, C: CacheTypes<K, V>, R: RowStore<K, V>> State<K, 
             (Abandon (turn_name turn)) self.new) }
         ensures refused { OnErr result (self.new ≡ self.old) }
         ensures cause { IfErr result (λ cause. cause ≡ Refused.UnknownTurn) }
+        ensures settings { self.new.settings ≡ self.old.settings }
     {
         let hash = self.behaviour.hash(turn.key());
         if !self.turns.abandon(turn.rehashed(hash)) {
@@ -47,6 +48,7 @@ impl<K: Hash + Drop, V: Clone, C: CacheTypes<K, V>, R: RowStore<K, V>> State<K, 
             (Leave (ticket_name ticket)) self.new) }
         ensures refused { OnErr result (self.new ≡ self.old) }
         ensures cause { IfErr result (λ cause. cause ≡ Refused.UnknownTicket) }
+        ensures settings { self.new.settings ≡ self.old.settings }
     {
         let hash = self.behaviour.hash(ticket.key());
         if !self.turns.leave(ticket.rehashed(hash)) {
@@ -76,6 +78,7 @@ impl<K: Hash + Drop, V: Clone, C: CacheTypes<K, V>, R: RowStore<K, V>> State<K, 
         ensures refused { OnErr result (self.new ≡ self.old) }
         ensures handed_back { IfErr result (λ refused.
             ticket_name refused.ticket ≡ ticket_name ticket) }
+        ensures settings { self.new.settings ≡ self.old.settings }
     {
         let hash = self.behaviour.hash(ticket.key());
         let told = match self.turns.collect(ticket.rehashed(hash)) {

@@ -23,6 +23,8 @@ mod maintenance;
 #[cfg(test)]
 mod memory;
 #[cfg(test)]
+mod or_inserts;
+#[cfg(test)]
 mod pieces;
 #[cfg(test)]
 mod subject;

@@ -5,13 +5,15 @@
 //! - where there is a capacity and each value weighs one, no more keys are stored than it allows, and 64;
 //! - a call that was refused has left the numbers of keys and notices and the weight as they were, no expiry was asked,
 //!   and a write has handed back its key and its value.
-ghost use Rattle.std.specs.Prelude.{◌≡◌, ◌≢◌, false, Some, None, IsSome, IfOk};
+ghost use Rattle.std.specs.Prelude.{◌≡◌, ◌≢◌, false, Some, None, IsSome, IfSome, IfOk, []};
+ghost use Rattle.std.specs.List.{AllByRecursion};
+ghost use Rattle.moka.specs.Step.{StepKeeps};
 
 use crate::keys::{ByNumber, Collides, Key};
 use crate::values::{Counts, EitherText, Given, Types, Value, Watch, heavy, plain};
 use moka::PredicateError;
 use moka::notification::RemovalCause;
-use moka::policy::{EvictionPolicy, Refused};
+use moka::policy::{CacheTypes, EvictionPolicy, Predicate, Refused};
 use moka::state::{DueRows, InsertRefused, ListRows, Reply, RowStore, Settings, State, Step};
 use moka::sync::PredicateId;
 use rand_core::{Rng, SeedableRng};
@@ -122,6 +124,8 @@ pub(crate) enum Answer {
     /// The text of an id.
     Id([u8; 36]),
     Asked(Counts),
+    /// What the call of a turn answers: no table has one.
+    OfTurn,
     /// In a table: whatever it is, but no refusal.
     Accepted,
 }
@@ -155,7 +159,7 @@ struct Subject<K: Key, H: BuildHasher + Drop, R: RowStore<K, Value>> {
 }
 
 /// Shares a value. Where memory is refused, it asks once more, as each helper below does.
-fn shared<T: Drop>(alloc: Global, value: T) -> Result<Arc<T>, AllocError> {
+pub(crate) fn shared<T: Drop>(alloc: Global, value: T) -> Result<Arc<T>, AllocError> {
     match Arc::new(alloc, value) {
         Ok(value) => Ok(value),
         Err(failed) => match Arc::new(alloc, failed.value) {
@@ -166,14 +170,16 @@ fn shared<T: Drop>(alloc: Global, value: T) -> Result<Arc<T>, AllocError> {
 }
 
 /// A list with room for so many.
-pub(crate) fn room<T: Drop>(alloc: Global, len: usize) -> Result<Vec<T>, AllocError> {
+pub(crate) fn room<T: Drop>(alloc: Global, len: usize) -> Result<Vec<T>, AllocError>
+    ensures { IfOk result (λ items. items.items ≡ []) }
+{
     match Vec::with_capacity(alloc, len) {
         Ok(items) => Ok(items),
         Err(_) => Vec::with_capacity(alloc, len),
     }
 }
 
-fn settings<K: Key, H: BuildHasher + Default + Drop>(
+pub(crate) fn settings<K: Key, H: BuildHasher + Default + Drop>(
     alloc: Global,
     rules: Rules,
     watch: &Arc<Watch>,
@@ -344,7 +350,12 @@ impl<K: Key, H: BuildHasher + Default + Drop, R: RowStore<K, Value>> Subject<K, 
         &mut self,
         call: Call,
         now: u64,
-    ) -> Result<Option<Step<K, Value, Types<H>>>, AllocError> {
+    ) -> Result<Option<Step<K, Value, Types<H>>>, AllocError>
+        ensures { IfOk result (λ step. IfSome step
+            (StepKeeps ⟦<Types<H> as CacheTypes<K, Value>>⟧.keeps
+            ⟦<EitherText as Predicate<K, Value>>⟧.tests
+            ⟦<Types<H> as CacheTypes<K, Value>>⟧.test)) }
+    {
         let given = match call {
             Call::Insert(_, text) => plain(text),
             Call::InsertHeavy(_, weight) => heavy(weight),
@@ -437,35 +448,41 @@ impl<K: Key, H: BuildHasher + Default + Drop, R: RowStore<K, Value>> Subject<K, 
     }
 
     /// The steps of some rows.
-    fn steps(&mut self, rows: &[Row]) -> Result<Vec<Step<K, Value, Types<H>>>, AllocError> {
+    fn steps(&mut self, rows: &[Row]) -> Result<Vec<Step<K, Value, Types<H>>>, AllocError>
+        ensures { IfOk result (λ steps. AllByRecursion
+            (StepKeeps ⟦<Types<H> as CacheTypes<K, Value>>⟧.keeps
+            ⟦<EitherText as Predicate<K, Value>>⟧.tests
+            ⟦<Types<H> as CacheTypes<K, Value>>⟧.test)
+            steps.items) }
+    {
         let mut steps = room(self.alloc, rows.len())?;
-        for (call, now, _) in rows {
-            if let Some(step) = self.step_of(*call, *now)? {
+        for row in rows {
+            if let Some(step) = self.step_of(row.0, row.1)? {
                 steps.push(step)?;
             }
         }
         Ok(steps)
     }
 
-    /// The replies of one run of rows, all of them steps.
-    fn replies(
-        &mut self,
-        rows: &[Row],
-    ) -> Result<Result<Vec<Reply<K, Value>>, Refused>, AllocError> {
+    /// What one run of rows answers, all of them steps.
+    fn answers(&mut self, rows: &[Row]) -> Result<Result<Vec<Answer>, Refused>, AllocError> {
         let steps = self.steps(rows)?;
-        Ok(self.cache.run(steps))
+        let answers = room(self.alloc, rows.len())?;
+        match self.cache.run(steps) {
+            Ok(replies) => Ok(Ok(all_said(answers, replies)?)),
+            Err(refused) => Ok(Err(refused)),
+        }
     }
 
-    /// Does rows, all of them steps, by one run. The answer is whether it may be done with the table: not where memory for a
-    /// step was refused that may be.
+    /// Does rows, all of them steps, by one run. It answers false where memory for a step was refused that may be.
     fn run(&mut self, rt: &impl Abort, rows: &[Row], place: usize) -> Result<bool, Fail> {
         let before = (self.sizes(), self.watch.counts());
-        let mut replies = self.replies(rows)?;
-        if self.is_patient && replies.is_err() {
+        let mut answers = self.answers(rows)?;
+        if self.is_patient && answers.is_err() {
             self.is_unchanged(rt, before);
-            replies = self.replies(rows)?;
+            answers = self.answers(rows)?;
         }
-        if !fit(rt, replies?, rows, self.is_patient, place) {
+        if !fit(rt, &answers?, rows, self.is_patient, place) {
             return Ok(false);
         }
         self.holds(rt);
@@ -588,28 +605,31 @@ fn fits(rt: &impl Abort, found: Answer, expected: Answer, place: usize) {
     }
 }
 
-/// Asserts that replies are the expected ones. The answer is whether they are: not where memory for a step was refused
-/// that may be.
-fn fit<K: Key>(
-    rt: &impl Abort,
-    replies: Vec<Reply<K, Value>>,
-    rows: &[Row],
-    is_patient: bool,
-    place: usize,
-) -> bool {
-    assert!(rt; replies.len() == rows.len(), "as many replies as steps");
-    for (reply, (_, _, expected)) in replies.into_iter().zip(rows) {
-        let found = said(reply);
-        if is_patient && found == Answer::Refused(Refused::OutOfMemory) && found != *expected {
+/// Asserts that answers are the expected ones. It answers false where memory for a step was refused that may be.
+fn fit(rt: &impl Abort, answers: &[Answer], rows: &[Row], is_patient: bool, place: usize) -> bool {
+    assert!(rt; answers.len() == rows.len(), "as many replies as steps");
+    for (found, (_, _, expected)) in answers.iter().zip(rows) {
+        if is_patient && *found == Answer::Refused(Refused::OutOfMemory) && found != expected {
             return false;
         }
-        fits(rt, found, *expected, place);
+        fits(rt, *found, *expected, place);
     }
     true
 }
 
+/// What replies say, behind other answers.
+fn all_said<K: Key, C: CacheTypes<K, Value>>(
+    mut answers: Vec<Answer>,
+    replies: Vec<Reply<K, Value, C>>,
+) -> Result<Vec<Answer>, AllocError> {
+    for reply in replies {
+        answers.push(said(reply))?;
+    }
+    Ok(answers)
+}
+
 /// What a reply says.
-fn said<K: Key>(reply: Reply<K, Value>) -> Answer {
+fn said<K: Key, C: CacheTypes<K, Value>>(reply: Reply<K, Value, C>) -> Answer {
     match reply {
         Reply::Found(Some(value)) => Answer::Found(value.given.text),
         Reply::Found(None) => Answer::Absent,
@@ -623,6 +643,7 @@ fn said<K: Key>(reply: Reply<K, Value>) -> Answer {
         Reply::Noticed(None) => Answer::NoNotice,
         Reply::Refused(refused) => Answer::Refused(refused),
         Reply::PredicateRefused(refused) => refused_predicate(refused),
+        _ => Answer::OfTurn,
     }
 }
 

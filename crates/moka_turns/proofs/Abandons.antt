@@ -1,6 +1,8 @@
 -- What a table keeps once an open turn has ended.
 use Rattle.std.proofs.Common.{◌≡◌, ◌≢◌, ⊎_elim, ℕ, ◌<◌, ◌==◌, ◌≤◌, Bool, true, false, cond, ◌&&◌, nat_eq, nat_le, Option, Some, None, List, map, refl, sym, ap, ◌∙◌, subst, arith}
 use denote.Enum.Bare.{sameb}
+use Rattle.std.specs.Map.{lookup_key}
+use Rattle.std.proofs.lemmas.Map.Made.{lookup_key_passes}
 use Rattle.moka_model.specs.contracts.turns.Kind.{the_type}
 use Rattle.std.specs.Arc.{arc_value}
 use Rattle.std.specs.Option.{MatchOption}
@@ -53,6 +55,15 @@ kinds-same Compute Compute = refl
 
 pub by_kinds : {K X : Type 0} (eq : K → K → Bool) (q p : TurnKey K) (new here old : Option X) → new ≡ cond ((q.hash == p.hash) && (sameb the_type q.kind p.kind && eq (arc_value q.key) (arc_value p.key))) here old → new ≡ cond (same_key eq q p) here old
 by_kinds eq q p new here old is = is ∙ ap (λ b. cond ((q.hash == p.hash) && (b && eq (arc_value q.key) (arc_value p.key))) here old) (kinds-same q.kind p.kind)
+
+-- a stored key that a look for another one finds has its kind, and an equal key
+pub own-parts : {K V : Type 0} (eq : K → K → Bool) (q : TurnKey K) (rows : List (TurnKey K × OpenTurn V)) (own : TurnKey K) → lookup_key (λ p. (q.hash == p.hash) && (sameb the_type q.kind p.kind && eq (arc_value q.key) (arc_value p.key))) rows ≡ Some own
+    → (own.kind ≡ q.kind) × (eq (arc_value q.key) (arc_value own.key) ≡ true)
+own-parts eq q rows own is =
+    let passes = lookup_key_passes (λ (p : TurnKey _). (q.hash == p.hash) && (sameb the_type q.kind p.kind && eq (arc_value q.key) (arc_value p.key))) rows own is in
+    let one = and_parts (q.hash == own.hash) (sameb the_type q.kind own.kind && eq (arc_value q.key) (arc_value own.key)) passes in
+    let two = and_parts (sameb the_type q.kind own.kind) (eq (arc_value q.key) (arc_value own.key)) one.1 in
+    (sym (same_kind-is q.kind own.kind (sym (kinds-same q.kind own.kind) ∙ two.0)), two.1)
 
 -- whether a row that is found has a number
 module _ {V : Type 0} (number : ℕ) where
@@ -141,9 +152,9 @@ module _ {K V E : Type 0} (eq : K → K → Bool) (laws : IsEquivalence eq) (is_
   pub abandoned-number : t.name.number ≡ row.number
   abandoned-number = sym stands_for.number
 
-  -- it ends
-  module _ (given : TurnEnd V E) (final : End V E) (copied : 0 < row.unspent → IsCopiedEnd is_clone (Some final) (Some (end_of given))) (new_open : TurnKey K → Option (OpenTurn V)) (new_ended : ℕ → Option (EndedTurn K V E)) (opened : (p : TurnKey K) → new_open p ≡ cond (same_key eq q p) None (old_open p))
-      (waited : 0 < row.unspent → (m : ℕ) → new_ended m ≡ cond (row.number == m) (Some (record { key = q; end = given; unspent = row.unspent })) (old_ended m))
+  -- it ends, and is kept under a key that is found with its own
+  module _ (own_key : TurnKey K) (own_kind : own_key.kind ≡ q.kind) (own_same : eq (arc_value q.key) (arc_value own_key.key) ≡ true) (given : TurnEnd V E) (final : End V E) (copied : 0 < row.unspent → IsCopiedEnd is_clone (Some final) (Some (end_of given))) (new_open : TurnKey K → Option (OpenTurn V)) (new_ended : ℕ → Option (EndedTurn K V E)) (opened : (p : TurnKey K) → new_open p ≡ cond (same_key eq q p) None (old_open p))
+      (waited : 0 < row.unspent → (m : ℕ) → new_ended m ≡ cond (row.number == m) (Some (record { key = own_key; end = given; unspent = row.unspent })) (old_ended m))
       (alone : row.unspent ≡ 0 → (m : ℕ) → new_ended m ≡ old_ended m) where
     abbrev ts_after : List (Turn K V E)
     ts_after = after_end eq ts sound.0 sound.1 t member.0 is_open_now final
@@ -169,7 +180,7 @@ module _ {K V E : Type 0} (eq : K → K → Bool) (laws : IsEquivalence eq) (is_
             rw (others-ended eq ts sound.0 sound.1 t member.0 is_open_now final m differs.1, kept) (keeps.ended_is m)
           where
             go : (b : Bool) → nat_le 1 row.unspent ≡ b → new_ended m ≡ old_ended m
-            go true h = waited (leb_some row.unspent h) m ∙ ap (λ b. cond b (Some (record { key = q; end = given; unspent = row.unspent })) (old_ended m)) (ne_eqb row.number m (λ e. differs.1 (sym e ∙ stands_for.number)))
+            go true h = waited (leb_some row.unspent h) m ∙ ap (λ b. cond b (Some (record { key = own_key; end = given; unspent = row.unspent })) (old_ended m)) (ne_eqb row.number m (λ e. differs.1 (sym e ∙ stands_for.number)))
             go false h = alone (leb_none row.unspent h) m
 
         own : ((m == t.name.number) ≡ true) × (m ≡ t.name.number) → Agree (IsEndedRow eq is_clone) (found (is_ended_as m) ts_after) (new_ended m)
@@ -178,10 +189,10 @@ module _ {K V E : Type 0} (eq : K → K → Bool) (laws : IsEquivalence eq) (is_
             go : (b : Bool) → nat_le 1 row.unspent ≡ b → Agree (IsEndedRow eq is_clone) (found (is_ended_as t.name.number) ts_after) (new_ended t.name.number)
             go true h =
                 let has : has_ticket t ≡ true = ap (nat_le 1) (sym stands_for.unspent) ∙ h in
-                let now : new_ended t.name.number ≡ Some (record { key = q; end = given; unspent = row.unspent }) =
-                waited (leb_some row.unspent h) t.name.number ∙ ap (λ b. cond b (Some (record { key = q; end = given; unspent = row.unspent })) (old_ended t.name.number)) (eq-eqb row.number t.name.number stands_for.number) in
+                let now : new_ended t.name.number ≡ Some (record { key = own_key; end = given; unspent = row.unspent }) =
+                waited (leb_some row.unspent h) t.name.number ∙ ap (λ b. cond b (Some (record { key = own_key; end = given; unspent = row.unspent })) (old_ended t.name.number)) (eq-eqb row.number t.name.number stands_for.number) in
                 rw (own-ended eq ts sound.0 sound.1 t member.0 is_open_now final has, now)
-                (record { kind = sym (same_kind-is t.name.kind q.kind own_name.0); key = own_name.1; end = copied (leb_some row.unspent h); unspent = stands_for.unspent })
+                (record { kind = own_kind ∙ sym (same_kind-is t.name.kind q.kind own_name.0); key = laws.congr t.name.key (arc_value q.key) (arc_value own_key.key) own_name.1 ∙ own_same; end = copied (leb_some row.unspent h); unspent = stands_for.unspent })
             go false h =
                 let none : has_ticket t ≡ false = ap (nat_le 1) (sym stands_for.unspent) ∙ h in
                 let before = own-before eq ts sound.0 sound.1 t member.0 is_open_now final in

@@ -20,6 +20,10 @@ pub if-there : {A : Type 0} (P : A → Type 0) (o : Option A) → IsSome o → I
 if-there P None some holds = let off : false ≡ true = some in cc
 if-there P (Some x) some holds = (x, refl, holds)
 
+pub is-there : {A : Type 0} (o : Option A) → IsSome o → (x : A) × (o ≡ Some x)
+is-there None some = let off : false ≡ true = some in cc
+is-there (Some x) some = (x, refl)
+
 pub given-there : {A : Type 0} (P : A → Type 0) (o : Option A) (x : A) → o ≡ Some x → IfSome o P → P x
 given-there P None x there holds = cc
 given-there P (Some y) x there holds = let e : y ≡ x = cc in subst P e holds

@@ -7,6 +7,7 @@ use Rattle.moka_model.specs.Numbers.{greatest_number}
 use Rattle.moka_policy.specs.declared.policy.Refused.{Refused}
 use Rattle.moka_policy.specs.declared.policy.Refused.TheVariants.{OutOfMemory, NumbersUsedUp, TurnIsOpen}
 use Rattle.moka_turns.specs.declared.turn_key.TurnKey.{TurnKey}
+use Rattle.moka_turns.specs.declared.handles.Ticket.{Ticket}
 use Rattle.moka_turns.specs.declared.begin.TurnBegun.{TurnBegun}
 use Rattle.moka_turns.specs.declared.begin.TurnBegun.TheVariants.{Run, Wait}
 use Rattle.moka_turns.specs.Keeps.{name_of}
@@ -28,9 +29,18 @@ IsBegun After q number may_wait ts (Some t) (Err NumbersUsedUp) = (may_wait ≡ 
 IsBegun After q number may_wait ts (Some t) (Err TurnIsOpen) = may_wait ≡ false
 IsBegun After q number may_wait ts o result = ⊥
 
+-- what a ticket that is given out, or refused, is to who begins
+abbrev pub as_waiting : {K : Type 0} → Result (Ticket K) Refused → Result (TurnBegun K) Refused
+as_waiting (Ok ticket) = Ok (Wait ticket)
+as_waiting (Err cause) = Err cause
+
 abbrev pub IfRun : {K : Type 0} → Type 0 → TurnBegun K → Type 0  -- P holds where a turn was opened
 IfRun P (Run turn) = P
 IfRun P (Wait ticket) = ⊤
+
+abbrev pub IfWait : {K : Type 0} → Type 0 → TurnBegun K → Type 0  -- P holds where another's turn is to be waited for
+IfWait P (Run turn) = ⊤
+IfWait P (Wait ticket) = P
 
 -- what is handed out has this kind, and this very key
 abbrev pub IsNamed : {K : Type 0} → Kind → K → TurnBegun K → Type 0

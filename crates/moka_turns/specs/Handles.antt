@@ -1,7 +1,9 @@
 -- The names of what a caller holds.
+use Rattle.std.specs.Arc.{arc_value}
 use Rattle.moka_model.specs.Turns.{Name}
 use Rattle.moka_turns.specs.declared.handles.Turn.{Turn}
 use Rattle.moka_turns.specs.declared.handles.Ticket.{Ticket}
+use Rattle.moka_turns.specs.declared.turn_name.TurnName.{TurnName}
 use Rattle.moka_turns.specs.Keeps.{name_of}
 
 module _ {K : Type 0} where
@@ -10,3 +12,6 @@ module _ {K : Type 0} where
 
   abbrev pub ticket_name : Ticket K → Name K
   ticket_name ticket = name_of ticket.key ticket.number
+
+  abbrev pub name_by : TurnName K → Name K  -- what a name as data names
+  name_by name = record { number = name.number; kind = name.kind; key = arc_value name.key }

@@ -1,12 +1,14 @@
 //! The begin of a turn in a table.
-ghost use Rattle.std.specs.Prelude.{◌≡◌, ◌≢◌, ℕ, Bool, List, true, nat_eq, None, IsSome, is_some, IfOk, OnErr};
+ghost use Rattle.std.specs.Prelude.{◌≡◌, ◌≢◌, ℕ, Bool, Option, List, true, nat_eq, None, IsSome, is_some, IfOk, IfErr, OnErr};
 ghost use Rattle.std.specs.Arc.{arc_value};
 ghost use Rattle.indexmap.specs.IndexMap.{get, IsUnchanged};
 ghost use Rattle.moka_model.specs.Turns as turning;
-ghost use Rattle.moka_model.specs.Turns.{found, is_open_for};
+ghost use Rattle.moka_model.specs.Turns.{Opened, found, is_open_for, moved};
+ghost use Rattle.moka_model.specs.Calls.{IsCopyOf};
 ghost use Rattle.moka_model.specs.Numbers.{greatest_number};
-ghost use Rattle.moka_turns.specs.Keeps.{Keeps, AreSound};
-ghost use Rattle.moka_turns.specs.Begun.{IsBegun, IfRun, IsNamed};
+ghost use Rattle.moka_turns.specs.Handles.{turn_name};
+ghost use Rattle.moka_turns.specs.Keeps.{Keeps, AreSound, name_of};
+ghost use Rattle.moka_turns.specs.Begun.{IsBegun, IfRun, IfWait, IsNamed, as_waiting};
 
 use crate::handles::{Ticket, Turn};
 use crate::table::{OpenTurn, Turns};
@@ -44,6 +46,7 @@ impl<K: Eq + Drop, V: Clone, E: Drop> Turns<K, V, E> {
             result }
         ensures number { IfOk result (IfRun (number ≢ greatest_number)) }
         ensures named { IfOk result (IsNamed key.kind (arc_value key.key)) }
+        ensures waits { IfOk result (IfWait (may_wait ≡ true)) }
         ensures unchanged { OnErr result (IsUnchanged self.old.opened self.new.opened
             × IsUnchanged self.old.ended self.new.ended) }
     {
@@ -56,8 +59,8 @@ impl<K: Eq + Drop, V: Clone, E: Drop> Turns<K, V, E> {
         self.open(key, number)
     }
 
-    // Whether a turn of a kind and a key is open.
-    fn is_awaitable(&self, key: &TurnKey<K>) -> bool
+    /// Whether a turn of a kind and a key is open.
+    pub fn is_awaitable(&self, key: &TurnKey<K>) -> bool
         ensures { result ≡ is_some (get ⟦<TurnKey<K> as PartialEq>⟧.eq self.now.opened key.now) }
     {
         match self.find(key) {
@@ -81,14 +84,40 @@ impl<K: Eq + Drop, V: Clone, E: Drop> Turns<K, V, E> {
             result }
         ensures number { (number : ℕ) → IfOk result (IfRun (number ≢ greatest_number)) }
         ensures named { IfOk result (IsNamed key.kind (arc_value key.key)) }
+        ensures waits { IfOk result (IfWait (may_wait ≡ true)) }
         ensures unchanged { OnErr result (IsUnchanged self.old.opened self.new.opened
             × IsUnchanged self.old.ended self.new.ended) }
     {
         if !may_wait {
             return Err(Refused::TurnIsOpen);
         }
+        match self.wait_open(key) {
+            Ok(ticket) => Ok(TurnBegun::Wait(ticket)),
+            Err(cause) => Err(cause),
+        }
+    }
+
+    /// Waits for the open turn of a kind and a key, which is there. Refused with `NumbersUsedUp` where as
+    /// many wait as can be counted; then every turn stays as it was. It takes no memory.
+    pub fn wait_open(&mut self, key: TurnKey<K>) -> Result<Ticket<K>, Refused>
+        requires { IsSome (get ⟦<TurnKey<K> as PartialEq>⟧.eq self.old.opened key) }
+        ensures begins { (number : ℕ) (hash_of : K → ℕ) (ts : List (turning.Turn K V E))
+            → ((a b : K) → K.eq a b ≡ true → hash_of a ≡ hash_of b)
+            → key.hash ≡ hash_of (arc_value key.key)
+            → AreSound K.eq ts
+            → Keeps K.eq V.is_clone hash_of ts
+            (get ⟦<TurnKey<K> as PartialEq>⟧.eq self.old.opened) (get nat_eq self.old.ended)
+            → IsBegun (λ after. Keeps K.eq V.is_clone hash_of after
+            (get ⟦<TurnKey<K> as PartialEq>⟧.eq self.new.opened) (get nat_eq self.new.ended))
+            key number true ts (found (is_open_for K.eq key.kind (arc_value key.key)) ts)
+            (as_waiting result) }
+        ensures named { IfOk result (λ ticket. (ticket.key.kind ≡ key.kind)
+            × (arc_value ticket.key.key ≡ arc_value key.key)) }
+        ensures unchanged { OnErr result (IsUnchanged self.old.opened self.new.opened
+            × IsUnchanged self.old.ended self.new.ended) }
+    {
         match self.wait(&key) {
-            Some(number) => Ok(TurnBegun::Wait(Ticket { key, number })),
+            Some(number) => Ok(Ticket { key, number }),
             None => Err(Refused::NumbersUsedUp),
         }
     }
@@ -108,6 +137,38 @@ impl<K: Eq + Drop, V: Clone, E: Drop> Turns<K, V, E> {
             key number may_wait ts (found (is_open_for K.eq key.kind (arc_value key.key)) ts)
             result }
         ensures named { IfOk result (IsNamed key.kind (arc_value key.key)) }
+        ensures waits { (may_wait : Bool) → IfOk result (IfWait (may_wait ≡ true)) }
+        ensures unchanged { OnErr result (IsUnchanged self.old.opened self.new.opened
+            × IsUnchanged self.old.ended self.new.ended) }
+    {
+        let Ok(turn) = self.open_shown(key, number, false, None) else {
+            return Err(Refused::OutOfMemory);
+        };
+        Ok(TurnBegun::Run(turn))
+    }
+
+    /// Opens a turn of a kind and a key, of which none is open, under this number: with whether its
+    /// look found a live value, and the copy of that which is kept aside, if one is. Refused for want of
+    /// memory alone; then every turn stays as it was.
+    pub fn open_shown(
+        &mut self,
+        key: TurnKey<K>,
+        number: u64,
+        shown: bool,
+        kept: Option<V>,
+    ) -> Result<Turn<K>, Refused>
+        requires { get ⟦<TurnKey<K> as PartialEq>⟧.eq self.old.opened key ≡ None }
+        ensures opens { IfOk result (λ turn.
+            (hash_of : K → ℕ) (ts : List (turning.Turn K V E)) (value : Option V)
+            → ((a b : K) → K.eq a b ≡ true → hash_of a ≡ hash_of b)
+            → key.hash ≡ hash_of (arc_value key.key)
+            → IsCopyOf V.is_clone value kept
+            → Keeps K.eq V.is_clone hash_of ts
+            (get ⟦<TurnKey<K> as PartialEq>⟧.eq self.old.opened) (get nat_eq self.old.ended)
+            → Keeps K.eq V.is_clone hash_of (moved (Opened (name_of key number) shown value) ts)
+            (get ⟦<TurnKey<K> as PartialEq>⟧.eq self.new.opened) (get nat_eq self.new.ended)) }
+        ensures name { IfOk result (λ turn. turn_name turn ≡ name_of key number) }
+        ensures cause { IfErr result (λ cause. cause ≡ Refused.OutOfMemory) }
         ensures unchanged { OnErr result (IsUnchanged self.old.opened self.new.opened
             × IsUnchanged self.old.ended self.new.ended) }
     {
@@ -124,11 +185,11 @@ impl<K: Eq + Drop, V: Clone, E: Drop> Turns<K, V, E> {
         };
         let turn = OpenTurn {
             number,
-            shown: false,
-            kept: None,
+            shown,
+            kept,
             unspent: 0,
         };
         self.add(key, turn);
-        Ok(TurnBegun::Run(Turn { key: own, number }))
+        Ok(Turn { key: own, number })
     }
 }

@@ -3,5 +3,7 @@
 
 pub mod begin;
 pub mod handles;
+pub mod naming;
 pub mod table;
 pub mod turn_key;
+pub mod turn_name;

@@ -1,7 +1,7 @@
 //! The table of turns: those that are open, by kind and key, and those that are ended and have
 //! unspent tickets, by their numbers.
 ghost use Rattle.std.specs.Prelude.{◌≡◌, ◌≢◌, ℕ, ◌+◌, ◌-◌, ◌<◌, ◌≤◌, ◌^◌, None, Some, IsSome, IfSome, IfNone, IfOk, IfErr, OnSome, OnOk, nat_eq, option_copied, if◌then◌else◌, nat_lt};
-ghost use Rattle.indexmap.specs.IndexMap.{get, spare, index_map_len, Updates, IsEmpty, IsUnchanged};
+ghost use Rattle.indexmap.specs.IndexMap.{get, get_key, spare, index_map_len, Updates, IsEmpty, IsUnchanged};
 ghost use Rattle.std.specs.Prelude.{Option, List, true, false, ◌==◌, ◌&&◌, nat_le, MatchOption};
 ghost use Rattle.std.specs.Arc.{arc_value};
 ghost use Rattle.moka_model.specs.Turns as turning;
@@ -9,7 +9,7 @@ ghost use Rattle.moka_model.specs.Turns.{Abandoned, Ended, Opened, Spent, Waited
 ghost use Rattle.moka_model.specs.Calls.{IsCopiedEnd, IsCopyOf};
 ghost use Rattle.moka_turns.specs.Keeps.{Keeps, AreSound, end_of, name_of};
 ghost use Rattle.moka_turns.specs.Told.{IsTold, IfNotYet, IfEnded, IsUnspent, TakesCopy};
-ghost use Rattle.moka_turns.specs.Open.{IsOpenWith, IsOpenFor};
+ghost use Rattle.moka_turns.specs.Open.{IsOpenAs, IsOpenWith, IsOpenFor};
 ghost use Rattle.moka_turns.specs.Table.{with_unspent, one_less, kept_ended, HasRoom};
 
 use crate::handles::{CollectRefused, Ticket, Turn};
@@ -439,6 +439,60 @@ impl<K: Eq + Drop, V: Clone, E: Drop> Turns<K, V, E> {
             Some(end) => self.end(key, end),
             None => self.close(&key),
         }
+    }
+
+    // Ends the open turn of a kind and a key as a compute. While it has unspent tickets it is kept, under
+    // the key that it was opened with.
+    fn end_computed(&mut self, key: &TurnKey<K>) -> OpenTurn<V>
+        requires { IsSome (get ⟦<TurnKey<K> as PartialEq>⟧.eq self.old.opened key.now) }
+        ensures turn { Some result ≡ get ⟦<TurnKey<K> as PartialEq>⟧.eq self.old.opened key.now }
+        ensures opened { Updates ⟦<TurnKey<K> as PartialEq>⟧.eq
+            self.old.opened self.new.opened key.now None }
+        ensures own { IsSome (get_key ⟦<TurnKey<K> as PartialEq>⟧.eq self.old.opened key.now) }
+        ensures waited_for { 0 < result.unspent
+            → IfSome (get_key ⟦<TurnKey<K> as PartialEq>⟧.eq self.old.opened key.now) (λ own.
+            Updates nat_eq self.old.ended self.new.ended result.number
+            (Some (record { key = own; end = TurnEnd.Computed; unspent = result.unspent }))) }
+        ensures alone { result.unspent ≡ 0 → IsUnchanged self.old.ended self.new.ended }
+    {
+        let Some((own, row)) = self.opened.swap_remove_entry(key) else {
+            unreachable!()
+        };
+        if row.unspent > 0 {
+            let ended = EndedTurn {
+                key: own,
+                end: TurnEnd::Computed,
+                unspent: row.unspent,
+            };
+            match self.ended.insert(row.number, ended) {
+                Ok(_) => {}
+                Err(_) => unreachable!(),
+            }
+        }
+        row
+    }
+
+    /// Ends the open turn of a compute, and answers its key and what was kept of it. Those who wait are
+    /// told that it has ended. It takes no memory.
+    pub fn finish_computed(&mut self, turn: Turn<K>) -> (Arc<K>, OpenTurn<V>)
+        requires { IsOpenAs turn.number
+            (get ⟦<TurnKey<K> as PartialEq>⟧.eq self.old.opened turn.key) }
+        ensures key { result.0 ≡ turn.key.key }
+        ensures finishes { (hash_of : K → ℕ) (ts : List (turning.Turn K V E))
+            → ((a b : K) → K.eq a b ≡ true → hash_of a ≡ hash_of b)
+            → turn.key.hash ≡ hash_of (arc_value turn.key.key)
+            → AreSound K.eq ts
+            → Keeps K.eq V.is_clone hash_of ts
+            (get ⟦<TurnKey<K> as PartialEq>⟧.eq self.old.opened) (get nat_eq self.old.ended)
+            → IfSome (found (is_open_as K.eq (name_of turn.key turn.number)) ts) (λ t.
+            (result.1.shown ≡ t.shown) × IsCopyOf V.is_clone t.kept result.1.kept
+            × Keeps K.eq V.is_clone hash_of (moved (Ended t.name.number turning.Computed) ts)
+            (get ⟦<TurnKey<K> as PartialEq>⟧.eq self.new.opened) (get nat_eq self.new.ended)) }
+    {
+        let Turn { key, number: _ } = turn;
+        let row = self.end_computed(&key);
+        let TurnKey { key, .. } = key;
+        (key, row)
     }
 }
 

@@ -4,4 +4,7 @@ pub mod FieldLaws
 pub mod FieldTexts
 pub mod NumberLaws
 pub mod SettingLaws
+pub mod TextLaws
 pub mod Truth
+pub mod TurnLaws
+pub mod WordLaws

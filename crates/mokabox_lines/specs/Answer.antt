@@ -1,4 +1,4 @@
-use Rattle.std.specs.Prelude.{ℕ, true, false, List, [], ◌∷◌, ◌++◌, Option, Some, None, codes, String, flat_map}
+use Rattle.std.specs.Prelude.{ℕ, Bool, true, false, List, [], ◌∷◌, ◌++◌, Option, Some, None, codes, String, flat_map}
 use Rattle.std.specs.Fmt.{decimal}
 use Rattle.std.specs.String.{string_bytes}
 use Rattle.std.specs.declared.alloc.Global.{Global}
@@ -13,6 +13,10 @@ use Rattle.moka_predicate_ids.specs.declared.predicate_error.PredicateError.TheV
 use Rattle.mokabox_lines.specs.declared.answer.Answer.{Answer}
 use Rattle.mokabox_lines.specs.declared.answer.Answer.TheVariants.{Done, Found, NotFound, Whether, Counted, Refused, NotBuilt, Left, End}
 use Rattle.mokabox_lines.specs.declared.answer.Answer.TheVariants.{Unfinished, NotHidden, Policy, Walked, BadLine}
+use Rattle.mokabox_lines.specs.declared.answer.Answer.TheVariants.{Entered, Run, Waits, Nothing, Failed, NotYet, Abandoned, Ended}
+use Rattle.mokabox_lines.specs.declared.answer.Answer.TheVariants.{Shown, Computed}
+use Rattle.mokabox_lines.specs.declared.answer.Became.{Became}
+use Rattle.mokabox_lines.specs.declared.answer.Became.TheVariants.{StillNone, Unchanged, Inserted, ReplacedWith, Removed}
 
 -- the number by which a refusal is printed
 abbrev pub refusal_number : moka_refused.Refused → ℕ
@@ -53,6 +57,33 @@ measure_text (Some number) = decimal number
 abbrev pub pairs_text : List (ℕ × String Global) → List ℕ
 pairs_text pairs = flat_map (λ pair. codes " " ++ (decimal pair.0 ++ (codes "=" ++ string_bytes pair.1))) pairs
 
+-- how it is printed whether the call wrote an entry's value
+abbrev pub age_text : Bool → List ℕ
+age_text true = codes "fresh"
+age_text false = codes "old"
+
+-- what is printed behind an entry where another value was replaced
+abbrev pub replaced_text : Bool → List ℕ
+replaced_text true = codes " replaced"
+replaced_text false = []
+
+-- a key with its value
+abbrev pub pair_text : ℕ → String Global → List ℕ
+pair_text key value = decimal key ++ (32 ∷ string_bytes value)
+
+-- how it is printed what became of a key's value
+abbrev pub became_text : Became → List ℕ
+became_text (StillNone key) = codes "still-none " ++ decimal key
+became_text (Unchanged key value) = codes "unchanged " ++ pair_text key value
+became_text (Inserted key value) = codes "inserted " ++ pair_text key value
+became_text (ReplacedWith key value) = codes "replaced-with " ++ pair_text key value
+became_text (Removed key value) = codes "removed " ++ pair_text key value
+
+-- how a value is printed that may not be there
+abbrev pub live_text : Option (String Global) → List ℕ
+live_text None = codes "none"
+live_text (Some value) = codes "some " ++ string_bytes value
+
 -- the line that an answer is printed as, without its end
 abbrev pub answer_text : Answer → List ℕ
 answer_text Done = codes "ok"
@@ -71,6 +102,17 @@ answer_text (Policy capacity live idle segments) =
     codes "policy capacity " ++ (measure_text capacity.0 ++ (codes " ttl " ++ (measure_text live.0
     ++ (codes " tti " ++ (measure_text idle.0 ++ (codes " segments " ++ decimal segments))))))
 answer_text (Walked pairs) = codes "walk" ++ pairs_text pairs.0.items
+answer_text (Entered key value is_fresh is_replaced) =
+    codes "entry " ++ (decimal key ++ (32 ∷ (string_bytes value ++ (32 ∷ (age_text is_fresh ++ replaced_text is_replaced)))))
+answer_text (Run number) = codes "run " ++ decimal number
+answer_text (Shown number live) = codes "run " ++ (decimal number ++ (32 ∷ live_text live.0))
+answer_text (Waits number) = codes "wait " ++ decimal number
+answer_text Nothing = codes "nothing"
+answer_text (Failed error) = codes "failed " ++ string_bytes error
+answer_text (Computed became) = became_text became
+answer_text NotYet = codes "not yet"
+answer_text Abandoned = codes "abandoned"
+answer_text Ended = codes "ended"
 answer_text End = codes "end"
 answer_text BadLine = codes "bad line"
 

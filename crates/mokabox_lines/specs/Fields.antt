@@ -1,6 +1,6 @@
 use Rattle.std.specs.Prelude.{◌≡◌, ◌<◌, ◌⊎◌, length, slice_index, ℕ, ◌^◌, ◌==◌, nat_lt, Bool, true, false, ◌&&◌, ◌||◌}
 use Rattle.std.specs.Prelude.{List, [], ◌∷◌, Option, Some, None}
-use Rattle.std.specs.Prelude.{option_and_then, All, ◌≢◌, if◌then◌else◌}
+use Rattle.std.specs.Prelude.{option_and_then, option_map, All, ◌≢◌, if◌then◌else◌}
 use Rattle.std.specs.Borrow.{Bor}
 use Rattle.std.specs.List.{slice_split, join_with_byte}
 use Rattle.std.specs.Fmt.{decimal}
@@ -47,6 +47,25 @@ sole_number_of fields = option_and_then number_of (sole_of fields)
 -- the one field as a text
 abbrev pub sole_text_of : List (List ℕ) → Option (List ℕ)
 sole_text_of fields = option_and_then text_of (sole_of fields)
+
+-- what the first field says, and the fields behind it
+abbrev pub first_of : {A : Type 0} → (List ℕ → Option A) → List (List ℕ) → Option (A × List (List ℕ))
+first_of read [] = None
+first_of read (field ∷ rest) = option_map (λ what. (what, rest)) (read field)
+
+-- something, where no field is left
+abbrev pub none_left : List (List ℕ) → Option (Unit {0})
+none_left [] = Some tt
+none_left (field ∷ more) = None
+
+-- what is said by no field
+abbrev pub alone : {A : Type 0} → A → List (List ℕ) → Option A
+alone what rest = option_map (λ none. what) (none_left rest)
+
+-- what the fields behind a word say, by what reads them behind each word
+abbrev pub read_by : {A : Type 0} → List (List ℕ × (List (List ℕ) → Option A)) → List ℕ → List (List ℕ) → Option A
+read_by [] word rest = None
+read_by (entry ∷ entries) word rest = if bytes_eq word entry.0 then entry.1 rest else read_by entries word rest
 
 -- no field is empty
 abbrev pub none_empty : List (List ℕ) → Bool

@@ -3,3 +3,4 @@ pub mod Command
 pub mod Fields
 pub mod FieldsLeft
 pub mod Settings
+pub mod Turn

@@ -1,7 +1,7 @@
 //! The fields of a line: its parts between the spaces.
 ghost use Rattle.std.specs.Prelude.{◌≡◌, ◌∷◌, ◌↔◌, IsTrue, option_map};
 ghost use Rattle.std.specs.Iterator.{YieldsFirstRef, item_count};
-ghost use Rattle.mokabox_lines.specs.Fields.{fields_of, fields_in, IsPadded, number_of, text_of, sole_of, sole_number_of, sole_text_of, texts_of, is_one_of};
+ghost use Rattle.mokabox_lines.specs.Fields.{fields_of, fields_in, IsPadded, number_of, text_of, sole_of, sole_number_of, sole_text_of, texts_of, is_one_of, first_of, none_left};
 
 /// The fields of a line that are still to be read.
 #[derive(Drop)]
@@ -42,6 +42,23 @@ impl<'a> Fields<'a> {
         ensures { option_map (λ x. x.now) result ≡ sole_text_of (fields_left self.entry) }
     {
         text(self.sole()?)
+    }
+
+    /// The number that the first field spells, and takes that field away.
+    pub fn next_number(&mut self) -> Option<u64>
+        ensures { option_map (λ n. (n, fields_left self.new)) result ≡ first_of number_of (fields_left self.old) }
+    {
+        number(self.next()?)
+    }
+
+    /// Something where no field is left, and else `None`.
+    pub fn none_left(mut self) -> Option<()>
+        ensures { result ≡ none_left (fields_left self.entry) }
+    {
+        let None = self.next() else {
+            return None;
+        };
+        Some(())
     }
 
     /// The fields that are left, as they stand in the line, as texts. `None` where none is left, or

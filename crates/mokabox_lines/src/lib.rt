@@ -5,3 +5,4 @@ pub mod answer;
 pub mod command;
 pub mod fields;
 pub mod settings;
+pub mod turn;

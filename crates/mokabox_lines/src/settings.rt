@@ -37,7 +37,7 @@ pub struct Settings {
 pub enum Eviction {
     /// The least recently used ones leave, and each new one is admitted.
     Lru,
-    /// The least recently used ones leave, for a new one that by an estimate was looked for more often than they.
+    /// The least recently used ones leave, for a new one whose estimated frequency is greater than theirs.
     TinyLfu,
 }
 

@@ -3,7 +3,6 @@ use Rattle.std.proofs.Common.{◌≡◌, ◌%◌, ◌^◌, ◌<◌, ℕ, Bool, i
 use Rattle.std.proofs.Math.Nat.{mod-lt}
 use Rattle.std.proofs.Math.Path.{fun_ext}
 use Rattle.std.proofs.lemmas.Nat.{pow_pos}
-use Rattle.std.specs.declared.convert.Infallible.{Infallible}
 use Rattle.std.specs.Duration.{as_nanos}
 use Rattle.std.specs.Hash.BuildHasherDefault.{initial_hasher}
 use Rattle.std.specs.String.{string_bytes}
@@ -22,8 +21,8 @@ use Rattle.mokabox_lines.specs.declared.settings.Weighing.{Weighing}
 use Rattle.mokabox_lines.specs.declared.settings.Weighing.TheVariants as weighings
 use Rattle.mokabox_lines.specs.Settings.{byte_weight}
 use Rattle.mokabox_script.specs.declared.session.Bytes.{Bytes}
-use Rattle.mokabox_script.specs.Script.{Text, is_copy, CacheSettings, beginning, is_lru_by, weight_by, whole_settings, wanted_segments, cache_settings}
-use Rattle.mokabox_script.specs.Session.{CacheData, CacheHasher, cache_hash, cache_behaviour, view, IsAt, Told, IsTold}
+use Rattle.mokabox_script.specs.Script.{Text, CacheHasher, is_copy, CacheSettings, beginning, is_lru_by, weight_by, whole_settings, wanted_segments, cache_settings}
+use Rattle.mokabox_script.specs.Session.{CacheData, cache_hash, cache_behaviour, view, IsAt, Told, IsTold}
 
 -- the weight of a text, by the weigher of a cache
 abbrev text_weight : Option Bytes → ℕ → Text → ℕ

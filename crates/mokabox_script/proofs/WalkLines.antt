@@ -4,7 +4,6 @@ use Rattle.std.specs.Cmp.{nat_eq_equiv}
 use Rattle.std.specs.Fmt.{decimal}
 use Rattle.std.specs.List.{All, AllByRecursion, slice_get}
 use Rattle.std.specs.List.Sorted.{IsPermutation, IsNonDecreasingBy}
-use Rattle.std.specs.declared.convert.Infallible.{Infallible}
 use Rattle.std.proofs.lemmas.List.Sorted.{All-permutation}
 use Rattle.std.proofs.lemmas.List.{length-map}
 use Rattle.std.proofs.lemmas.Option.{slice_get-map}
@@ -26,24 +25,24 @@ use Rattle.mokabox_script.specs.Script.{Text, is_copy, is_surely_copied, CacheSe
 use Rattle.mokabox_script.specs.Session.{CacheData, SegmentState, segment_view, view, PartsHashes, Prints, segment_stands_for, IsWholeWalk}
 
 -- where one segment of a script's cache has come, as a history
-abbrev pub history_at : CacheSettings → List (Call ℕ Text Infallible) → ℕ → History ℕ Text Infallible
-history_at settings done i = record { settings = share_settings settings; steps = steps_in Infallible nat_eq settings done i }
+abbrev pub history_at : CacheSettings → List (Call ℕ Text Text) → ℕ → History ℕ Text Text
+history_at settings done i = record { settings = share_settings settings; steps = steps_in Text nat_eq settings done i }
 
 -- a history for each state, by its place
-abbrev pub histories_by : (ℕ → History ℕ Text Infallible) → List SegmentState → List (History ℕ Text Infallible)
+abbrev pub histories_by : (ℕ → History ℕ Text Text) → List SegmentState → List (History ℕ Text Text)
 histories_by f [] = []
 histories_by f (state ∷ states) = f 0 ∷ histories_by (λ i. f (suc i)) states
 
-at-place : (f : ℕ → History ℕ Text Infallible) (states : List SegmentState) (i : ℕ) → slice_get (histories_by f states) i ≡ option_map (λ state. f i) (slice_get states i)
+at-place : (f : ℕ → History ℕ Text Text) (states : List SegmentState) (i : ℕ) → slice_get (histories_by f states) i ≡ option_map (λ state. f i) (slice_get states i)
 at-place f [] i = refl
 at-place f (state ∷ states) zero = refl
 at-place f (state ∷ states) (suc i) = at-place (λ i. f (suc i)) states i
 
-length-histories : (f : ℕ → History ℕ Text Infallible) (states : List SegmentState) → length (histories_by f states) ≡ length states
+length-histories : (f : ℕ → History ℕ Text Text) (states : List SegmentState) → length (histories_by f states) ≡ length states
 length-histories f [] = refl
 length-histories f (state ∷ states) = ap suc (length-histories (λ i. f (suc i)) states)
 
-all-have : (f : ℕ → History ℕ Text Infallible) (states : List SegmentState) → ((i : ℕ) → IfSome (slice_get states i) (λ state. segment_stands_for (f i).settings state (f i).steps))
+all-have : (f : ℕ → History ℕ Text Text) (states : List SegmentState) → ((i : ℕ) → IfSome (slice_get states i) (λ state. segment_stands_for (f i).settings state (f i).steps))
     → AllHaveHistories segment_stands_for states (histories_by f states)
 all-have f [] each = tt
 all-have f (state ∷ states) each = (each 0, all-have (λ i. f (suc i)) states (λ i. each (suc i)))
@@ -58,16 +57,16 @@ all-mapped : {A B : Type 0} (P : B → Type 0) (f : A → B) (xs : List A) → A
 all-mapped P f [] each = tt
 all-mapped P f (x ∷ xs) each = (each.0, all-mapped P f xs each.1)
 
-module _ (cache : CacheData) (settings : CacheSettings) (done : List (Call ℕ Text Infallible)) (stand : AllStandFor nat_eq is_copy settings (view cache) done) (parted : PartsHashes settings) where
+module _ (cache : CacheData) (settings : CacheSettings) (done : List (Call ℕ Text Text)) (stand : AllStandFor nat_eq is_copy settings (view cache) done) (parted : PartsHashes settings) where
   -- the histories of all segments
-  abbrev pub histories : List (History ℕ Text Infallible)
+  abbrev pub histories : List (History ℕ Text Text)
   histories = histories_by (history_at settings done) cache.segments
 
   they-stand : AllHaveHistories segment_stands_for cache.segments histories
-  they-stand = all-have (history_at settings done) cache.segments (λ i. by i (slice_get cache.segments i) (subst (λ o. IfSome o (λ one. StandsFor nat_eq is_copy (share_settings settings) one (steps_in Infallible nat_eq settings done i))) (slice_get-map segment_view cache.segments i) (stand.each i)))
+  they-stand = all-have (history_at settings done) cache.segments (λ i. by i (slice_get cache.segments i) (subst (λ o. IfSome o (λ one. StandsFor nat_eq is_copy (share_settings settings) one (steps_in Text nat_eq settings done i))) (slice_get-map segment_view cache.segments i) (stand.each i)))
     where
-      by : (i : ℕ) (o : Option SegmentState) → IfSome (option_map segment_view o) (λ one. StandsFor nat_eq is_copy (share_settings settings) one (steps_in Infallible nat_eq settings done i))
-          → IfSome o (λ state. segment_stands_for (share_settings settings) state (steps_in Infallible nat_eq settings done i))
+      by : (i : ℕ) (o : Option SegmentState) → IfSome (option_map segment_view o) (λ one. StandsFor nat_eq is_copy (share_settings settings) one (steps_in Text nat_eq settings done i))
+          → IfSome o (λ state. segment_stands_for (share_settings settings) state (steps_in Text nat_eq settings done i))
       by i None is = tt
       by i (Some state) is = is
 
@@ -86,7 +85,7 @@ module _ (cache : CacheData) (settings : CacheSettings) (done : List (Call ℕ T
 
       by : (o : Option SegmentState) → AllByRecursion (λ key. home key ≡ i) (keys_of nat_eq (option_map (λ state. history_at settings done i) o))
       by None = tt
-      by (Some state) = all-mapped (λ key. home key ≡ i) (λ (w : Write ℕ Text). w.key) (all_standing nat_eq (share_settings settings) (events_of Infallible nat_eq settings done i)) (stands-at-home Infallible nat_eq settings i nat_eq_equiv alike done)
+      by (Some state) = all-mapped (λ key. home key ≡ i) (λ (w : Write ℕ Text). w.key) (all_standing nat_eq (share_settings settings) (events_of Text nat_eq settings done i)) (stands-at-home Text nat_eq settings i nat_eq_equiv alike done)
 
   -- there it has the value that is live for it
   at-segment : (moment i key : ℕ) → i < length cache.segments → live_in nat_eq histories moment i key ≡ value_of nat_eq moment key (Some (history_at settings done i))
@@ -141,7 +140,7 @@ walk_refused cache moment lines are settings before is =
 -- A walk on its way from the first cursor: what it may yield from here on, it may yield behind what it has yielded.
 abbrev pub HasWalked : CacheData → ℕ → List (ℕ × Text) → Cursor ℕ → Type 0
 HasWalked cache moment so_far here =
-    (histories : List (History ℕ Text Infallible)) → AllHaveHistories segment_stands_for cache.segments histories → (rest : List (ℕ × Text))
+    (histories : List (History ℕ Text Text)) → AllHaveHistories segment_stands_for cache.segments histories → (rest : List (ℕ × Text))
     → YieldsJust nat_eq is_copy is_surely_copied histories moment here rest → YieldsJust nat_eq is_copy is_surely_copied histories moment start (so_far ++ rest)
 
 pub walked_first : (cache : CacheData) (moment : ℕ) (here : Cursor ℕ) → here ≡ start → HasWalked cache moment [] here
@@ -149,7 +148,7 @@ walked_first cache moment here first histories stand rest walk = subst (λ (c : 
 
 module _ (cache : CacheData) (moment : ℕ) (states : List SegmentState) (same : states ≡ cache.segments) (so_far : List (ℕ × Text)) (here next : Cursor ℕ) (was : HasWalked cache moment so_far here) where
   -- what is answered over the segments
-  answered-there : (result : Option (Result (ℕ × Text) Refused)) → WalksTo nat_eq is_copy is_surely_copied segment_stands_for states moment here result next → (histories : List (History ℕ Text Infallible))
+  answered-there : (result : Option (Result (ℕ × Text) Refused)) → WalksTo nat_eq is_copy is_surely_copied segment_stands_for states moment here result next → (histories : List (History ℕ Text Text))
       → AllHaveHistories segment_stands_for cache.segments histories → AnswersNext nat_eq is_copy is_surely_copied histories moment here result next
   answered-there result walks histories stand = subst (λ all. WalksTo nat_eq is_copy is_surely_copied segment_stands_for all moment here result next) same walks histories stand
 

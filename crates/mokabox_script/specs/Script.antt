@@ -8,15 +8,29 @@ use Rattle.std.specs.Option.{option_or}
 use Rattle.std.specs.List.Sorted.{IsNonDecreasingBy}
 use Rattle.std.specs.String.{string_bytes}
 use Rattle.std.specs.declared.alloc.Global.{Global}
-use Rattle.std.specs.declared.convert.Infallible.{Infallible}
 use Rattle.moka_model.specs.Lives as lives
 use Rattle.moka_model.specs.Lives.{no_lifetimes}
 use Rattle.moka_model.specs.MaintenanceLaws.{count}
 use Rattle.moka_model.specs.Calls as calls
 use Rattle.moka_model.specs.Calls.{Call, IsCopyOf}
-use Rattle.moka_policy.specs.Frequency.{estimate_after}
+use Rattle.moka_model.specs.Entries.{entry_of}
+use Rattle.moka_model.specs.Turns.{Name}
+use Rattle.moka_model.specs.declared.comp_result.CompResult.{CompResult}
+use Rattle.moka_model.specs.declared.comp_result.CompResult.TheVariants as results
+use Rattle.moka_model.specs.declared.turns.Kind.{Kind}
+use Rattle.moka_model.specs.declared.turns.Kind.TheVariants.{Compute}
+use Rattle.moka_model.specs.declared.turns.Op.TheVariants as ops
+use Rattle.moka_model.specs.declared.turns.Outcome.{Outcome}
+use Rattle.moka_model.specs.declared.turns.Outcome.TheVariants as outcomes
+use Rattle.moka_policy.specs.Frequency.{Counts, estimate_after}
+use Rattle.moka_policy.specs.declared.clock.ManualClock.{ManualClock}
+use Rattle.moka_policy.specs.declared.expiry.NoExpiry.{NoExpiry}
+use Rattle.moka_policy.specs.declared.listener.NoListener.{NoListener}
+use Rattle.moka_policy.specs.declared.policy.NumberHash.{NumberHash}
+use Rattle.std.specs.declared.hash.BuildHasherDefault.{BuildHasherDefault}
 use Rattle.moka_segments.specs.Segments.{SegmentedSettings, segments_of, bits_for, live_in, notices_in}
 use Rattle.moka_segmented.specs.Step.{IsReplyIn, after_reply_in}
+use Rattle.moka_state.specs.declared.step.Step.{Step}
 use Rattle.moka_state.specs.declared.step.Reply.{Reply}
 use Rattle.moka_state.specs.declared.step.Reply.TheVariants as replies
 use Rattle.moka_policy.specs.Building.{too_long_of, flush_refused_of}
@@ -26,16 +40,25 @@ use Rattle.moka_policy.specs.declared.builder_utils.BuildError.TheVariants.{OutO
 use Rattle.mokabox_lines.specs.Answer.{answer_text, measure_text, pairs_text}
 use Rattle.mokabox_lines.specs.declared.answer.Answer.{Answer}
 use Rattle.mokabox_lines.specs.declared.answer.Answer.TheVariants as answers
+use Rattle.mokabox_lines.specs.declared.answer.Became.{Became}
+use Rattle.mokabox_lines.specs.declared.answer.Became.TheVariants as fates
 use Rattle.mokabox_lines.specs.Command.{PlainCommand, command_by_line}
 use Rattle.mokabox_lines.specs.Fields.{fields_of, is_one_of}
 use Rattle.mokabox_lines.specs.Settings.{settings_by, byte_weight}
 use Rattle.mokabox_lines.specs.declared.command.Command.TheVariants.{At, Insert, Get, Has, Invalidate, Tasks, Count, Weight, Notices}
 use Rattle.mokabox_lines.specs.declared.command.Command.TheVariants.{Remove, InvalidateAll, InvalidateIf, TasksUpTo, Policy, Walk}
+use Rattle.mokabox_lines.specs.declared.command.Command.TheVariants.{OrInsert, Begin, BeginCompute, Finish, Abandon, Collect, Leave}
+use Rattle.mokabox_lines.specs.declared.turn.Ending.TheVariants as endings
+use Rattle.mokabox_lines.specs.declared.turn.TurnOf.{TurnOf}
+use Rattle.mokabox_lines.specs.Turn.{PlainEnding}
 use Rattle.mokabox_lines.specs.declared.settings.Eviction.{Eviction}
 use Rattle.mokabox_lines.specs.declared.settings.Eviction.TheVariants.{Lru, TinyLfu}
 use Rattle.mokabox_lines.specs.declared.settings.Settings.{Settings}
 use Rattle.mokabox_lines.specs.declared.settings.Weighing.{Weighing}
-use Rattle.mokabox_lines.specs.declared.settings.Weighing.TheVariants.{Bytes}
+use Rattle.mokabox_lines.specs.declared.settings.Weighing.TheVariants as weighings
+use Rattle.mokabox_script.specs.declared.one_of.OneOf.{OneOf}
+use Rattle.mokabox_script.specs.declared.session.Bytes.{Bytes}
+use Rattle.mokabox_script.specs.declared.session.ScriptTypes.{ScriptTypes}
 
 -- the values of the script's cache; its keys are numbers
 abbrev pub Text : Type 0
@@ -44,6 +67,17 @@ Text = String Global
 -- a copy of a text has its bytes
 abbrev pub is_copy : Text → Text → Type 0
 is_copy text copy = string_bytes copy ≡ string_bytes text
+
+-- what makes the hashers of a script's cache
+abbrev pub CacheHasher : Type 0
+CacheHasher = BuildHasherDefault NumberHash
+
+-- what a step of the script's cache is, and what it replies
+abbrev pub ScriptStep : Type 0
+ScriptStep = Step ℕ Text ScriptTypes CacheHasher Bytes NoExpiry OneOf Counts NoListener ManualClock Text NumberHash
+
+abbrev pub ScriptReply : Type 0
+ScriptReply = Reply ℕ Text ScriptTypes CacheHasher Bytes NoExpiry OneOf Counts NoListener ManualClock Text NumberHash
 
 -- the texts whose copies never fail: none
 abbrev pub is_surely_copied : Text → Type 0
@@ -55,18 +89,33 @@ CacheSettings = SegmentedSettings ℕ Text
 
 -- how far a script has come: the calls of its cache that were not refused, the newest first, and the moment of its commands
 pub record Course : Type 0 where
-  pub done : List (Call ℕ Text Infallible)
+  pub done : List (Call ℕ Text Text)
   pub moment : ℕ
 
 -- whether the bytes of a text are those of one of the texts that stand with one space between each two
 abbrev pub is_among : List ℕ → Text → Bool
 is_among texts text = is_one_of (string_bytes text) (fields_of texts)
 
+-- the turn that a command names
+abbrev pub name_of_turn : TurnOf → Name ℕ
+name_of_turn turn = record { number = turn.number; kind = turn.kind; key = turn.key }
+
+-- the ending that hands an outcome in: its texts have the ending's bytes
+abbrev pub ending_by : Outcome Text Text → PlainEnding
+ending_by (outcomes.Value text) = endings.Value (string_bytes text)
+ending_by outcomes.Nothing = endings.Nothing
+ending_by (outcomes.Failed error) = endings.Failed (string_bytes error)
+ending_by (outcomes.Op (ops.Put text)) = endings.Put (string_bytes text)
+ending_by (outcomes.Op ops.Remove) = endings.Remove
+ending_by (outcomes.Op ops.Nop) = endings.Nop
+
 -- The calls that a command makes at a moment, when this many notices are left. A text that it hands in has the command's
 -- bytes. All notices are taken, and then once more, when there is none.
-abbrev pub Makes : ℕ → ℕ → PlainCommand → List (Call ℕ Text Infallible) → Type 0
+abbrev pub Makes : ℕ → ℕ → PlainCommand → List (Call ℕ Text Text) → Type 0
 Makes notices moment (At later) made = made ≡ []
 Makes notices moment (Insert key value) made = (text : Text) × (string_bytes text ≡ value) × (made ≡ calls.Insert key text moment ∷ [])
+Makes notices moment (OrInsert key value) made =
+    (text : Text) × (string_bytes text ≡ value) × (made ≡ calls.OrInsert key text moment ∷ [])
 Makes notices moment (Get key) made = made ≡ calls.Get key moment ∷ []
 Makes notices moment (Has key) made = made ≡ calls.ContainsKey key moment ∷ []
 Makes notices moment (Invalidate key) made = made ≡ calls.Invalidate key moment ∷ []
@@ -80,14 +129,38 @@ Makes notices moment Weight made = made ≡ calls.WeightedSize ∷ []
 Makes notices moment Notices made = made ≡ replicate (notices + 1) calls.TakeNotice
 Makes notices moment Policy made = made ≡ []
 Makes notices moment Walk made = made ≡ []
+Makes notices moment (Begin kind key replace) made = made ≡ calls.Begin key kind replace moment ∷ []
+Makes notices moment (BeginCompute key) made = made ≡ calls.BeginCompute key true moment ∷ []
+Makes notices moment (Finish turn ending) made =
+    (outcome : Outcome Text Text) × (ending_by outcome ≡ ending) × (made ≡ calls.Finish (name_of_turn turn) outcome moment ∷ [])
+Makes notices moment (Abandon turn) made = made ≡ calls.Abandon (name_of_turn turn) ∷ []
+Makes notices moment (Collect turn) made = made ≡ calls.Collect (name_of_turn turn) ∷ []
+Makes notices moment (Leave turn) made = made ≡ calls.Leave (name_of_turn turn) ∷ []
 
 -- the moment of the commands after a command
 abbrev pub moment_after : PlainCommand → ℕ → ℕ
 moment_after (At later) moment = later
 moment_after command moment = moment
 
+-- what an entry is printed as
+abbrev pub entered_of : calls.Entry ℕ Text → Answer
+entered_of entry = answers.Entered entry.key entry.value entry.fresh entry.replaced
+
+-- what a turn that was opened is printed as: with what a compute is shown
+abbrev pub run_of : Kind → ℕ → Option (calls.Entry ℕ Text) → Answer
+run_of Compute number shown = answers.Shown number (record { 0 = option_map (λ entry. entry.value) shown })
+run_of kind number shown = answers.Run number
+
+-- what the result of a compute is printed as
+abbrev pub became_of : CompResult ℕ Text → Became
+became_of (results.StillNone key) = fates.StillNone (arc_value key)
+became_of (results.Unchanged entry) = fates.Unchanged (entry_of entry).key (entry_of entry).value
+became_of (results.Inserted entry) = fates.Inserted (entry_of entry).key (entry_of entry).value
+became_of (results.ReplacedWith entry) = fates.ReplacedWith (entry_of entry).key (entry_of entry).value
+became_of (results.Removed entry) = fates.Removed (entry_of entry).key (entry_of entry).value
+
 -- what the reply to a call is printed as
-abbrev pub answer_of : Reply ℕ Text → Answer
+abbrev pub answer_of : ScriptReply → Answer
 answer_of (replies.Found None) = answers.NotFound
 answer_of (replies.Found (Some text)) = answers.Found text
 answer_of (replies.Contains is_there) = answers.Whether is_there
@@ -96,15 +169,24 @@ answer_of (replies.Counted count) = answers.Counted count
 answer_of (replies.Left b) = answers.Unfinished b
 answer_of (replies.Noticed None) = answers.End
 answer_of (replies.Noticed (Some notice)) = answers.Left (arc_value notice.key) notice.value notice.cause
+answer_of (replies.Entered entry) = entered_of (entry_of entry)
+answer_of (replies.Run name entry) = run_of name.kind name.number (option_map entry_of entry)
+answer_of (replies.Wait name) = answers.Waits name.number
+answer_of replies.Nothing = answers.Nothing
+answer_of (replies.Failed error) = answers.Failed (arc_value error)
+answer_of (replies.Computed result) = answers.Computed (became_of result)
+answer_of replies.NotYet = answers.NotYet
+answer_of replies.Abandoned = answers.Abandoned
+answer_of replies.Ended = answers.Ended
 answer_of (replies.Refused cause) = answers.Refused cause
 answer_of (replies.PredicateRefused cause) = answers.NotHidden cause
 
 -- What calls print, a line for the reply to each, and the calls done after them: a refused call leaves them as they are.
-abbrev pub CallsPrint : CacheSettings → List (Call ℕ Text Infallible) → List (Call ℕ Text Infallible) →
-    List (List ℕ) → List (Call ℕ Text Infallible) → Type 0
+abbrev pub CallsPrint : CacheSettings → List (Call ℕ Text Text) → List (Call ℕ Text Text) →
+    List (List ℕ) → List (Call ℕ Text Text) → Type 0
 CallsPrint settings done [] printed after = (printed ≡ []) × (after ≡ done)
 CallsPrint settings done (call ∷ more) printed after =
-    (reply : Reply ℕ Text) × (rest : List (List ℕ)) × IsReplyIn Infallible nat_eq is_copy is_surely_copied settings done call reply
+    (reply : ScriptReply) × (rest : List (List ℕ)) × IsReplyIn Text nat_eq is_copy is_surely_copied settings done call reply
     × (printed ≡ answer_text (answer_of reply) ∷ rest) × CallsPrint settings (after_reply_in call reply done) more rest after
 
 -- a moment in whole seconds
@@ -121,7 +203,7 @@ policy_line settings =
 
 -- the value that is live for a key where a script has come
 abbrev pub live_value : CacheSettings → Course → ℕ → Option Text
-live_value settings before key = option_map (λ w. w.value) (live_in Infallible nat_eq settings before.done key before.moment)
+live_value settings before key = option_map (λ w. w.value) (live_in Text nat_eq settings before.done key before.moment)
 
 -- All that is live there, by rising key: each key that is live once, with a copy of its value, and no other.
 pub record AreTheLive (settings : CacheSettings) (before : Course) (pairs : List (ℕ × Text)) : Type 0 where
@@ -141,8 +223,8 @@ Tells settings before command lines = lines ≡ []
 -- What a command prints, and how far the script has come then.
 abbrev pub CommandPrints : CacheSettings → Course → PlainCommand → List (List ℕ) → Course → Type 0
 CommandPrints settings before command printed after =
-    (made : List (Call ℕ Text Infallible)) × (answers : List (List ℕ)) × (own : List (List ℕ))
-    × Makes (notices_in Infallible nat_eq settings before.done) before.moment command made
+    (made : List (Call ℕ Text Text)) × (answers : List (List ℕ)) × (own : List (List ℕ))
+    × Makes (notices_in Text nat_eq settings before.done) before.moment command made
     × CallsPrint settings before.done made answers after.done × Tells settings before command own × (printed ≡ own ++ answers)
     × (after.moment ≡ moment_after command before.moment)
 
@@ -168,7 +250,7 @@ is_lru_by (Some TinyLfu) = false
 -- the weight of a value by its bytes: 1, where the settings don't say otherwise
 abbrev pub weight_by : Option Weighing → List ℕ → ℕ
 weight_by None value = 1
-weight_by (Some Bytes) value = byte_weight value
+weight_by (Some weighings.Bytes) value = byte_weight value
 
 -- What these settings build a cache with, in nanoseconds. A key is its own hash, its keys being below 2 ^ 64.
 abbrev pub whole_settings : Settings → lives.Settings ℕ Text

@@ -1,24 +1,22 @@
 -- How far a script has come where its session is, and what the session prints.
-use Rattle.std.specs.Prelude.{◌≡◌, ◌<◌, ◌^◌, ℕ, Bool, List, Option, None, is_some, option_map, unwrap_or, nat_eq}
+use Rattle.std.specs.Prelude.{◌≡◌, ◌<◌, ◌^◌, ℕ, Bool, List, [], ◌∷◌, Option, None, is_some, option_map, unwrap_or, nat_eq}
 use Rattle.std.specs.Duration.{as_nanos}
 use Rattle.std.specs.Hash.{u64 as number_writes}
 use Rattle.std.specs.Hash.BuildHasherDefault.{initial_hasher}
 use Rattle.std.specs.Io.KnownBytes.{Appends}
 use Rattle.std.specs.String.{string_bytes}
-use Rattle.std.specs.declared.hash.BuildHasherDefault.{BuildHasherDefault}
 use Rattle.moka_policy.specs.declared.expiry.NoExpiry.{NoExpiry}
 use Rattle.moka_policy.specs.declared.listener.NoListener.{NoListener}
-use Rattle.moka_policy.specs.declared.policy.NumberHash.{NumberHash}
 use Rattle.moka_policy.specs.Frequency.{Counts, none_noted, noted, estimated}
 use Rattle.moka_policy.specs.NumberHash.{number_hash}
 use Rattle.moka_model.specs.Lives.{Settings as Whole, Behaviour, no_lifetimes}
 use Rattle.moka_model.specs.Steps.{AcceptedStep}
 use Rattle.moka_model.specs.StandsFor.{WholeView, StandsFor}
-use Rattle.std.specs.declared.convert.Infallible.{Infallible}
 use Rattle.moka_segments.specs.Segments.{SegmentedView, AllStandFor}
 use Rattle.moka_segmented.specs.SegmentedData.{SegmentedData, segmented_view_by}
 use Rattle.moka_state.specs.Behaviour.{BehaviourData, hash_by, behaviour_by}
 use Rattle.moka_state.specs.StateData.{StateData, estimates, view_by}
+use Rattle.moka_state.specs.Step.{call_of, StepKeeps}
 use Rattle.mokabox_lines.specs.Command.{PlainCommand, command_by_line}
 use Rattle.moka_sync.specs.Builder.{BuilderData}
 use Rattle.mokabox_lines.specs.Settings.{byte_weight}
@@ -27,18 +25,14 @@ use Rattle.moka_walks.specs.Histories.{History, AllStandFor as AllHaveHistories}
 use Rattle.moka_walks.specs.Walks.{start}
 use Rattle.moka_walks.specs.WalkLaws.{YieldsJust}
 use Rattle.mokabox_script.specs.Script.{Text, is_copy, is_surely_copied, is_among, CacheSettings, Course, CommandPrints, LinePrints}
-use Rattle.mokabox_script.specs.Script.{whole_settings}
+use Rattle.mokabox_script.specs.Script.{CacheHasher, ScriptStep, Makes, Tells, moment_after, whole_settings}
 use Rattle.mokabox_script.specs.Script.{is_lru_by, lines_text}
 use Rattle.mokabox_script.specs.declared.one_of.OneOf.{OneOf}
 use Rattle.mokabox_script.specs.declared.session.Bytes.{Bytes}
 
--- what makes the hashers of a script's cache
-abbrev pub CacheHasher : Type 0
-CacheHasher = BuildHasherDefault NumberHash
-
 -- what a script's cache keeps
 abbrev pub CacheData : Type 0
-CacheData = SegmentedData ℕ Text CacheHasher Bytes NoExpiry Counts Infallible
+CacheData = SegmentedData ℕ Text CacheHasher Bytes NoExpiry Counts Text
 
 -- the hash of a key
 abbrev pub cache_hash : CacheHasher → ℕ → ℕ
@@ -49,15 +43,15 @@ abbrev pub cache_behaviour : BehaviourData CacheHasher Bytes NoExpiry → Behavi
 cache_behaviour = behaviour_by cache_hash (λ weigher key text. byte_weight (string_bytes text)) (λ expiry. no_lifetimes)
 
 -- what a script's cache is, by what it keeps
-abbrev pub view : CacheData → SegmentedView ℕ Text Infallible
+abbrev pub view : CacheData → SegmentedView ℕ Text Text
 view = segmented_view_by cache_behaviour (estimates (noted 6) (estimated 6)) (none_noted 6)
 
 -- what one of its segments keeps
 abbrev pub SegmentState : Type 0
-SegmentState = StateData ℕ Text CacheHasher Bytes NoExpiry Counts Infallible
+SegmentState = StateData ℕ Text CacheHasher Bytes NoExpiry Counts Text
 
 -- what one of its segments is, by what it keeps
-abbrev pub segment_view : SegmentState → WholeView ℕ Text Infallible
+abbrev pub segment_view : SegmentState → WholeView ℕ Text Text
 segment_view = view_by cache_behaviour (estimates (noted 6) (estimated 6)) (none_noted 6)
 
 -- what the builder of a script's cache was told
@@ -91,6 +85,13 @@ pub record IsAt (cache : CacheData) (moment : ℕ) (settings : CacheSettings) (c
   pub parted : PartsHashes settings
   pub now : moment ≡ course.moment
 
+-- A command is one step: its call is all that the command makes, and the moment stays. What the step asks of who does it is so.
+pub record IsStepOf (moment : ℕ) (command : PlainCommand) (step : ScriptStep) : Type 0 where
+  pub makes : (notices : ℕ) → Makes notices moment command (call_of holds_of step ∷ [])
+  pub stays : (at : ℕ) → moment_after command at ≡ at
+  pub tells_nothing : (settings : CacheSettings) (before : Course) → Tells settings before command []
+  pub owed : StepKeeps (λ key text. Unit {0}) (λ it test. test ≡ holds_of it) holds_of step
+
 -- Wherever the script has come, the command prints these lines, and the session is where it comes.
 abbrev pub Prints : CacheData → ℕ → PlainCommand → List (List ℕ) → CacheData → ℕ → Type 0
 Prints cache moment command printed cache_after moment_after =
@@ -98,13 +99,13 @@ Prints cache moment command printed cache_after moment_after =
     (after : Course) × CommandPrints settings before command printed after × IsAt cache_after moment_after settings after
 
 -- for which steps a segment of a session's cache stands
-abbrev pub segment_stands_for : Whole ℕ Text → SegmentState → List (AcceptedStep ℕ Text Infallible) → Type 0
+abbrev pub segment_stands_for : Whole ℕ Text → SegmentState → List (AcceptedStep ℕ Text Text) → Type 0
 segment_stands_for settings state steps = StandsFor nat_eq is_copy settings (segment_view state) steps
 
 -- A walk of the cache at a moment, of which nothing is refused, yields these pairs, and then it ends.
 abbrev pub IsWholeWalk : CacheData → ℕ → List (ℕ × Text) → Type 0
 IsWholeWalk cache moment pairs =
-    (histories : List (History ℕ Text Infallible))
+    (histories : List (History ℕ Text Text))
     → AllHaveHistories segment_stands_for cache.segments histories
     → YieldsJust nat_eq is_copy is_surely_copied histories moment start pairs
 

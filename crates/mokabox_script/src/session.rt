@@ -1,20 +1,26 @@
 //! The cache that a script drives.
-ghost use Rattle.std.specs.Prelude.{◌≡◌, None, false, refl, map, is_some, unwrap_or, IfOk, IfErr, OnOk};
+ghost use Rattle.std.specs.Prelude.{◌≡◌, None, false, refl, map, option_map, is_some, unwrap_or, IfOk, IfErr, OnOk};
 ghost use Rattle.std.specs.Arc.{arc_value};
 ghost use Rattle.std.specs.String.{string_bytes};
 ghost use Rattle.std.proofs.Math.Path.{◌∙◌};
 ghost use Rattle.moka_model.specs.Lives.{no_lifetimes};
 ghost use Rattle.moka_policy.specs.Policy.{is_lru};
 ghost use Rattle.mokabox_lines.specs.Answer.{answer_text};
+ghost use Rattle.moka_model.specs.Entries.{entry_of};
+ghost use Rattle.moka_state.specs.Finish.{outcome_of};
+ghost use Rattle.moka_turns.specs.Handles.{name_by};
 ghost use Rattle.mokabox_lines.specs.Command.{plain_command};
-ghost use Rattle.mokabox_script.specs.Script.{beginning, is_lru_by, cache_settings, settings_refused, answer_of};
-ghost use Rattle.mokabox_script.specs.Session.{IsAt, IsTold, Prints, IsWholeWalk, holds_of};
+ghost use Rattle.mokabox_lines.specs.Turn.{plain_ending};
+ghost use Rattle.mokabox_script.specs.Script.{beginning, is_lru_by, cache_settings, settings_refused, answer_of, became_of, run_of, entered_of, ending_by, name_of_turn};
+ghost use Rattle.mokabox_script.specs.Session.{IsAt, IsTold, IsStepOf, Prints, IsWholeWalk, holds_of};
 ghost use Rattle.mokabox_lines.specs.Settings.{byte_weight};
 ghost use Rattle.mokabox_lines.specs.declared.command.Command.TheVariants as commands;
 
 use crate::one_of::OneOf;
+use moka::Entry;
 use moka::common::builder_utils::BuildError;
 use moka::common::iter::WalkCursor;
+use moka::ops::compute::{CompResult, Op};
 use moka::policy::{
     CacheTypes, CountTable, EvictionPolicy, ManualClock, NoExpiry, NoListener, NumberHash, Refused,
     Weigher,
@@ -23,15 +29,21 @@ use moka::state::{Reply, Step};
 use moka::sync::CacheBuilder;
 use moka::sync::builder::Single;
 use moka::sync::segment::SegmentedState;
-use mokabox_lines::answer::{Answer, Measure, Pairs};
+use moka::sync::value_initializer::{Kind, Outcome, TurnName};
+use mokabox_lines::answer::{Answer, Became, Live, Measure, Pairs};
 use mokabox_lines::command::Command;
 use mokabox_lines::settings;
 use mokabox_lines::settings::{Eviction, Weighing};
+use mokabox_lines::turn::{Ending, TurnOf};
 use std::alloc::{AllocError, Global};
-use std::convert::Infallible;
 use std::hash::BuildHasherDefault;
 use std::sync::Arc;
 use std::time::Duration;
+
+// What a command does to the cache, and what that replies.
+type ScriptStep = Step<u64, String, ScriptTypes>;
+
+type ScriptReply = Reply<u64, String, ScriptTypes>;
 
 /// The types of a script's cache: its keys are numbers, which are their own hashes, and its values are texts.
 pub struct ScriptTypes;
@@ -51,7 +63,7 @@ impl CacheTypes<u64, String> for ScriptTypes {
 
     type Clock = ManualClock;
 
-    type Error = Infallible;
+    type Error = String;
 
     ghost weight = { λ _ _ text. byte_weight (string_bytes text) };
 
@@ -123,38 +135,158 @@ impl Session {
             Command::Notices => return self.notices(),
             Command::Policy => return self.policy(),
             Command::Walk => return self.walk(),
-            Command::Insert(key, value) => Step::Insert {
-                key: self.shared(key)?,
-                value: String::from_str(self.alloc, value)?,
-                now,
-            },
-            Command::Get(key) => Step::Get {
-                key: self.shared(key)?,
-                now,
-            },
-            Command::Has(key) => Step::ContainsKey {
-                key: self.shared(key)?,
-                now,
-            },
-            Command::Invalidate(key) => Step::Invalidate {
-                key: self.shared(key)?,
-                now,
-            },
-            Command::Remove(key) => Step::Remove {
-                key: self.shared(key)?,
-                now,
-            },
+            Command::Insert(key, value) => self.insert(key, value)?,
+            Command::OrInsert(key, value) => self.or_insert(key, value)?,
+            Command::Get(key) => self.get(key)?,
+            Command::Has(key) => self.contains_key(key)?,
+            Command::Invalidate(key) => self.invalidate(key)?,
+            Command::Remove(key) => self.remove(key)?,
             Command::InvalidateAll => Step::InvalidateAll,
-            Command::InvalidateIf(texts) => Step::InvalidateIf {
-                predicate: self.predicate(texts)?,
-            },
+            Command::InvalidateIf(texts) => self.invalidate_if(texts)?,
             Command::Tasks => Step::RunPendingTasks { now },
             Command::TasksUpTo(limit) => Step::RunPendingTasksUpTo { limit, now },
             Command::Count => Step::EntryCount,
             Command::Weight => Step::WeightedSize,
+            Command::Begin(kind, key, replace) => self.begin(kind, key, replace)?,
+            Command::BeginCompute(key) => self.begin_compute(key)?,
+            Command::Finish(turn, ending) => self.finish(turn, ending)?,
+            Command::Abandon(turn) => self.abandon(turn)?,
+            Command::Collect(turn) => self.collect(turn)?,
+            Command::Leave(turn) => self.leave(turn)?,
         };
-        let answer = answer_of(self.cache.step(step));
+        let answer = answer_of(self.alloc, self.cache.step(step))?;
         Ok(vec![in self.alloc; answer]?)
+    }
+
+    // The step that writes a value.
+    fn insert(&self, key: u64, value: &str) -> Result<ScriptStep, AllocError>
+        ensures { IfOk result (λ step. IsStepOf self.now.moment (commands.Insert key value.now) step) }
+    {
+        Ok(Step::Insert {
+            key: self.shared(key)?,
+            value: String::from_str(self.alloc, value)?,
+            now: self.moment,
+        })
+    }
+
+    // The step that looks a key up, and writes a value where none is live.
+    fn or_insert(&self, key: u64, value: &str) -> Result<ScriptStep, AllocError>
+        ensures { IfOk result (λ step. IsStepOf self.now.moment (commands.OrInsert key value.now) step) }
+    {
+        Ok(Step::OrInsert {
+            key: self.shared(key)?,
+            value: String::from_str(self.alloc, value)?,
+            now: self.moment,
+        })
+    }
+
+    // The step that looks a key up, and uses its value.
+    fn get(&self, key: u64) -> Result<ScriptStep, AllocError>
+        ensures { IfOk result (λ step. IsStepOf self.now.moment (commands.Get key) step) }
+    {
+        Ok(Step::Get {
+            key: self.shared(key)?,
+            now: self.moment,
+        })
+    }
+
+    // The step that asks for a key, and uses nothing.
+    fn contains_key(&self, key: u64) -> Result<ScriptStep, AllocError>
+        ensures { IfOk result (λ step. IsStepOf self.now.moment (commands.Has key) step) }
+    {
+        Ok(Step::ContainsKey {
+            key: self.shared(key)?,
+            now: self.moment,
+        })
+    }
+
+    // The step that removes a key.
+    fn invalidate(&self, key: u64) -> Result<ScriptStep, AllocError>
+        ensures { IfOk result (λ step. IsStepOf self.now.moment (commands.Invalidate key) step) }
+    {
+        Ok(Step::Invalidate {
+            key: self.shared(key)?,
+            now: self.moment,
+        })
+    }
+
+    // The step that removes a key, and asks for its value.
+    fn remove(&self, key: u64) -> Result<ScriptStep, AllocError>
+        ensures { IfOk result (λ step. IsStepOf self.now.moment (commands.Remove key) step) }
+    {
+        Ok(Step::Remove {
+            key: self.shared(key)?,
+            now: self.moment,
+        })
+    }
+
+    // The step that removes each key whose value is one of these texts.
+    fn invalidate_if(&self, texts: &str) -> Result<ScriptStep, AllocError>
+        ensures { IfOk result (λ step. IsStepOf self.now.moment (commands.InvalidateIf texts.now) step) }
+    {
+        let predicate = OneOf::new(self.alloc, texts)?;
+        Ok(Step::InvalidateIf {
+            predicate: Arc::new(self.alloc, predicate)?,
+        })
+    }
+
+    // The step that begins a turn.
+    fn begin(&self, kind: Kind, key: u64, replace: Option<bool>) -> Result<ScriptStep, AllocError>
+        ensures { IfOk result (λ step. IsStepOf self.now.moment (commands.Begin kind key replace) step) }
+    {
+        Ok(Step::Begin {
+            key: self.shared(key)?,
+            kind,
+            replace,
+            now: self.moment,
+        })
+    }
+
+    // The step that begins a compute, with a copy of the live value kept aside.
+    fn begin_compute(&self, key: u64) -> Result<ScriptStep, AllocError>
+        ensures { IfOk result (λ step. IsStepOf self.now.moment (commands.BeginCompute key) step) }
+    {
+        Ok(Step::BeginCompute {
+            key: self.shared(key)?,
+            keep: true,
+            now: self.moment,
+        })
+    }
+
+    // The step that ends a turn.
+    fn finish(&self, turn: TurnOf, ending: Ending<&str>) -> Result<ScriptStep, AllocError>
+        ensures { IfOk result (λ step.
+            IsStepOf self.now.moment (commands.Finish turn (plain_ending ending.entry)) step) }
+    {
+        Ok(Step::Finish {
+            name: self.name(turn)?,
+            outcome: self.outcome(ending)?,
+            now: self.moment,
+        })
+    }
+
+    // The step that ends a turn with nothing.
+    fn abandon(&self, turn: TurnOf) -> Result<ScriptStep, AllocError>
+        ensures { IfOk result (λ step. IsStepOf self.now.moment (commands.Abandon turn) step) }
+    {
+        let name = self.name(turn)?;
+        Ok(Step::Abandon { name })
+    }
+
+    // The step that asks what a turn ended with.
+    fn collect(&self, turn: TurnOf) -> Result<ScriptStep, AllocError>
+        ensures { IfOk result (λ step. IsStepOf self.now.moment (commands.Collect turn) step) }
+    {
+        let name = self.name(turn)?;
+        Ok(Step::Collect { name })
+    }
+
+    // The step that waits no longer for a turn.
+    fn leave(&self, turn: TurnOf) -> Result<ScriptStep, AllocError>
+        ensures { IfOk result (λ step. IsStepOf self.now.moment (commands.Leave turn) step) }
+    {
+        let name = self.name(turn)?;
+        Ok(Step::Leave { name })
     }
 
     // The cache's policy, its lives in seconds.
@@ -211,12 +343,32 @@ impl Session {
         Ok(Arc::new(self.alloc, key)?)
     }
 
-    // What holds of these texts, as a step takes it.
-    fn predicate(&self, texts: &str) -> Result<Arc<OneOf>, AllocError>
-        ensures { IfOk result (λ shared. string_bytes (arc_value shared).texts ≡ texts.now) }
+    // A turn as a step names it.
+    fn name(&self, turn: TurnOf) -> Result<TurnName<u64>, AllocError>
+        ensures { IfOk result (λ name. name_by name ≡ name_of_turn turn) }
     {
-        let predicate = OneOf::new(self.alloc, texts)?;
-        Ok(Arc::new(self.alloc, predicate)?)
+        Ok(TurnName {
+            number: turn.number,
+            kind: turn.kind,
+            key: self.shared(turn.key)?,
+        })
+    }
+
+    // What a turn ends with, as a step takes it.
+    fn outcome(&self, ending: Ending<&str>) -> Result<Outcome<String, Arc<String>>, AllocError>
+        ensures { IfOk result (λ outcome. ending_by (outcome_of outcome) ≡ plain_ending ending.entry) }
+    {
+        Ok(match ending {
+            Ending::Value(value) => Outcome::Value(String::from_str(self.alloc, value)?),
+            Ending::Nothing => Outcome::Nothing,
+            Ending::Failed(text) => {
+                let error = String::from_str(self.alloc, text)?;
+                Outcome::Failed(Arc::new(self.alloc, error)?)
+            }
+            Ending::Put(value) => Outcome::Op(Op::Put(String::from_str(self.alloc, value)?)),
+            Ending::Remove => Outcome::Op(Op::Remove),
+            Ending::Nop => Outcome::Op(Op::Nop),
+        })
     }
 
     // Takes the notices, and then once more, when there is none.
@@ -226,20 +378,20 @@ impl Session {
     {
         let mut answers = Vec::new(self.alloc);
         while let Some(notice) = self.cache.take_notice() {
-            let answer = answer_of(Reply::Noticed(Some(notice)));
+            let answer = answer_of(self.alloc, Reply::Noticed(Some(notice)))?;
             answers.push(answer)?;
         }
-        let last = answer_of(Reply::Noticed(None));
+        let last = answer_of(self.alloc, Reply::Noticed(None))?;
         answers.push(last)?;
         Ok(answers)
     }
 }
 
-// What a reply of the cache is printed as.
-fn answer_of(reply: Reply<u64, String>) -> Answer
-    ensures { result ≡ answer_of reply }
+// What a reply of the cache is printed as. Takes memory for the text of an error alone.
+fn answer_of(alloc: Global, reply: ScriptReply) -> Result<Answer, AllocError>
+    ensures { IfOk result (λ answer. answer_text answer ≡ answer_text (answer_of reply)) }
 {
-    match reply {
+    Ok(match reply {
         Reply::Found(Some(value)) => Answer::Found(value),
         Reply::Found(None) => Answer::NotFound,
         Reply::Contains(is_there) => Answer::Whether(is_there),
@@ -248,9 +400,51 @@ fn answer_of(reply: Reply<u64, String>) -> Answer
         Reply::Left(is_left) => Answer::Unfinished(is_left),
         Reply::Noticed(Some(notice)) => Answer::Left(*notice.key, notice.value, notice.cause),
         Reply::Noticed(None) => Answer::End,
+        Reply::Entered(entry) => entered(entry),
+        Reply::Run(name, shown) => run(name, shown),
+        Reply::Wait(name) => Answer::Waits(name.number),
+        Reply::Nothing => Answer::Nothing,
+        Reply::Failed(error) => Answer::Failed(String::from_str(alloc, error.as_str())?),
+        Reply::Computed(result) => Answer::Computed(became(result)),
+        Reply::NotYet => Answer::NotYet,
+        Reply::Abandoned => Answer::Abandoned,
+        Reply::Ended => Answer::Ended,
         Reply::Refused(refused) => Answer::Refused(refused),
         Reply::PredicateRefused(refused) => Answer::NotHidden(refused),
+    })
+}
+
+// What a turn that was opened is printed as: with the live value, where a compute is shown one.
+fn run(name: TurnName<u64>, shown: Option<Entry<u64, String>>) -> Answer
+    ensures { result ≡ run_of name.kind name.number (option_map entry_of shown) }
+{
+    match name.kind {
+        Kind::Compute => Answer::Shown(name.number, Live(shown.map(|entry| entry.into_value()))),
+        Kind::With | Kind::Optionally | Kind::Try => Answer::Run(name.number),
     }
+}
+
+// What the result of a compute is printed as.
+fn became(computed: CompResult<u64, String>) -> Became
+    ensures { result ≡ became_of computed }
+{
+    match computed {
+        CompResult::StillNone(key) => Became::StillNone(*key),
+        CompResult::Unchanged(entry) => Became::Unchanged(*entry.key(), entry.into_value()),
+        CompResult::Inserted(entry) => Became::Inserted(*entry.key(), entry.into_value()),
+        CompResult::ReplacedWith(entry) => Became::ReplacedWith(*entry.key(), entry.into_value()),
+        CompResult::Removed(entry) => Became::Removed(*entry.key(), entry.into_value()),
+    }
+}
+
+// What an entry is printed as.
+fn entered(entry: Entry<u64, String>) -> Answer
+    ensures { result ≡ entered_of (entry_of entry) }
+{
+    let key = *entry.key();
+    let is_fresh = entry.is_fresh();
+    let is_replaced = entry.is_old_value_replaced();
+    Answer::Entered(key, entry.into_value(), is_fresh, is_replaced)
 }
 
 // The builder of a script's cache.

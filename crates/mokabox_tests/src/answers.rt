@@ -3,7 +3,7 @@ use moka::PredicateError;
 use moka::common::builder_utils::BuildError;
 use moka::notification::RemovalCause;
 use moka::policy::Refused;
-use mokabox_lines::answer::{Answer, Measure, write_answer};
+use mokabox_lines::answer::{Answer, Became, Live, Measure, write_answer};
 use mokabox_script::script::Status;
 use std::test::Fail;
 
@@ -11,6 +11,11 @@ use std::test::Fail;
 fn answers_have_their_lines(rt: HostRuntime) -> Result<(), Fail> {
     let text = String::from_str(rt.alloc(), "caf\u{e9}")?;
     let value = String::from_str(rt.alloc(), "a=b")?;
+    let fresh = String::from_str(rt.alloc(), "a")?;
+    let over = String::from_str(rt.alloc(), "a")?;
+    let old = String::from_str(rt.alloc(), "a")?;
+    let told = String::from_str(rt.alloc(), "a")?;
+    let error = String::from_str(rt.alloc(), "a")?;
     for (answer, line) in [
         (Answer::Done, "ok\n"),
         (Answer::Found(text), "some caf\u{e9}\n"),
@@ -54,8 +59,66 @@ fn answers_have_their_lines(rt: HostRuntime) -> Result<(), Fail> {
             Answer::Left(7, value, RemovalCause::Size),
             "notice 7 a=b Size\n",
         ),
+        (Answer::Refused(Refused::UnknownTurn), "refused 3\n"),
+        (Answer::Refused(Refused::UnknownTicket), "refused 4\n"),
+        (Answer::Refused(Refused::TurnIsOpen), "refused 5\n"),
+        (Answer::Entered(7, fresh, true, false), "entry 7 a fresh\n"),
+        (
+            Answer::Entered(8, over, true, true),
+            "entry 8 a fresh replaced\n",
+        ),
+        (Answer::Entered(9, old, false, false), "entry 9 a old\n"),
+        (
+            Answer::Entered(0, told, false, true),
+            "entry 0 a old replaced\n",
+        ),
+        (Answer::Run(0), "run 0\n"),
+        (Answer::Waits(u64::MAX), "wait 18446744073709551615\n"),
+        (Answer::Nothing, "nothing\n"),
+        (Answer::Failed(error), "failed a\n"),
+        (Answer::NotYet, "not yet\n"),
+        (Answer::Abandoned, "abandoned\n"),
+        (Answer::Ended, "ended\n"),
         (Answer::End, "end\n"),
         (Answer::BadLine, "bad line\n"),
+    ] {
+        let mut written = Vec::new(rt.alloc());
+        write_answer(&mut written, &answer)?;
+        assert_eq!(rt; written.as_slice(), line.as_bytes(), "of {line:?}");
+    }
+    Ok(())
+}
+
+#[test]
+fn answers_of_computes_have_their_lines(rt: HostRuntime) -> Result<(), Fail> {
+    let live = String::from_str(rt.alloc(), "caf\u{e9}")?;
+    let left = String::from_str(rt.alloc(), "a")?;
+    let put = String::from_str(rt.alloc(), "b=c")?;
+    let over = String::from_str(rt.alloc(), "d")?;
+    let removed = String::from_str(rt.alloc(), "e")?;
+    for (answer, line) in [
+        (Answer::Shown(0, Live(None)), "run 0 none\n"),
+        (Answer::Shown(7, Live(Some(live))), "run 7 some caf\u{e9}\n"),
+        (
+            Answer::Computed(Became::StillNone(u64::MAX)),
+            "still-none 18446744073709551615\n",
+        ),
+        (
+            Answer::Computed(Became::Unchanged(1, left)),
+            "unchanged 1 a\n",
+        ),
+        (
+            Answer::Computed(Became::Inserted(2, put)),
+            "inserted 2 b=c\n",
+        ),
+        (
+            Answer::Computed(Became::ReplacedWith(3, over)),
+            "replaced-with 3 d\n",
+        ),
+        (
+            Answer::Computed(Became::Removed(4, removed)),
+            "removed 4 e\n",
+        ),
     ] {
         let mut written = Vec::new(rt.alloc());
         write_answer(&mut written, &answer)?;

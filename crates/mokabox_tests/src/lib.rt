@@ -14,8 +14,12 @@ mod limits;
 #[cfg(test)]
 mod lines;
 #[cfg(test)]
+mod or_inserts;
+#[cfg(test)]
 mod runs;
 #[cfg(test)]
 mod scripts;
 #[cfg(test)]
 mod segments;
+#[cfg(test)]
+mod turns;

@@ -1,10 +1,10 @@
-use Rattle.std.proofs.Common.{refl, ◌∙◌, ap}
+use Rattle.std.proofs.Common.{refl}
 use Rattle.moka_ways.specs.Behaviour.{hash_by, behaviour_by}
 use Rattle.moka_ways.specs.StateData.{StateData, estimates, settings_by}
 use Rattle.moka_state.specs.Hashes.{IsHashOf}
 use Rattle.moka_model.specs.Calls.{ContainsKey, Contains}
 use Rattle.moka_segmented.specs.SegmentedData.{SegmentedData, data_of, segmented_settings_by}
-use Rattle.moka_segmented.proofs.Hashing.{hash-at, all-hash-set}
+use Rattle.moka_segmented.proofs.Hashing.{hash-at}
 use Rattle.moka_segmented.proofs.Routed.{Routing, routed-answers, routed-stays}
 use Rattle.moka_segmented.proofs.segment.Segmented.contains_key.Goals as goal
 

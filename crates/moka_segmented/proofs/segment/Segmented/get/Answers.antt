@@ -1,4 +1,4 @@
-use Rattle.std.proofs.Common.{◌≡◌, None, IsOk, IfSome, refl, ◌∙◌, ap}
+use Rattle.std.proofs.Common.{◌≡◌, None, IsOk, IfSome, refl}
 use Rattle.moka_ways.specs.Behaviour.{hash_by, behaviour_by}
 use Rattle.moka_ways.specs.StateData.{StateData, estimates, settings_by}
 use Rattle.moka_state.specs.Hashes.{IsHashOf}

@@ -1,10 +1,6 @@
-use Rattle.moka_segmented.proofs.Replies.{hidden-replies, refused-replies}
+use Rattle.moka_segmented.proofs.Replies.{hidden-replies, refused-step}
 use Rattle.moka_segmented.proofs.segment.Segmented.step_of_all.Goals as goal
-use Rattle.std.proofs.Common.{refl, sym, subst}
-use Rattle.std.specs.Arc.{arc_value}
-use Rattle.moka_state.specs.declared.step.Reply.TheVariants.{PredicateRefused}
-use Rattle.moka_state.specs.Step.{call_of}
-use Rattle.moka_segmented.specs.Step.{IsReplyIn}
+use Rattle.std.proofs.Common.{refl}
 
 pub returns-in-InvalidateAll-clause-stands : goal.returns-in-InvalidateAll-clause-stands
 returns-in-InvalidateAll-clause-stands g c given calls stand = rw c.in-InvalidateAll.is (c.invalidate_all.ensures given calls stand)
@@ -18,9 +14,8 @@ returns-in-Ok-clause-stands g c given calls stand = rw c.in-InvalidateIf.is (c.i
 
 pub returns-in-Err-clause-reply : goal.returns-in-Err-clause-reply
 returns-in-Err-clause-reply g c given calls stand =
-    subst (λ s. IsReplyIn g.row.C-Error.Denot g.K.PartialEq.eq g.V.Clone.is_clone g.V.Clone.is_infallible given calls (call_of g.C.CacheTypes.test s) (PredicateRefused c.in-Err.refused)) (sym c.in-InvalidateIf.is)
-    (refused-replies g.row.C-Error.Denot g.K.PartialEq.eq g.V.Clone.is_clone g.V.Clone.is_infallible given calls (g.C.CacheTypes.test (arc_value c.in-InvalidateIf.predicate)) c.in-Err.refused c.in-Err.ensures.cause
-    (λ supports. let ok = (c.in-Err.ensures.accepted given calls stand).1 supports in cc))
+    refused-step g.K.PartialEq.eq g.V.Clone.is_clone g.V.Clone.is_infallible given calls g.C.CacheTypes.test c.args.step c.in-InvalidateIf.predicate c.in-Err.refused c.in-InvalidateIf.is c.in-Err.ensures.cause
+    (λ supports. let ok = (c.in-Err.ensures.accepted given calls stand).1 supports in cc)
 
 pub returns-in-RunPendingTasks-clause-stands : goal.returns-in-RunPendingTasks-clause-stands
 returns-in-RunPendingTasks-clause-stands g c given calls stand = rw c.in-RunPendingTasks.is (c.run_pending_tasks.ensures given calls stand)

@@ -8,3 +8,6 @@ returns-in-Nothing g c = rw c.in-Nothing.is c.finish_without.ensures
 
 pub returns-in-Failed : goal.returns-in-Failed
 returns-in-Failed g c = rw c.in-Failed.is c.finish_failed.ensures
+
+pub returns-in-Op : goal.returns-in-Op
+returns-in-Op g c = rw c.in-Op.is c.finish_op.ensures

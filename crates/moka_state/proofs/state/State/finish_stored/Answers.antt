@@ -14,7 +14,7 @@ use Rattle.moka_turns.specs.Handles.{turn_name}
 use Rattle.moka_turns.specs.Views.{turns_of}
 use Rattle.moka_turns.proofs.Views.{table-keeps, table-holds}
 use Rattle.moka_state.proofs.Becoming.{becomes-passed}
-use Rattle.moka_state.proofs.Finishes.{FinishOutOfNumbers, with-books, same-books-of, open-told, closed-told, finish-unknown, finish-given, finish-memory, finish-full, finish-stands}
+use Rattle.moka_state.proofs.Finishes.{given-entry, FinishOutOfNumbers, with-books, same-books-of, open-told, closed-told, finish-unknown, finish-given, finish-memory, finish-full, finish-stands}
 use Rattle.moka_state.proofs.Inserts.{same-view, view-written, replaced-written, sound-written, view-nothing}
 use Rattle.moka_state.proofs.Sound.{IsSound-same}
 use Rattle.moka_state.proofs.Turns.{sound-turns, no-less}
@@ -37,9 +37,11 @@ returns-in_default g c = rw c.refused.ensures (record {
       let none = rw name at (closed-told _ _ c.waiting_for.result told c.in_default.is) in
       finish-unknown eq given steps (turn_name c.args.turn) (Value c.args.value) c.args.now c.requires.fits g.V.Clone.is_clone g.V.Clone.is_infallible none;
   stands = tt;
+  given = tt;
   refused = refl;
   turn_back = c.rehashed-turn.ensures.name;
   outcome_back = refl;
+  settings = refl;
 })
 
 pub returns-then-self : goal.returns-then-self
@@ -60,9 +62,11 @@ returns-then-self g c = rw c.refused-then-self.ensures (record {
       let stores : stores_nothing given.max_capacity ≡ false = ap (λ (s : Settings _ _). stores_nothing s.max_capacity) (sym there.settings) ∙ (rw (← c.self.view_is) at c.requires.stores) in
       finish-full eq given steps (turn_name c.args.turn) (Value c.args.value) c.args.now c.requires.fits g.V.Clone.is_clone g.V.Clone.is_infallible t.0 t.1 ((out_of_numbers-insert eq given (turn_name c.args.turn).key c.args.value c.args.now steps).1 (stores, sym next ∙ c.if-self.true));
   stands = tt;
+  given = tt;
   refused = refl;
   turn_back = c.rehashed-turn.ensures.name;
   outcome_back = refl;
+  settings = refl;
 })
 
 pub returns-in_default-new : goal.returns-in_default-new
@@ -83,9 +87,11 @@ returns-in_default-new g c = rw c.refused-in_default-new.ensures (record {
       let left : ¬ (FinishOutOfNumbers eq given steps (turn_name c.args.turn) (Value c.args.value) c.args.now c.requires.fits) = λ out. c.if-self.false (next ∙ out.1) in
       finish-memory eq given steps (turn_name c.args.turn) (Value c.args.value) c.args.now c.requires.fits g.V.Clone.is_clone g.V.Clone.is_infallible t.0 t.1 tt (λ out. left out);
   stands = tt;
+  given = tt;
   refused = refl;
   turn_back = c.rehashed-turn.ensures.name;
   outcome_back = refl;
+  settings = refl;
 })
 
 pub returns-in_default-place_for : goal.returns-in_default-place_for
@@ -106,9 +112,11 @@ returns-in_default-place_for g c = rw c.refused-in_default-place_for.ensures (re
       let left : ¬ (FinishOutOfNumbers eq given steps (turn_name c.args.turn) (Value c.args.value) c.args.now c.requires.fits) = λ out. c.if-self.false (next ∙ out.1) in
       finish-memory eq given steps (turn_name c.args.turn) (Value c.args.value) c.args.now c.requires.fits g.V.Clone.is_clone g.V.Clone.is_infallible t.0 t.1 tt (λ out. left out);
   stands = tt;
+  given = tt;
   refused = let s = c.self.inside in rw (← c.self.view_is) (with-books _ _ _ _ _ _ (same-books-of s.latest s.next_number s.table c.place_for.new.table c.place_for.ensures.same));
   turn_back = c.rehashed-turn.ensures.name;
   outcome_back = refl;
+  settings = rw (← c.self.view_is) refl;
 })
 
 pub invariant_of-self-2 : goal.invariant_of-self-2
@@ -174,7 +182,9 @@ returns g c = record {
       let ended = c.conclude-answer.ensures.keeps hash_of (turns steps) c.args.value c.hash-hash.ensures.alike hashed sound c.in-Ok.ensures.kept keeps in
       rw c.max-now.ensures (finish-stands eq given steps (turn_name c.args.turn) (Value c.args.value) c.args.now c.requires.fits _ _ _ there t.0 t.1 _ written
       (table-holds eq laws g.V.Clone.is_clone hash_of c.hash-hash.ensures.alike _ _ _ (rw (t.2, ← replaced) ended)));
+  given = let keyed = ap (λ (n : Name _). n.key) c.rehashed-turn.ensures.name in given-entry g.V.Clone.is_clone (turn_name c.args.turn).key c.args.value c.conclude-answer.result _ c.conclude-answer.ensures.entry (c.in-Ok.ensures.key ∙ keyed) c.in-Ok.ensures.answer;
   refused = tt;
   turn_back = tt;
   outcome_back = tt;
+  settings = rw (← c.self.view_is) refl;
 }

@@ -14,7 +14,7 @@ use Rattle.moka_turns.specs.Handles.{turn_name}
 use Rattle.moka_turns.specs.Views.{turns_of}
 use Rattle.moka_turns.proofs.Views.{table-keeps, table-holds}
 use Rattle.moka_state.proofs.Becoming.{becomes-passed}
-use Rattle.moka_state.proofs.Finishes.{FinishOutOfNumbers, never-replaced, with-books, same-books-of, open-told, closed-told, finish-unknown, finish-given, finish-memory, finish-full, finish-stands}
+use Rattle.moka_state.proofs.Finishes.{given-entry, FinishOutOfNumbers, never-replaced, with-books, same-books-of, open-told, closed-told, finish-unknown, finish-given, finish-memory, finish-full, finish-stands}
 use Rattle.moka_state.proofs.Inserts.{same-view, view-written, replaced-written, sound-written, view-nothing}
 use Rattle.moka_state.proofs.Sound.{IsSound-same}
 use Rattle.moka_state.proofs.Turns.{sound-turns, no-less}
@@ -37,9 +37,11 @@ returns-in_default g c = rw c.refused.ensures (record {
       let none = rw name at (closed-told _ _ c.waiting_for.result told c.in_default.is) in
       finish-unknown eq given steps (turn_name c.args.turn) (Value c.args.value) c.args.now c.requires.fits g.V.Clone.is_clone g.V.Clone.is_infallible none;
   stands = tt;
+  given = tt;
   refused = refl;
   turn_back = c.rehashed-turn.ensures.name;
   outcome_back = refl;
+  settings = refl;
 })
 
 pub returns-in_default-new : goal.returns-in_default-new
@@ -60,9 +62,11 @@ returns-in_default-new g c = rw c.refused-in_default-new.ensures (record {
       let left : ¬ (FinishOutOfNumbers eq given steps (turn_name c.args.turn) (Value c.args.value) c.args.now c.requires.fits) = λ out. let stores : false ≡ true = sym ((out_of_numbers-insert eq given (turn_name c.args.turn).key c.args.value c.args.now steps).0 out).0 ∙ nothing in absurd (true≢false (sym stores)) in
       finish-memory eq given steps (turn_name c.args.turn) (Value c.args.value) c.args.now c.requires.fits g.V.Clone.is_clone g.V.Clone.is_infallible t.0 t.1 tt (λ out. left out);
   stands = tt;
+  given = tt;
   refused = refl;
   turn_back = c.rehashed-turn.ensures.name;
   outcome_back = refl;
+  settings = refl;
 })
 
 pub returns : goal.returns
@@ -102,7 +106,9 @@ returns g c = record {
       rw c.max-self-inside.ensures (finish-stands eq given steps (turn_name c.args.turn) (Value c.args.value) c.args.now c.requires.fits _ _ _ there t.0 t.1 _
       (view-nothing eq laws given _ (events_in steps) (view-of eq given _ steps there) _ (turn_name c.args.turn).key c.args.value c.args.now (rw (← c.self.view_is) at c.requires.nothing) (becomes-passed eq _ s.table _ s.latest s.next_number c.args.now))
       (table-holds eq laws g.V.Clone.is_clone hash_of c.hash-hash.ensures.alike _ _ _ (rw (t.2, never) ended)));
+  given = let keyed = ap (λ (n : Name _). n.key) c.rehashed-turn.ensures.name in given-entry g.V.Clone.is_clone (turn_name c.args.turn).key c.args.value c.conclude-answer.result _ c.conclude-answer.ensures.entry (c.in-Ok.ensures.key ∙ keyed) c.in-Ok.ensures.answer;
   refused = tt;
   turn_back = tt;
   outcome_back = tt;
+  settings = rw (← c.self.view_is) refl;
 }

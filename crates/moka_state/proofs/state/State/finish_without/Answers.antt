@@ -31,9 +31,11 @@ returns-in_default g c = record {
       let none = rw name at (closed-told _ _ c.waiting_for.result told c.in_default.is) in
       finish-unknown eq given steps (turn_name c.args.turn) Nothing c.args.now c.requires g.V.Clone.is_clone g.V.Clone.is_infallible none;
   stands = tt;
+  given = tt;
   refused = refl;
   turn_back = c.rehashed-turn.ensures.name;
   outcome_back = refl;
+  settings = refl;
 }
 
 pub returns : goal.returns
@@ -67,7 +69,9 @@ returns g c = record {
       rw c.max-self-inside.ensures (finish-stands eq given steps (turn_name c.args.turn) Nothing c.args.now c.requires _ _ _ there t.0 t.1 _
       (view-becomes eq laws given _ _ (events_in steps) (Passed c.args.now) (view-of eq given _ steps there) (becomes-passed eq _ s.table _ s.latest s.next_number c.args.now))
       (table-holds eq laws g.V.Clone.is_clone hash_of c.hash-hash.ensures.alike _ _ _ (rw t.2 left)));
+  given = tt;
   refused = tt;
   turn_back = tt;
   outcome_back = tt;
+  settings = rw (← c.self.view_is) refl;
 }

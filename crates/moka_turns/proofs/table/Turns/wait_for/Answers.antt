@@ -1,9 +1,9 @@
-use Rattle.moka_turns.proofs.Begins.{waits}
-use Rattle.moka_turns.proofs.Changes.{if-there}
 use Rattle.moka_turns.proofs.table.Turns.wait_for.Goals as goal
 
-pub returns-in-Some-clause-begins : goal.returns-in-Some-clause-begins
-returns-in-Some-clause-begins g c number hash_of ts respects hashed sound keeps =
-    let row = if-there _ _ c.requires c.in-Some.ensures.number in
-    waits g.K.PartialEq.eq g.met.K.Eq.laws g.V.Clone.is_clone hash_of respects ts sound _ _ keeps c.args.key hashed _ _ number c.args.may_wait row.0 row.1 c.in-Some.number row.2 c.if-not-may_wait.false
-    (c.in-Some.ensures.keeps hash_of ts respects hashed sound keeps)
+pub returns-in-Ok-clause-begins : goal.returns-in-Ok-clause-begins
+returns-in-Ok-clause-begins g c number hash_of ts respects hashed sound keeps =
+    rw c.if-not-may_wait.false (c.in-Ok.ensures.begins number hash_of ts respects hashed sound keeps)
+
+pub returns-in-Err-clause-begins : goal.returns-in-Err-clause-begins
+returns-in-Err-clause-begins g c number hash_of ts respects hashed sound keeps =
+    rw c.if-not-may_wait.false (c.in-Err.ensures.begins number hash_of ts respects hashed sound keeps)

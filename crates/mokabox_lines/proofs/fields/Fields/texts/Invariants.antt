@@ -1,5 +1,5 @@
 use Rattle.std.proofs.Common.{◌≡◌}
-use Rattle.mokabox_lines.specs.Fields.{fields_of, none_empty}
+use Rattle.mokabox_lines.specs.Fields.{none_empty}
 use Rattle.mokabox_lines.specs.FieldsLeft.{fields_left}
 use Rattle.mokabox_lines.proofs.fields.Fields.texts.Given as goal
 

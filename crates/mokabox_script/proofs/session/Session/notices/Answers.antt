@@ -1,8 +1,7 @@
 use Rattle.std.proofs.Common.{◌+◌, refl, arith, Some, None, true, nat_eq}
-use Rattle.std.specs.declared.convert.Infallible.{Infallible}
 use Rattle.moka_state.specs.declared.step.Reply.TheVariants.{Noticed}
 use Rattle.moka_segmented.proofs.Callers.{taken-replies}
-use Rattle.mokabox_script.specs.Script.{is_copy, is_surely_copied}
+use Rattle.mokabox_script.specs.Script.{Text, is_copy, is_surely_copied}
 use Rattle.mokabox_script.proofs.SessionLaws.{answered_more, all_taken}
 use Rattle.mokabox_script.proofs.session.Session.notices.Goals as goal
 
@@ -13,8 +12,8 @@ loop-notice-preserved c = (
         was.0 + 1,
         omega (arith, was.1, c.in-Some.ensures.fewer),
         answered_more _ _ settings steps was.0 _ _ _ (Noticed (Some c.in-Some.notice)) was.2
-            (record { reply_is = λ s calls stand. taken-replies Infallible nat_eq is_copy is_surely_copied s calls (λ key text. true) (Some c.in-Some.notice) (c.in-Some.ensures.reply s calls stand); stands = c.in-Some.ensures.stands })
-            c.answer_of-answer.ensures c.in_ok-push.ensures.items,
+            (record { reply_is = λ s calls stand. taken-replies Text nat_eq is_copy is_surely_copied s calls (λ key text. true) (Some c.in-Some.notice) (c.in-Some.ensures.reply s calls stand); stands = c.in-Some.ensures.stands })
+            c.in_ok-answer.ensures c.in_ok-push.ensures.items,
       )),
   c.loop-notice.invariant.1,
 )
@@ -28,6 +27,6 @@ returns c =
       was.0 + 1,
       omega (arith, was.1, left),
       answered_more _ _ settings steps was.0 _ _ _ (Noticed None) was.2
-          (record { reply_is = λ s calls stand. taken-replies Infallible nat_eq is_copy is_surely_copied s calls (λ key text. true) None (c.in_default.ensures.reply s calls stand); stands = c.in_default.ensures.stands })
-          c.answer_of-last.ensures c.in_ok-push-2.ensures.items,
+          (record { reply_is = λ s calls stand. taken-replies Text nat_eq is_copy is_surely_copied s calls (λ key text. true) None (c.in_default.ensures.reply s calls stand); stands = c.in_default.ensures.stands })
+          c.in_ok-last.ensures c.in_ok-push-2.ensures.items,
     )))

@@ -1,5 +1,4 @@
 use Rattle.std.proofs.Common.{◌≡◌, ◌+◌, ℕ, List, map, nat_eq}
-use Rattle.std.specs.declared.convert.Infallible.{Infallible}
 use Rattle.moka_model.specs.Calls.{Call}
 use Rattle.moka_segments.specs.Segments.{AllStandFor}
 use Rattle.moka_segmented.specs.SegmentedData.{notices_kept}
@@ -12,7 +11,7 @@ use Rattle.mokabox_script.proofs.session.Session.notices.Given as goal
 -- so many notices were taken and printed, and the others are left
 abbrev pub invariant-loop-notice : goal.invariant-loop-notice
 invariant-loop-notice l =
-    ((settings : CacheSettings) (steps : List (Call ℕ Text Infallible)) → AllStandFor nat_eq is_copy settings (view l.initial.self.cache) steps
+    ((settings : CacheSettings) (steps : List (Call ℕ Text Text)) → AllStandFor nat_eq is_copy settings (view l.initial.self.cache) steps
     → (count : ℕ) × (count + notices_kept l.self.cache.segments ≡ notices_kept l.initial.self.cache.segments) × HasTaken l.self.cache settings steps count (map answer_text l.answers.items))
     × (l.self.moment ≡ l.initial.self.moment)
 

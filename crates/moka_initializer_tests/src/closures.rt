@@ -1,0 +1,138 @@
+//! The forms of initializers: each with how often its closure was asked, and what it answers.
+use crate::caches::Numbers;
+use moka_policy::policy::Refused;
+use std::sync::Arc;
+
+/// What a form answers.
+#[derive(Clone, Copy, Debug, PartialEq)]
+pub(crate) enum Told {
+    Value(u64),
+    Nothing,
+    Failed(u64),
+    Refused(Refused),
+}
+
+/// How often a closure was asked, and what its form answered.
+pub(crate) type Asked = (u64, Told);
+
+fn value_of(given: Result<u64, Refused>) -> Told {
+    match given {
+        Ok(value) => Told::Value(value),
+        Err(cause) => Told::Refused(cause),
+    }
+}
+
+fn option_of(given: Result<Option<u64>, Refused>) -> Told {
+    match given {
+        Ok(Some(value)) => Told::Value(value),
+        Ok(None) => Told::Nothing,
+        Err(cause) => Told::Refused(cause),
+    }
+}
+
+fn result_of(given: Result<Result<u64, Arc<u64>>, Refused>) -> Told {
+    match given {
+        Ok(Ok(value)) => Told::Value(value),
+        Ok(Err(error)) => Told::Failed(*error),
+        Err(cause) => Told::Refused(cause),
+    }
+}
+
+/// By a closure that gives this value.
+pub(crate) fn get_with(cache: &mut Numbers, key: u64, value: u64) -> Asked {
+    let mut asked = 0_u64;
+    let given = cache.get_with(
+        key,
+        || {
+            asked = asked.wrapping_add(1);
+            value
+        },
+        0,
+    );
+    (asked, value_of(given))
+}
+
+/// Where a live value of that number is turned down.
+pub(crate) fn get_with_if(cache: &mut Numbers, key: u64, value: u64, unwanted: u64) -> Asked {
+    let mut asked = 0_u64;
+    let given = cache.get_with_if(
+        key,
+        || {
+            asked = asked.wrapping_add(1);
+            value
+        },
+        |live| *live == unwanted,
+        0,
+    );
+    (asked, value_of(given))
+}
+
+/// By a closure that gives this value, or none.
+pub(crate) fn optionally_get_with(cache: &mut Numbers, key: u64, value: Option<u64>) -> Asked {
+    let mut asked = 0_u64;
+    let given = cache.optionally_get_with(
+        key,
+        || {
+            asked = asked.wrapping_add(1);
+            value
+        },
+        0,
+    );
+    (asked, option_of(given))
+}
+
+/// By a closure that gives this value, or fails with this error.
+pub(crate) fn try_get_with(cache: &mut Numbers, key: u64, value: Result<u64, u64>) -> Asked {
+    let mut asked = 0_u64;
+    let given = cache.try_get_with(
+        key,
+        || {
+            asked = asked.wrapping_add(1);
+            value
+        },
+        0,
+    );
+    (asked, result_of(given))
+}
+
+/// As `get_with`, by a key that is lent.
+pub(crate) fn get_with_by_ref(cache: &mut Numbers, key: u64, value: u64) -> Asked {
+    let mut asked = 0_u64;
+    let given = cache.get_with_by_ref(
+        &key,
+        || {
+            asked = asked.wrapping_add(1);
+            value
+        },
+        0,
+    );
+    (asked, value_of(given))
+}
+
+/// As `optionally_get_with`, by a key that is lent.
+pub(crate) fn optionally_by_ref(cache: &mut Numbers, key: u64, value: Option<u64>) -> Asked {
+    let mut asked = 0_u64;
+    let given = cache.optionally_get_with_by_ref(
+        &key,
+        || {
+            asked = asked.wrapping_add(1);
+            value
+        },
+        0,
+    );
+    (asked, option_of(given))
+}
+
+/// As `try_get_with`, by a key that is lent.
+pub(crate) fn try_by_ref(cache: &mut Numbers, key: u64, value: Result<u64, u64>) -> Asked {
+    let mut asked = 0_u64;
+    let given = cache.try_get_with_by_ref(
+        &key,
+        || {
+            asked = asked.wrapping_add(1);
+            value
+        },
+        0,
+    );
+    (asked, result_of(given))
+}

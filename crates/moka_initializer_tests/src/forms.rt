@@ -1,0 +1,265 @@
+//! What the forms of initializers answer: begin, closure and finish at one moment.
+use crate::caches::{
+    Numbers, abandoned, begin_by_ref, gave_nothing, insert, opened, ran, shared, spent, waited,
+};
+use crate::closures::{
+    Asked, Told, get_with, get_with_by_ref, get_with_if, optionally_by_ref, optionally_get_with,
+    try_by_ref, try_get_with,
+};
+use moka_model::turns::Kind;
+use moka_policy::policy::Refused;
+use std::alloc::Global;
+use std::process::Abort;
+use std::sync::Arc;
+use std::test::Fail;
+
+#[test]
+fn a_live_value_is_answered_unasked(rt: HostRuntime) -> Result<(), Fail> {
+    let mut cache = opened(rt.alloc(), 0, 100)?;
+    is_answered_unasked(&rt, &mut cache);
+    Ok(())
+}
+
+/// A form answers this, and its closure was asked so often.
+fn says(rt: &impl Abort, found: Asked, asked: u64, expected: Told) {
+    assert_eq!(rt; found, (asked, expected));
+}
+
+fn is_answered_unasked(rt: &impl Abort, cache: &mut Numbers) {
+    insert(rt, cache, 5, 7);
+    says(rt, get_with(cache, 5, 8), 0, Told::Value(7));
+    says(rt, optionally_get_with(cache, 5, None), 0, Told::Value(7));
+    says(rt, try_get_with(cache, 5, Err(9)), 0, Told::Value(7));
+    says(rt, get_with_by_ref(cache, 5, 8), 0, Told::Value(7));
+}
+
+#[test]
+fn an_absent_one_is_asked_for_and_written(rt: HostRuntime) -> Result<(), Fail> {
+    let mut cache = opened(rt.alloc(), 0, 100)?;
+    is_asked_for_and_written(&rt, &mut cache);
+    Ok(())
+}
+
+fn is_asked_for_and_written(rt: &impl Abort, cache: &mut Numbers) {
+    says(rt, get_with(cache, 1, 10), 1, Told::Value(10));
+    is_written(rt, cache, 1, Some(10));
+    says(rt, optionally_get_with(cache, 2, None), 1, Told::Nothing);
+    is_written(rt, cache, 2, None);
+    says(
+        rt,
+        optionally_get_with(cache, 2, Some(20)),
+        1,
+        Told::Value(20),
+    );
+    is_written(rt, cache, 2, Some(20));
+    says(rt, try_get_with(cache, 3, Err(9)), 1, Told::Failed(9));
+    is_written(rt, cache, 3, None);
+    says(rt, try_get_with(cache, 3, Ok(30)), 1, Told::Value(30));
+    is_written(rt, cache, 3, Some(30));
+}
+
+/// A look at a key finds this.
+fn is_written(rt: &impl Abort, cache: &mut Numbers, key: u64, value: Option<u64>) {
+    assert_eq!(rt; cache.contains_key(&key, 0), value.is_some());
+    assert_eq!(rt; cache.get(&key, 0), Ok(value));
+}
+
+#[test]
+fn a_value_that_is_turned_down_is_replaced(rt: HostRuntime) -> Result<(), Fail> {
+    let mut cache = opened(rt.alloc(), 0, 100)?;
+    is_replaced(&rt, &mut cache);
+    Ok(())
+}
+
+fn is_replaced(rt: &impl Abort, cache: &mut Numbers) {
+    insert(rt, cache, 5, 30);
+    says(rt, get_with_if(cache, 5, 31, 40), 0, Told::Value(30));
+    says(rt, get_with_if(cache, 5, 31, 30), 1, Told::Value(31));
+    is_written(rt, cache, 5, Some(31));
+}
+
+#[test]
+fn an_open_turn_is_not_waited_for(rt: HostRuntime) -> Result<(), Fail> {
+    let key = shared(rt.alloc(), 5)?;
+    let another = shared(rt.alloc(), 6)?;
+    let mut cache = opened(rt.alloc(), 0, 100)?;
+    is_not_waited_for(&rt, &mut cache, &key, &another);
+    Ok(())
+}
+
+const IS_OPEN: Told = Told::Refused(Refused::TurnIsOpen);
+
+fn is_not_waited_for(rt: &impl Abort, cache: &mut Numbers, key: &Arc<u64>, another: &Arc<u64>) {
+    let turn = ran(rt, cache, key, Kind::With);
+    says(rt, get_with(cache, 5, 8), 0, IS_OPEN);
+    says(rt, get_with_by_ref(cache, 5, 8), 0, IS_OPEN);
+    says(rt, try_get_with(cache, 5, Ok(9)), 1, Told::Value(9));
+    let next = ran(rt, cache, another, Kind::With);
+    assert_eq!(rt; next.number(), 3);
+    abandoned(rt, cache, next);
+    abandoned(rt, cache, turn);
+}
+
+#[test]
+fn a_refused_finish_abandons_the_turn(rt: HostRuntime) -> Result<(), Fail> {
+    let key = shared(rt.alloc(), 5)?;
+    let mut cache = opened(rt.alloc(), u64::MAX - 2, 100)?;
+    abandons_the_turn(&rt, &mut cache, &key);
+    Ok(())
+}
+
+fn abandons_the_turn(rt: &impl Abort, cache: &mut Numbers, key: &Arc<u64>) {
+    let other = ran(rt, cache, key, Kind::Try);
+    let ticket = waited(rt, cache, key, Kind::Try);
+    let refused = Told::Refused(Refused::NumbersUsedUp);
+    says(rt, get_with(cache, 5, 7), 1, refused);
+    is_written(rt, cache, 5, None);
+    says(rt, get_with(cache, 5, 7), 0, refused);
+    abandoned(rt, cache, other);
+    gave_nothing(rt, cache, ticket);
+}
+
+#[test]
+fn keys_may_be_lent(rt: HostRuntime) -> Result<(), Fail> {
+    let mut cache = opened(rt.alloc(), 0, 100)?;
+    may_be_lent(&rt, &mut cache);
+    Ok(())
+}
+
+fn may_be_lent(rt: &impl Abort, cache: &mut Numbers) {
+    says(rt, get_with_by_ref(cache, 1, 10), 1, Told::Value(10));
+    says(
+        rt,
+        optionally_by_ref(cache, 2, Some(20)),
+        1,
+        Told::Value(20),
+    );
+    says(rt, try_by_ref(cache, 3, Err(9)), 1, Told::Failed(9));
+    is_written(rt, cache, 1, Some(10));
+    is_written(rt, cache, 2, Some(20));
+    let begun = begin_by_ref(cache, 3);
+    assert!(rt; spent(cache, begun) == "it runs");
+}
+
+/// A form, with what its closure gives.
+#[derive(Clone, Copy, Debug)]
+enum Form {
+    GetWith,
+    /// It turns the live value down.
+    GetWithIf,
+    Optionally(Option<u64>),
+    Try(Result<u64, u64>),
+    GetWithByRef,
+    OptionallyByRef(Option<u64>),
+    TryByRef(Result<u64, u64>),
+}
+
+/// Each form by a key of its own, once for each thing that its closure may give, and what it answers.
+const FORMS: [(Form, Told); 11] = [
+    (Form::GetWith, Told::Value(7)),
+    (Form::GetWithIf, Told::Value(7)),
+    (Form::Optionally(Some(7)), Told::Value(7)),
+    (Form::Optionally(None), Told::Nothing),
+    (Form::Try(Ok(7)), Told::Value(7)),
+    (Form::Try(Err(9)), Told::Failed(9)),
+    (Form::GetWithByRef, Told::Value(7)),
+    (Form::OptionallyByRef(Some(7)), Told::Value(7)),
+    (Form::OptionallyByRef(None), Told::Nothing),
+    (Form::TryByRef(Ok(7)), Told::Value(7)),
+    (Form::TryByRef(Err(9)), Told::Failed(9)),
+];
+
+/// What is turned down.
+const UNWANTED: u64 = 30;
+
+fn asked(cache: &mut Numbers, form: Form, key: u64) -> Asked {
+    match form {
+        Form::GetWith => get_with(cache, key, 7),
+        Form::GetWithIf => get_with_if(cache, key, 7, UNWANTED),
+        Form::Optionally(given) => optionally_get_with(cache, key, given),
+        Form::Try(given) => try_get_with(cache, key, given),
+        Form::GetWithByRef => get_with_by_ref(cache, key, 7),
+        Form::OptionallyByRef(given) => optionally_by_ref(cache, key, given),
+        Form::TryByRef(given) => try_by_ref(cache, key, given),
+    }
+}
+
+/// The number of stored keys and of notices, and whether one of the keys is stored.
+fn counts(cache: &Numbers, key: u64) -> (u64, usize, bool) {
+    (
+        cache.entry_count(),
+        cache.notice_count(),
+        cache.contains_key(&key, 0),
+    )
+}
+
+/// A form answers this. Where memory is refused it says so, it has written nothing, and it is asked once more. The answer is
+/// whether its closure was asked then: a turn was opened for that, and abandoned.
+fn answers(rt: &impl Abort, cache: &mut Numbers, form: Form, key: u64, expected: Told) -> bool {
+    let before = counts(cache, key);
+    let (times, told) = asked(cache, form, key);
+    if told == expected {
+        return false;
+    }
+    assert_eq!(rt; told, Told::Refused(Refused::OutOfMemory), "{form:?}");
+    assert_eq!(rt; counts(cache, key), before, "{form:?}");
+    assert_eq!(rt; asked(cache, form, key), (1, expected), "{form:?}");
+    times > 0
+}
+
+/// The number of a turn, which is abandoned.
+fn drawn(rt: &impl Abort, cache: &mut Numbers, key: &Arc<u64>) -> u64 {
+    let turn = ran(rt, cache, key, Kind::With);
+    let number = turn.number();
+    abandoned(rt, cache, turn);
+    number
+}
+
+/// Two caches, of which one may be refused a request for memory, go on alike: the refused form was as no call, or as a
+/// begin and an abandon.
+fn answer_alike(
+    rt: &impl Abort,
+    cache: &mut Numbers,
+    twin: &mut Numbers,
+    free: &Arc<u64>,
+    row: (u64, Form, Told),
+) {
+    let (key, form, expected) = row;
+    if matches!(form, Form::GetWithIf) {
+        insert(rt, cache, key, UNWANTED);
+        insert(rt, twin, key, UNWANTED);
+    }
+    if answers(rt, cache, form, key, expected) {
+        let _ = drawn(rt, twin, free);
+    }
+    if answers(rt, twin, form, key, expected) {
+        let _ = drawn(rt, cache, free);
+    }
+    assert_eq!(rt; drawn(rt, cache, free), drawn(rt, twin, free), "{form:?}");
+    assert_eq!(rt; counts(cache, key), counts(twin, key), "{form:?}");
+}
+
+/// It passes also where one request for memory is refused, whichever: `scripts/refused_memory` tries each.
+#[test]
+fn forms_answer_where_a_request_is_refused(rt: HostRuntime) -> Result<(), Fail> {
+    let free = shared(rt.alloc(), 1000)?;
+    let mut cache = opened(rt.alloc(), 0, 100)?;
+    answer_as_a_twin(&rt, rt.alloc(), &mut cache, &free)
+}
+
+fn answer_as_a_twin(
+    rt: &impl Abort,
+    alloc: Global,
+    cache: &mut Numbers,
+    free: &Arc<u64>,
+) -> Result<(), Fail> {
+    let mut twin = opened(alloc, 0, 100)?;
+    all_answer_alike(rt, cache, &mut twin, free);
+    Ok(())
+}
+
+fn all_answer_alike(rt: &impl Abort, cache: &mut Numbers, twin: &mut Numbers, free: &Arc<u64>) {
+    for (key, (form, expected)) in (0..).zip(FORMS) {
+        answer_alike(rt, cache, twin, free, (key, form, expected));
+    }
+}

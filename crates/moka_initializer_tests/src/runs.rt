@@ -1,0 +1,312 @@
+//! Steps that are drawn at random, over both stores of rows.
+ghost use Rattle.std.specs.Prelude.{◌≡◌, ◌≢◌, ℕ, IfOk};
+ghost use Rattle.moka_model.specs.declared.turns.Kind.{Kind};
+ghost use Rattle.moka_state.specs.Finish.{OutcomeKeeps};
+ghost use Rattle.moka_state.specs.Step.{StepKeeps};
+
+use crate::caches::{Numbers, Odd, Rules, Types, opened_over};
+use moka_model::turns::{Kind, Outcome};
+use moka_policy::policy::{CacheTypes, Predicate};
+use moka_state::list_rows::ListRows;
+use moka_state::rows::RowStore;
+use moka_state::state::State;
+use moka_state::step::{Reply, Step};
+use moka_state::turn_name::TurnName;
+use rand_core::{Rng, SeedableRng};
+use rand_xoshiro::SplitMix64;
+use std::alloc::{AllocError, Global};
+use std::process::Abort;
+use std::sync::Arc;
+use std::test::Fail;
+
+/// The same cache over plain lists.
+type InLists = State<u64, u64, Types, ListRows<u64, u64>>;
+
+/// The numbers that a step is made of.
+#[derive(Clone, Copy)]
+struct Drawn {
+    what: u64,
+    key: u64,
+    kind: u64,
+    /// The number of a turn.
+    number: u64,
+    /// A value, a limit, what is said of a live value, or an outcome.
+    given: u64,
+    now: u64,
+}
+
+fn kind_of(number: u64) -> Kind
+    ensures { result ≢ Kind.Compute }
+{
+    match number {
+        0 => Kind::With,
+        1 => Kind::Optionally,
+        _ => Kind::Try,
+    }
+}
+
+/// A step of a key.
+fn key_step(alloc: Global, drawn: Drawn) -> Result<Step<u64, u64, Types>, AllocError>
+    ensures { IfOk result (StepKeeps ⟦<Types as CacheTypes<u64, u64>>⟧.keeps
+        ⟦<Odd as Predicate<u64, u64>>⟧.tests ⟦<Types as CacheTypes<u64, u64>>⟧.test) }
+{
+    let key = Arc::new(alloc, drawn.key)?;
+    let now = drawn.now;
+    Ok(match drawn.what {
+        0 | 1 => Step::Get { key, now },
+        2 => Step::ContainsKey { key, now },
+        3 | 4 => Step::Insert {
+            key,
+            value: drawn.given,
+            now,
+        },
+        5 => Step::Invalidate { key, now },
+        _ => Step::Remove { key, now },
+    })
+}
+
+/// A step of the whole cache.
+fn whole_step(alloc: Global, drawn: Drawn) -> Result<Step<u64, u64, Types>, AllocError>
+    ensures { IfOk result (StepKeeps ⟦<Types as CacheTypes<u64, u64>>⟧.keeps
+        ⟦<Odd as Predicate<u64, u64>>⟧.tests ⟦<Types as CacheTypes<u64, u64>>⟧.test) }
+{
+    let now = drawn.now;
+    Ok(match drawn.what {
+        7 => Step::InvalidateAll,
+        8 => Step::InvalidateIf {
+            predicate: Arc::new(alloc, Odd)?,
+        },
+        9 => Step::RunPendingTasks { now },
+        10 => Step::RunPendingTasksUpTo {
+            limit: drawn.given,
+            now,
+        },
+        11 => Step::EntryCount,
+        12 => Step::WeightedSize,
+        _ => Step::TakeNotice,
+    })
+}
+
+/// What a caller says of a live value.
+fn replace_of(given: u64) -> Option<bool> {
+    match given {
+        0 => Some(false),
+        1 => Some(true),
+        _ => None,
+    }
+}
+
+/// What a turn ends with, whether or not that fits its kind.
+fn outcome_of(alloc: Global, given: u64) -> Result<Outcome<u64, Arc<u64>>, AllocError>
+    ensures { IfOk result (λ outcome. (key : ℕ)
+        → OutcomeKeeps (⟦<Types as CacheTypes<u64, u64>>⟧.keeps key) outcome) }
+{
+    Ok(match given {
+        0 | 1 => Outcome::Nothing,
+        2 | 3 => Outcome::Failed(Arc::new(alloc, given)?),
+        _ => Outcome::Value(given),
+    })
+}
+
+/// A step of a turn.
+fn turn_step(alloc: Global, drawn: Drawn) -> Result<Step<u64, u64, Types>, AllocError>
+    ensures { IfOk result (StepKeeps ⟦<Types as CacheTypes<u64, u64>>⟧.keeps
+        ⟦<Odd as Predicate<u64, u64>>⟧.tests ⟦<Types as CacheTypes<u64, u64>>⟧.test) }
+{
+    let kind = kind_of(drawn.kind);
+    let key = Arc::new(alloc, drawn.key)?;
+    let name = TurnName {
+        number: drawn.number,
+        kind,
+        key,
+    };
+    let now = drawn.now;
+    Ok(match drawn.what {
+        14..=18 => Step::Begin {
+            key: name.key,
+            kind,
+            replace: replace_of(drawn.given),
+            now,
+        },
+        19 | 20 => Step::Finish {
+            name,
+            outcome: outcome_of(alloc, drawn.given)?,
+            now,
+        },
+        21 => Step::Abandon { name },
+        22 | 23 => Step::Collect { name },
+        _ => Step::Leave { name },
+    })
+}
+
+/// How many steps there are.
+const WHAT: u64 = 25;
+
+fn step_of(alloc: Global, drawn: Drawn) -> Result<Step<u64, u64, Types>, AllocError>
+    ensures { IfOk result (StepKeeps ⟦<Types as CacheTypes<u64, u64>>⟧.keeps
+        ⟦<Odd as Predicate<u64, u64>>⟧.tests ⟦<Types as CacheTypes<u64, u64>>⟧.test) }
+{
+    match drawn.what {
+        0..=6 => key_step(alloc, drawn),
+        7..=13 => whole_step(alloc, drawn),
+        _ => turn_step(alloc, drawn),
+    }
+}
+
+/// A reply as a text, which names whatever it says.
+fn text_of(alloc: Global, reply: &Reply<u64, u64, Types>) -> Result<String, Fail> {
+    match reply {
+        Reply::Failed(error) => Ok(format!(in alloc; "Failed({error:?})")?),
+        _ => Ok(format!(in alloc; "{reply:?}")?),
+    }
+}
+
+/// The number of the turn that a begin's reply names.
+fn number_in(reply: &Reply<u64, u64, Types>) -> Option<u64> {
+    match reply {
+        Reply::Run(name, _) | Reply::Wait(name) => Some(name.number),
+        _ => None,
+    }
+}
+
+/// What a cache replies to a step, and the number of the turn that it names.
+fn replied<R: RowStore<u64, u64>>(
+    alloc: Global,
+    cache: &mut State<u64, u64, Types, R>,
+    drawn: Drawn,
+) -> Result<(Option<u64>, String), Fail> {
+    let step = step_of(alloc, drawn)?;
+    let reply = cache.step(step);
+    let text = text_of(alloc, &reply)?;
+    Ok((number_in(&reply), text))
+}
+
+/// What steps are drawn from.
+#[derive(Drop)]
+struct Source {
+    generator: SplitMix64,
+    /// The number of the turn that was named last, for each kind and key.
+    told: [u64; 9],
+    now: u64,
+}
+
+/// The place of a kind and a key.
+fn place_of(drawn: Drawn) -> usize {
+    drawn.kind.wrapping_mul(3).wrapping_add(drawn.key) as usize
+}
+
+impl Source {
+    /// One of so many numbers, from 0 on.
+    fn below(&mut self, bound: u64) -> u64 {
+        self.generator.next_u64().checked_rem(bound).unwrap_or(0)
+    }
+
+    /// A step for one of three keys, up to a second behind the one before. A turn is mostly named by the number that was
+    /// told last for its kind and its key.
+    fn next(&mut self) -> Drawn {
+        self.now = self.now.wrapping_add(self.below(1_000_000_000));
+        let drawn = Drawn {
+            what: self.below(WHAT),
+            key: self.below(3),
+            kind: self.below(3),
+            number: self.below(20),
+            given: self.below(6),
+            now: self.now,
+        };
+        match self.told.get(place_of(drawn)) {
+            Some(number) if drawn.number > 2 => Drawn {
+                number: *number,
+                ..drawn
+            },
+            _ => drawn,
+        }
+    }
+
+    /// Notes which turn was named.
+    fn learn(&mut self, drawn: Drawn, number: Option<u64>) {
+        if let (Some(number), Some(told)) = (number, self.told.get_mut(place_of(drawn))) {
+            *told = number;
+        }
+    }
+}
+
+/// Both caches answer so many steps alike, and have the same sizes then.
+fn answer_alike(
+    rt: &impl Abort,
+    alloc: Global,
+    one: &mut Numbers,
+    other: &mut InLists,
+    source: &mut Source,
+) -> Result<(), Fail> {
+    for place in 0..STEPS {
+        let drawn = source.next();
+        let (number, text) = replied(alloc, one, drawn)?;
+        let (_, expected) = replied(alloc, other, drawn)?;
+        assert_eq!(rt; text.as_str(), expected.as_str(), "step {place}");
+        source.learn(drawn, number);
+    }
+    assert_eq!(rt; one.notice_count(), other.notice_count());
+    Ok(())
+}
+
+/// How many steps a list has.
+const STEPS: u64 = 500;
+
+/// Without and with a capacity, under either policy, with each of the lives, and up to the last number.
+const ALL_RULES: [Rules; 5] = [
+    Rules::UNLIMITED,
+    Rules {
+        max_capacity: Some(2),
+        time_to_live: Some(5),
+        ..Rules::UNLIMITED
+    },
+    Rules {
+        max_capacity: Some(1),
+        is_tiny_lfu: true,
+        time_to_idle: Some(3),
+        ..Rules::UNLIMITED
+    },
+    Rules {
+        max_capacity: Some(0),
+        ..Rules::UNLIMITED
+    },
+    Rules {
+        first_number: u64::MAX - 60,
+        ..Rules::UNLIMITED
+    },
+];
+
+#[test]
+fn both_stores_answer_random_lists_alike(rt: HostRuntime) -> Result<(), Fail> {
+    for seed in 0..LISTS {
+        for rules in ALL_RULES {
+            answers_alike(&rt, rt.alloc(), rules, seed)?;
+        }
+    }
+    Ok(())
+}
+
+/// How many lists are tried with each of the rules.
+const LISTS: u64 = 4;
+
+fn answers_alike(rt: &impl Abort, alloc: Global, rules: Rules, seed: u64) -> Result<(), Fail> {
+    let mut one = opened_over(alloc, rules)?;
+    answers_as_lists(rt, alloc, rules, seed, &mut one)
+}
+
+/// A cache over plain lists answers as this one, which is as new.
+fn answers_as_lists(
+    rt: &impl Abort,
+    alloc: Global,
+    rules: Rules,
+    seed: u64,
+    one: &mut Numbers,
+) -> Result<(), Fail> {
+    let mut source = Source {
+        generator: SplitMix64::seed_from_u64(seed),
+        told: [0; 9],
+        now: 0,
+    };
+    let mut other = opened_over(alloc, rules)?;
+    answer_alike(rt, alloc, one, &mut other, &mut source)
+}

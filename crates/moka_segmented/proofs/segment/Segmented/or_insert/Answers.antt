@@ -1,0 +1,52 @@
+use Rattle.std.proofs.Common.{refl}
+use Rattle.std.specs.Arc.{arc_value}
+use Rattle.moka_ways.specs.Behaviour.{hash_by, behaviour_by}
+use Rattle.moka_ways.specs.StateData.{StateData, estimates, settings_by}
+use Rattle.moka_model.specs.Calls.{OrInsert}
+use Rattle.moka_state.specs.Given.{Gives}
+use Rattle.moka_state.specs.Hashes.{IsHashOf}
+use Rattle.moka_state.specs.OrInsert.{of_or_insert}
+use Rattle.moka_segmented.specs.SegmentedData.{SegmentedData, data_of, segmented_settings_by}
+use Rattle.moka_segmented.proofs.Asked.{routed-asked}
+use Rattle.moka_segmented.proofs.Hashing.{all-hash-set, hash-at}
+use Rattle.moka_segmented.proofs.Routed.{OnOk-by, OnErr-by, Routing, routed-follows, data-same}
+use Rattle.moka_segmented.proofs.segment.Segmented.or_insert.Goals as goal
+
+pub returns-clause-reply : goal.returns-clause-reply
+returns-clause-reply g c =
+    let behaviour = behaviour_by (hash_by g.C.Hasher.BuildHasher.build_hasher g.C.Hasher.Hasher.Hasher.write g.C.Hasher.Hasher.Hasher.finish g.K.Hash.hash_input) g.C.CacheTypes.weight g.C.CacheTypes.lifetimes in
+    let frequency = estimates g.C.Frequency.FrequencySource.noted g.C.Frequency.FrequencySource.count in
+    let it = c.self.inside in
+    let cache : SegmentedData _ _ _ _ _ _ _ = record { bits = it.bits; settings = data_of it.settings; segments = it.segments.items } in
+    let routing : Routing (segmented_settings_by behaviour (frequency g.C.Frequency.FrequencySource.opened) cache) it.segments.items c.index_mut.result.now c.place_of-place.result.index (arc_value c.args.key.now) =
+    record { here_is = c.index_mut.ensures.value; is = rw (← c.self.view_is, c.deref.ensures) at c.place_of-place.ensures.is; within = rw (← c.self.view_is) at c.place_of-place.ensures.within } in
+    let call = OrInsert (arc_value c.args.key.now) c.args.value c.args.now in
+    rw (← c.self.view_is) (routed-asked g.row.C-Error.Denot g.K.PartialEq.eq behaviour frequency g.C.Frequency.FrequencySource.opened cache _ _ (arc_value c.args.key.now) routing call refl (λ s steps. Gives g.K.PartialEq.eq g.V.Clone.is_clone g.V.Clone.is_infallible s steps call (of_or_insert c.or_insert_with_hash.result)) c.or_insert_with_hash.ensures.ends.reply)
+
+pub returns-clause-stands : goal.returns-clause-stands
+returns-clause-stands g c =
+    let behaviour = behaviour_by (hash_by g.C.Hasher.BuildHasher.build_hasher g.C.Hasher.Hasher.Hasher.write g.C.Hasher.Hasher.Hasher.finish g.K.Hash.hash_input) g.C.CacheTypes.weight g.C.CacheTypes.lifetimes in
+    let frequency = estimates g.C.Frequency.FrequencySource.noted g.C.Frequency.FrequencySource.count in
+    let it = c.self.inside in
+    let cache : SegmentedData _ _ _ _ _ _ _ = record { bits = it.bits; settings = data_of it.settings; segments = it.segments.items } in
+    let routing : Routing (segmented_settings_by behaviour (frequency g.C.Frequency.FrequencySource.opened) cache) it.segments.items c.index_mut.result.now c.place_of-place.result.index (arc_value c.args.key.now) =
+    record { here_is = c.index_mut.ensures.value; is = rw (← c.self.view_is, c.deref.ensures) at c.place_of-place.ensures.is; within = rw (← c.self.view_is) at c.place_of-place.ensures.within } in
+    let call = OrInsert (arc_value c.args.key.now) c.args.value c.args.now in
+    rw (← c.self.view_is) (OnOk-by c.or_insert_with_hash.result (λ follows. routed-follows g.row.C-Error.Denot g.K.PartialEq.eq behaviour frequency g.C.Frequency.FrequencySource.opened cache _ _ (arc_value c.args.key.now) routing call c.or_insert_with_hash.new.self refl follows) c.or_insert_with_hash.ensures.ends.stands)
+
+pub returns-clause-refused : goal.returns-clause-refused
+returns-clause-refused g c =
+    let it = c.self.inside in
+    rw (← c.self.view_is) (OnErr-by c.or_insert_with_hash.result (λ same. data-same it.bits (data_of it.settings) it.segments.items c.place_of-place.result.index c.index_mut.result.now c.or_insert_with_hash.new.self c.index_mut.ensures.value same) c.or_insert_with_hash.ensures.ends.refused)
+
+pub or_insert_with_hash-requires-clause-hash : goal.or_insert_with_hash-requires-clause-hash
+or_insert_with_hash-requires-clause-hash g c =
+    let behaviour = behaviour_by (hash_by g.C.Hasher.BuildHasher.build_hasher g.C.Hasher.Hasher.Hasher.write g.C.Hasher.Hasher.Hasher.finish g.K.Hash.hash_input) g.C.CacheTypes.weight g.C.CacheTypes.lifetimes in
+    let frequency = estimates g.C.Frequency.FrequencySource.noted g.C.Frequency.FrequencySource.count in
+    hash-at (λ (state : StateData _ _ _ _ _ _ _). IsHashOf (settings_by behaviour (frequency g.C.Frequency.FrequencySource.opened) state.settings) (arc_value c.args.key.now) c.place_of-place.result.hash) c.self.inside.segments.items c.place_of-place.result.index c.index_mut.result.now (rw (← c.self.view_is) at c.place_of-place.ensures.within) c.index_mut.ensures.value
+    (rw (← c.self.view_is, c.deref.ensures) at c.place_of-place.ensures.hash)
+
+pub invariant_of-self : goal.invariant_of-self
+invariant_of-self g c =
+    let it = c.self.inside in
+    all-hash-set _ it.segments.items c.place_of-place.result.index c.index_mut.result.now c.or_insert_with_hash.new.self c.index_mut.ensures.value c.or_insert_with_hash.ensures.settings c.self.invariant

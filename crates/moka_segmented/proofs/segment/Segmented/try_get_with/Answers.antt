@@ -1,0 +1,34 @@
+use Rattle.std.proofs.Common.{None, option_map}
+use Rattle.moka_model.specs.declared.turns.Kind.TheVariants.{Try}
+use Rattle.moka_ways.specs.Behaviour.{hash_by, behaviour_by}
+use Rattle.moka_ways.specs.StateData.{estimates}
+use Rattle.moka_state.specs.Forms.{tried_outcome}
+use Rattle.moka_segmented.specs.SegmentedData.{SegmentedData, data_of, segmented_settings_by}
+use Rattle.moka_segmented.proofs.Forms.{routed-form, unasked-by}
+use Rattle.moka_segmented.proofs.Hashing.{all-hash-set}
+use Rattle.moka_segmented.proofs.Routed.{Routing, data-same}
+use Rattle.moka_segmented.proofs.segment.Segmented.try_get_with.Goals as goal
+
+pub returns-clause-form : goal.returns-clause-form
+returns-clause-form g c =
+    let behaviour = behaviour_by (hash_by g.C.Hasher.BuildHasher.build_hasher g.C.Hasher.Hasher.Hasher.write g.C.Hasher.Hasher.Hasher.finish g.K.Hash.hash_input) g.C.CacheTypes.weight g.C.CacheTypes.lifetimes in
+    let frequency = estimates g.C.Frequency.FrequencySource.noted g.C.Frequency.FrequencySource.count in
+    let it = c.self.inside in
+    let cache : SegmentedData _ _ _ _ _ _ _ = record { bits = it.bits; settings = data_of it.settings; segments = it.segments.items } in
+    let settings = segmented_settings_by behaviour (frequency g.C.Frequency.FrequencySource.opened) cache in
+    let routing : Routing settings it.segments.items c.index_mut.result.now c.place_of-place.result.index c.args.key =
+    record { here_is = c.index_mut.ensures.value; is = rw (← c.self.view_is) at c.place_of-place.ensures.is; within = rw (← c.self.view_is) at c.place_of-place.ensures.within } in
+    let form = c.try_get_with.ensures.form in
+    rw (← c.self.view_is) (
+      form.0,
+      form.1,
+      routed-form g.row.C-Error.Denot g.K.PartialEq.eq behaviour frequency g.C.Frequency.FrequencySource.opened cache _ _ c.args.key routing c.try_get_with.new.self g.V.Clone.is_clone g.V.Clone.is_infallible Try None c.args.now (option_map tried_outcome form.0) form.1 form.2,
+      form.3,
+      form.4,
+      unasked-by form.0 form.1 (λ same. data-same it.bits (data_of it.settings) it.segments.items c.place_of-place.result.index c.index_mut.result.now c.try_get_with.new.self c.index_mut.ensures.value same) form.5,
+    )
+
+pub invariant_of-self : goal.invariant_of-self
+invariant_of-self g c =
+    let it = c.self.inside in
+    all-hash-set _ it.segments.items c.place_of-place.result.index c.index_mut.result.now c.try_get_with.new.self c.index_mut.ensures.value c.try_get_with.ensures.settings c.self.invariant

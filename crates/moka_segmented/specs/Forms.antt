@@ -1,0 +1,35 @@
+-- How a form of an initializer goes where there are several segments.
+use Rattle.std.specs.Prelude.{ℕ, Bool, Option, Some, None, List, ◌∷◌, Result, Ok, Err}
+use Rattle.moka_policy.specs.declared.policy.Refused.{Refused}
+use Rattle.moka_policy.specs.declared.policy.Refused.TheVariants as causes
+use Rattle.moka_model.specs.declared.turns.Outcome.{Outcome}
+use Rattle.moka_model.specs.Turns.{Name}
+use Rattle.moka_model.specs.Calls.{Call, Answer, Finish, Run, IsWait, IfAnswered, accepted}
+use Rattle.moka_state.specs.Forms.{IsEntered, end_call}
+use Rattle.moka_segments.specs.Segments.{SegmentedSettings, asked, place_of, share_settings, steps_in}
+use Rattle.moka_segmented.specs.Turns.{GivesIn}
+
+module _ {K V E : Type 0} (eq : K → K → Bool) (is_clone : V → V → Type 0) (is_infallible : V → Type 0)
+    (settings : SegmentedSettings K V) where
+  -- A turn ends with an outcome: its finish is given so by the segment that it asks, and then each segment stands for its own
+  -- list of the calls with the finish. Or the finish is refused, and they stand for the calls with an abandon.
+  abbrev pub EndsTurnIn : List (Call K V E) → Name K → Outcome V E → ℕ → Result (Answer K V E) Refused →
+      (List (Call K V E) → Type 0) → Type 0
+  EndsTurnIn calls name outcome now answer Stand =
+      GivesIn eq is_clone is_infallible settings calls (Finish name outcome now) answer
+      × Stand (end_call name outcome now answer ∷ calls)
+
+  -- A form is its begin, in the segment that this asks, and where that opens a turn, the end of the turn with what the closure
+  -- gave. `given` is what it gave, none where it was not asked; `Stand` says for which calls the segments stand then.
+  abbrev pub IsFormIn : List (Call K V E) → Call K V E → ℕ → Option (Outcome V E) → Result (Answer K V E) Refused →
+      (List (Call K V E) → Type 0) → Type 0
+  IsFormIn calls begin now None (Ok answer) Stand =
+      IsEntered answer × GivesIn eq is_clone is_infallible settings calls begin (Ok answer) × Stand (begin ∷ calls)
+  IsFormIn calls begin now None (Err causes.TurnIsOpen) Stand =
+      IfAnswered IsWait
+      (accepted eq (share_settings settings)
+      (steps_in E eq settings calls (asked (place_of E eq settings calls begin))) begin)
+  IsFormIn calls begin now None (Err cause) Stand = GivesIn eq is_clone is_infallible settings calls begin (Err cause)
+  IsFormIn calls begin now (Some outcome) answer Stand =
+      (name : Name K) × GivesIn eq is_clone is_infallible settings calls begin (Ok (Run name None))
+      × EndsTurnIn (begin ∷ calls) name outcome now answer Stand

@@ -1,0 +1,132 @@
+//! The begin of a turn and the forms of initializers with a closure, for who lends the key, each in the
+//! segment of the key.
+ghost use Rattle.std.specs.Prelude.{◌≡◌, ◌≢◌, Bool, Option, None, Result, true, option_map, IfOk, IfSome, OnOk, OnErr};
+ghost use Rattle.moka_model.specs.Calls as calls;
+ghost use Rattle.moka_model.specs.Calls.{Begin};
+ghost use Rattle.moka_state.specs.Begin.{FoundKeeps, IsAsked, IsNamed, IsSaidOf};
+ghost use Rattle.moka_state.specs.Forms.{IfRefusedUnasked, IsOptional, IsTried, IsValue, optional_outcome, tried_outcome};
+ghost use Rattle.moka_segments.specs.Segments.{live_in};
+ghost use Rattle.moka_segmented.specs.Forms.{IsFormIn};
+ghost use Rattle.moka_segmented.specs.Turns.{GivesBegunIn};
+
+use crate::segment::Segmented;
+use crate::segmented_view::SegmentedStateView;
+use moka_model::turns::{Kind, Outcome};
+use moka_policy::policy::{CacheTypes, Refused};
+use moka_rows::rows::RowStore;
+use moka_state::answers::Begun;
+use std::hash::Hash;
+use std::sync::Arc;
+
+impl<K: Hash + Clone + Drop, V: Clone, C: CacheTypes<K, V>, R: RowStore<K, V>> Segmented<
+    K,
+    V,
+    C,
+    R,
+> {
+    /// As [`Segmented::begin`], for who lends the key. Where a turn is opened or waited for, it is that of
+    /// a copy of the key, which is of the same segment; a look that finds an acceptable value copies none.
+    ///
+    /// It asks that a copy of a key equals it. Refused as [`Segmented::begin`], and with `OutOfMemory` for
+    /// the copy of the key and its share.
+    pub fn begin_by_ref<F: FnMut(&V) -> bool + Drop>(
+        &mut self,
+        key: &K,
+        kind: Kind,
+        replace_if: Option<F>,
+        now: u64,
+    ) -> Result<Begun<K, V>, Refused>
+        requires copies { (a b : K) → K.is_clone a b → K.eq a b ≡ true }
+        requires initializer { kind ≢ Kind.Compute }
+        requires asks { IfSome replace_if (λ f. F.IsAlwaysCallable f) }
+        ensures begins { (asked : K) × IsAsked K.eq K.is_clone key.now asked × (said : Option Bool)
+            × ⟦<C as SegmentedStateView<K, V>>⟧.at_each_list self.old (λ settings calls.
+            IsSaidOf F.FnMut replace_if (live_in C.Error K.eq settings calls asked now) said
+            × GivesBegunIn K.eq V.is_clone V.is_infallible settings calls
+            (Begin asked kind said now) true result)
+            × OnOk result (⟦<C as SegmentedStateView<K, V>>⟧.follows_in self.old
+            (Begin asked kind said now) self.new)
+            × IfOk result (IsNamed kind asked) }
+        ensures refused { OnErr result (self.new ≡ self.old) }
+        ensures kept { IfOk result (FoundKeeps C.keeps) }
+    {
+        let place = self.place_of(key);
+        self.segments[place.index].begin_by_ref(key, kind, replace_if, now)
+    }
+
+    /// As [`Segmented::get_with`], for who lends the key. What is written stands under a copy of the key,
+    /// which is of the same segment; where a live value is found no key is copied.
+    ///
+    /// It asks that a copy of a key equals it.
+    pub fn get_with_by_ref<F: FnOnce() -> V + Drop>(
+        &mut self,
+        key: &K,
+        init: F,
+        now: u64,
+    ) -> Result<V, Refused>
+        requires copies { (a b : K) → K.is_clone a b → K.eq a b ≡ true }
+        requires asks { F.IsAlwaysCallable init }
+        requires keeps { (v : V) → F.post init v → C.keeps key.now v }
+        ensures form { (asked : K) × IsAsked K.eq K.is_clone key.now asked × (given : Option V)
+            × (answer : Result (calls.Answer K V C.Error) Refused)
+            × ⟦<C as SegmentedStateView<K, V>>⟧.at_each_list self.old (λ settings calls.
+            IsFormIn K.eq V.is_clone V.is_infallible settings calls
+            (Begin asked Kind.With None now) now (option_map Outcome.Value given) answer
+            (λ later. ⟦<C as SegmentedStateView<K, V>>⟧.all_stand_for settings self.new later))
+            × IsValue answer result × IfSome given (F.post init)
+            × IfRefusedUnasked (self.new ≡ self.old) given answer }
+        ensures kept { IfOk result (C.keeps key.now) }
+    {
+        let place = self.place_of(key);
+        self.segments[place.index].get_with_by_ref(key, init, now)
+    }
+
+    /// As [`Segmented::optionally_get_with`], for who lends the key, as [`Segmented::get_with_by_ref`].
+    pub fn optionally_get_with_by_ref<F: FnOnce() -> Option<V> + Drop>(
+        &mut self,
+        key: &K,
+        init: F,
+        now: u64,
+    ) -> Result<Option<V>, Refused>
+        requires copies { (a b : K) → K.is_clone a b → K.eq a b ≡ true }
+        requires asks { F.IsAlwaysCallable init }
+        requires keeps { (o : Option V) → F.post init o → IfSome o (C.keeps key.now) }
+        ensures form { (asked : K) × IsAsked K.eq K.is_clone key.now asked
+            × (given : Option (Option V)) × (answer : Result (calls.Answer K V C.Error) Refused)
+            × ⟦<C as SegmentedStateView<K, V>>⟧.at_each_list self.old (λ settings calls.
+            IsFormIn K.eq V.is_clone V.is_infallible settings calls
+            (Begin asked Kind.Optionally None now) now (option_map optional_outcome given) answer
+            (λ later. ⟦<C as SegmentedStateView<K, V>>⟧.all_stand_for settings self.new later))
+            × IsOptional answer result × IfSome given (F.post init)
+            × IfRefusedUnasked (self.new ≡ self.old) given answer }
+        ensures kept { IfOk result (λ found. IfSome found (C.keeps key.now)) }
+    {
+        let place = self.place_of(key);
+        self.segments[place.index].optionally_get_with_by_ref(key, init, now)
+    }
+
+    /// As [`Segmented::try_get_with`], for who lends the key, as [`Segmented::get_with_by_ref`].
+    pub fn try_get_with_by_ref<F: FnOnce() -> Result<V, C::Error> + Drop>(
+        &mut self,
+        key: &K,
+        init: F,
+        now: u64,
+    ) -> Result<Result<V, Arc<C::Error>>, Refused>
+        requires copies { (a b : K) → K.is_clone a b → K.eq a b ≡ true }
+        requires asks { F.IsAlwaysCallable init }
+        requires keeps { (r : Result V C.Error) → F.post init r → IfOk r (C.keeps key.now) }
+        ensures form { (asked : K) × IsAsked K.eq K.is_clone key.now asked
+            × (given : Option (Result V C.Error))
+            × (answer : Result (calls.Answer K V C.Error) Refused)
+            × ⟦<C as SegmentedStateView<K, V>>⟧.at_each_list self.old (λ settings calls.
+            IsFormIn K.eq V.is_clone V.is_infallible settings calls
+            (Begin asked Kind.Try None now) now (option_map tried_outcome given) answer
+            (λ later. ⟦<C as SegmentedStateView<K, V>>⟧.all_stand_for settings self.new later))
+            × IsTried answer result × IfSome given (F.post init)
+            × IfRefusedUnasked (self.new ≡ self.old) given answer }
+        ensures kept { IfOk result (λ tried. IfOk tried (C.keeps key.now)) }
+    {
+        let place = self.place_of(key);
+        self.segments[place.index].try_get_with_by_ref(key, init, now)
+    }
+}

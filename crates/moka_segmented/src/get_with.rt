@@ -1,0 +1,125 @@
+//! The forms of initializers with a closure, each in the segment of its key: begin, closure and finish at
+//! one moment.
+ghost use Rattle.std.specs.Prelude.{◌≡◌, Bool, Option, None, Some, Result, option_map, IfOk, IfSome};
+ghost use Rattle.moka_model.specs.Calls as calls;
+ghost use Rattle.moka_model.specs.Calls.{Begin};
+ghost use Rattle.moka_state.specs.Begin.{IsSaidOf};
+ghost use Rattle.moka_state.specs.Forms.{IfRefusedUnasked, IsOptional, IsTried, IsValue, optional_outcome, tried_outcome};
+ghost use Rattle.moka_segments.specs.Segments.{live_in};
+ghost use Rattle.moka_segmented.specs.Forms.{IsFormIn};
+
+use crate::segment::Segmented;
+use crate::segmented_view::SegmentedStateView;
+use moka_model::turns::{Kind, Outcome};
+use moka_policy::policy::{CacheTypes, Refused};
+use moka_rows::rows::RowStore;
+use std::hash::Hash;
+use std::sync::Arc;
+
+impl<K: Hash + Drop, V: Clone, C: CacheTypes<K, V>, R: RowStore<K, V>> Segmented<K, V, C, R> {
+    /// The live value of a key, in its segment; where there is none, what the closure gives, which is
+    /// written. It is a begin of the kind `With`, and where that opens a turn, its finish with what the
+    /// closure gave, all at one moment. The closure is asked where a turn is opened, and once.
+    ///
+    /// Refused with `TurnIsOpen` where a turn of the key and the kind is open, since it would have to
+    /// wait for that; and as [`Segmented::begin`], which then changes nothing. Where the finish is
+    /// refused, as [`Segmented::finish`] may be, the turn is abandoned. It costs the form of the
+    /// segment's state, and hashes the key once more.
+    pub fn get_with<F: FnOnce() -> V + Drop>(
+        &mut self,
+        key: K,
+        init: F,
+        now: u64,
+    ) -> Result<V, Refused>
+        requires asks { F.IsAlwaysCallable init }
+        requires keeps { (v : V) → F.post init v → C.keeps key v }
+        ensures form { (given : Option V) × (answer : Result (calls.Answer K V C.Error) Refused)
+            × ⟦<C as SegmentedStateView<K, V>>⟧.at_each_list self.old (λ settings calls.
+            IsFormIn K.eq V.is_clone V.is_infallible settings calls (Begin key Kind.With None now) now
+            (option_map Outcome.Value given) answer
+            (λ later. ⟦<C as SegmentedStateView<K, V>>⟧.all_stand_for settings self.new later))
+            × IsValue answer result × IfSome given (F.post init)
+            × IfRefusedUnasked (self.new ≡ self.old) given answer }
+        ensures kept { IfOk result (C.keeps key) }
+    {
+        let place = self.place_of(&key);
+        self.segments[place.index].get_with(key, init, now)
+    }
+
+    /// As [`Segmented::get_with`], for a caller who is shown the live value and says whether to replace
+    /// it. One that is to be replaced is taken for none: the look is then a miss, and the closure's value
+    /// is written over it.
+    pub fn get_with_if<F: FnOnce() -> V + Drop, P: FnMut(&V) -> bool + Drop>(
+        &mut self,
+        key: K,
+        init: F,
+        replace_if: P,
+        now: u64,
+    ) -> Result<V, Refused>
+        requires asks { F.IsAlwaysCallable init }
+        requires shows { P.IsAlwaysCallable replace_if }
+        requires keeps { (v : V) → F.post init v → C.keeps key v }
+        ensures form { (said : Option Bool) × (given : Option V)
+            × (answer : Result (calls.Answer K V C.Error) Refused)
+            × ⟦<C as SegmentedStateView<K, V>>⟧.at_each_list self.old (λ settings calls.
+            IsSaidOf P.FnMut (Some replace_if) (live_in C.Error K.eq settings calls key now) said
+            × IsFormIn K.eq V.is_clone V.is_infallible settings calls (Begin key Kind.With said now) now
+            (option_map Outcome.Value given) answer
+            (λ later. ⟦<C as SegmentedStateView<K, V>>⟧.all_stand_for settings self.new later))
+            × IsValue answer result × IfSome given (F.post init)
+            × IfRefusedUnasked (self.new ≡ self.old) given answer }
+        ensures kept { IfOk result (C.keeps key) }
+    {
+        let place = self.place_of(&key);
+        self.segments[place.index].get_with_if(key, init, replace_if, now)
+    }
+
+    /// As [`Segmented::get_with`], for a closure that may give no value; then nothing is written, and
+    /// none is answered. Its begin is of the kind `Optionally`.
+    pub fn optionally_get_with<F: FnOnce() -> Option<V> + Drop>(
+        &mut self,
+        key: K,
+        init: F,
+        now: u64,
+    ) -> Result<Option<V>, Refused>
+        requires asks { F.IsAlwaysCallable init }
+        requires keeps { (o : Option V) → F.post init o → IfSome o (C.keeps key) }
+        ensures form { (given : Option (Option V))
+            × (answer : Result (calls.Answer K V C.Error) Refused)
+            × ⟦<C as SegmentedStateView<K, V>>⟧.at_each_list self.old (λ settings calls.
+            IsFormIn K.eq V.is_clone V.is_infallible settings calls
+            (Begin key Kind.Optionally None now) now (option_map optional_outcome given) answer
+            (λ later. ⟦<C as SegmentedStateView<K, V>>⟧.all_stand_for settings self.new later))
+            × IsOptional answer result × IfSome given (F.post init)
+            × IfRefusedUnasked (self.new ≡ self.old) given answer }
+        ensures kept { IfOk result (λ found. IfSome found (C.keeps key)) }
+    {
+        let place = self.place_of(&key);
+        self.segments[place.index].optionally_get_with(key, init, now)
+    }
+
+    /// As [`Segmented::get_with`], for a closure that may fail; then nothing is written, and its error is
+    /// answered, shared. Its begin is of the kind `Try`. Where the error finds no memory to be shared, the
+    /// turn is abandoned and the call refused with `OutOfMemory`.
+    pub fn try_get_with<F: FnOnce() -> Result<V, C::Error> + Drop>(
+        &mut self,
+        key: K,
+        init: F,
+        now: u64,
+    ) -> Result<Result<V, Arc<C::Error>>, Refused>
+        requires asks { F.IsAlwaysCallable init }
+        requires keeps { (r : Result V C.Error) → F.post init r → IfOk r (C.keeps key) }
+        ensures form { (given : Option (Result V C.Error))
+            × (answer : Result (calls.Answer K V C.Error) Refused)
+            × ⟦<C as SegmentedStateView<K, V>>⟧.at_each_list self.old (λ settings calls.
+            IsFormIn K.eq V.is_clone V.is_infallible settings calls (Begin key Kind.Try None now) now
+            (option_map tried_outcome given) answer
+            (λ later. ⟦<C as SegmentedStateView<K, V>>⟧.all_stand_for settings self.new later))
+            × IsTried answer result × IfSome given (F.post init)
+            × IfRefusedUnasked (self.new ≡ self.old) given answer }
+        ensures kept { IfOk result (λ tried. IfOk tried (C.keeps key)) }
+    {
+        let place = self.place_of(&key);
+        self.segments[place.index].try_get_with(key, init, now)
+    }
+}

@@ -1,0 +1,229 @@
+//! The forms of initializers with a closure, each in the segment of its key.
+use crate::caches::{Hasher, UPPER};
+use moka::policy::{EvictionPolicy, ManualClock, NoExpiry, NoPredicate, NoWeigher, Refused};
+use moka::ready::ReadyTypes;
+use moka::state::CacheState;
+use moka::sync::CacheBuilder;
+use moka::sync::segment::SegmentedState;
+use moka::sync::value_initializer::{Begun, Kind};
+use std::alloc::Global;
+use std::process::Abort;
+use std::test::Fail;
+
+/// Initializers may fail with a number.
+type Types = ReadyTypes<Hasher, NoWeigher, NoExpiry, ManualClock, NoPredicate, u64>;
+
+type Numbers = SegmentedState<u64, u64, Types>;
+
+type One = CacheState<u64, u64, Types>;
+
+/// A cache of four segments, with room for ten keys in each.
+fn opened(alloc: Global) -> Result<Numbers, Fail> {
+    Ok(
+        CacheBuilder::new(40)
+            .eviction_policy(EvictionPolicy::lru())
+            .segments(4)?
+            .build_segmented_state(alloc, Hasher::default())?,
+    )
+}
+
+/// A state with the share of a segment.
+fn one(alloc: Global) -> Result<One, Fail> {
+    Ok(
+        CacheBuilder::new(10)
+            .eviction_policy(EvictionPolicy::lru())
+            .build_state(alloc, Hasher::default())?,
+    )
+}
+
+/// A key of each of four segments.
+const KEYS: [u64; 4] = [1, 1 << 62, UPPER, u64::MAX];
+
+/// Of the four segments this one alone has this key.
+fn stands_in(rt: &impl Abort, cache: &Numbers, key: u64, index: usize) {
+    for place in 0..cache.segments().len() {
+        assert_eq!(rt;
+            cache.segments()[place].contains_key(&key, 0),
+            place == index
+        );
+    }
+}
+
+/// No segment has this key.
+fn stands_nowhere(rt: &impl Abort, cache: &Numbers, key: u64) {
+    stands_in(rt, cache, key, cache.segments().len());
+}
+
+#[test]
+fn what_is_worked_out_is_of_the_segment_of_its_key(rt: HostRuntime) -> Result<(), Fail> {
+    let mut cache = opened(rt.alloc())?;
+    for index in 0..KEYS.len() {
+        let key = KEYS[index];
+        assert_eq!(rt; cache.get_with(key, || 7, 0), Ok(7));
+        stands_in(&rt, &cache, key, index);
+        assert_eq!(rt; cache.get_with(key, || 8, 0), Ok(7));
+    }
+    Ok(())
+}
+
+#[test]
+fn what_is_turned_down_is_replaced_in_its_segment(rt: HostRuntime) -> Result<(), Fail> {
+    let mut cache = opened(rt.alloc())?;
+    for index in 0..KEYS.len() {
+        let key = KEYS[index];
+        assert_eq!(rt; cache.get_with_if(key, || 7, |_| true, 0), Ok(7));
+        assert_eq!(rt; cache.get_with_if(key, || 8, |value| *value == 8, 0), Ok(7));
+        assert_eq!(rt; cache.get_with_if(key, || 8, |value| *value == 7, 0), Ok(8));
+        stands_in(&rt, &cache, key, index);
+    }
+    Ok(())
+}
+
+#[test]
+fn nothing_is_written_where_none_is_given(rt: HostRuntime) -> Result<(), Fail> {
+    let mut cache = opened(rt.alloc())?;
+    for index in 0..KEYS.len() {
+        let key = KEYS[index];
+        assert_eq!(rt; cache.optionally_get_with(key, || None, 0), Ok(None));
+        stands_nowhere(&rt, &cache, key);
+        assert_eq!(rt; cache.optionally_get_with(key, || Some(7), 0), Ok(Some(7)));
+        stands_in(&rt, &cache, key, index);
+        assert_eq!(rt; cache.optionally_get_with(key, || None, 0), Ok(Some(7)));
+    }
+    Ok(())
+}
+
+#[test]
+fn nor_where_an_initializer_fails(rt: HostRuntime) -> Result<(), Fail> {
+    let mut cache = opened(rt.alloc())?;
+    for index in 0..KEYS.len() {
+        let key = KEYS[index];
+        let failed = cache.try_get_with(key, || Err(9), 0);
+        assert!(rt; matches!(&failed, Ok(Err(error)) if **error == 9));
+        stands_nowhere(&rt, &cache, key);
+        assert!(rt; matches!(cache.try_get_with(key, || Ok(7), 0), Ok(Ok(7))));
+        stands_in(&rt, &cache, key, index);
+        assert!(rt; matches!(cache.try_get_with(key, || Err(9), 0), Ok(Ok(7))));
+    }
+    Ok(())
+}
+
+#[test]
+fn lent_keys_are_of_the_same_segment(rt: HostRuntime) -> Result<(), Fail> {
+    let mut cache = opened(rt.alloc())?;
+    for index in 0..KEYS.len() {
+        let key = KEYS[index];
+        assert_eq!(rt; cache.get_with_by_ref(&key, || 7, 0), Ok(7));
+        stands_in(&rt, &cache, key, index);
+        assert_eq!(rt; cache.get_with_by_ref(&key, || 8, 0), Ok(7));
+    }
+    Ok(())
+}
+
+#[test]
+fn lent_keys_may_get_none_or_an_error(rt: HostRuntime) -> Result<(), Fail> {
+    let mut cache = opened(rt.alloc())?;
+    for index in 0..KEYS.len() {
+        let key = KEYS[index];
+        assert_eq!(rt;
+            cache.optionally_get_with_by_ref(&key, || None, 0),
+            Ok(None)
+        );
+        let failed = cache.try_get_with_by_ref(&key, || Err(9), 0);
+        assert!(rt; matches!(&failed, Ok(Err(error)) if **error == 9));
+        stands_nowhere(&rt, &cache, key);
+        assert_eq!(rt;
+            cache.optionally_get_with_by_ref(&key, || Some(7), 0),
+            Ok(Some(7))
+        );
+        stands_in(&rt, &cache, key, index);
+        assert!(rt; matches!(cache.try_get_with_by_ref(&key, || Err(9), 0), Ok(Ok(7))));
+    }
+    Ok(())
+}
+
+/// A begin of a lent key opens a turn of this number, of the key's segment, which is abandoned.
+fn opens(rt: &impl Abort, cache: &mut Numbers, key: u64, number: u64) {
+    match cache.begin_by_ref(&key, Kind::With, None::<fn(&u64) -> bool>, 0) {
+        Ok(Begun::Run(turn)) => {
+            assert_eq!(rt; (turn.number(), *turn.key()), (number, key));
+            let refused = cache.get_with_by_ref(&key, || 7, 0);
+            assert!(rt; cache.abandon(turn).is_ok());
+            assert_eq!(rt; refused, Err(Refused::TurnIsOpen));
+        }
+        Ok(Begun::Wait(ticket)) => {
+            let _ = cache.leave(ticket);
+            panic!(rt; "it waits")
+        }
+        Ok(Begun::Found(_)) => panic!(rt; "it is found"),
+        Err(_) => panic!(rt; "it is refused"),
+    }
+}
+
+#[test]
+fn an_open_turn_is_not_waited_for(rt: HostRuntime) -> Result<(), Fail> {
+    let mut cache = opened(rt.alloc())?;
+    for key in KEYS {
+        opens(&rt, &mut cache, key, 0);
+        assert_eq!(rt; cache.get_with(key, || 7, 0), Ok(7));
+    }
+    Ok(())
+}
+
+/// A form of a key is answered by the cache and by a state of its own alike.
+fn works_out_alike(rt: &impl Abort, cache: &mut Numbers, own: &mut One, key: u64, now: u64) {
+    let said = own.get_with(key, || now, now);
+    assert_eq!(rt; cache.get_with(key, || now, now), said);
+}
+
+fn replaces_alike(rt: &impl Abort, cache: &mut Numbers, own: &mut One, key: u64, now: u64) {
+    let said = own.get_with_if(key, || key, |value| *value == now, now);
+    assert_eq!(rt;
+        cache.get_with_if(key, || key, |value| *value == now, now),
+        said
+    );
+}
+
+fn gives_none_alike(rt: &impl Abort, cache: &mut Numbers, own: &mut One, key: u64, now: u64) {
+    let said = own.optionally_get_with_by_ref(&key, || None, now);
+    assert_eq!(rt; cache.optionally_get_with_by_ref(&key, || None, now), said);
+}
+
+fn finds_alike(rt: &impl Abort, cache: &mut Numbers, own: &mut One, key: u64) {
+    let said = own.get(&key, 30);
+    assert_eq!(rt; cache.get(&key, 30), said);
+}
+
+/// The segment of these keys has as many as a state of its own.
+fn has_as_many(rt: &impl Abort, cache: &Numbers, own: &One) {
+    match cache.segments().get(2) {
+        Some(segment) => assert_eq!(rt; segment.entry_count(), own.entry_count()),
+        None => panic!(rt; "there are fewer segments"),
+    }
+}
+
+/// A cache is built, and its forms are answered as by the state.
+fn answers_as(rt: &impl Abort, alloc: Global, own: &mut One) -> Result<(), Fail> {
+    let mut cache = opened(alloc)?;
+    for step in 0..30 {
+        let key = UPPER + step % 12;
+        let other = UPPER + 1 + step % 12;
+        assert!(rt; cache.get_with(step, || step, 0).is_ok());
+        works_out_alike(rt, &mut cache, own, key, step);
+        replaces_alike(rt, &mut cache, own, key, step);
+        gives_none_alike(rt, &mut cache, own, other, step);
+    }
+    own.run_pending_tasks(30);
+    cache.run_pending_tasks(30);
+    has_as_many(rt, &cache, own);
+    for key in UPPER..UPPER + 12 {
+        finds_alike(rt, &mut cache, own, key);
+    }
+    Ok(())
+}
+
+#[test]
+fn a_segment_answers_as_a_state_of_its_own(rt: HostRuntime) -> Result<(), Fail> {
+    let mut own = one(rt.alloc())?;
+    answers_as(&rt, rt.alloc(), &mut own)
+}

@@ -1,0 +1,267 @@
+-- What the begin of a compute is to the definitions, and what the end of one is answered.
+use Rattle.std.proofs.Common.{◌≡◌, ◌≢◌, ℕ, ◌<◌, ◌^◌, ◌==◌, max, not, ◌&&◌, Bool, true, false, cond, is_some, is_none, option_map, Option, Some, None, IfSome, List, [], ◌∷◌, ◌++◌, refl, sym, ap, ◌∙◌, subst, inl, inr, ◌⊎◌, arith}
+use Rattle.std.specs.Prelude.{Result, Ok, Err, IsSomeAnd}
+use Rattle.std.specs.Arc.{arc_value}
+use Rattle.std.specs.Cmp.{IsEquivalence}
+use Rattle.std.specs.List.{AllByRecursion}
+use Rattle.std.proofs.lemmas.Bool.{and_parts}
+use Rattle.moka_model.specs.declared.turns.Kind.{Kind}
+use Rattle.moka_model.specs.declared.turns.Kind.TheVariants.{Compute}
+use Rattle.moka_model.specs.declared.turns.Op.TheVariants as ops
+use Rattle.moka_model.specs.declared.comp_result.CompResult.{CompResult}
+use Rattle.moka_model.specs.declared.comp_result.CompResult.TheVariants as results
+use Rattle.moka_model.specs.Lives.{Settings, Write, has_come, is_live}
+use Rattle.moka_model.specs.Events.{Event, Looked, Passed, Drawn}
+use Rattle.moka_model.specs.Numbers.{next_number, greatest_number}
+use Rattle.moka_model.specs.Turns.{Turn, Name, Opened, Waited, AreApart, found, is_open_for, same_kind}
+use Rattle.moka_model.specs.Steps.{AcceptedStep, events_in, turns}
+use Rattle.moka_model.specs.Calls.{Call, Accepted, Answer, BeginCompute, Run, Wait, StillNone, begun_compute, new_name, live_at, accepted, after, with_step, entry_of, entry_under, fresh_entry, put_by, removed_by, kept_by, IsAnswer, IsCopyOf, IsCopiedEntry, IsEntryOf, WantsNumber}
+use Rattle.moka_model.specs.Calls as calls
+use Rattle.moka_model.specs.Entries as entries_of
+use Rattle.moka_model.specs.CompResults.{of_computed}
+use Rattle.moka_model.specs.StandsFor.{View, StandsFor}
+use Rattle.moka_model.proofs.Callers.{whole, found-is, same_kind-is}
+use Rattle.moka_policy.specs.declared.policy.Refused.{Refused}
+use Rattle.moka_policy.specs.declared.policy.Refused.TheVariants as causes
+use Rattle.moka_rows.specs.declared.rows.Row.{Row}
+use Rattle.moka_rows.specs.Rows.{row_under, touched}
+use Rattle.moka_turns.specs.declared.turn_key.TurnKey.{TurnKey}
+use Rattle.moka_turns.specs.declared.table.OpenTurn.{OpenTurn}
+use Rattle.moka_turns.specs.declared.table.EndedTurn.{EndedTurn}
+use Rattle.moka_turns.specs.Begun.{IsBegun}
+use Rattle.moka_turns.specs.Keeps.{Keeps, IsOpenRow}
+use Rattle.moka_turns.proofs.Opens.{none-agree}
+use Rattle.moka_ways.specs.declared.lives.Lives.{Lives}
+use Rattle.moka_ways.specs.Lives.{IsDated, AreDated}
+use Rattle.moka_ways.proofs.Callers.{alive-kept}
+use Rattle.moka_table.specs.Look.{IsEntryOfRow}
+use Rattle.moka_table.specs.Target.{is_live_row}
+use Rattle.moka_table.specs.Table.{Contents, entries, stored_write}
+use Rattle.moka_table.proofs.Callers.{of-row}
+use Rattle.moka_maintain.specs.Hit.{UsesAt}
+use Rattle.moka_state.specs.declared.compute.Shown.{Shown}
+use Rattle.moka_state.specs.Compute.{IsShown, IsLeft, IsRemoved, IsPut}
+use Rattle.moka_state.specs.Finish.{IsComputed}
+use Rattle.moka_state.specs.Given.{Gives}
+use Rattle.moka_state.proofs.Becoming.{HasNoted, stored-same, becomes-hit}
+use Rattle.moka_state.proofs.Begins.{found-numbered}
+use Rattle.moka_state.proofs.Finds.{live-row, live-absent}
+use Rattle.moka_state.proofs.Held.{same-key}
+use Rattle.moka_state.proofs.Maintained.{HasLives}
+use Rattle.moka_state.proofs.Turns.{gives-accepted}
+use Rattle.moka_state.proofs.Views.{view_with, Becomes, one-each}
+
+-- What a compute is answered is what the definitions say, and under its key.
+module _ {K V : Type 0} (is_clone : V → V → Type 0) (key : K) where
+  copied-entry : (a e x : calls.Entry K V) → x ≡ e → IsCopiedEntry is_clone a e → IsCopiedEntry is_clone a x
+  copied-entry a e x is copied = subst (λ (y : calls.Entry K V). IsCopiedEntry is_clone a y) (sym is) copied
+
+  pub left-answer : (E : Type 0) (name : Name K) → key ≡ name.key → (kept copy : Option V) → IsCopyOf is_clone kept copy → (result : CompResult K V) → IsLeft key copy result → IsAnswer is_clone (kept_by {E = E} name kept) (of_computed result)
+  left-answer E name keyed None None copied (results.StillNone own) is = ap (λ k. let a : Answer K V E = StillNone k in a) (is ∙ keyed)
+  left-answer E name keyed None None copied (results.Unchanged entry) is = absurd is
+  left-answer E name keyed None None copied (results.Inserted entry) is = absurd is
+  left-answer E name keyed None None copied (results.ReplacedWith entry) is = absurd is
+  left-answer E name keyed None None copied (results.Removed entry) is = absurd is
+  left-answer E name keyed None (Some w) copied result is = absurd copied
+  left-answer E name keyed (Some v) None copied result is = absurd copied
+  left-answer E name keyed (Some v) (Some w) copied (results.StillNone own) is = absurd is
+  left-answer E name keyed (Some v) (Some w) copied (results.Unchanged entry) is = copied-entry (entry_under name.key v) (entry_under key w) (entries_of.entry_of entry) is (keyed, copied, refl, refl)
+  left-answer E name keyed (Some v) (Some w) copied (results.Inserted entry) is = absurd is
+  left-answer E name keyed (Some v) (Some w) copied (results.ReplacedWith entry) is = absurd is
+  left-answer E name keyed (Some v) (Some w) copied (results.Removed entry) is = absurd is
+
+  pub left-given : (own : K) → key ≡ own → (copy : Option V) (result : CompResult K V) → IsLeft key copy result → IsComputed is_clone own ops.Nop result
+  left-given own keyed None (results.StillNone k) is = is ∙ keyed
+  left-given own keyed None (results.Unchanged entry) is = absurd is
+  left-given own keyed None (results.Inserted entry) is = absurd is
+  left-given own keyed None (results.ReplacedWith entry) is = absurd is
+  left-given own keyed None (results.Removed entry) is = absurd is
+  left-given own keyed (Some w) (results.StillNone k) is = absurd is
+  left-given own keyed (Some w) (results.Unchanged entry) is = ap (λ (x : calls.Entry K V). x.key) is ∙ keyed
+  left-given own keyed (Some w) (results.Inserted entry) is = absurd is
+  left-given own keyed (Some w) (results.ReplacedWith entry) is = absurd is
+  left-given own keyed (Some w) (results.Removed entry) is = absurd is
+
+  pub removed-answer : (E : Type 0) (name : Name K) → key ≡ name.key → (live : Option (Write K V)) (copy : Option V) → IsCopyOf is_clone (option_map (λ w. w.value) live) copy → (result : CompResult K V) → IsRemoved key copy result → IsAnswer is_clone (removed_by {E = E} name live) (of_computed result)
+  removed-answer E name keyed None None copied (results.StillNone own) is = ap (λ k. let a : Answer K V E = StillNone k in a) (is ∙ keyed)
+  removed-answer E name keyed None None copied (results.Unchanged entry) is = absurd is
+  removed-answer E name keyed None None copied (results.Inserted entry) is = absurd is
+  removed-answer E name keyed None None copied (results.ReplacedWith entry) is = absurd is
+  removed-answer E name keyed None None copied (results.Removed entry) is = absurd is
+  removed-answer E name keyed None (Some w) copied result is = absurd copied
+  removed-answer E name keyed (Some v) None copied result is = absurd copied
+  removed-answer E name keyed (Some v) (Some w) copied (results.StillNone own) is = absurd is
+  removed-answer E name keyed (Some v) (Some w) copied (results.Unchanged entry) is = absurd is
+  removed-answer E name keyed (Some v) (Some w) copied (results.Inserted entry) is = absurd is
+  removed-answer E name keyed (Some v) (Some w) copied (results.ReplacedWith entry) is = absurd is
+  removed-answer E name keyed (Some v) (Some w) copied (results.Removed entry) is = copied-entry (entry_under name.key v.value) (entry_under key w) (entries_of.entry_of entry) is (keyed, copied, refl, refl)
+
+  pub removed-given : (own : K) → key ≡ own → (copy : Option V) (result : CompResult K V) → IsRemoved key copy result → IsComputed is_clone own ops.Remove result
+  removed-given own keyed None (results.StillNone k) is = is ∙ keyed
+  removed-given own keyed None (results.Unchanged entry) is = absurd is
+  removed-given own keyed None (results.Inserted entry) is = absurd is
+  removed-given own keyed None (results.ReplacedWith entry) is = absurd is
+  removed-given own keyed None (results.Removed entry) is = absurd is
+  removed-given own keyed (Some w) (results.StillNone k) is = absurd is
+  removed-given own keyed (Some w) (results.Unchanged entry) is = absurd is
+  removed-given own keyed (Some w) (results.Inserted entry) is = absurd is
+  removed-given own keyed (Some w) (results.ReplacedWith entry) is = absurd is
+  removed-given own keyed (Some w) (results.Removed entry) is = ap (λ (x : calls.Entry K V). x.key) is ∙ keyed
+
+  module _ (v w : V) (copied : is_clone v w) where
+    pub put-answer : (E : Type 0) (name : Name K) → key ≡ name.key → (shown was_shown : Bool) → was_shown ≡ shown → (result : CompResult K V) → IsPut key w was_shown result → IsAnswer is_clone (put_by {E = E} name v shown) (of_computed result)
+    put-answer E name keyed true true same (results.ReplacedWith entry) is = copied-entry (fresh_entry name.key v true) (fresh_entry key w true) (entries_of.entry_of entry) is (keyed, copied, refl, refl)
+    put-answer E name keyed true true same (results.StillNone own) is = absurd is
+    put-answer E name keyed true true same (results.Unchanged entry) is = absurd is
+    put-answer E name keyed true true same (results.Inserted entry) is = absurd is
+    put-answer E name keyed true true same (results.Removed entry) is = absurd is
+    put-answer E name keyed false false same (results.Inserted entry) is = copied-entry (fresh_entry name.key v false) (fresh_entry key w false) (entries_of.entry_of entry) is (keyed, copied, refl, refl)
+    put-answer E name keyed false false same (results.StillNone own) is = absurd is
+    put-answer E name keyed false false same (results.Unchanged entry) is = absurd is
+    put-answer E name keyed false false same (results.ReplacedWith entry) is = absurd is
+    put-answer E name keyed false false same (results.Removed entry) is = absurd is
+    put-answer E name keyed true false same result is = cc
+    put-answer E name keyed false true same result is = cc
+
+    pub put-given : (own : K) → key ≡ own → (was_shown : Bool) (result : CompResult K V) → IsPut key w was_shown result → IsComputed is_clone own (ops.Put v) result
+    put-given own keyed true (results.ReplacedWith entry) is = (ap (λ (x : calls.Entry K V). x.key) is ∙ keyed, subst (λ (x : calls.Entry K V). is_clone v x.value) (sym is) copied)
+    put-given own keyed true (results.StillNone k) is = absurd is
+    put-given own keyed true (results.Unchanged entry) is = absurd is
+    put-given own keyed true (results.Inserted entry) is = absurd is
+    put-given own keyed true (results.Removed entry) is = absurd is
+    put-given own keyed false (results.Inserted entry) is = (ap (λ (x : calls.Entry K V). x.key) is ∙ keyed, subst (λ (x : calls.Entry K V). is_clone v x.value) (sym is) copied)
+    put-given own keyed false (results.StillNone k) is = absurd is
+    put-given own keyed false (results.Unchanged entry) is = absurd is
+    put-given own keyed false (results.ReplacedWith entry) is = absurd is
+    put-given own keyed false (results.Removed entry) is = absurd is
+
+-- a copy of a live value may fail, where one that was asked for was refused
+pub may-fail : {K V : Type 0} (is_infallible : V → Type 0) (dead : Bool) (w : Write K V) (o : Option (Write K V)) → o ≡ cond (not dead) (Some w) None → (dead ≡ true → ⊥) → (is_infallible w.value → ⊥) → IsSomeAnd o (λ w. ¬ (is_infallible w.value))
+may-fail is_infallible true w o is not_dead fails = absurd (not_dead refl)
+may-fail is_infallible false w o is not_dead fails = rw is fails
+
+-- the look of a compute that finds nothing has nothing to keep
+pub nothing-kept : {V : Type 0} (is_clone : V → V → Type 0) (keep : Bool) → IsCopyOf is_clone (cond keep None None) None
+nothing-kept is_clone true = tt
+nothing-kept is_clone false = tt
+
+-- where the table has no open turn of a key, there is none
+pub none-open : {K V E : Type 0} (eq : K → K → Bool) (is_clone : V → V → Type 0) (hash_of : K → ℕ) (ts : List (Turn K V E)) (opened : TurnKey K → Option (OpenTurn V)) (ended : ℕ → Option (EndedTurn K V E)) → Keeps eq is_clone hash_of ts opened ended
+    → (q : TurnKey K) → q.hash ≡ hash_of (arc_value q.key) → (b : Bool) → b ≡ is_some (opened q) → b ≡ false → found (is_open_for eq q.kind (arc_value q.key)) ts ≡ None
+none-open {K} {V} {E} eq is_clone hash_of ts opened ended keeps q hashed b told off =
+    none-agree (IsOpenRow eq is_clone) (found (is_open_for eq q.kind (arc_value q.key)) ts) (opened q) (keeps.opened_is q hashed) (absent (opened q) (sym told ∙ off))
+  where
+    absent : (o : Option (OpenTurn V)) → is_some o ≡ false → o ≡ None
+    absent None is = refl
+    absent (Some row) is = cc
+
+-- What the begin of a compute gives.
+module _ {K V E : Type 0} (eq : K → K → Bool) (is_clone : V → V → Type 0) (is_infallible : V → Type 0) (settings : Settings K V) (steps : List (AcceptedStep K V E)) (k : K) (keep : Bool) (at : ℕ) where
+  abbrev h : List (Event K V)
+  h = events_in steps
+
+  abbrev opened_here : Option (Turn K V E)
+  opened_here = found (is_open_for eq Compute k) (turns steps)
+
+  abbrev GivesHere : Result (Answer K V E) Refused → Type 0
+  GivesHere = Gives eq is_clone is_infallible settings steps (BeginCompute k keep at)
+
+  accepted-is : (t : Option (Turn K V E)) → opened_here ≡ t → accepted eq settings steps (BeginCompute k keep at) ≡ Some (begun_compute eq settings h k keep at t)
+  accepted-is t opened = ap (λ o. Some (begun_compute eq settings h k keep at o)) opened
+
+  pub gives-memory : GivesHere (Err causes.OutOfMemory)
+  gives-memory = (tt, λ no. absurd no)
+
+  -- another's open turn is waited for,
+  module _ (apart : AreApart (turns steps)) (t : Turn K V E) (opened : opened_here ≡ Some t) where
+    full : found (λ u. u.name.number == t.name.number) (turns steps) ≡ Some t
+    full = found-numbered (turns steps) apart t (found-is (is_open_for eq Compute k) (turns steps) t opened).0
+
+    kind_is : t.name.kind ≡ Compute
+    kind_is = same_kind-is t.name.kind Compute (and_parts (same_kind t.name.kind Compute) (eq t.name.key k) (and_parts (is_none t.end) (same_kind t.name.kind Compute && eq t.name.key k) (found-is (is_open_for eq Compute k) (turns steps) t opened).1).1).0
+
+    abbrev unspent_of : Option (Turn K V E) → ℕ
+    unspent_of None = 0
+    unspent_of (Some u) = u.unspent
+
+    pub compute-waits : t.unspent ≢ greatest_number → (name : Name K) → name ≡ record { number = t.name.number; kind = Compute; key = k } → GivesHere (Ok (Wait name))
+    compute-waits few name named =
+        gives-accepted eq is_clone is_infallible settings steps (BeginCompute k keep at) (begun_compute eq settings h k keep at (Some t)) (Wait name) (accepted-is (Some t) opened)
+        (ap (λ n. let a : Answer K V E = Wait n in a) (named ∙ ap (λ (q : Kind). let n : Name K = record { number = t.name.number; kind = q; key = k } in n) (sym kind_is)))
+        (λ out. let same = sym full ∙ out.1 in few (ap (λ (o : Option (Turn K V E)). unspent_of o) same ∙ out.2))
+
+    pub compute-full : t.unspent ≡ greatest_number → GivesHere (Err causes.NumbersUsedUp)
+    compute-full full_up = subst (WantsNumber (next_number settings h) (turns steps)) (sym (accepted-is (Some t) opened)) (t, full, full_up)
+
+    pub after-compute-waits : after eq settings (BeginCompute k keep at) steps ≡ (record { events = Passed at ∷ []; move = Some (Waited t.name.number) }) ∷ steps
+    after-compute-waits = ap (λ a. with_step a steps) (accepted-is (Some t) opened)
+
+  -- or one is opened, and the live value is shown
+  module _ (opened : opened_here ≡ None) where
+    pub compute-used-up : next_number settings h ≡ greatest_number → GivesHere (Err causes.NumbersUsedUp)
+    compute-used-up out = subst (WantsNumber (next_number settings h) (turns steps)) (sym (accepted-is None opened)) (omega arith, out)
+
+    pub compute-runs : (number : ℕ) → number ≡ next_number settings h → number ≢ greatest_number → (name : Name K) → name ≡ record { number = number; kind = Compute; key = k } → (o : Option (Write K V)) → live_at eq settings k at h ≡ o
+        → (entry : Option (calls.Entry K V)) → IsEntryOf is_clone (option_map entry_of o) entry → GivesHere (Ok (Run name entry))
+    compute-runs number counted some name named o live entry copied =
+        gives-accepted eq is_clone is_infallible settings steps (BeginCompute k keep at) (begun_compute eq settings h k keep at None) (Run name entry) (accepted-is None opened)
+        (named ∙ ap (λ n. let it : Name K = record { number = n; kind = Compute; key = k } in it) counted, subst (λ w. IsEntryOf is_clone (option_map entry_of w) entry) (sym live) copied) (λ out. some (counted ∙ out.1))
+
+    pub after-compute-runs : (number : ℕ) → number ≡ next_number settings h → (o : Option (Write K V)) → live_at eq settings k at h ≡ o → after eq settings (BeginCompute k keep at) steps
+        ≡ (record { events = Drawn ∷ Looked k at ∷ []; move = Some (Opened (record { number = number; kind = Compute; key = k }) (is_some o) (cond keep (option_map (λ w. w.value) o) None)) }) ∷ steps
+    after-compute-runs number counted o live =
+        ap (λ a. with_step a steps) (accepted-is None opened)
+        ∙ ap (λ (w : Option (Write K V)). let s : AcceptedStep K V E = record { events = Drawn ∷ Looked k at ∷ []; move = Some (Opened (record { number = next_number settings h; kind = Compute; key = k }) (is_some w) (cond keep (option_map (λ w. w.value) w) None)) } in s ∷ steps) live
+        ∙ ap (λ n. let s : AcceptedStep K V E = record { events = Drawn ∷ Looked k at ∷ []; move = Some (Opened (record { number = n; kind = Compute; key = k }) (is_some o) (cond keep (option_map (λ w. w.value) o) None)) } in s ∷ steps) (sym counted)
+
+  -- what a wait in the table is refused for
+  pub compute-refused : AreApart (turns steps) → (hash_of : K → ℕ) (opened_now : TurnKey K → Option (OpenTurn V)) (ended_now : ℕ → Option (EndedTurn K V E)) (q : TurnKey K) (number : ℕ) (o : Option (Turn K V E)) → opened_here ≡ o → number ≡ next_number settings h → (cause : Refused)
+      → IsBegun (λ after. Keeps eq is_clone hash_of after opened_now ended_now) q number true (turns steps) o (Err cause) → GivesHere (Err cause)
+  compute-refused apart hash_of opened_now ended_now q number None opened counted causes.OutOfMemory begins = gives-memory
+  compute-refused apart hash_of opened_now ended_now q number None opened counted causes.NumbersUsedUp begins = compute-used-up opened (sym counted ∙ begins)
+  compute-refused apart hash_of opened_now ended_now q number None opened counted causes.UnknownTurn begins = absurd begins
+  compute-refused apart hash_of opened_now ended_now q number None opened counted causes.UnknownTicket begins = absurd begins
+  compute-refused apart hash_of opened_now ended_now q number None opened counted causes.TurnIsOpen begins = absurd begins
+  compute-refused apart hash_of opened_now ended_now q number (Some t) opened counted causes.OutOfMemory begins = absurd begins
+  compute-refused apart hash_of opened_now ended_now q number (Some t) opened counted causes.NumbersUsedUp begins = compute-full apart t opened begins.1
+  compute-refused apart hash_of opened_now ended_now q number (Some t) opened counted causes.UnknownTurn begins = absurd begins
+  compute-refused apart hash_of opened_now ended_now q number (Some t) opened counted causes.UnknownTicket begins = absurd begins
+  compute-refused apart hash_of opened_now ended_now q number (Some t) opened counted causes.TurnIsOpen begins = cc
+
+-- What a look for a compute finds is what the definitions find, in whatever list the state stands for.
+module _ {K V E : Type 0} (eq : K → K → Bool) (is_clone : V → V → Type 0) {rows : List (Turn K V E)} (laws : IsEquivalence eq) (settings : Settings K V) (contents : Contents K V) (frequency : List ℕ → ℕ → ℕ) (latest number : ℕ)
+    (given : Settings K V) (steps : List (AcceptedStep K V E)) (stands : StandsFor eq is_clone given (whole (view_with settings contents frequency latest number) rows) steps) (lives : Lives) (expired_alike : HasLives settings lives) (dated : AreDated lives (entries contents))
+    (hash_of : K → ℕ) (respects : (a b : K) → eq a b ≡ true → hash_of a ≡ hash_of b) (hashed : AllByRecursion (λ p. p.1.hash ≡ hash_of (arc_value p.1.key)) (entries contents))
+    (k : K) (keep : Bool) (at hash : ℕ) (is : hash ≡ hash_of k) (is_moment : max latest at < 2 ^ 64) where
+  abbrev live_here : Option (Write K V)
+  live_here = live_at eq given k at (events_in steps)
+
+  alive-is : (n : ℕ) (row : Row K V) → row_under n (entries contents) ≡ Some row → (alive : Bool) → is_live_row (max latest at) (Some row) ≡ alive → (not row.info.is_hidden && not (has_come (Rattle.moka_ways.specs.Lives.deadline_of lives row.info) (max latest at))) ≡ alive
+  alive-is n row there alive live = alive-kept lives row.info (of-row (λ (r : Row K V). IsDated lives r.info) n (entries contents) row dated there) (max latest at) is_moment ∙ live
+
+  live-is : (n : ℕ) (row : Row K V) → row_under n (entries contents) ≡ Some row → eq (arc_value row.key) k ≡ true → (alive : Bool) → is_live_row (max latest at) (Some row) ≡ alive → live_here ≡ cond alive (Some (stored_write row)) None
+  live-is n row there same alive live = live-row eq laws settings contents frequency latest number given steps stands lives expired_alike k at n row there same alive (alive-is n row there alive live)
+
+  -- a row that is shown stores the live value,
+  pub shows-live : (shown : Shown K V) → IsShown eq is_clone keep k hash (max latest at) (entries contents) (Some shown)
+      → (row : Row K V) × (live_here ≡ Some (stored_write row)) × IsEntryOfRow is_clone row (entries_of.entry_of shown.entry) × IsCopyOf is_clone (cond keep (Some row.value) None) shown.kept
+  shows-live shown (row, there, of_key, live, entry, kept) = (row, live-is shown.number row there (same-key eq k hash row of_key) true live, entry, kept)
+
+  -- a use of it is the look,
+  pub shows-hit : (shown : Shown K V) (new : Contents K V) → IsShown eq is_clone keep k hash (max latest at) (entries contents) (Some shown) → IfSome (row_under shown.number (entries contents)) (λ row. UsesAt settings.behaviour lives shown.number row (max latest at) contents new)
+      → new.notices ≡ contents.notices → (noted : List ℕ → ℕ → ℕ) → HasNoted eq settings contents frequency latest number k noted
+      → Becomes eq (view_with settings contents frequency latest number) (Looked k at) (view_with settings new noted (max latest at) number)
+  shows-hit shown new (row, there, of_key, live, entry, kept) uses notices noted notes =
+      let same = same-key eq k hash row of_key in
+      let one = one-each eq laws given (view_with settings contents frequency latest number) steps stands in
+      let used = rw there at uses in
+      let touch_is = used.1 in
+      let live_then : is_live settings (stored_write row) (max latest at) ≡ true =
+      ap (λ (expired : Row K V → ℕ → Bool). not row.info.is_hidden && not (expired row (max latest at))) expired_alike ∙ alive-is shown.number row there true live in
+      becomes-hit eq settings contents frequency latest number one new k at shown.number row there same noted used.0 notes live_then
+      (stored-same _ (touched used.0 row) refl refl refl refl refl (sym touch_is.accessed) (sym touch_is.own) refl) used.2 notices
+
+  -- and where none is shown, nothing is live
+  pub shows-none : IsShown eq is_clone keep k hash (max latest at) (entries contents) None → live_here ≡ None
+  shows-none (inl none) = live-absent eq laws settings contents frequency latest number given steps stands hash_of respects hashed k at hash is none
+  shows-none (inr (n, row, there, of_key, dead)) = live-is n row there (same-key eq k hash row of_key) false dead

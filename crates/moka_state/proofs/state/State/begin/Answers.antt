@@ -1,0 +1,14 @@
+use Rattle.moka_state.proofs.state.State.begin.Goals as goal
+
+pub returns-in-Ok-clause-begins : goal.returns-in-Ok-clause-begins
+returns-in-Ok-clause-begins g c =
+    let looks = rw (c.deref-2.ensures, c.in-Ok-None.is, c.in-Ok-None.field-0-is) at c.acceptable_entry.ensures.looks in
+    let begins = rw (looks.1.stands, c.in-Ok.ensures.cases) at c.begin_turn.ensures.begins in
+    let ends = begins looks.0 (λ settings steps stands. (looks.1.reply settings steps stands).1) in (
+      looks.0,
+      record {
+        reply = λ settings steps stands. ((looks.1.reply settings steps stands).0, ends.reply settings steps stands);
+        stands = ends.stands;
+        refused = ends.refused;
+      },
+    )

@@ -1,0 +1,119 @@
+use Rattle.std.specs.Arc.{arc_value}
+use Rattle.moka_turns.proofs.Changes.{given-there}
+use Rattle.moka_state.proofs.Computes.{put-answer, put-given}
+use Rattle.std.proofs.Common.{◌≡◌, ◌<◌, None, Some, max, true, false, refl, sym, ap, ◌∙◌, subst, arith}
+use Rattle.moka_model.specs.declared.turns.Outcome.TheVariants.{Op}
+use Rattle.moka_model.specs.declared.turns.Op.TheVariants.{Put}
+use Rattle.moka_model.specs.Numbers.{next_number, stores_nothing}
+use Rattle.moka_model.specs.StandsFor.{Books, StandsFor}
+use Rattle.moka_model.specs.Lives.{Settings}
+use Rattle.moka_model.specs.Turns.{Name, Ended, moved}
+use Rattle.moka_model.specs.Turns as turning
+use Rattle.moka_model.specs.Steps.{events_in, turns}
+use Rattle.moka_model.specs.Calls.{Entered}
+use Rattle.moka_model.specs.Events.{Passed}
+use Rattle.moka_model.proofs.Callers.{whole, view-of, out_of_numbers-insert}
+use Rattle.moka_ways.specs.Behaviour.{hash_by}
+use Rattle.moka_turns.specs.Handles.{turn_name}
+use Rattle.moka_turns.specs.Views.{turns_of}
+use Rattle.moka_turns.proofs.Views.{table-keeps, table-holds}
+use Rattle.moka_state.proofs.Becoming.{becomes-passed}
+use Rattle.moka_state.proofs.Finishes.{FinishOutOfNumbers, never-replaced, with-books, same-books-of, open-told, closed-told, finish-unknown, finish-given, finish-memory, finish-full, finish-stands}
+use Rattle.moka_state.proofs.Inserts.{same-view, view-written, replaced-written, sound-written, view-nothing}
+use Rattle.moka_state.proofs.Sound.{IsSound-same}
+use Rattle.moka_state.proofs.Turns.{sound-turns, no-less}
+use Rattle.std.proofs.lemmas.Bool.{true≢false}
+use Rattle.moka_state.proofs.state.State.put_unstored.Goals as goal
+
+pub returns-in_default : goal.returns-in_default
+returns-in_default g c = rw c.refused.ensures (record {
+  reply = λ given steps stands.
+      let s = c.self.inside in
+      let eq = g.K.PartialEq.eq in
+      let laws = g.met.K.Eq.laws in
+      let name = c.rehashed-turn.ensures.name in
+      let hash_of = hash_by g.C.Hasher.BuildHasher.build_hasher g.C.Hasher.Hasher.Hasher.write g.C.Hasher.Hasher.Hasher.finish g.K.Hash.hash_input s.behaviour.hasher in
+      let hashed = c.rehashed-turn.ensures.hash ∙ c.hash-hash.ensures.hash ∙ ap hash_of (c.key.ensures ∙ sym (ap (λ (n : Name g.row.K.Denot). n.key) name)) in
+      let there = rw (← c.self.view_is) at stands in
+      let keeps = table-keeps eq laws g.V.Clone.is_clone hash_of c.hash-hash.ensures.alike s.turns.opened.entries s.turns.ended.entries (turns steps) there.turns in
+      let sound = sound-turns eq laws given steps stands.legal in
+      let told = c.waiting_for.ensures.tells hash_of (turns steps) c.hash-hash.ensures.alike hashed sound keeps in
+      let none = rw name at (closed-told _ _ c.waiting_for.result told c.in_default.is) in
+      finish-unknown eq given steps (turn_name c.args.turn) (Op (Put c.args.value)) c.args.now c.requires.fits g.V.Clone.is_clone g.V.Clone.is_infallible none;
+  stands = tt;
+  given = tt;
+  refused = refl;
+  turn_back = c.rehashed-turn.ensures.name;
+  outcome_back = refl;
+  settings = refl;
+})
+
+pub returns-in_default-clone : goal.returns-in_default-clone
+returns-in_default-clone g c = rw c.refused-in_default-clone.ensures (record {
+  reply = λ given steps stands.
+      let s = c.self.inside in
+      let eq = g.K.PartialEq.eq in
+      let laws = g.met.K.Eq.laws in
+      let name = c.rehashed-turn.ensures.name in
+      let hash_of = hash_by g.C.Hasher.BuildHasher.build_hasher g.C.Hasher.Hasher.Hasher.write g.C.Hasher.Hasher.Hasher.finish g.K.Hash.hash_input s.behaviour.hasher in
+      let hashed = c.rehashed-turn.ensures.hash ∙ c.hash-hash.ensures.hash ∙ ap hash_of (c.key.ensures ∙ sym (ap (λ (n : Name g.row.K.Denot). n.key) name)) in
+      let there = rw (← c.self.view_is) at stands in
+      let keeps = table-keeps eq laws g.V.Clone.is_clone hash_of c.hash-hash.ensures.alike s.turns.opened.entries s.turns.ended.entries (turns steps) there.turns in
+      let sound = sound-turns eq laws given steps stands.legal in
+      let told = c.waiting_for.ensures.tells hash_of (turns steps) c.hash-hash.ensures.alike hashed sound keeps in
+      let t = rw name at (open-told _ _ c.waiting_for.result told (rw c.in-Some.is refl)) in
+      let nothing : stores_nothing given.max_capacity ≡ true = ap (λ (s : Settings _ _). stores_nothing s.max_capacity) (sym there.settings) ∙ (rw (← c.self.view_is) at c.requires.nothing) in
+      let left : ¬ (FinishOutOfNumbers eq given steps (turn_name c.args.turn) (Op (Put c.args.value)) c.args.now c.requires.fits) = λ out. let stores : false ≡ true = sym ((out_of_numbers-insert eq given (turn_name c.args.turn).key c.args.value c.args.now steps).0 out).0 ∙ nothing in absurd (true≢false (sym stores)) in
+      finish-memory eq given steps (turn_name c.args.turn) (Op (Put c.args.value)) c.args.now c.requires.fits g.V.Clone.is_clone g.V.Clone.is_infallible t.0 t.1 tt (λ out. left out);
+  stands = tt;
+  given = tt;
+  refused = refl;
+  turn_back = c.rehashed-turn.ensures.name;
+  outcome_back = refl;
+  settings = refl;
+})
+
+pub returns : goal.returns
+returns g c = record {
+  reply = λ given steps stands.
+      let s = c.self.inside in
+      let eq = g.K.PartialEq.eq in
+      let laws = g.met.K.Eq.laws in
+      let name = c.rehashed-turn.ensures.name in
+      let hash_of = hash_by g.C.Hasher.BuildHasher.build_hasher g.C.Hasher.Hasher.Hasher.write g.C.Hasher.Hasher.Hasher.finish g.K.Hash.hash_input s.behaviour.hasher in
+      let hashed = c.rehashed-turn.ensures.hash ∙ c.hash-hash.ensures.hash ∙ ap hash_of (c.key.ensures ∙ sym (ap (λ (n : Name g.row.K.Denot). n.key) name)) in
+      let there = rw (← c.self.view_is) at stands in
+      let keeps = table-keeps eq laws g.V.Clone.is_clone hash_of c.hash-hash.ensures.alike s.turns.opened.entries s.turns.ended.entries (turns steps) there.turns in
+      let sound = sound-turns eq laws given steps stands.legal in
+      let told = c.waiting_for.ensures.tells hash_of (turns steps) c.hash-hash.ensures.alike hashed sound keeps in
+      let t = rw name at (open-told _ _ c.waiting_for.result told (rw c.in-Some.is refl)) in
+      let nothing : stores_nothing given.max_capacity ≡ true = ap (λ (s : Settings _ _). stores_nothing s.max_capacity) (sym there.settings) ∙ (rw (← c.self.view_is) at c.requires.nothing) in
+      let left : ¬ (FinishOutOfNumbers eq given steps (turn_name c.args.turn) (Op (Put c.args.value)) c.args.now c.requires.fits) = λ out. let stores : false ≡ true = sym ((out_of_numbers-insert eq given (turn_name c.args.turn).key c.args.value c.args.now steps).0 out).0 ∙ nothing in absurd (true≢false (sym stores)) in
+      let ends = given-there _ _ t.0 t.1 (rw name at (c.finish_computed-key.ensures.finishes hash_of (turns steps) c.hash-hash.ensures.alike hashed sound keeps)) in
+      let owned = ap arc_value c.finish_computed-key.ensures.key ∙ ap (λ (n : Name _). n.key) name in
+      finish-given eq given steps (turn_name c.args.turn) (Op (Put c.args.value)) c.args.now c.requires.fits g.V.Clone.is_clone g.V.Clone.is_infallible t.0 t.1 _
+      (put-answer g.V.Clone.is_clone _ c.args.value c.in-Ok.copy c.in-Ok.ensures.cases _ (turn_name c.args.turn) owned t.0.shown c.finish_computed-key.result.1.shown ends.0 c.put.result c.put.ensures) (λ out. left out);
+  stands = λ given steps stands.
+      let s = c.self.inside in
+      let eq = g.K.PartialEq.eq in
+      let laws = g.met.K.Eq.laws in
+      let name = c.rehashed-turn.ensures.name in
+      let hash_of = hash_by g.C.Hasher.BuildHasher.build_hasher g.C.Hasher.Hasher.Hasher.write g.C.Hasher.Hasher.Hasher.finish g.K.Hash.hash_input s.behaviour.hasher in
+      let hashed = c.rehashed-turn.ensures.hash ∙ c.hash-hash.ensures.hash ∙ ap hash_of (c.key.ensures ∙ sym (ap (λ (n : Name g.row.K.Denot). n.key) name)) in
+      let there = rw (← c.self.view_is) at stands in
+      let keeps = table-keeps eq laws g.V.Clone.is_clone hash_of c.hash-hash.ensures.alike s.turns.opened.entries s.turns.ended.entries (turns steps) there.turns in
+      let sound = sound-turns eq laws given steps stands.legal in
+      let told = c.waiting_for.ensures.tells hash_of (turns steps) c.hash-hash.ensures.alike hashed sound keeps in
+      let t = rw name at (open-told _ _ c.waiting_for.result told (rw c.in-Some.is refl)) in
+      let ends = given-there _ _ t.0 t.1 (rw name at (c.finish_computed-key.ensures.finishes hash_of (turns steps) c.hash-hash.ensures.alike hashed sound keeps)) in
+      rw c.max-self-inside.ensures (finish-stands eq given steps (turn_name c.args.turn) (Op (Put c.args.value)) c.args.now c.requires.fits _ _ _ there t.0 t.1 _
+      (view-nothing eq laws given _ (events_in steps) (view-of eq given _ steps there) _ (turn_name c.args.turn).key c.args.value c.args.now (rw (← c.self.view_is) at c.requires.nothing) (becomes-passed eq _ s.table _ s.latest s.next_number c.args.now))
+      (table-holds eq laws g.V.Clone.is_clone hash_of c.hash-hash.ensures.alike _ _ _ ends.2));
+  given =
+      let owned = ap arc_value c.finish_computed-key.ensures.key ∙ ap (λ (n : Name _). n.key) c.rehashed-turn.ensures.name in
+      put-given g.V.Clone.is_clone _ c.args.value c.in-Ok.copy c.in-Ok.ensures.cases (turn_name c.args.turn).key owned c.finish_computed-key.result.1.shown c.put.result c.put.ensures;
+  refused = tt;
+  turn_back = tt;
+  outcome_back = tt;
+  settings = rw (← c.self.view_is) refl;
+}

@@ -1,0 +1,63 @@
+-- How a compute begins, and what it is answered.
+use Rattle.std.specs.Prelude.{⊤, ◌≡◌, ◌⊎◌, ℕ, Bool, true, false, Option, Some, None, List, Result, OnOk, OnErr, if◌then◌else◌}
+use Rattle.std.specs.Arc.{arc_value}
+use Rattle.moka_policy.specs.declared.policy.Refused.{Refused}
+use Rattle.moka_model.specs.declared.turns.Kind.TheVariants.{Compute}
+use Rattle.moka_model.specs.declared.comp_result.CompResult.{CompResult}
+use Rattle.moka_model.specs.declared.comp_result.CompResult.TheVariants as results
+use Rattle.moka_model.specs.Calls.{IsCopyOf, entry_under, fresh_entry}
+use Rattle.moka_model.specs.Calls as calls
+use Rattle.moka_model.specs.Entries.{entry_of}
+use Rattle.moka_rows.specs.declared.rows.Row.{Row}
+use Rattle.moka_rows.specs.Rows.{row_under, IsRowOf, NoneIsRowOf}
+use Rattle.moka_table.specs.Look.{IsEntryOfRow}
+use Rattle.moka_table.specs.Target.{is_live_row}
+use Rattle.moka_ways.specs.StateData.{StateData}
+use Rattle.moka_state.specs.declared.answers.BegunCompute.{BegunCompute}
+use Rattle.moka_state.specs.declared.answers.BegunCompute.TheVariants as begins
+use Rattle.moka_state.specs.declared.compute.Shown.{Shown}
+use Rattle.moka_state.specs.Given.{of_begin_compute}
+
+-- A look for a compute finds the row of a key whose value is live: its entry, and where it is asked for a second copy of the value.
+-- Else there is no row of the key, or its value is dead.
+abbrev pub IsShown : {K V : Type 0} → (K → K → Bool) → (V → V → Type 0) → Bool → K → ℕ → ℕ →
+    List (ℕ × Row K V) → Option (Shown K V) → Type 0
+IsShown {K} {V} eq is_clone keep key hash at rows (Some shown) =
+    (row : Row K V) × (row_under shown.number rows ≡ Some row) × IsRowOf eq key hash row × (is_live_row at (Some row) ≡ true)
+    × IsEntryOfRow is_clone row (entry_of shown.entry) × IsCopyOf is_clone (if keep then Some row.value else None) shown.kept
+IsShown {K} {V} eq is_clone keep key hash at rows None =
+    NoneIsRowOf eq key hash rows
+    ⊎ ((n : ℕ) × (row : Row K V) × (row_under n rows ≡ Some row) × IsRowOf eq key hash row × (is_live_row at (Some row) ≡ false))
+
+-- A compute begins as is given: where it does, what follows holds, and where it is refused, nothing has changed.
+pub record ComputeBegins {K V H W X F E : Type 0} (gives : Result (calls.Answer K V E) Refused → Type 0) (follows : Type 0)
+    (old new : StateData K V H W X F E) (result : Result (BegunCompute K V) Refused) : Type 0 where
+  pub reply : gives (of_begin_compute result)
+  pub stands : OnOk result follows
+  pub refused : OnErr result (new ≡ old)
+
+-- a turn or a ticket that is handed out is a compute's, and has this very key
+abbrev pub IsCompute : {K V : Type 0} → K → BegunCompute K V → Type 0
+IsCompute key (begins.Run turn entry) = (turn.key.kind ≡ Compute) × (arc_value turn.key.key ≡ key)
+IsCompute key (begins.Wait ticket) = (ticket.key.kind ≡ Compute) × (arc_value ticket.key.key ≡ key)
+
+-- the value that is shown is kept, if one is
+abbrev pub ShownKeeps : {K V : Type 0} → (K → V → Type 0) → BegunCompute K V → Type 0
+ShownKeeps keeps (begins.Run turn (Some entry)) = keeps (entry_of entry).key (entry_of entry).value
+ShownKeeps keeps begun = ⊤
+
+-- what a compute is answered that does nothing, removes or puts
+abbrev pub IsLeft : {K V : Type 0} → K → Option V → CompResult K V → Type 0
+IsLeft key None (results.StillNone own) = arc_value own ≡ key
+IsLeft key (Some v) (results.Unchanged entry) = entry_of entry ≡ entry_under key v
+IsLeft key kept result = ⊥
+
+abbrev pub IsRemoved : {K V : Type 0} → K → Option V → CompResult K V → Type 0
+IsRemoved key None (results.StillNone own) = arc_value own ≡ key
+IsRemoved key (Some v) (results.Removed entry) = entry_of entry ≡ entry_under key v
+IsRemoved key removed result = ⊥
+
+abbrev pub IsPut : {K V : Type 0} → K → V → Bool → CompResult K V → Type 0
+IsPut key v true (results.ReplacedWith entry) = entry_of entry ≡ fresh_entry key v true
+IsPut key v false (results.Inserted entry) = entry_of entry ≡ fresh_entry key v false
+IsPut key v shown result = ⊥

@@ -1,0 +1,13 @@
+-- What the forms give that answer entries.
+use Rattle.std.specs.Prelude.{Option, Some, None, Result, Ok, Err}
+use Rattle.moka_policy.specs.declared.policy.Refused.{Refused}
+use Rattle.moka_model.specs.declared.entry.Entry.{Entry}
+use Rattle.moka_model.specs.Entries.{entry_of}
+use Rattle.moka_model.specs.Calls.{Answer, Entered, GaveNothing}
+
+module _ {K V E : Type 0} where
+  -- what the result of one that may answer none is to the definitions
+  abbrev pub of_optional : Result (Option (Entry K V)) Refused → Result (Answer K V E) Refused
+  of_optional (Ok (Some entry)) = Ok (Entered (entry_of entry))
+  of_optional (Ok None) = Ok GaveNothing
+  of_optional (Err cause) = Err cause

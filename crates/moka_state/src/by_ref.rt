@@ -1,0 +1,140 @@
+//! The forms of initializers with a closure, for who lends the key.
+ghost use Rattle.std.specs.Prelude.{◌≡◌, ◌≢◌, Option, None, Result, false, true, option_map, IfOk, IfSome};
+ghost use Rattle.moka_model.specs.Calls as calls;
+ghost use Rattle.moka_model.specs.Calls.{Begin};
+ghost use Rattle.moka_state.specs.Begin.{BeginEnds, FoundKeepsFor, GivesBegun, IfWait, IsAsked, IsNamed};
+ghost use Rattle.moka_state.specs.Forms.{IfRefusedUnasked, IsForm, IsOptional, IsTried, IsValue, optional_outcome, tried_outcome};
+
+use crate::answers::Begun;
+use crate::get_with::without;
+use crate::state::State;
+use moka_model::turns::{Kind, Outcome};
+use moka_policy::policy::{CacheTypes, Refused};
+use moka_rows::rows::RowStore;
+use moka_ways::view::StateView;
+use std::hash::Hash;
+use std::sync::Arc;
+
+impl<K: Hash + Clone + Drop, V: Clone, C: CacheTypes<K, V>, R: RowStore<K, V>> State<K, V, C, R> {
+    /// As [`State::get_with`], for who lends the key. What is written stands under a copy of the key; where
+    /// a live value is found no key is copied.
+    ///
+    /// It asks that a copy of a key equals it.
+    pub fn get_with_by_ref<F: FnOnce() -> V + Drop>(
+        &mut self,
+        key: &K,
+        init: F,
+        now: u64,
+    ) -> Result<V, Refused>
+        requires copies { (a b : K) → K.is_clone a b → K.eq a b ≡ true }
+        requires asks { F.IsAlwaysCallable init }
+        requires keeps { (v : V) → F.post init v → C.keeps key.now v }
+        ensures form { (asked : K) × IsAsked K.eq K.is_clone key.now asked × (given : Option V)
+            × (answer : Result (calls.Answer K V C.Error) Refused)
+            × ⟦<C as StateView<K, V>>⟧.at_each_history self.old (λ settings steps.
+            IsForm K.eq V.is_clone V.is_infallible settings steps (Begin asked Kind.With None now)
+            now (option_map Outcome.Value given) answer
+            (λ after. ⟦<C as StateView<K, V>>⟧.stands_for settings self.new after))
+            × IsValue answer result × IfSome given (F.post init)
+            × IfRefusedUnasked (self.new ≡ self.old) given answer }
+        ensures kept { IfOk result (C.keeps key.now) }
+        ensures settings { self.new.settings ≡ self.old.settings }
+    {
+        let begun = match self.begin_at_once_by_ref(key, Kind::With, now) {
+            Ok(begun) => begun,
+            Err(cause) => return Err(cause),
+        };
+        match begun {
+            Begun::Found(entry) => Ok(entry.into_value()),
+            Begun::Run(turn) => self.end_with_value(turn, init(), now),
+            Begun::Wait(_ticket) => unreachable!(),
+        }
+    }
+
+    /// As [`State::optionally_get_with`], for who lends the key, as [`State::get_with_by_ref`].
+    pub fn optionally_get_with_by_ref<F: FnOnce() -> Option<V> + Drop>(
+        &mut self,
+        key: &K,
+        init: F,
+        now: u64,
+    ) -> Result<Option<V>, Refused>
+        requires copies { (a b : K) → K.is_clone a b → K.eq a b ≡ true }
+        requires asks { F.IsAlwaysCallable init }
+        requires keeps { (o : Option V) → F.post init o → IfSome o (C.keeps key.now) }
+        ensures form { (asked : K) × IsAsked K.eq K.is_clone key.now asked × (given : Option (Option V))
+            × (answer : Result (calls.Answer K V C.Error) Refused)
+            × ⟦<C as StateView<K, V>>⟧.at_each_history self.old (λ settings steps.
+            IsForm K.eq V.is_clone V.is_infallible settings steps (Begin asked Kind.Optionally None now)
+            now (option_map optional_outcome given) answer
+            (λ after. ⟦<C as StateView<K, V>>⟧.stands_for settings self.new after))
+            × IsOptional answer result × IfSome given (F.post init)
+            × IfRefusedUnasked (self.new ≡ self.old) given answer }
+        ensures kept { IfOk result (λ found. IfSome found (C.keeps key.now)) }
+        ensures settings { self.new.settings ≡ self.old.settings }
+    {
+        let begun = match self.begin_at_once_by_ref(key, Kind::Optionally, now) {
+            Ok(begun) => begun,
+            Err(cause) => return Err(cause),
+        };
+        match begun {
+            Begun::Found(entry) => Ok(Some(entry.into_value())),
+            Begun::Run(turn) => self.end_with_option(turn, init(), now),
+            Begun::Wait(_ticket) => unreachable!(),
+        }
+    }
+
+    /// As [`State::try_get_with`], for who lends the key, as [`State::get_with_by_ref`].
+    pub fn try_get_with_by_ref<F: FnOnce() -> Result<V, C::Error> + Drop>(
+        &mut self,
+        key: &K,
+        init: F,
+        now: u64,
+    ) -> Result<Result<V, Arc<C::Error>>, Refused>
+        requires copies { (a b : K) → K.is_clone a b → K.eq a b ≡ true }
+        requires asks { F.IsAlwaysCallable init }
+        requires keeps { (r : Result V C.Error) → F.post init r → IfOk r (C.keeps key.now) }
+        ensures form { (asked : K) × IsAsked K.eq K.is_clone key.now asked × (given : Option (Result V C.Error))
+            × (answer : Result (calls.Answer K V C.Error) Refused)
+            × ⟦<C as StateView<K, V>>⟧.at_each_history self.old (λ settings steps.
+            IsForm K.eq V.is_clone V.is_infallible settings steps (Begin asked Kind.Try None now)
+            now (option_map tried_outcome given) answer
+            (λ after. ⟦<C as StateView<K, V>>⟧.stands_for settings self.new after))
+            × IsTried answer result × IfSome given (F.post init)
+            × IfRefusedUnasked (self.new ≡ self.old) given answer }
+        ensures kept { IfOk result (λ tried. IfOk tried (C.keeps key.now)) }
+        ensures settings { self.new.settings ≡ self.old.settings }
+    {
+        let begun = match self.begin_at_once_by_ref(key, Kind::Try, now) {
+            Ok(begun) => begun,
+            Err(cause) => return Err(cause),
+        };
+        match begun {
+            Begun::Found(entry) => Ok(Ok(entry.into_value())),
+            Begun::Run(turn) => self.end_with_result(turn, init(), now),
+            Begun::Wait(_ticket) => unreachable!(),
+        }
+    }
+
+    // The begin of a form by reference, which accepts any live value and does not wait.
+    fn begin_at_once_by_ref(
+        &mut self,
+        key: &K,
+        kind: Kind,
+        now: u64,
+    ) -> Result<Begun<K, V>, Refused>
+        requires copies { (a b : K) → K.is_clone a b → K.eq a b ≡ true }
+        requires initializer { kind ≢ Kind.Compute }
+        ensures begins { (asked : K) × IsAsked K.eq K.is_clone key.now asked × BeginEnds
+            (λ given. ⟦<C as StateView<K, V>>⟧.at_each_history self.old (λ settings steps.
+            GivesBegun K.eq V.is_clone V.is_infallible settings steps
+            (Begin asked kind None now) false given))
+            (⟦<C as StateView<K, V>>⟧.follows self.old (Begin asked kind None now) self.new)
+            self.old self.new result
+            × IfOk result (IsNamed kind asked) }
+        ensures waits { IfOk result (IfWait (false ≡ true)) }
+        ensures kept { IfOk result (FoundKeepsFor C.keeps key.now) }
+        ensures settings { self.new.settings ≡ self.old.settings }
+    {
+        self.begin_lent(key, kind, without(|_: &V| false), now, false)
+    }
+}

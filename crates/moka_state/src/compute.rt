@@ -1,0 +1,412 @@
+//! Computes: one caller is shown the live value of a key, and says what is to be done with it.
+ghost use Rattle.std.specs.Prelude.{◌≡◌, true, false, Some, None, if◌then◌else◌, IfOk};
+ghost use Rattle.std.specs.Arc.{arc_value};
+ghost use Rattle.moka_model.specs.Calls.{BeginCompute, Finish, IsCopyOf};
+ghost use Rattle.moka_model.specs.Numbers.{stores_nothing};
+ghost use Rattle.moka_table.specs.Table.{entries};
+ghost use Rattle.moka_turns.specs.Handles.{turn_name};
+ghost use Rattle.moka_state.specs.Compute.{ComputeBegins, IsCompute, IsLeft, IsPut, IsRemoved, IsShown, ShownKeeps};
+ghost use Rattle.moka_state.specs.Finish.{FinishEnds, Fits, OutcomeKeeps};
+ghost use Rattle.moka_state.specs.Given.{Gives};
+ghost use Rattle.moka_state.specs.Hashes.{IsHashOf};
+
+use crate::answers::{BegunCompute, FinishRefused, Finished};
+use crate::finish::place_for;
+use crate::state::State;
+use moka_model::comp_result::CompResult;
+use moka_model::entry::Entry;
+use moka_model::notification::RemovalCause;
+use moka_model::turns::{Kind, Op, Outcome};
+use moka_policy::policy::{CacheTypes, FrequencySource, Refused};
+use moka_rows::rows::RowStore;
+use moka_table::table::Table;
+use moka_table::target::NewValue;
+use moka_turns::handles::Turn;
+use moka_turns::turn_key::TurnKey;
+use moka_ways::live_value::copy_of_live;
+use moka_ways::view::StateView;
+use std::alloc::AllocError;
+use std::hash::Hash;
+use std::sync::Arc;
+
+// What the begin of a compute finds live: the row, the entry that is shown, and the copy of the value
+// that is kept aside, if one is.
+#[derive(Drop)]
+struct Shown<K, V> {
+    number: usize,
+    entry: Entry<K, V>,
+    kept: Option<V>,
+}
+
+// A copy of a value, if it is asked for. Refused for want of memory alone.
+fn kept_copy<V: Clone>(value: &V, keep: bool) -> Result<Option<V>, AllocError>
+    ensures { IfOk result (IsCopyOf V.is_clone (if keep then Some value.now else None)) }
+{
+    if !keep {
+        return Ok(None);
+    }
+    match value.clone() {
+        Ok(copy) => Ok(Some(copy)),
+        Err(refused) => Err(refused),
+    }
+}
+
+// What is live for a key at a moment, with a copy to be kept aside if it is asked for. Refused for want
+// of memory alone, and only where something is live.
+fn look<K: Eq + Drop, V: Clone, R: RowStore<K, V>>(
+    table: &Table<K, V, R>,
+    key: &K,
+    hash: u64,
+    keep: bool,
+    now: u64,
+) -> Result<Option<Shown<K, V>>, AllocError>
+    ensures { IfOk result
+        (IsShown K.eq V.is_clone keep key.now hash now (entries table.now)) }
+{
+    let Some(number) = table.find(key, hash) else {
+        return Ok(None);
+    };
+    let row = table.row(number);
+    if row.info().is_dead(now) {
+        return Ok(None);
+    }
+    let entry = table.entry(number)?;
+    let kept = kept_copy(&row.value, keep)?;
+    Ok(Some(Shown {
+        number,
+        entry,
+        kept,
+    }))
+}
+
+// What a compute is answered that does nothing.
+fn left<K, V>(key: Arc<K>, kept: Option<V>) -> CompResult<K, V>
+    ensures { IsLeft (arc_value key) kept result }
+{
+    match kept {
+        Some(value) => CompResult::Unchanged(Entry::new(key, value, false, false)),
+        None => CompResult::StillNone(key),
+    }
+}
+
+// What a compute is answered that removes this.
+fn removed<K, V>(key: Arc<K>, found: Option<V>) -> CompResult<K, V>
+    ensures { IsRemoved (arc_value key) found result }
+{
+    match found {
+        Some(value) => CompResult::Removed(Entry::new(key, value, false, false)),
+        None => CompResult::StillNone(key),
+    }
+}
+
+// What a compute is answered that puts this, by whether its begin showed a value.
+fn put<K, V>(key: Arc<K>, value: V, was_shown: bool) -> CompResult<K, V>
+    ensures { IsPut (arc_value key) value was_shown result }
+{
+    if was_shown {
+        return CompResult::ReplacedWith(Entry::new(key, value, true, true));
+    }
+    CompResult::Inserted(Entry::new(key, value, true, false))
+}
+
+// A refusal of what was to be done.
+fn refused<K, V, E>(turn: Turn<K>, op: Op<V>, cause: Refused) -> FinishRefused<K, V, E>
+    ensures { result ≡ record { turn = turn; outcome = Outcome.Op op; cause = cause } }
+{
+    FinishRefused {
+        turn,
+        outcome: Outcome::Op(op),
+        cause,
+    }
+}
+
+impl<K: Hash + Drop, V: Clone, C: CacheTypes<K, V>, R: RowStore<K, V>> State<K, V, C, R> {
+    /// Begins a compute of a key. Where another's is open, it answers a ticket for that, and does not
+    /// look: only the moment is recorded. Else a turn is opened for the caller to end, and the key is
+    /// looked for at this moment, as by [`State::get`]: the caller is shown the entry of the live
+    /// value, if there is one. Who may end it with [`Op::Nop`] and wants to be answered that value then
+    /// asks to keep it: a second copy is kept aside.
+    ///
+    /// Refused with `NumbersUsedUp` where a turn would be opened and no number is left, or would be
+    /// waited for by more callers than can be counted, and with `OutOfMemory`; then nothing has
+    /// changed. It costs a `get`, two shares of the key, a copy where one is to be kept, and two
+    /// look-ups in the table of turns.
+    pub fn begin_compute(
+        &mut self,
+        key: &Arc<K>,
+        keep: bool,
+        now: u64,
+    ) -> Result<BegunCompute<K, V>, Refused>
+        ensures begins { ComputeBegins
+            (λ given. ⟦<C as StateView<K, V>>⟧.at_each_history self.old (λ settings steps.
+            Gives K.eq V.is_clone V.is_infallible settings steps
+            (BeginCompute (arc_value key.now) keep now) given))
+            (⟦<C as StateView<K, V>>⟧.follows self.old
+            (BeginCompute (arc_value key.now) keep now) self.new)
+            self.old self.new result }
+        ensures named { IfOk result (IsCompute (arc_value key.now)) }
+        ensures kept { IfOk result (ShownKeeps C.keeps) }
+        ensures settings { self.new.settings ≡ self.old.settings }
+    {
+        let hash = self.hash(&**key);
+        match key.clone() {
+            Ok(shared) => self.begin_computing(shared, hash, keep, now),
+            Err(_) => Err(Refused::OutOfMemory),
+        }
+    }
+
+    // Waits for the open compute of a key, or opens one.
+    fn begin_computing(
+        &mut self,
+        key: Arc<K>,
+        hash: u64,
+        keep: bool,
+        now: u64,
+    ) -> Result<BegunCompute<K, V>, Refused>
+        requires hash { IsHashOf (⟦<C as StateView<K, V>>⟧.settings self.old.settings)
+            (arc_value key) hash }
+        ensures begins { ComputeBegins
+            (λ given. ⟦<C as StateView<K, V>>⟧.at_each_history self.old (λ settings steps.
+            Gives K.eq V.is_clone V.is_infallible settings steps
+            (BeginCompute (arc_value key) keep now) given))
+            (⟦<C as StateView<K, V>>⟧.follows self.old
+            (BeginCompute (arc_value key) keep now) self.new)
+            self.old self.new result }
+        ensures named { IfOk result (IsCompute (arc_value key)) }
+        ensures kept { IfOk result (ShownKeeps C.keeps) }
+        ensures settings { self.new.settings ≡ self.old.settings }
+    {
+        let wanted = TurnKey {
+            hash,
+            kind: Kind::Compute,
+            key,
+        };
+        let now = self.latest.max(now);
+        if self.turns.is_awaitable(&wanted) {
+            let ticket = match self.turns.wait_open(wanted) {
+                Ok(ticket) => ticket,
+                Err(cause) => return Err(cause),
+            };
+            self.latest = now;
+            return Ok(BegunCompute::Wait(ticket));
+        }
+        if self.next_number == u64::MAX {
+            return Err(Refused::NumbersUsedUp);
+        }
+        let Ok(found) = look(&self.table, &*wanted.key, hash, keep, now) else {
+            return Err(Refused::OutOfMemory);
+        };
+        let Some(shown) = found else {
+            let turn = self
+                .turns
+                .open_shown(wanted, self.next_number, false, None)?;
+            self.upkeep.source.note(hash);
+            self.latest = now;
+            self.next_number += 1;
+            return Ok(BegunCompute::Run(turn, None));
+        };
+        let Shown {
+            number,
+            entry,
+            kept,
+        } = shown;
+        let turn = self.turns.open_shown(wanted, self.next_number, true, kept)?;
+        self.upkeep
+            .hit(&mut self.table, number, hash, now, &self.behaviour);
+        self.latest = now;
+        self.next_number += 1;
+        Ok(BegunCompute::Run(turn, Some(entry)))
+    }
+
+    // Ends a compute with what is to be done.
+    pub(crate) fn finish_op(
+        &mut self,
+        turn: Turn<K>,
+        op: Op<V>,
+        now: u64,
+    ) -> Result<Finished<K, V, C::Error>, FinishRefused<K, V, C::Error>>
+        requires fits { Fits C.Error turn.key.kind (Outcome.Op op) }
+        requires kept { OutcomeKeeps {E = C.Error} (C.keeps (arc_value turn.key.key)) (Outcome.Op op) }
+        ensures { FinishEnds V.is_clone
+            (λ given. ⟦<C as StateView<K, V>>⟧.at_each_history self.old (λ settings steps.
+            Gives K.eq V.is_clone V.is_infallible settings steps
+            (Finish (turn_name turn) (Outcome.Op op) now) given))
+            (⟦<C as StateView<K, V>>⟧.follows self.old
+            (Finish (turn_name turn) (Outcome.Op op) now) self.new)
+            self.old self.new turn (Outcome.Op op) result }
+    {
+        match op {
+            Op::Put(value) => self.finish_put(turn, value, now),
+            Op::Remove => self.finish_remove(turn, now),
+            Op::Nop => self.finish_nop(turn, now),
+        }
+    }
+
+    // Ends a compute that does nothing.
+    fn finish_nop(
+        &mut self,
+        turn: Turn<K>,
+        now: u64,
+    ) -> Result<Finished<K, V, C::Error>, FinishRefused<K, V, C::Error>>
+        requires { Fits {V = V} C.Error turn.key.kind (Outcome.Op Op.Nop) }
+        ensures { FinishEnds V.is_clone
+            (λ given. ⟦<C as StateView<K, V>>⟧.at_each_history self.old (λ settings steps.
+            Gives K.eq V.is_clone V.is_infallible settings steps
+            (Finish (turn_name turn) (Outcome.Op Op.Nop) now) given))
+            (⟦<C as StateView<K, V>>⟧.follows self.old
+            (Finish (turn_name turn) (Outcome.Op Op.Nop) now) self.new)
+            self.old self.new turn (Outcome.Op Op.Nop) result }
+    {
+        let hash = self.behaviour.hash(turn.key());
+        let turn = turn.rehashed(hash);
+        let Some(_) = self.turns.waiting_for(&turn) else {
+            return Err(refused(turn, Op::Nop, Refused::UnknownTurn));
+        };
+        let (key, open) = self.turns.finish_computed(turn);
+        self.latest = self.latest.max(now);
+        Ok(Finished::Computed(left(key, open.kept)))
+    }
+
+    // Ends a compute that removes the value.
+    fn finish_remove(
+        &mut self,
+        turn: Turn<K>,
+        now: u64,
+    ) -> Result<Finished<K, V, C::Error>, FinishRefused<K, V, C::Error>>
+        requires { Fits {V = V} C.Error turn.key.kind (Outcome.Op Op.Remove) }
+        ensures { FinishEnds V.is_clone
+            (λ given. ⟦<C as StateView<K, V>>⟧.at_each_history self.old (λ settings steps.
+            Gives K.eq V.is_clone V.is_infallible settings steps
+            (Finish (turn_name turn) (Outcome.Op Op.Remove) now) given))
+            (⟦<C as StateView<K, V>>⟧.follows self.old
+            (Finish (turn_name turn) (Outcome.Op Op.Remove) now) self.new)
+            self.old self.new turn (Outcome.Op Op.Remove) result }
+    {
+        let hash = self.behaviour.hash(turn.key());
+        let turn = turn.rehashed(hash);
+        let Some(_) = self.turns.waiting_for(&turn) else {
+            return Err(refused(turn, Op::Remove, Refused::UnknownTurn));
+        };
+        let now = self.latest.max(now);
+        let Some(number) = self.table.find(turn.key(), hash) else {
+            let (key, _) = self.turns.finish_computed(turn);
+            self.latest = now;
+            return Ok(Finished::Computed(CompResult::StillNone(key)));
+        };
+        let row = self.table.row(number);
+        let cause = row.info().cause(now, RemovalCause::Explicit);
+        let Ok(found) = copy_of_live(row, now) else {
+            return Err(refused(turn, Op::Remove, Refused::OutOfMemory));
+        };
+        self.table.evict(number, cause);
+        let (key, _open) = self.turns.finish_computed(turn);
+        self.latest = now;
+        Ok(Finished::Computed(removed(key, found)))
+    }
+
+    // Ends a compute that puts a value.
+    fn finish_put(
+        &mut self,
+        turn: Turn<K>,
+        value: V,
+        now: u64,
+    ) -> Result<Finished<K, V, C::Error>, FinishRefused<K, V, C::Error>>
+        requires fits { Fits C.Error turn.key.kind (Outcome.Op (Op.Put value)) }
+        requires kept { C.keeps (arc_value turn.key.key) value }
+        ensures { FinishEnds V.is_clone
+            (λ given. ⟦<C as StateView<K, V>>⟧.at_each_history self.old (λ settings steps.
+            Gives K.eq V.is_clone V.is_infallible settings steps
+            (Finish (turn_name turn) (Outcome.Op (Op.Put value)) now) given))
+            (⟦<C as StateView<K, V>>⟧.follows self.old
+            (Finish (turn_name turn) (Outcome.Op (Op.Put value)) now) self.new)
+            self.old self.new turn (Outcome.Op (Op.Put value)) result }
+    {
+        if self.upkeep.max_capacity == Some(0) {
+            return self.put_unstored(turn, value, now);
+        }
+        self.put_stored(turn, value, now)
+    }
+
+    // Ends a compute that puts a value, where nothing is stored.
+    fn put_unstored(
+        &mut self,
+        turn: Turn<K>,
+        value: V,
+        now: u64,
+    ) -> Result<Finished<K, V, C::Error>, FinishRefused<K, V, C::Error>>
+        requires fits { Fits C.Error turn.key.kind (Outcome.Op (Op.Put value)) }
+        requires nothing { stores_nothing self.old.settings.max_capacity ≡ true }
+        ensures { FinishEnds V.is_clone
+            (λ given. ⟦<C as StateView<K, V>>⟧.at_each_history self.old (λ settings steps.
+            Gives K.eq V.is_clone V.is_infallible settings steps
+            (Finish (turn_name turn) (Outcome.Op (Op.Put value)) now) given))
+            (⟦<C as StateView<K, V>>⟧.follows self.old
+            (Finish (turn_name turn) (Outcome.Op (Op.Put value)) now) self.new)
+            self.old self.new turn (Outcome.Op (Op.Put value)) result }
+    {
+        let hash = self.behaviour.hash(turn.key());
+        let turn = turn.rehashed(hash);
+        let Some(_) = self.turns.waiting_for(&turn) else {
+            return Err(refused(turn, Op::Put(value), Refused::UnknownTurn));
+        };
+        let Ok(copy) = value.clone() else {
+            return Err(refused(turn, Op::Put(value), Refused::OutOfMemory));
+        };
+        self.latest = self.latest.max(now);
+        let (key, open) = self.turns.finish_computed(turn);
+        Ok(Finished::Computed(put(key, copy, open.shown)))
+    }
+
+    // Ends a compute that puts a value, which is stored.
+    fn put_stored(
+        &mut self,
+        turn: Turn<K>,
+        value: V,
+        now: u64,
+    ) -> Result<Finished<K, V, C::Error>, FinishRefused<K, V, C::Error>>
+        requires fits { Fits C.Error turn.key.kind (Outcome.Op (Op.Put value)) }
+        requires kept { C.keeps (arc_value turn.key.key) value }
+        requires stores { stores_nothing self.old.settings.max_capacity ≡ false }
+        ensures { FinishEnds V.is_clone
+            (λ given. ⟦<C as StateView<K, V>>⟧.at_each_history self.old (λ settings steps.
+            Gives K.eq V.is_clone V.is_infallible settings steps
+            (Finish (turn_name turn) (Outcome.Op (Op.Put value)) now) given))
+            (⟦<C as StateView<K, V>>⟧.follows self.old
+            (Finish (turn_name turn) (Outcome.Op (Op.Put value)) now) self.new)
+            self.old self.new turn (Outcome.Op (Op.Put value)) result }
+    {
+        let hash = self.behaviour.hash(turn.key());
+        let turn = turn.rehashed(hash);
+        let Some(_) = self.turns.waiting_for(&turn) else {
+            return Err(refused(turn, Op::Put(value), Refused::UnknownTurn));
+        };
+        if self.next_number == u64::MAX {
+            return Err(refused(turn, Op::Put(value), Refused::NumbersUsedUp));
+        }
+        let Ok(answer) = value.clone() else {
+            return Err(refused(turn, Op::Put(value), Refused::OutOfMemory));
+        };
+        let weight = self.behaviour.weight(turn.key(), &value);
+        let Ok(place) = place_for(&mut self.table, &turn, hash, self.alloc) else {
+            return Err(refused(turn, Op::Put(value), Refused::OutOfMemory));
+        };
+        let now = self.latest.max(now);
+        let new = NewValue {
+            hash,
+            value,
+            weight,
+            now,
+        };
+        self.upkeep.write(
+            &mut self.table,
+            place,
+            new,
+            &self.behaviour,
+            self.flush_limit,
+        );
+        self.latest = now;
+        self.next_number += 1;
+        let (key, open) = self.turns.finish_computed(turn);
+        Ok(Finished::Computed(put(key, answer, open.shown)))
+    }
+}

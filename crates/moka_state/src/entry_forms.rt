@@ -1,0 +1,196 @@
+//! The forms that answer entries, for who hands in the key.
+ghost use Rattle.std.specs.Prelude.{◌≡◌, ◌≢◌, Bool, Option, None, Some, Result, option_map, IfOk, IfSome};
+ghost use Rattle.std.specs.Arc.{arc_value};
+ghost use Rattle.moka_model.specs.Entries.{entry_of};
+ghost use Rattle.moka_model.specs.Steps.{events_in};
+ghost use Rattle.moka_model.specs.Calls.{Begin, OrInsert, live_at};
+ghost use Rattle.moka_turns.specs.Handles.{turn_name};
+ghost use Rattle.moka_state.specs.Begin.{EntryKeeps, IsSaidOf};
+ghost use Rattle.moka_state.specs.EntryForms.{of_optional};
+ghost use Rattle.moka_state.specs.Finish.{Fits};
+ghost use Rattle.moka_state.specs.Forms.{EndsTurn, IfRefusedUnasked, IsForm, optional_outcome};
+ghost use Rattle.moka_state.specs.Given.{Gives};
+ghost use Rattle.moka_state.specs.OrInsert.{OrInsertEnds, of_or_default as of_entry};
+
+use crate::answers::{Answer, Begun};
+use crate::get_with::without;
+use crate::state::State;
+use moka_model::entry::Entry;
+use moka_model::turns::{Kind, Outcome};
+use moka_policy::policy::{CacheTypes, Refused};
+use moka_rows::rows::RowStore;
+use moka_turns::handles::Turn;
+use moka_ways::view::StateView;
+use std::hash::Hash;
+
+impl<K: Hash + Drop, V: Clone, C: CacheTypes<K, V>, R: RowStore<K, V>> State<K, V, C, R> {
+    // As `or_insert`, for who hands in the key: it is shared where nothing is live. A refused call drops
+    // key and value.
+    pub(crate) fn entry_or_insert(
+        &mut self,
+        key: K,
+        value: V,
+        now: u64,
+    ) -> Result<Entry<K, V>, Refused>
+        requires { C.keeps key value }
+        ensures ends { OrInsertEnds
+            (⟦<C as StateView<K, V>>⟧.at_each_history self.old (λ settings steps.
+            Gives K.eq V.is_clone V.is_infallible settings steps
+            (OrInsert key value now) (of_entry result)))
+            (⟦<C as StateView<K, V>>⟧.follows self.old (OrInsert key value now) self.new)
+            self.old self.new result }
+        ensures kept { IfOk result (EntryKeeps C.keeps key) }
+        ensures settings { self.new.settings ≡ self.old.settings }
+    {
+        let hash = self.hash(&key);
+        match self.acceptable_entry(&key, hash, without(|_: &V| false), now) {
+            Ok(Some(found)) => Ok(found),
+            Ok(None) => self.write_default(key, hash, value, now),
+            Err(cause) => Err(cause),
+        }
+    }
+
+    // As `get_with`; it answers the entry.
+    pub(crate) fn entry_with<F: FnOnce() -> V + Drop>(
+        &mut self,
+        key: K,
+        init: F,
+        now: u64,
+    ) -> Result<Entry<K, V>, Refused>
+        requires asks { F.IsAlwaysCallable init }
+        requires keeps { (v : V) → F.post init v → C.keeps key v }
+        ensures form { (given : Option V) × ⟦<C as StateView<K, V>>⟧.at_each_history self.old
+            (λ settings steps.
+            IsForm K.eq V.is_clone V.is_infallible settings steps (Begin key Kind.With None now) now
+            (option_map Outcome.Value given) (of_entry result)
+            (λ after. ⟦<C as StateView<K, V>>⟧.stands_for settings self.new after))
+            × IfSome given (F.post init)
+            × IfRefusedUnasked (self.new ≡ self.old) given (of_entry {E = C.Error} result) }
+        ensures kept { IfOk result (λ entry. C.keeps key (entry_of entry).value) }
+        ensures settings { self.new.settings ≡ self.old.settings }
+    {
+        let begun = match self.begin_at_once(key, Kind::With, now) {
+            Ok(begun) => begun,
+            Err(cause) => return Err(cause),
+        };
+        match begun {
+            Begun::Found(entry) => Ok(entry),
+            Begun::Run(turn) => self.end_with_entry(turn, init(), now),
+            Begun::Wait(_ticket) => unreachable!(),
+        }
+    }
+
+    // As `get_with_if`; it answers the entry.
+    pub(crate) fn entry_with_if<F: FnOnce() -> V + Drop, P: FnMut(&V) -> bool + Drop>(
+        &mut self,
+        key: K,
+        init: F,
+        replace_if: P,
+        now: u64,
+    ) -> Result<Entry<K, V>, Refused>
+        requires asks { F.IsAlwaysCallable init }
+        requires shows { P.IsAlwaysCallable replace_if }
+        requires keeps { (v : V) → F.post init v → C.keeps key v }
+        ensures form { (said : Option Bool) × (given : Option V)
+            × ⟦<C as StateView<K, V>>⟧.at_each_history self.old (λ settings steps.
+            IsSaidOf P.FnMut (Some replace_if) (live_at K.eq settings key now (events_in steps)) said
+            × IsForm K.eq V.is_clone V.is_infallible settings steps (Begin key Kind.With said now) now
+            (option_map Outcome.Value given) (of_entry result)
+            (λ after. ⟦<C as StateView<K, V>>⟧.stands_for settings self.new after))
+            × IfSome given (F.post init)
+            × IfRefusedUnasked (self.new ≡ self.old) given (of_entry {E = C.Error} result) }
+        ensures kept { IfOk result (λ entry. C.keeps key (entry_of entry).value) }
+        ensures settings { self.new.settings ≡ self.old.settings }
+    {
+        let begun = match self.begin_at_once_if(key, Kind::With, Some(replace_if), now) {
+            Ok(begun) => begun,
+            Err(cause) => return Err(cause),
+        };
+        match begun {
+            Begun::Found(entry) => Ok(entry),
+            Begun::Run(turn) => self.end_with_entry(turn, init(), now),
+            Begun::Wait(_ticket) => unreachable!(),
+        }
+    }
+
+    // As `optionally_get_with`; it answers the entry.
+    pub(crate) fn entry_optionally_with<F: FnOnce() -> Option<V> + Drop>(
+        &mut self,
+        key: K,
+        init: F,
+        now: u64,
+    ) -> Result<Option<Entry<K, V>>, Refused>
+        requires asks { F.IsAlwaysCallable init }
+        requires keeps { (o : Option V) → F.post init o → IfSome o (C.keeps key) }
+        ensures form { (given : Option (Option V)) × ⟦<C as StateView<K, V>>⟧.at_each_history self.old
+            (λ settings steps.
+            IsForm K.eq V.is_clone V.is_infallible settings steps
+            (Begin key Kind.Optionally None now) now (option_map optional_outcome given)
+            (of_optional result)
+            (λ after. ⟦<C as StateView<K, V>>⟧.stands_for settings self.new after))
+            × IfSome given (F.post init)
+            × IfRefusedUnasked (self.new ≡ self.old) given (of_optional {E = C.Error} result) }
+        ensures kept { IfOk result
+            (λ found. IfSome found (λ entry. C.keeps key (entry_of entry).value)) }
+        ensures settings { self.new.settings ≡ self.old.settings }
+    {
+        let begun = match self.begin_at_once(key, Kind::Optionally, now) {
+            Ok(begun) => begun,
+            Err(cause) => return Err(cause),
+        };
+        match begun {
+            Begun::Found(entry) => Ok(Some(entry)),
+            Begun::Run(turn) => self.end_with_optional_entry(turn, init(), now),
+            Begun::Wait(_ticket) => unreachable!(),
+        }
+    }
+
+    // Ends the turn of a form with a value, and answers its entry.
+    fn end_with_entry(&mut self, turn: Turn<K>, value: V, now: u64) -> Result<Entry<K, V>, Refused>
+        requires fits { Fits C.Error turn.key.kind (Outcome.Value value) }
+        requires initializer { turn.key.kind ≢ Kind.Compute }
+        requires kept { C.keeps (arc_value turn.key.key) value }
+        ensures ends { ⟦<C as StateView<K, V>>⟧.at_each_history self.old (λ settings steps.
+            EndsTurn K.eq V.is_clone V.is_infallible settings steps
+            (turn_name turn) (Outcome.Value value) now (of_entry result)
+            (λ after. ⟦<C as StateView<K, V>>⟧.stands_for settings self.new after)) }
+        ensures kept { IfOk result
+            (λ entry. C.keeps (arc_value turn.key.key) (entry_of entry).value) }
+        ensures settings { self.new.settings ≡ self.old.settings }
+    {
+        match self.end_turn(turn, Outcome::Value(value), now) {
+            Ok(Answer::Entry(entry)) => Ok(entry),
+            Ok(_) => unreachable!(),
+            Err(cause) => Err(cause),
+        }
+    }
+
+    // Ends the turn of a form with a value or none, and answers its entry, if there is one.
+    fn end_with_optional_entry(
+        &mut self,
+        turn: Turn<K>,
+        given: Option<V>,
+        now: u64,
+    ) -> Result<Option<Entry<K, V>>, Refused>
+        requires kind { turn.key.kind ≡ Kind.Optionally }
+        requires kept { IfSome given (C.keeps (arc_value turn.key.key)) }
+        ensures ends { ⟦<C as StateView<K, V>>⟧.at_each_history self.old (λ settings steps.
+            EndsTurn K.eq V.is_clone V.is_infallible settings steps
+            (turn_name turn) (optional_outcome given) now (of_optional result)
+            (λ after. ⟦<C as StateView<K, V>>⟧.stands_for settings self.new after)) }
+        ensures kept { IfOk result (λ found. IfSome found
+            (λ entry. C.keeps (arc_value turn.key.key) (entry_of entry).value)) }
+        ensures settings { self.new.settings ≡ self.old.settings }
+    {
+        match given {
+            Some(value) => match self.end_with_entry(turn, value, now) {
+                Ok(entry) => Ok(Some(entry)),
+                Err(cause) => Err(cause),
+            },
+            None => match self.end_with_none(turn, now) {
+                Ok(_none) => Ok(None),
+                Err(cause) => Err(cause),
+            },
+        }
+    }
+}

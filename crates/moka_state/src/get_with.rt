@@ -1,0 +1,392 @@
+//! The forms of initializers with a closure: begin, closure and finish at one moment.
+ghost use Rattle.std.specs.Prelude.{◌≡◌, ◌≢◌, Bool, Option, None, Some, Result, false, true, option_map, IfOk, IfSome, IsSome};
+ghost use Rattle.std.specs.Arc.{arc_value};
+ghost use Rattle.moka_model.specs.Steps.{events_in};
+ghost use Rattle.moka_model.specs.Calls as calls;
+ghost use Rattle.moka_model.specs.Calls.{Begin, Finish, accepted, live_at};
+ghost use Rattle.moka_turns.specs.Handles.{turn_name};
+ghost use Rattle.moka_state.specs.Begin.{BeginEnds, FoundKeepsFor, GivesBegun, IfWait, IsNamed, IsSaidOf};
+ghost use Rattle.moka_state.specs.Finish.{Fits, IsGiven, OutcomeKeeps, outcome_of};
+ghost use Rattle.moka_state.specs.Forms.{EndsTurn, IfRefusedUnasked, IsFailed, IsForm, IsOptional, IsTried, IsValue, of_end, optional_outcome, tried_outcome};
+
+use crate::answers::{Answer, Begun, FinishRefused, Finished};
+use crate::state::State;
+use moka_model::turns::{Kind, Outcome};
+use moka_policy::policy::{CacheTypes, Refused};
+use moka_rows::rows::RowStore;
+use moka_turns::handles::Turn;
+use moka_ways::view::StateView;
+use std::alloc::AllocError;
+use std::hash::Hash;
+use std::sync::Arc;
+
+// None, where there might be a closure of this type.
+pub(crate) fn without<F: Drop>(_closure: F) -> Option<F>
+    ensures { result ≡ None }
+{
+    None
+}
+
+impl<K: Hash + Drop, V: Clone, C: CacheTypes<K, V>, R: RowStore<K, V>> State<K, V, C, R> {
+    /// The live value of a key; where there is none, what the closure gives, which is written. It is a
+    /// begin of the kind `With`, and where that opens a turn, its finish with what the closure gave, all
+    /// at one moment. The closure is asked where a turn is opened, and once.
+    ///
+    /// Refused with `TurnIsOpen` where a turn of the key and the kind is open, since it would have to
+    /// wait for that; and as [`State::begin`], which then changes nothing. Where the finish is refused,
+    /// as [`State::finish`] may be, the turn is abandoned. On a live key it costs a `get`, and takes no
+    /// memory but for the copy; else a begin and a finish.
+    pub fn get_with<F: FnOnce() -> V + Drop>(
+        &mut self,
+        key: K,
+        init: F,
+        now: u64,
+    ) -> Result<V, Refused>
+        requires asks { F.IsAlwaysCallable init }
+        requires keeps { (v : V) → F.post init v → C.keeps key v }
+        ensures form { (given : Option V) × (answer : Result (calls.Answer K V C.Error) Refused)
+            × ⟦<C as StateView<K, V>>⟧.at_each_history self.old (λ settings steps.
+            IsForm K.eq V.is_clone V.is_infallible settings steps (Begin key Kind.With None now) now
+            (option_map Outcome.Value given) answer
+            (λ after. ⟦<C as StateView<K, V>>⟧.stands_for settings self.new after))
+            × IsValue answer result × IfSome given (F.post init)
+            × IfRefusedUnasked (self.new ≡ self.old) given answer }
+        ensures kept { IfOk result (C.keeps key) }
+        ensures settings { self.new.settings ≡ self.old.settings }
+    {
+        let begun = match self.begin_at_once(key, Kind::With, now) {
+            Ok(begun) => begun,
+            Err(cause) => return Err(cause),
+        };
+        match begun {
+            Begun::Found(entry) => Ok(entry.into_value()),
+            Begun::Run(turn) => self.end_with_value(turn, init(), now),
+            Begun::Wait(_ticket) => unreachable!(),
+        }
+    }
+
+    /// As [`State::get_with`], for a caller who is shown the live value and says whether to replace it.
+    /// One that is to be replaced is taken for none: the look is then a miss, and the closure's value is
+    /// written over it.
+    pub fn get_with_if<F: FnOnce() -> V + Drop, P: FnMut(&V) -> bool + Drop>(
+        &mut self,
+        key: K,
+        init: F,
+        replace_if: P,
+        now: u64,
+    ) -> Result<V, Refused>
+        requires asks { F.IsAlwaysCallable init }
+        requires shows { P.IsAlwaysCallable replace_if }
+        requires keeps { (v : V) → F.post init v → C.keeps key v }
+        ensures form { (said : Option Bool) × (given : Option V)
+            × (answer : Result (calls.Answer K V C.Error) Refused)
+            × ⟦<C as StateView<K, V>>⟧.at_each_history self.old (λ settings steps.
+            IsSaidOf P.FnMut (Some replace_if) (live_at K.eq settings key now (events_in steps)) said
+            × IsForm K.eq V.is_clone V.is_infallible settings steps (Begin key Kind.With said now) now
+            (option_map Outcome.Value given) answer
+            (λ after. ⟦<C as StateView<K, V>>⟧.stands_for settings self.new after))
+            × IsValue answer result × IfSome given (F.post init)
+            × IfRefusedUnasked (self.new ≡ self.old) given answer }
+        ensures kept { IfOk result (C.keeps key) }
+        ensures settings { self.new.settings ≡ self.old.settings }
+    {
+        let begun = match self.begin_at_once_if(key, Kind::With, Some(replace_if), now) {
+            Ok(begun) => begun,
+            Err(cause) => return Err(cause),
+        };
+        match begun {
+            Begun::Found(entry) => Ok(entry.into_value()),
+            Begun::Run(turn) => self.end_with_value(turn, init(), now),
+            Begun::Wait(_ticket) => unreachable!(),
+        }
+    }
+
+    /// As [`State::get_with`], for a closure that may give no value; then nothing is written, and none is
+    /// answered. Its begin is of the kind `Optionally`.
+    pub fn optionally_get_with<F: FnOnce() -> Option<V> + Drop>(
+        &mut self,
+        key: K,
+        init: F,
+        now: u64,
+    ) -> Result<Option<V>, Refused>
+        requires asks { F.IsAlwaysCallable init }
+        requires keeps { (o : Option V) → F.post init o → IfSome o (C.keeps key) }
+        ensures form { (given : Option (Option V))
+            × (answer : Result (calls.Answer K V C.Error) Refused)
+            × ⟦<C as StateView<K, V>>⟧.at_each_history self.old (λ settings steps.
+            IsForm K.eq V.is_clone V.is_infallible settings steps
+            (Begin key Kind.Optionally None now) now (option_map optional_outcome given) answer
+            (λ after. ⟦<C as StateView<K, V>>⟧.stands_for settings self.new after))
+            × IsOptional answer result × IfSome given (F.post init)
+            × IfRefusedUnasked (self.new ≡ self.old) given answer }
+        ensures kept { IfOk result (λ found. IfSome found (C.keeps key)) }
+        ensures settings { self.new.settings ≡ self.old.settings }
+    {
+        let begun = match self.begin_at_once(key, Kind::Optionally, now) {
+            Ok(begun) => begun,
+            Err(cause) => return Err(cause),
+        };
+        match begun {
+            Begun::Found(entry) => Ok(Some(entry.into_value())),
+            Begun::Run(turn) => self.end_with_option(turn, init(), now),
+            Begun::Wait(_ticket) => unreachable!(),
+        }
+    }
+
+    /// As [`State::get_with`], for a closure that may fail; then nothing is written, and its error is
+    /// answered, shared. Its begin is of the kind `Try`. Where the error finds no memory to be shared, the
+    /// turn is abandoned and the call refused with `OutOfMemory`.
+    pub fn try_get_with<F: FnOnce() -> Result<V, C::Error> + Drop>(
+        &mut self,
+        key: K,
+        init: F,
+        now: u64,
+    ) -> Result<Result<V, Arc<C::Error>>, Refused>
+        requires asks { F.IsAlwaysCallable init }
+        requires keeps { (r : Result V C.Error) → F.post init r → IfOk r (C.keeps key) }
+        ensures form { (given : Option (Result V C.Error))
+            × (answer : Result (calls.Answer K V C.Error) Refused)
+            × ⟦<C as StateView<K, V>>⟧.at_each_history self.old (λ settings steps.
+            IsForm K.eq V.is_clone V.is_infallible settings steps (Begin key Kind.Try None now) now
+            (option_map tried_outcome given) answer
+            (λ after. ⟦<C as StateView<K, V>>⟧.stands_for settings self.new after))
+            × IsTried answer result × IfSome given (F.post init)
+            × IfRefusedUnasked (self.new ≡ self.old) given answer }
+        ensures kept { IfOk result (λ tried. IfOk tried (C.keeps key)) }
+        ensures settings { self.new.settings ≡ self.old.settings }
+    {
+        let begun = match self.begin_at_once(key, Kind::Try, now) {
+            Ok(begun) => begun,
+            Err(cause) => return Err(cause),
+        };
+        match begun {
+            Begun::Found(entry) => Ok(Ok(entry.into_value())),
+            Begun::Run(turn) => self.end_with_result(turn, init(), now),
+            Begun::Wait(_ticket) => unreachable!(),
+        }
+    }
+
+    // The begin of a form, which does not wait: where a turn of the kind and the key is open, it is
+    // refused with `TurnIsOpen`. The key is shared only where no acceptable value is live.
+    pub(crate) fn begin_at_once_if<F: FnMut(&V) -> bool + Drop>(
+        &mut self,
+        key: K,
+        kind: Kind,
+        replace_if: Option<F>,
+        now: u64,
+    ) -> Result<Begun<K, V>, Refused>
+        requires initializer { kind ≢ Kind.Compute }
+        requires asks { IfSome replace_if (λ f. F.IsAlwaysCallable f) }
+        ensures begins { (said : Option Bool) × BeginEnds
+            (λ given. ⟦<C as StateView<K, V>>⟧.at_each_history self.old (λ settings steps.
+            IsSaidOf F.FnMut replace_if (live_at K.eq settings key now (events_in steps)) said
+            × GivesBegun K.eq V.is_clone V.is_infallible settings steps
+            (Begin key kind said now) false given))
+            (⟦<C as StateView<K, V>>⟧.follows self.old (Begin key kind said now) self.new)
+            self.old self.new result }
+        ensures named { IfOk result (IsNamed kind key) }
+        ensures waits { IfOk result (IfWait (false ≡ true)) }
+        ensures kept { IfOk result (FoundKeepsFor C.keeps key) }
+        ensures settings { self.new.settings ≡ self.old.settings }
+    {
+        let hash = self.hash(&key);
+        match self.acceptable_entry(&key, hash, replace_if, now) {
+            Ok(Some(entry)) => Ok(Begun::Found(entry)),
+            Ok(None) => match self.share(key) {
+                Ok(shared) => self.begin_turn(shared, hash, kind, now, false),
+                Err(_) => Err(Refused::OutOfMemory),
+            },
+            Err(cause) => Err(cause),
+        }
+    }
+
+    // The begin of a form that accepts any live value.
+    pub(crate) fn begin_at_once(
+        &mut self,
+        key: K,
+        kind: Kind,
+        now: u64,
+    ) -> Result<Begun<K, V>, Refused>
+        requires initializer { kind ≢ Kind.Compute }
+        ensures begins { BeginEnds
+            (λ given. ⟦<C as StateView<K, V>>⟧.at_each_history self.old (λ settings steps.
+            GivesBegun K.eq V.is_clone V.is_infallible settings steps
+            (Begin key kind None now) false given))
+            (⟦<C as StateView<K, V>>⟧.follows self.old (Begin key kind None now) self.new)
+            self.old self.new result }
+        ensures named { IfOk result (IsNamed kind key) }
+        ensures waits { IfOk result (IfWait (false ≡ true)) }
+        ensures kept { IfOk result (FoundKeepsFor C.keeps key) }
+        ensures settings { self.new.settings ≡ self.old.settings }
+    {
+        self.begin_at_once_if(key, kind, without(|_: &V| false), now)
+    }
+
+    // A value that several may hold. Refused for want of memory alone.
+    pub(crate) fn share<T: Drop>(&self, value: T) -> Result<Arc<T>, AllocError>
+        ensures { IfOk result (λ shared. arc_value shared ≡ value) }
+    {
+        match Arc::new(self.alloc, value) {
+            Ok(shared) => Ok(shared),
+            Err(_) => Err(AllocError),
+        }
+    }
+
+    // Ends the turn of a form with an outcome; where that is refused, the turn is abandoned.
+    pub(crate) fn end_turn(
+        &mut self,
+        turn: Turn<K>,
+        outcome: Outcome<V, Arc<C::Error>>,
+        now: u64,
+    ) -> Result<Answer<K, V, C::Error>, Refused>
+        requires fits { Fits C.Error turn.key.kind (outcome_of outcome) }
+        requires initializer { turn.key.kind ≢ Kind.Compute }
+        requires kept { OutcomeKeeps (C.keeps (arc_value turn.key.key)) outcome }
+        ensures ends { ⟦<C as StateView<K, V>>⟧.at_each_history self.old (λ settings steps.
+            EndsTurn K.eq V.is_clone V.is_infallible settings steps
+            (turn_name turn) (outcome_of outcome) now (of_end result)
+            (λ after. ⟦<C as StateView<K, V>>⟧.stands_for settings self.new after)) }
+        ensures given { IfOk result (IsGiven V.is_clone (arc_value turn.key.key) outcome) }
+        ensures settings { self.new.settings ≡ self.old.settings }
+    {
+        let refused = match self.finish(turn, outcome, now) {
+            Ok(Finished::Answer(answer)) => return Ok(answer),
+            Ok(Finished::Computed(_)) => unreachable!(),
+            Err(refused) => refused,
+        };
+        let FinishRefused {
+            turn,
+            outcome: _,
+            cause,
+        } = refused;
+        let _ = self.abandon(turn);
+        Err(cause)
+    }
+
+    // Ends the turn of a form with a value, and answers the copy that is handed out.
+    pub(crate) fn end_with_value(&mut self, turn: Turn<K>, value: V, now: u64) -> Result<V, Refused>
+        requires fits { Fits C.Error turn.key.kind (Outcome.Value value) }
+        requires initializer { turn.key.kind ≢ Kind.Compute }
+        requires kept { C.keeps (arc_value turn.key.key) value }
+        ensures ends { (answer : Result (calls.Answer K V C.Error) Refused)
+            × ⟦<C as StateView<K, V>>⟧.at_each_history self.old (λ settings steps.
+            EndsTurn K.eq V.is_clone V.is_infallible settings steps
+            (turn_name turn) (Outcome.Value value) now answer
+            (λ after. ⟦<C as StateView<K, V>>⟧.stands_for settings self.new after))
+            × IsValue answer result }
+        ensures kept { IfOk result (C.keeps (arc_value turn.key.key)) }
+        ensures settings { self.new.settings ≡ self.old.settings }
+    {
+        match self.end_turn(turn, Outcome::Value(value), now) {
+            Ok(Answer::Entry(entry)) => Ok(entry.into_value()),
+            Ok(_) => unreachable!(),
+            Err(cause) => Err(cause),
+        }
+    }
+
+    // Ends the turn of a form with a value or none, and answers the copy that is handed out.
+    pub(crate) fn end_with_option(
+        &mut self,
+        turn: Turn<K>,
+        given: Option<V>,
+        now: u64,
+    ) -> Result<Option<V>, Refused>
+        requires kind { turn.key.kind ≡ Kind.Optionally }
+        requires kept { IfSome given (C.keeps (arc_value turn.key.key)) }
+        ensures ends { (answer : Result (calls.Answer K V C.Error) Refused)
+            × ⟦<C as StateView<K, V>>⟧.at_each_history self.old (λ settings steps.
+            EndsTurn K.eq V.is_clone V.is_infallible settings steps
+            (turn_name turn) (optional_outcome given) now answer
+            (λ after. ⟦<C as StateView<K, V>>⟧.stands_for settings self.new after))
+            × IsOptional answer result }
+        ensures kept { IfOk result (λ found. IfSome found (C.keeps (arc_value turn.key.key))) }
+        ensures settings { self.new.settings ≡ self.old.settings }
+    {
+        match given {
+            Some(value) => match self.end_with_value(turn, value, now) {
+                Ok(value) => Ok(Some(value)),
+                Err(cause) => Err(cause),
+            },
+            None => self.end_with_none(turn, now),
+        }
+    }
+
+    // Ends the turn of a form without a value, and answers none.
+    pub(crate) fn end_with_none(&mut self, turn: Turn<K>, now: u64) -> Result<Option<V>, Refused>
+        requires kind { turn.key.kind ≡ Kind.Optionally }
+        ensures ends { (answer : Result (calls.Answer K V C.Error) Refused)
+            × ⟦<C as StateView<K, V>>⟧.at_each_history self.old (λ settings steps.
+            EndsTurn K.eq V.is_clone V.is_infallible settings steps
+            (turn_name turn) Outcome.Nothing now answer
+            (λ after. ⟦<C as StateView<K, V>>⟧.stands_for settings self.new after))
+            × IsOptional answer result }
+        ensures none { IfOk result (λ found. found ≡ None) }
+        ensures settings { self.new.settings ≡ self.old.settings }
+    {
+        let _answer = match self.end_turn(turn, Outcome::Nothing, now) {
+            Ok(answer) => answer,
+            Err(cause) => return Err(cause),
+        };
+        Ok(None)
+    }
+
+    // Ends the turn of a form with an error, and answers the shared error. Where it finds no memory to
+    // be shared, the turn is abandoned. What is said of the end holds where the turn is open.
+    pub(crate) fn end_with_error(
+        &mut self,
+        turn: Turn<K>,
+        error: C::Error,
+        now: u64,
+    ) -> Result<Arc<C::Error>, Refused>
+        requires kind { turn.key.kind ≡ Kind.Try }
+        ensures ends { (answer : Result (calls.Answer K V C.Error) Refused)
+            × ⟦<C as StateView<K, V>>⟧.at_each_history self.old (λ settings steps.
+            IsSome (accepted K.eq settings steps (Finish (turn_name turn) (Outcome.Failed error) now))
+            → EndsTurn K.eq V.is_clone V.is_infallible settings steps
+            (turn_name turn) (Outcome.Failed error) now answer
+            (λ after. ⟦<C as StateView<K, V>>⟧.stands_for settings self.new after))
+            × IsFailed answer result }
+        ensures settings { self.new.settings ≡ self.old.settings }
+    {
+        let Ok(error) = self.share(error) else {
+            let _ = self.abandon(turn);
+            return Err(Refused::OutOfMemory);
+        };
+        match self.end_turn(turn, Outcome::Failed(error), now) {
+            Ok(Answer::Failed(error)) => Ok(error),
+            Ok(_) => unreachable!(),
+            Err(cause) => Err(cause),
+        }
+    }
+
+    // Ends the turn of a form with a value or an error, as `end_with_value` and `end_with_error`.
+    pub(crate) fn end_with_result(
+        &mut self,
+        turn: Turn<K>,
+        given: Result<V, C::Error>,
+        now: u64,
+    ) -> Result<Result<V, Arc<C::Error>>, Refused>
+        requires kind { turn.key.kind ≡ Kind.Try }
+        requires kept { IfOk given (C.keeps (arc_value turn.key.key)) }
+        ensures ends { (answer : Result (calls.Answer K V C.Error) Refused)
+            × ⟦<C as StateView<K, V>>⟧.at_each_history self.old (λ settings steps.
+            IsSome (accepted K.eq settings steps (Finish (turn_name turn) (tried_outcome given) now))
+            → EndsTurn K.eq V.is_clone V.is_infallible settings steps
+            (turn_name turn) (tried_outcome given) now answer
+            (λ after. ⟦<C as StateView<K, V>>⟧.stands_for settings self.new after))
+            × IsTried answer result }
+        ensures kept { IfOk result (λ tried. IfOk tried (C.keeps (arc_value turn.key.key))) }
+        ensures settings { self.new.settings ≡ self.old.settings }
+    {
+        match given {
+            Ok(value) => match self.end_with_value(turn, value, now) {
+                Ok(value) => Ok(Ok(value)),
+                Err(cause) => Err(cause),
+            },
+            Err(error) => match self.end_with_error(turn, error, now) {
+                Ok(error) => Ok(Err(error)),
+                Err(cause) => Err(cause),
+            },
+        }
+    }
+}

@@ -1,0 +1,300 @@
+//! The calls that answer the live value of a key, and write one where there is none.
+ghost use Rattle.std.specs.Prelude.{◌≡◌, ◌≢◌, ◌&&◌, ◌==◌, None, false, true, not, IfOk, IfErr, OnOk, OnErr};
+ghost use Rattle.std.specs.Arc.{arc_value};
+ghost use Rattle.moka_model.specs.Numbers.{greatest_number, stores_nothing};
+ghost use Rattle.moka_model.specs.Steps.{events_in};
+ghost use Rattle.moka_model.specs.Entries.{entry_of};
+ghost use Rattle.moka_model.specs.Calls.{OrInsert, IsCopiedEntry, fresh_entry, live_at};
+ghost use Rattle.moka_state.specs.Begin.{EntryKeeps};
+ghost use Rattle.moka_state.specs.Given.{Gives};
+ghost use Rattle.moka_state.specs.Hashes.{IsHashOf};
+ghost use Rattle.moka_state.specs.OrInsert.{OrInsertEnds, of_or_default, of_or_insert};
+
+use crate::get_with::without;
+use crate::state::State;
+use moka_model::entry::Entry;
+use moka_policy::policy::{CacheTypes, FrequencySource, Refused};
+use moka_rows::rows::RowStore;
+use moka_table::target::NewValue;
+use moka_ways::view::StateView;
+use std::alloc::AllocError;
+use std::hash::Hash;
+use std::sync::Arc;
+use thiserror::Error;
+
+/// A refused `or_insert`, with the value that it was given.
+#[derive(Debug, Drop, Error)]
+#[error("or_insert was refused ({cause}) and changed nothing: the value is handed back, to try again \
+     with more memory, or with another cache where its numbers are used up")]
+pub struct OrInsertRefused<V> {
+    /// The value, as it was given.
+    pub value: V,
+    /// Why it was refused.
+    pub cause: Refused,
+}
+
+impl<V: Drop> From<OrInsertRefused<V>> for Refused {
+    ghost from_gives = { λ refused cause. cause ≡ refused.cause };
+
+    fn from(refused: OrInsertRefused<V>) -> Refused {
+        refused.cause
+    }
+}
+
+// What is answered for a value that is to be written: a share of its key, and a copy of it. Refused
+// for want of memory alone.
+fn written_entry<K: Drop, V: Clone>(key: &Arc<K>, value: &V) -> Result<Entry<K, V>, AllocError>
+    ensures { IfOk result (λ entry. IsCopiedEntry V.is_clone
+        (fresh_entry (arc_value key.now) value.now false) (entry_of entry)) }
+{
+    let key = key.clone()?;
+    let value = value.clone()?;
+    Ok(Entry::new(key, value, true, false))
+}
+
+impl<K: Hash + Drop, V: Clone, C: CacheTypes<K, V>, R: RowStore<K, V>> State<K, V, C, R> {
+    /// Answers the live value of a key; where there is none, writes this one, and answers a copy of it.
+    /// It is one look at the key, as by [`State::get`], and where that finds nothing, one write, as by
+    /// [`State::insert`], at the same moment: the look is noted before the maintenance that the write
+    /// may run. The entry is fresh where it was written, and never marked as replacing. A value that is
+    /// found stands under the stored key.
+    ///
+    /// Where the capacity is 0 nothing is stored and no number drawn, and the entry is fresh. Refused
+    /// with `NumbersUsedUp` exactly where a number is to be drawn and none is left, and else with
+    /// `OutOfMemory` alone. A refused call hands back the value and changes nothing. On a live key it
+    /// costs a `get` and a share of the key, else an insert, a share of the key and a copy.
+    pub fn or_insert(
+        &mut self,
+        key: &Arc<K>,
+        value: V,
+        now: u64,
+    ) -> Result<Entry<K, V>, OrInsertRefused<V>>
+        requires { C.keeps (arc_value key.now) value }
+        ensures ends { OrInsertEnds
+            (⟦<C as StateView<K, V>>⟧.at_each_history self.old (λ settings steps.
+            Gives K.eq V.is_clone V.is_infallible settings steps
+            (OrInsert (arc_value key.now) value now) (of_or_insert result)))
+            (⟦<C as StateView<K, V>>⟧.follows self.old
+            (OrInsert (arc_value key.now) value now) self.new)
+            self.old self.new result }
+        ensures kept { IfOk result (EntryKeeps C.keeps (arc_value key.now)) }
+        ensures value_back { IfErr result (λ refused. refused.value ≡ value) }
+        ensures settings { self.new.settings ≡ self.old.settings }
+    {
+        let hash = self.hash(&**key);
+        self.or_insert_with_hash(key, hash, value, now)
+    }
+
+    /// As [`State::or_insert`], with the key's hash, as [`State::hash`] answers it: the key is not
+    /// hashed again.
+    pub fn or_insert_with_hash(
+        &mut self,
+        key: &Arc<K>,
+        hash: u64,
+        value: V,
+        now: u64,
+    ) -> Result<Entry<K, V>, OrInsertRefused<V>>
+        requires hash { IsHashOf (⟦<C as StateView<K, V>>⟧.settings self.old.settings)
+            (arc_value key.now) hash }
+        requires keeps { C.keeps (arc_value key.now) value }
+        ensures ends { OrInsertEnds
+            (⟦<C as StateView<K, V>>⟧.at_each_history self.old (λ settings steps.
+            Gives K.eq V.is_clone V.is_infallible settings steps
+            (OrInsert (arc_value key.now) value now) (of_or_insert result)))
+            (⟦<C as StateView<K, V>>⟧.follows self.old
+            (OrInsert (arc_value key.now) value now) self.new)
+            self.old self.new result }
+        ensures kept { IfOk result (EntryKeeps C.keeps (arc_value key.now)) }
+        ensures value_back { IfErr result (λ refused. refused.value ≡ value) }
+        ensures settings { self.new.settings ≡ self.old.settings }
+    {
+        match self.acceptable_entry(&**key, hash, without(|_: &V| false), now) {
+            Ok(Some(entry)) => Ok(entry),
+            Ok(None) => self.write_missing(key, hash, value, now),
+            Err(cause) => Err(OrInsertRefused { value, cause }),
+        }
+    }
+
+    // A look that found no live value, and the write that follows it.
+    fn write_missing(
+        &mut self,
+        key: &Arc<K>,
+        hash: u64,
+        value: V,
+        now: u64,
+    ) -> Result<Entry<K, V>, OrInsertRefused<V>>
+        requires hash { IsHashOf (⟦<C as StateView<K, V>>⟧.settings self.old.settings)
+            (arc_value key.now) hash }
+        requires keeps { C.keeps (arc_value key.now) value }
+        ensures ends { ⟦<C as StateView<K, V>>⟧.at_each_history self.old (λ settings steps.
+            live_at K.eq settings (arc_value key.now) now (events_in steps) ≡ None)
+            → OrInsertEnds
+            (⟦<C as StateView<K, V>>⟧.at_each_history self.old (λ settings steps.
+            Gives K.eq V.is_clone V.is_infallible settings steps
+            (OrInsert (arc_value key.now) value now) (of_or_insert result)))
+            (⟦<C as StateView<K, V>>⟧.follows self.old
+            (OrInsert (arc_value key.now) value now) self.new)
+            self.old self.new result }
+        ensures kept { IfOk result (EntryKeeps C.keeps (arc_value key.now)) }
+        ensures value_back { IfErr result (λ refused. refused.value ≡ value) }
+        ensures settings { self.new.settings ≡ self.old.settings }
+    {
+        if self.wants_number() {
+            let cause = Refused::NumbersUsedUp;
+            return Err(OrInsertRefused { value, cause });
+        }
+        let Ok(entry) = written_entry(key, &value) else {
+            let cause = Refused::OutOfMemory;
+            return Err(OrInsertRefused { value, cause });
+        };
+        if self.upkeep.max_capacity == Some(0) {
+            self.upkeep.source.note(hash);
+            self.latest = self.latest.max(now);
+            return Ok(entry);
+        }
+        match self.write_looked(key, hash, value, now) {
+            Ok(()) => Ok(entry),
+            Err(refused) => Err(refused),
+        }
+    }
+
+    // A look that found no live value, and the write that follows it, for who hands in the key.
+    pub(crate) fn write_default(
+        &mut self,
+        key: K,
+        hash: u64,
+        value: V,
+        now: u64,
+    ) -> Result<Entry<K, V>, Refused>
+        requires hash { IsHashOf (⟦<C as StateView<K, V>>⟧.settings self.old.settings) key hash }
+        requires keeps { C.keeps key value }
+        ensures ends { ⟦<C as StateView<K, V>>⟧.at_each_history self.old (λ settings steps.
+            live_at K.eq settings key now (events_in steps) ≡ None)
+            → OrInsertEnds
+            (⟦<C as StateView<K, V>>⟧.at_each_history self.old (λ settings steps.
+            Gives K.eq V.is_clone V.is_infallible settings steps
+            (OrInsert key value now) (of_or_default result)))
+            (⟦<C as StateView<K, V>>⟧.follows self.old (OrInsert key value now) self.new)
+            self.old self.new result }
+        ensures kept { IfOk result (EntryKeeps C.keeps key) }
+        ensures settings { self.new.settings ≡ self.old.settings }
+    {
+        if self.wants_number() {
+            return Err(Refused::NumbersUsedUp);
+        }
+        let Ok(key) = Arc::new(self.alloc, key) else {
+            return Err(Refused::OutOfMemory);
+        };
+        match self.write_missing(&key, hash, value, now) {
+            Ok(entry) => Ok(entry),
+            Err(refused) => Err(refused.cause),
+        }
+    }
+
+    // Whether a write would draw a number, and none is left.
+    fn wants_number(&self) -> bool
+        ensures { result ≡ (not (stores_nothing self.now.settings.max_capacity)
+            && (self.now.books.next_number == greatest_number)) }
+    {
+        self.upkeep.max_capacity != Some(0) && self.next_number == u64::MAX
+    }
+
+    // A look that found no live value is noted, and then a value is written. First all memory for it
+    // is taken.
+    fn write_looked(
+        &mut self,
+        key: &Arc<K>,
+        hash: u64,
+        value: V,
+        now: u64,
+    ) -> Result<(), OrInsertRefused<V>>
+        requires hash { IsHashOf (⟦<C as StateView<K, V>>⟧.settings self.old.settings)
+            (arc_value key.now) hash }
+        requires keeps { C.keeps (arc_value key.now) value }
+        requires stores { stores_nothing self.old.settings.max_capacity ≡ false }
+        requires number { self.old.books.next_number ≢ greatest_number }
+        ensures stands { ⟦<C as StateView<K, V>>⟧.at_each_history self.old (λ settings steps.
+            live_at K.eq settings (arc_value key.now) now (events_in steps) ≡ None)
+            → OnOk result (⟦<C as StateView<K, V>>⟧.follows self.old
+            (OrInsert (arc_value key.now) value now) self.new) }
+        ensures refused { OnErr result (self.new ≡ self.old) }
+        ensures cause { IfErr result (λ refused. refused.cause ≡ Refused.OutOfMemory) }
+        ensures value_back { IfErr result (λ refused. refused.value ≡ value) }
+        ensures settings { self.new.settings ≡ self.old.settings }
+    {
+        let cause = Refused::OutOfMemory;
+        let Ok(share) = key.clone() else {
+            return Err(OrInsertRefused { value, cause });
+        };
+        let weight = self.behaviour.weight(&**key, &value);
+        let Ok(place) = self.table.place(share, hash, self.alloc) else {
+            return Err(OrInsertRefused { value, cause });
+        };
+        let now = self.latest.max(now);
+        let new = NewValue {
+            hash,
+            value,
+            weight,
+            now,
+        };
+        self.upkeep.source.note(new.hash);
+        self.upkeep.write(
+            &mut self.table,
+            place,
+            new,
+            &self.behaviour,
+            self.flush_limit,
+        );
+        self.latest = now;
+        self.next_number += 1;
+        Ok(())
+    }
+}
+
+impl<K: Hash + Drop, V: Clone + Default, C: CacheTypes<K, V>, R: RowStore<K, V>> State<K, V, C, R> {
+    /// As [`State::or_insert`], of the default value, for who hands in the key: it is shared where
+    /// nothing is live. The default value is made before the look.
+    ///
+    /// It asks that the key keeps whatever value is the default. A refused call drops the key.
+    pub fn or_default(&mut self, key: K, now: u64) -> Result<Entry<K, V>, Refused>
+        requires { (value : V) → V.is_default value → C.keeps key value }
+        ensures ends { (value : V) × V.is_default value × OrInsertEnds
+            (⟦<C as StateView<K, V>>⟧.at_each_history self.old (λ settings steps.
+            Gives K.eq V.is_clone V.is_infallible settings steps
+            (OrInsert key value now) (of_or_default result)))
+            (⟦<C as StateView<K, V>>⟧.follows self.old (OrInsert key value now) self.new)
+            self.old self.new result }
+        ensures kept { IfOk result (EntryKeeps C.keeps key) }
+        ensures settings { self.new.settings ≡ self.old.settings }
+    {
+        let hash = self.hash(&key);
+        self.or_default_with_hash(key, hash, now)
+    }
+
+    /// As [`State::or_default`], with the key's hash, as [`State::hash`] answers it: the key is not
+    /// hashed again.
+    pub fn or_default_with_hash(
+        &mut self,
+        key: K,
+        hash: u64,
+        now: u64,
+    ) -> Result<Entry<K, V>, Refused>
+        requires hash { IsHashOf (⟦<C as StateView<K, V>>⟧.settings self.old.settings) key hash }
+        requires keeps { (value : V) → V.is_default value → C.keeps key value }
+        ensures ends { (value : V) × V.is_default value × OrInsertEnds
+            (⟦<C as StateView<K, V>>⟧.at_each_history self.old (λ settings steps.
+            Gives K.eq V.is_clone V.is_infallible settings steps
+            (OrInsert key value now) (of_or_default result)))
+            (⟦<C as StateView<K, V>>⟧.follows self.old (OrInsert key value now) self.new)
+            self.old self.new result }
+        ensures kept { IfOk result (EntryKeeps C.keeps key) }
+        ensures settings { self.new.settings ≡ self.old.settings }
+    {
+        let value = V::default();
+        match self.acceptable_entry(&key, hash, without(|_: &V| false), now) {
+            Ok(Some(found)) => Ok(found),
+            Ok(None) => self.write_default(key, hash, value, now),
+            Err(cause) => Err(cause),
+        }
+    }
+}

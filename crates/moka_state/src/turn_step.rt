@@ -1,0 +1,157 @@
+//! The calls of turns as data: in these a turn and a ticket stand by name.
+ghost use Rattle.std.specs.Prelude.{◌≡◌, ◌≢◌, Bool, false, unwrap_or, IfOk, OnOk, OnErr};
+ghost use Rattle.std.specs.Arc.{arc_value};
+ghost use Rattle.std.specs.Fn.{CalledAt};
+ghost use Rattle.moka_model.specs.Calls.{Abandon, Begin, BeginCompute, Collect, Finish, Leave};
+ghost use Rattle.moka_turns.specs.Handles.{name_by};
+ghost use Rattle.moka_state.specs.Begin.{FoundKeeps};
+ghost use Rattle.moka_state.specs.Finish.{OutcomeKeeps, outcome_of};
+ghost use Rattle.moka_state.specs.Given.{Gives, of_begin};
+ghost use Rattle.moka_state.specs.Replies.{EntryKeeps, HasNoNotice};
+ghost use Rattle.moka_state.specs.Step.{IsReplyTo, after_reply};
+
+use crate::answers::Begun;
+use crate::state::State;
+use crate::step::Reply;
+use crate::turn_replies::{begun_reply, collect_reply, compute_reply, done_reply, finish_reply};
+use moka_model::turns::{Kind, Outcome};
+use moka_policy::policy::{CacheTypes, Refused};
+use moka_rows::rows::RowStore;
+use moka_turns::naming::{ticket_of, turn_of};
+use moka_turns::turn_name::TurnName;
+use moka_ways::view::StateView;
+use std::hash::Hash;
+use std::sync::Arc;
+
+impl<K: Hash + Drop, V: Clone, C: CacheTypes<K, V>, R: RowStore<K, V>> State<K, V, C, R> {
+    // A begin whose caller says this of any live value, where he is asked.
+    fn begin_asked<F: FnMut(&V) -> bool + Drop>(
+        &mut self,
+        key: &Arc<K>,
+        kind: Kind,
+        replace: Option<bool>,
+        replace_if: F,
+        now: u64,
+    ) -> Result<Begun<K, V>, Refused>
+        requires initializer { kind ≢ Kind.Compute }
+        requires asks { F.IsAlwaysCallable replace_if }
+        requires says { (value : V) (said : Bool) (left : F)
+            → CalledAt F.FnMut replace_if value said left → said ≡ unwrap_or replace false }
+        ensures reply { ⟦<C as StateView<K, V>>⟧.at_each_history self.old (λ settings steps.
+            Gives K.eq V.is_clone V.is_infallible settings steps
+            (Begin (arc_value key.now) kind replace now) (of_begin result)) }
+        ensures stands { OnOk result (⟦<C as StateView<K, V>>⟧.follows self.old
+            (Begin (arc_value key.now) kind replace now) self.new) }
+        ensures refused { OnErr result (self.new ≡ self.old) }
+        ensures kept { IfOk result (FoundKeeps C.keeps) }
+        ensures settings { self.new.settings ≡ self.old.settings }
+    {
+        match replace {
+            Some(_) => self.begin(key, kind, Some(replace_if), now),
+            None => self.begin(key, kind, None::<F>, now),
+        }
+    }
+
+    /// Does a begin that stands as data. One of kind `Compute` keeps no copy.
+    pub(crate) fn step_begin(
+        &mut self,
+        key: Arc<K>,
+        kind: Kind,
+        replace: Option<bool>,
+        now: u64,
+    ) -> Reply<K, V, C>
+        ensures reply { ⟦<C as StateView<K, V>>⟧.at_each_history self.old (λ settings steps.
+            IsReplyTo K.eq V.is_clone V.is_infallible settings steps
+            (Begin (arc_value key) kind replace now) result) }
+        ensures stands { ⟦<C as StateView<K, V>>⟧.at_each_history self.old (λ settings steps.
+            ⟦<C as StateView<K, V>>⟧.stands_for settings self.new
+            (after_reply K.eq settings (Begin (arc_value key) kind replace now) result steps)) }
+        ensures kept { EntryKeeps C.keeps result }
+        ensures settings { self.new.settings ≡ self.old.settings }
+    {
+        if kind == Kind::Compute {
+            return compute_reply(self.begin_compute(&key, false, now));
+        }
+        let replaces = replace.unwrap_or(false);
+        begun_reply(self.begin_asked(&key, kind, replace, |_: &V| replaces, now))
+    }
+
+    /// Does the begin of a compute that stands as data.
+    pub(crate) fn step_begin_compute(&mut self, key: Arc<K>, keep: bool, now: u64) -> Reply<K, V, C>
+        ensures reply { ⟦<C as StateView<K, V>>⟧.at_each_history self.old (λ settings steps.
+            IsReplyTo K.eq V.is_clone V.is_infallible settings steps
+            (BeginCompute (arc_value key) keep now) result) }
+        ensures stands { ⟦<C as StateView<K, V>>⟧.at_each_history self.old (λ settings steps.
+            ⟦<C as StateView<K, V>>⟧.stands_for settings self.new
+            (after_reply K.eq settings (BeginCompute (arc_value key) keep now) result steps)) }
+        ensures kept { EntryKeeps C.keeps result }
+        ensures settings { self.new.settings ≡ self.old.settings }
+    {
+        compute_reply(self.begin_compute(&key, keep, now))
+    }
+
+    /// Does a finish that stands as data. An outcome that does not fit its kind is refused.
+    pub(crate) fn step_finish(
+        &mut self,
+        name: TurnName<K>,
+        outcome: Outcome<V, Arc<C::Error>>,
+        now: u64,
+    ) -> Reply<K, V, C>
+        requires { OutcomeKeeps (C.keeps (arc_value name.key)) outcome }
+        ensures reply { ⟦<C as StateView<K, V>>⟧.at_each_history self.old (λ settings steps.
+            IsReplyTo K.eq V.is_clone V.is_infallible settings steps
+            (Finish (name_by name) (outcome_of outcome) now) result) }
+        ensures stands { ⟦<C as StateView<K, V>>⟧.at_each_history self.old (λ settings steps.
+            ⟦<C as StateView<K, V>>⟧.stands_for settings self.new
+            (after_reply K.eq settings (Finish (name_by name) (outcome_of outcome) now) result steps)) }
+        ensures kept { HasNoNotice result }
+        ensures settings { self.new.settings ≡ self.old.settings }
+    {
+        if !name.kind.accepts(&outcome) {
+            return Reply::Refused(Refused::UnknownTurn);
+        }
+        finish_reply(self.finish(turn_of(name), outcome, now))
+    }
+
+    /// Does an abandon that stands as data.
+    pub(crate) fn step_abandon(&mut self, name: TurnName<K>) -> Reply<K, V, C>
+        ensures reply { ⟦<C as StateView<K, V>>⟧.at_each_history self.old (λ settings steps.
+            IsReplyTo K.eq V.is_clone V.is_infallible settings steps
+            (Abandon (name_by name)) result) }
+        ensures stands { ⟦<C as StateView<K, V>>⟧.at_each_history self.old (λ settings steps.
+            ⟦<C as StateView<K, V>>⟧.stands_for settings self.new
+            (after_reply K.eq settings (Abandon (name_by name)) result steps)) }
+        ensures kept { HasNoNotice result }
+        ensures settings { self.new.settings ≡ self.old.settings }
+    {
+        done_reply(self.abandon(turn_of(name)))
+    }
+
+    /// Does a collect that stands as data. The ticket of an open turn may be named once more.
+    pub(crate) fn step_collect(&mut self, name: TurnName<K>) -> Reply<K, V, C>
+        ensures reply { ⟦<C as StateView<K, V>>⟧.at_each_history self.old (λ settings steps.
+            IsReplyTo K.eq V.is_clone V.is_infallible settings steps
+            (Collect (name_by name)) result) }
+        ensures stands { ⟦<C as StateView<K, V>>⟧.at_each_history self.old (λ settings steps.
+            ⟦<C as StateView<K, V>>⟧.stands_for settings self.new
+            (after_reply K.eq settings (Collect (name_by name)) result steps)) }
+        ensures kept { HasNoNotice result }
+        ensures settings { self.new.settings ≡ self.old.settings }
+    {
+        collect_reply(self.collect(ticket_of(name)))
+    }
+
+    /// Does a leave that stands as data.
+    pub(crate) fn step_leave(&mut self, name: TurnName<K>) -> Reply<K, V, C>
+        ensures reply { ⟦<C as StateView<K, V>>⟧.at_each_history self.old (λ settings steps.
+            IsReplyTo K.eq V.is_clone V.is_infallible settings steps
+            (Leave (name_by name)) result) }
+        ensures stands { ⟦<C as StateView<K, V>>⟧.at_each_history self.old (λ settings steps.
+            ⟦<C as StateView<K, V>>⟧.stands_for settings self.new
+            (after_reply K.eq settings (Leave (name_by name)) result steps)) }
+        ensures kept { HasNoNotice result }
+        ensures settings { self.new.settings ≡ self.old.settings }
+    {
+        done_reply(self.leave(ticket_of(name)))
+    }
+}
