@@ -1,4 +1,5 @@
 pub mod Begins
+pub mod Computes
 pub mod Ends
 pub mod HeldTurns
 pub mod Names

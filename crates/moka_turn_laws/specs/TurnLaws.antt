@@ -4,6 +4,8 @@ use Rattle.std.specs.Prelude.{List, [], ◌∷◌, ◌++◌, filter}
 use Rattle.moka_model.specs.declared.turns.Kind.{Kind}
 use Rattle.moka_model.specs.declared.turns.Kind.TheVariants.{Compute}
 use Rattle.moka_model.specs.declared.turns.Outcome.{Outcome}
+use Rattle.moka_model.specs.declared.turns.Op.{Op}
+use Rattle.moka_model.specs.declared.turns.Op.TheVariants as ops
 use Rattle.moka_model.specs.declared.turns.Outcome.TheVariants as outcomes
 use Rattle.moka_model.specs.Lives.{Settings, Write}
 use Rattle.moka_model.specs.Numbers.{next_number}
@@ -12,6 +14,7 @@ use Rattle.moka_model.specs.Turns.{AreApart, AreHeld, IsIn, is_held, is_open_for
 use Rattle.moka_model.specs.Steps.{AcceptedStep, events_in, held_turns, turns}
 use Rattle.moka_model.specs.Calls.{Call, Begin, BeginCompute, Finish, Abandon, Collect, Leave, Accepted, Answer, Entered, Entry, Run, Wait}
 use Rattle.moka_model.specs.Calls.{GaveNothing, GaveError, NotYet, WasAbandoned, HasEnded}
+use Rattle.moka_model.specs.Calls.{StillNone, Unchanged, Inserted, ReplacedWith, Removed, entry_under, fresh_entry}
 use Rattle.moka_model.specs.Calls.{IsLegal, acceptable, accepted, accepted_beside, entry_of, live_at}
 
 module _ {V E : Type 0} where
@@ -131,6 +134,23 @@ module _ {K V E : Type 0} (eq : K → K → Bool) (settings : Settings K V) wher
   abbrev pub ComputesExactly : List (AcceptedStep K V E) → Type 0
   ComputesExactly ds = (k : K) (keep : Bool) (at : ℕ) →
       RunsCompute ds k keep at ↔ (filter (is_open_for eq Compute k) (turns ds) ≡ [])
+
+  -- What a compute is answered that begins and ends in one go: by what is live, and by what is to be done.
+  abbrev pub computed_at_once : K → Option (Write K V) → Op V → Answer K V E
+  computed_at_once k None (ops.Put v) = Inserted (fresh_entry k v false)
+  computed_at_once k (Some w) (ops.Put v) = ReplacedWith (fresh_entry k v true)
+  computed_at_once k None ops.Remove = StillNone k
+  computed_at_once k (Some w) ops.Remove = Removed (entry_under k w.value)
+  computed_at_once k None ops.Nop = StillNone k
+  computed_at_once k (Some w) ops.Nop = Unchanged (entry_under k w.value)
+
+  -- So is one that keeps a copy, where its look leaves what is live as it was.
+  abbrev pub ComputesAtOnce : List (AcceptedStep K V E) → Type 0
+  ComputesAtOnce ds = (k : K) (at : ℕ) (op : Op V) (name : Name K) (shown : Option (Entry K V)) (begun : Accepted K V E)
+      → accepted eq settings ds (BeginCompute k true at) ≡ Some begun → begun.answer ≡ Run name shown
+      → live_at eq settings k at (events_in (begun.step ∷ ds)) ≡ live_at eq settings k at (events_in ds)
+      → (it : Accepted K V E) × (accepted eq settings (begun.step ∷ ds) (Finish name (outcomes.Op op) at) ≡ Some it)
+      × (it.answer ≡ computed_at_once k (live_at eq settings k at (events_in ds)) op)
 
   -- a begin that is answered with a value gives one that is live and acceptable
   abbrev pub FindsAcceptable : List (AcceptedStep K V E) → Type 0

@@ -1,12 +1,15 @@
 //! The laws of turns, over every legal list of accepted steps: each is a statement about the
 //! definitions that the prover checks.
-ghost use Rattle.std.specs.Prelude.{◌≡◌, ◌≤◌, ◌↔◌, ◌⊎◌, ℕ, false, None, List};
+ghost use Rattle.std.specs.Prelude.{◌≡◌, ◌≤◌, ◌↔◌, ◌⊎◌, ℕ, true, false, None, List};
 ghost use Rattle.moka_model.specs.declared.turns.Outcome.{Outcome};
 ghost use Rattle.moka_model.specs.Lives.{Settings};
 ghost use Rattle.moka_model.specs.Turns.{Name, HasOneOpen, fits, found, is_open_as, has_ticket_as};
 ghost use Rattle.moka_model.specs.Steps.{AcceptedStep, turns};
 ghost use Rattle.moka_model.specs.Calls.{Finish, Abandon, Collect, Leave, IsLegal, accepted};
-ghost use Rattle.moka_turn_laws.specs.TurnLaws.{NumbersName, TicketsMatch, CollectsGive, OpensExactly, ComputesExactly, FindsAcceptable, MovesShow, HeldSuffice, ends_of, spent_of, waits_of};
+ghost use Rattle.moka_turn_laws.specs.TurnLaws.{NumbersName, TicketsMatch, CollectsGive, OpensExactly, ComputesAtOnce, ComputesExactly, FindsAcceptable, MovesShow, HeldSuffice, ends_of, spent_of, waits_of};
+
+use moka_model::notification::RemovalCause;
+use moka_model::turns::Op;
 
 /// No number names two turns, and of a key and kind at most one turn is open: so two callers of one
 /// key and kind never work out a value at once, and two kinds never mix.
@@ -22,6 +25,29 @@ pub fn a_begin_opens_exactly_where_none_is_open<K: Eq, V, E>()
     ensures initializers { (settings : Settings K V) (steps : List (AcceptedStep K V E)) → OpensExactly K.eq settings steps }
     ensures computes { (settings : Settings K V) (steps : List (AcceptedStep K V E)) → ComputesExactly K.eq settings steps }
     ensures finds { (settings : Settings K V) (steps : List (AcceptedStep K V E)) → FindsAcceptable K.eq settings steps }
+{}
+
+/// A compute that keeps a copy, and that ends at the moment of its look with no step between, is answered by
+/// this table, where the look leaves what is live as it was: a value that is put is `Inserted`, or
+/// `ReplacedWith` where one was live; a removal is `Removed` with the live value, and one that does nothing
+/// `Unchanged` with it; where none was live, both are `StillNone`.
+pub fn a_compute_in_one_go_is_answered_by_what_is_live<K: Eq, V, E>()
+    ensures { (settings : Settings K V) (steps : List (AcceptedStep K V E)) → IsLegal K.eq settings steps → ComputesAtOnce K.eq settings steps }
+{}
+
+/// Two [`Op`]s are equal exactly where both put equal values, both remove, or both do nothing.
+pub fn ops_are_equal_where_they_do_the_same<V: PartialEq>()
+    ensures puts { (v w : V) → ⟦<Op<V> as PartialEq>⟧.eq (Op.Put v) (Op.Put w) ≡ V.eq v w }
+    ensures removes { ⟦<Op<V> as PartialEq>⟧.eq Op.Remove Op.Remove ≡ true }
+    ensures nothing { ⟦<Op<V> as PartialEq>⟧.eq Op.Nop Op.Nop ≡ true }
+    ensures puts_or_removes { (v : V) → (⟦<Op<V> as PartialEq>⟧.eq (Op.Put v) Op.Remove ≡ false) × (⟦<Op<V> as PartialEq>⟧.eq Op.Remove (Op.Put v) ≡ false) }
+    ensures puts_or_nothing { (v : V) → (⟦<Op<V> as PartialEq>⟧.eq (Op.Put v) Op.Nop ≡ false) × (⟦<Op<V> as PartialEq>⟧.eq Op.Nop (Op.Put v) ≡ false) }
+    ensures removes_or_nothing { (⟦<Op<V> as PartialEq>⟧.eq Op.Remove Op.Nop ≡ false) × (⟦<Op<V> as PartialEq>⟧.eq Op.Nop Op.Remove ≡ false) }
+{}
+
+/// Two causes are equal exactly where they are the same.
+pub fn causes_are_equal_where_they_are_the_same()
+    ensures { (a b : RemovalCause) → (⟦<RemovalCause as PartialEq>⟧.eq a b ≡ true) ↔ (a ≡ b) }
 {}
 
 /// The waits for a turn are the tickets of it that were spent and those that are not. As the front of
