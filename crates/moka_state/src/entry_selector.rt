@@ -4,8 +4,8 @@ ghost use Rattle.moka_model.specs.Entries.{entry_of};
 ghost use Rattle.moka_model.specs.Steps.{events_in};
 ghost use Rattle.moka_model.specs.Calls.{Begin, OrInsert, live_at};
 ghost use Rattle.moka_state.specs.Begin.{EntryKeeps, IsSaidOf};
-ghost use Rattle.moka_state.specs.EntryForms.{of_optional};
-ghost use Rattle.moka_state.specs.Forms.{IfRefusedUnasked, IsForm, optional_outcome};
+ghost use Rattle.moka_state.specs.EntryForms.{of_optional, of_tried};
+ghost use Rattle.moka_state.specs.Forms.{IfRefusedUnasked, IsForm, optional_outcome, tried_outcome};
 ghost use Rattle.moka_state.specs.Given.{Gives};
 ghost use Rattle.moka_state.specs.OrInsert.{OrInsertEnds, of_or_default as of_entry};
 
@@ -16,6 +16,7 @@ use moka_policy::policy::{CacheTypes, Refused};
 use moka_rows::rows::RowStore;
 use moka_ways::view::StateView;
 use std::hash::Hash;
+use std::sync::Arc;
 
 /// A key of a lent state and a moment, for the one call that is made of them. [`State::entry`] makes it;
 /// it holds the state's `&mut` until that call.
@@ -149,6 +150,31 @@ impl<'a, K: Hash + Drop, V: Clone, C: CacheTypes<K, V>, R: RowStore<K, V>> State
     {
         let StateEntrySelector { state, key, at } = self;
         state.entry_optionally_with(key, init, at)
+    }
+
+    /// As [`StateEntrySelector::or_insert_with`], for a closure that may fail; then nothing is written, and
+    /// its error is answered, shared, as [`State::try_get_with`]. Where the error finds no memory to be
+    /// shared, the turn is abandoned and the call refused with `OutOfMemory`.
+    pub fn or_try_insert_with<F: FnOnce() -> Result<V, C::Error> + Drop>(
+        self,
+        init: F,
+    ) -> Result<Result<Entry<K, V>, Arc<C::Error>>, Refused>
+        requires asks { F.IsAlwaysCallable init }
+        requires keeps { (r : Result V C.Error) → F.post init r → IfOk r (C.keeps self.key) }
+        ensures form { (given : Option (Result V C.Error))
+            × ⟦<C as StateView<K, V>>⟧.at_each_history self.entry.state.now (λ settings steps.
+            IsForm K.eq V.is_clone V.is_infallible settings steps
+            (Begin self.entry.key Kind.Try None self.entry.at) self.entry.at
+            (option_map tried_outcome given) (of_tried result)
+            (λ after. ⟦<C as StateView<K, V>>⟧.stands_for settings self.exit.0.now after))
+            × IfSome given (F.post init)
+            × IfRefusedUnasked (self.exit.0.now ≡ self.entry.state.now) given (of_tried result) }
+        ensures kept { IfOk result
+            (λ tried. IfOk tried (λ entry. C.keeps self.entry.key (entry_of entry).value)) }
+        ensures settings { self.exit.0.now.settings ≡ self.entry.state.now.settings }
+    {
+        let StateEntrySelector { state, key, at } = self;
+        state.entry_try_with(key, init, at)
     }
 }
 
