@@ -1,4 +1,4 @@
-use Rattle.std.proofs.Common.{◌≡◌, ℕ, Option, Some, None, cond, option_map, List, [], ◌∷◌, ◌++◌, refl, sym, ap, ◌∙◌, subst, arith, max}
+use Rattle.std.proofs.Common.{◌≡◌, ℕ, Option, Some, None, cond, option_map, List, [], ◌∷◌, ◌++◌, refl, sym, ap, ◌∙◌, subst, arith, max, rules}
 use Rattle.std.specs.Arc.{arc_value}
 use Rattle.moka_model.specs.declared.turns.Kind.TheVariants.{Compute}
 use Rattle.moka_model.specs.Events.{Looked, Passed, Drawn}
@@ -18,11 +18,31 @@ use Rattle.moka_turns.proofs.Views.{table-keeps, table-holds}
 use Rattle.moka_state.proofs.Alike.{hash-alike}
 use Rattle.moka_state.proofs.Becoming.{becomes-passed, estimates-noted}
 use Rattle.moka_state.proofs.Begins.{becomes-drawn, looks-in-vain, move-stands, waits-told}
+use Rattle.moka_state.proofs.ComputeForms.{at-once-refused, open-waits}
 use Rattle.moka_state.proofs.Computes.{none-open, nothing-kept, compute-refused, compute-waits, after-compute-waits, compute-used-up, compute-runs, after-compute-runs, shows-none, shows-live, shows-hit}
+use Rattle.moka_state.proofs.Held.{same-key}
 use Rattle.moka_state.proofs.Sound.{IsSound-touched}
 use Rattle.moka_state.proofs.Turns.{sound-turns, same-turns, with-turns}
 use Rattle.moka_state.proofs.Views.{view-becomes}
 use Rattle.moka_state.proofs.state.State.begin_computing.Goals as goal
+
+pub returns-then-not-may_wait-clause-begins : goal.returns-then-not-may_wait-clause-begins
+returns-then-not-may_wait-clause-begins g c = record {
+  reply = λ given steps stands.
+      let s = c.self.inside in
+      let eq = g.K.PartialEq.eq in
+      let laws = g.met.K.Eq.laws in
+      let key = arc_value c.args.key in
+      let hash_of = hash_by g.C.Hasher.BuildHasher.build_hasher g.C.Hasher.Hasher.Hasher.write g.C.Hasher.Hasher.Hasher.finish g.K.Hash.hash_input s.behaviour.hasher in
+      let alike = hash-alike g.C.Hasher.BuildHasher.build_hasher g.C.Hasher.Hasher.Hasher.write g.C.Hasher.Hasher.Hasher.finish s.behaviour.hasher g.met.K.Hash.respects_eq in
+      let hash = rw (← c.self.view_is) at c.requires.hash in
+      let there = rw (← c.self.view_is) at stands in
+      let q : TurnKey g.row.K.Denot = record { hash = c.args.hash; kind = Compute; key = c.args.key } in
+      let keeps = table-keeps eq laws g.V.Clone.is_clone hash_of alike s.turns.opened.entries s.turns.ended.entries (turns steps) there.turns in
+      (search rules, open-waits eq g.V.Clone.is_clone given (events_in steps) key c.args.keep c.args.now _ _ (keeps.opened_is q hash) c.is_awaitable.result c.is_awaitable.ensures c.if-is_awaitable.true);
+  stands = tt;
+  refused = rw (← c.self.view_is) refl;
+}
 
 pub returns-in-Err-clause-begins : goal.returns-in-Err-clause-begins
 returns-in-Err-clause-begins g c = record {
@@ -40,7 +60,8 @@ returns-in-Err-clause-begins g c = record {
       let sound = sound-turns eq laws given steps there.legal in
       let counted = ap (λ (b : Books _ _). b.next_number) there.books in
       let begins = c.in-Err.ensures.begins s.next_number hash_of (turns steps) alike hash sound keeps in
-      compute-refused eq g.V.Clone.is_clone g.V.Clone.is_infallible given steps key c.args.keep c.args.now sound.0 hash_of _ _ q s.next_number _ refl counted c.in-Err.cause begins;
+      at-once-refused eq g.V.Clone.is_clone g.V.Clone.is_infallible given steps (BeginCompute key c.args.keep c.args.now) c.args.may_wait c.in-Err.cause
+      (compute-refused eq g.V.Clone.is_clone g.V.Clone.is_infallible given steps key c.args.keep c.args.now sound.0 hash_of _ _ q s.next_number _ refl counted c.in-Err.cause begins);
   stands = tt;
   refused =
       let s = c.self.inside in
@@ -217,3 +238,13 @@ returns-clause-kept g c =
     let entry = shown.4 in
     let copied = g.met.C.CacheTypes.copies_keep (arc_value row.key) row.value c.in-Some.shown.entry.value entry.1 kept in
     subst (λ k. g.C.CacheTypes.keeps k c.in-Some.shown.entry.value) (sym entry.0) copied
+
+pub returns-clause-kept_for : goal.returns-clause-kept_for
+returns-clause-kept_for g c =
+    let shown = rw (c.deref.ensures, c.in-Some.is) at c.in-Ok-look.ensures in
+    let row = shown.0 in
+    let entry = shown.4 in
+    let kept = of-row (λ r. g.C.CacheTypes.keeps (arc_value r.key) r.value) c.in-Some.shown.number _ row c.self.invariant.0.kept shown.1 in
+    let copied = g.met.C.CacheTypes.copies_keep (arc_value row.key) row.value c.in-Some.shown.entry.value entry.1 kept in
+    let same = same-key g.K.PartialEq.eq (arc_value c.args.key) c.args.hash row shown.2 in
+    (subst (λ k. g.C.CacheTypes.keeps k c.in-Some.shown.entry.value) (sym entry.0) copied, g.met.C.CacheTypes.equal_keys_keep (arc_value row.key) (arc_value c.args.key) c.in-Some.shown.entry.value same copied)
