@@ -31,13 +31,16 @@ impl<K: Hash + Drop, V: Clone, C: CacheTypes<K, V>, R: RowStore<K, V>> State<K, 
         f: F,
         now: u64,
     ) -> Result<CompResult<K, V>, Refused>
-        requires asks { (shown : Option (Entry K V)) → IfSome shown (EntryKeeps C.keeps key) → F.pre f shown }
-        requires keeps { (shown : Option (Entry K V)) (op : Op V) → IfSome shown (EntryKeeps C.keeps key)
-            → F.post f shown op → OutcomeKeeps {E = C.Error} (C.keeps key) (Outcome.Op op) }
+        requires asks { (shown : Option (Entry K V)) → IfSome shown (EntryKeeps C.keeps key)
+            → F.pre f shown }
+        requires keeps { (shown : Option (Entry K V)) (op : Op V)
+            → IfSome shown (EntryKeeps C.keeps key) → F.post f shown op
+            → OutcomeKeeps {E = C.Error} (C.keeps key) (Outcome.Op op) }
         ensures form { (shown : Option (Entry K V)) × (given : Option (Op V))
             × ⟦<C as StateView<K, V>>⟧.at_each_history self.old (λ settings steps.
-            IsComputeForm K.eq V.is_clone V.is_infallible settings steps (BeginCompute key true now)
-            now (option_map entry_of shown) (option_map Some given) (of_computing result)
+            IsComputeForm K.eq V.is_clone V.is_infallible settings steps
+            (BeginCompute key true now) now (option_map entry_of shown)
+            (option_map Some given) (of_computing result)
             (λ after. ⟦<C as StateView<K, V>>⟧.stands_for settings self.new after))
             × IfSome given (F.post f shown)
             × IfRefusedUnasked (self.new ≡ self.old) given (of_computing {E = C.Error} result) }
@@ -61,14 +64,16 @@ impl<K: Hash + Drop, V: Clone, C: CacheTypes<K, V>, R: RowStore<K, V>> State<K, 
         f: F,
         now: u64,
     ) -> Result<Entry<K, V>, Refused>
-        requires asks { (shown : Option (Entry K V)) → IfSome shown (EntryKeeps C.keeps key) → F.pre f shown }
-        requires keeps { (shown : Option (Entry K V)) (v : V) → IfSome shown (EntryKeeps C.keeps key)
-            → F.post f shown v → C.keeps key v }
+        requires asks { (shown : Option (Entry K V)) → IfSome shown (EntryKeeps C.keeps key)
+            → F.pre f shown }
+        requires keeps { (shown : Option (Entry K V)) (v : V)
+            → IfSome shown (EntryKeeps C.keeps key) → F.post f shown v → C.keeps key v }
         ensures form { (shown : Option (Entry K V)) × (given : Option V)
             × (answer : Result (calls.Answer K V C.Error) Refused)
             × ⟦<C as StateView<K, V>>⟧.at_each_history self.old (λ settings steps.
-            IsComputeForm K.eq V.is_clone V.is_infallible settings steps (BeginCompute key false now)
-            now (option_map entry_of shown) (option_map (λ v. Some (Op.Put v)) given) answer
+            IsComputeForm K.eq V.is_clone V.is_infallible settings steps
+            (BeginCompute key false now) now (option_map entry_of shown)
+            (option_map (λ v. Some (Op.Put v)) given) answer
             (λ after. ⟦<C as StateView<K, V>>⟧.stands_for settings self.new after))
             × IsUpserted answer result × IfSome given (F.post f shown)
             × IfRefusedUnasked (self.new ≡ self.old) given answer }
@@ -89,14 +94,16 @@ impl<K: Hash + Drop, V: Clone, C: CacheTypes<K, V>, R: RowStore<K, V>> State<K, 
     pub(crate) fn try_compute_with<
         F: FnOnce(Option<Entry<K, V>>) -> Result<Op<V>, C::Error> + Drop,
     >(&mut self, key: K, f: F, now: u64) -> Result<Result<CompResult<K, V>, C::Error>, Refused>
-        requires asks { (shown : Option (Entry K V)) → IfSome shown (EntryKeeps C.keeps key) → F.pre f shown }
+        requires asks { (shown : Option (Entry K V)) → IfSome shown (EntryKeeps C.keeps key)
+            → F.pre f shown }
         requires keeps { (shown : Option (Entry K V)) (said : Result (Op V) C.Error)
             → IfSome shown (EntryKeeps C.keeps key) → F.post f shown said
             → IfOk said (λ op. OutcomeKeeps {E = C.Error} (C.keeps key) (Outcome.Op op)) }
         ensures form { (shown : Option (Entry K V)) × (given : Option (Result (Op V) C.Error))
             × ⟦<C as StateView<K, V>>⟧.at_each_history self.old (λ settings steps.
-            IsComputeForm K.eq V.is_clone V.is_infallible settings steps (BeginCompute key true now)
-            now (option_map entry_of shown) (option_map unless_failed given) (of_trying result)
+            IsComputeForm K.eq V.is_clone V.is_infallible settings steps
+            (BeginCompute key true now) now (option_map entry_of shown)
+            (option_map unless_failed given) (of_trying result)
             (λ after. ⟦<C as StateView<K, V>>⟧.stands_for settings self.new after))
             × IsErrorOf given result × IfSome given (F.post f shown)
             × IfRefusedUnasked (self.new ≡ self.old) given (of_trying {E = C.Error} result) }
@@ -141,7 +148,8 @@ impl<K: Hash + Drop, V: Clone, C: CacheTypes<K, V>, R: RowStore<K, V>> State<K, 
         now: u64,
     ) -> Result<CompResult<K, V>, Refused>
         requires compute { turn.key.kind ≡ Kind.Compute }
-        requires kept { OutcomeKeeps {E = C.Error} (C.keeps (arc_value turn.key.key)) (Outcome.Op op) }
+        requires kept { OutcomeKeeps {E = C.Error} (C.keeps (arc_value turn.key.key))
+            (Outcome.Op op) }
         ensures ends { ⟦<C as StateView<K, V>>⟧.at_each_history self.old (λ settings steps.
             EndsTurn K.eq V.is_clone V.is_infallible settings steps
             (turn_name turn) (Outcome.Op op) now (of_computing result)

@@ -237,7 +237,8 @@ impl<K: Hash + Drop, V: Clone, C: CacheTypes<K, V>, R: RowStore<K, V>> State<K, 
         requires kind { turn.key.kind ≡ Kind.Try }
         requires kept { IfOk given (C.keeps (arc_value turn.key.key)) }
         ensures ends { ⟦<C as StateView<K, V>>⟧.at_each_history self.old (λ settings steps.
-            IsSome (accepted K.eq settings steps (Finish (turn_name turn) (tried_outcome given) now))
+            IsSome (accepted K.eq settings steps
+            (Finish (turn_name turn) (tried_outcome given) now))
             → EndsTurn K.eq V.is_clone V.is_infallible settings steps
             (turn_name turn) (tried_outcome given) now (of_tried result)
             (λ after. ⟦<C as StateView<K, V>>⟧.stands_for settings self.new after)) }

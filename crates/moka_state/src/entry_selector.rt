@@ -1,9 +1,11 @@
 //! The calls of one key on a lent state.
-ghost use Rattle.std.specs.Prelude.{◌≡◌, Bool, Option, None, Some, Result, false, true, option_map, IfOk, IfSome};
+ghost use Rattle.std.specs.Prelude.{◌≡◌, Bool, Option, None, Some, Result, false, true, option_map, IfErr, IfOk, IfSome};
+ghost use Rattle.std.specs.Borrow.{sem, RestsIfErr};
 ghost use Rattle.moka_model.specs.Entries.{entry_of};
 ghost use Rattle.moka_model.specs.Steps.{events_in};
 ghost use Rattle.moka_model.specs.Calls as calls;
 ghost use Rattle.moka_model.specs.Calls.{Begin, BeginCompute, OrInsert, live_at};
+ghost use Rattle.moka_state.specs.contracts.state.State.{the_row};
 ghost use Rattle.moka_state.specs.Begin.{EntryKeeps, IsSaidOf};
 ghost use Rattle.moka_state.specs.ComputeForms.{IsComputeForm, IsErrorOf, IsUpserted, of_computing, of_trying, unless_failed};
 ghost use Rattle.moka_state.specs.EntryForms.{of_optional, of_tried};
@@ -22,8 +24,8 @@ use moka_ways::view::StateView;
 use std::hash::Hash;
 use std::sync::Arc;
 
-/// A key of a lent state and a moment, for the one call that is made of them. [`State::entry`] makes it;
-/// it holds the state's `&mut` until that call.
+/// A key of a lent state and a moment, for the one call that is made of them. [`State::entry`] and
+/// [`State::entry_by_ref`] make it; it holds the state's `&mut` until that call.
 pub struct StateEntrySelector<
     'a,
     K: Hash + Drop,
@@ -48,6 +50,37 @@ impl<K: Hash + Drop, V: Clone, C: CacheTypes<K, V>, R: RowStore<K, V>> State<K, 
             state: self,
             key,
             at: now,
+        }
+    }
+}
+
+impl<K: Hash + Clone + Drop, V: Clone, C: CacheTypes<K, V>, R: RowStore<K, V>> State<K, V, C, R> {
+    /// As [`State::entry`], for who lends the key: a copy of it is selected.
+    ///
+    /// Refused with `OutOfMemory`, for the copy alone; then nothing has changed.
+    pub fn entry_by_ref(
+        &mut self,
+        key: &K,
+        now: u64,
+    ) -> Result<StateEntrySelector<'_, K, V, C, R>, Refused>
+        ensures* refused { sem 𝓛 (RestsIfErr (the_row K.row V.row C.row R.row
+            C.Hasher.row C.Weigher.row C.Expiry.row C.Predicate.row C.Frequency.row
+            C.Listener.row C.Clock.row C.Error.row C.Hasher.Hasher.row
+            K.PartialEq (record { hash_input = K.hash_input }) (record {}) V.Clone
+            C.CacheTypes C.Hasher.BuildHasher C.Hasher.Hasher.Hasher C.Weigher.Weigher
+            C.Expiry.Expiry C.Predicate.Predicate C.Frequency.FrequencySource
+            C.Listener.Listener C.Clock.Clock R.RowStore)
+            self.entry (λ made. made.state.ghost_name) result (λ left. left ≡ self.old)) }
+        ensures same_reference { IfOk result
+            (λ made. made.state.ghost_name ≡ self.entry.ghost_name) }
+        ensures state { IfOk result (λ made. made.state.now ≡ self.entry.now) }
+        ensures copy { IfOk result (λ made. K.is_clone key.now made.key) }
+        ensures moment { IfOk result (λ made. made.at ≡ now) }
+        ensures cause { IfErr result (λ cause. cause ≡ Refused.OutOfMemory) }
+    {
+        match key.clone() {
+            Ok(copy) => Ok(self.entry(copy, now)),
+            Err(_) => Err(Refused::OutOfMemory),
         }
     }
 }
