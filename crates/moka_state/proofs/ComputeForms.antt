@@ -1,6 +1,6 @@
 -- What the begin of a compute that may not wait gives, and what a form of a compute is.
-use Rattle.std.proofs.Common.{◌≡◌, ℕ, Bool, true, false, is_some, Option, Some, None, List}
-use Rattle.std.specs.Prelude.{Result, Ok, Err}
+use Rattle.std.proofs.Common.{◌≡◌, ℕ, Bool, true, false, is_some, Option, Some, None, List, ap}
+use Rattle.std.specs.Prelude.{Result, Ok, Err, IsErrAnd}
 use Rattle.moka_policy.specs.declared.policy.Refused.{Refused}
 use Rattle.moka_policy.specs.declared.policy.Refused.TheVariants as causes
 use Rattle.moka_model.specs.Lives.{Settings}
@@ -14,6 +14,11 @@ use Rattle.moka_turns.specs.Keeps.{Agree, IsOpenRow}
 use Rattle.moka_state.specs.Compute.{GivesAtOnce}
 use Rattle.moka_state.specs.ComputeForms.{IsComputeForm}
 use Rattle.moka_state.specs.Given.{Gives}
+
+-- what the exit of a `?` answers
+pub err-is : {A X : Type 0} (r : Result A X) (e : X) → IsErrAnd r (λ own. own ≡ e) → r ≡ Err e
+err-is (Ok a) e is = absurd is
+err-is (Err own) e is = ap Err is
 
 module _ {K V E : Type 0} (eq : K → K → Bool) (is_clone : V → V → Type 0) (is_infallible : V → Type 0) (settings : Settings K V) (steps : List (AcceptedStep K V E)) (call : Call K V E) where
   -- who may wait is not refused for an open turn

@@ -190,23 +190,19 @@ impl<K: Hash + Drop, V: Clone, C: CacheTypes<K, V>, R: RowStore<K, V>> State<K, 
             if !may_wait {
                 return Err(Refused::TurnIsOpen);
             }
-            let ticket = match self.turns.wait_open(wanted) {
-                Ok(ticket) => ticket,
-                Err(cause) => return Err(cause),
-            };
+            let ticket = self.turns.wait_open(wanted)?;
             self.latest = now;
             return Ok(BegunCompute::Wait(ticket));
         }
-        if self.next_number == u64::MAX {
+        let next = self.next_number;
+        if next == u64::MAX {
             return Err(Refused::NumbersUsedUp);
         }
         let Ok(found) = look(&self.table, &*wanted.key, hash, keep, now) else {
             return Err(Refused::OutOfMemory);
         };
         let Some(shown) = found else {
-            let turn = self
-                .turns
-                .open_shown(wanted, self.next_number, false, None)?;
+            let turn = self.turns.open_shown(wanted, next, false, None)?;
             self.upkeep.source.note(hash);
             self.latest = now;
             self.next_number += 1;
@@ -217,7 +213,7 @@ impl<K: Hash + Drop, V: Clone, C: CacheTypes<K, V>, R: RowStore<K, V>> State<K, 
             entry,
             kept,
         } = shown;
-        let turn = self.turns.open_shown(wanted, self.next_number, true, kept)?;
+        let turn = self.turns.open_shown(wanted, next, true, kept)?;
         self.upkeep
             .hit(&mut self.table, number, hash, now, &self.behaviour);
         self.latest = now;
