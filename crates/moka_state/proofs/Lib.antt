@@ -3,6 +3,7 @@ pub mod Alike
 pub mod Becoming
 pub mod Begins
 pub mod Collects
+pub mod ComputeForms
 pub mod Computes
 pub mod Conserved
 pub mod Counts

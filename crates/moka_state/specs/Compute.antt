@@ -1,11 +1,14 @@
 -- How a compute begins, and what it is answered.
-use Rattle.std.specs.Prelude.{⊤, ◌≡◌, ◌⊎◌, ℕ, Bool, true, false, Option, Some, None, List, Result, OnOk, OnErr, if◌then◌else◌}
+use Rattle.std.specs.Prelude.{⊤, ◌≡◌, ◌⊎◌, ℕ, Bool, true, false, Option, Some, None, List, Result, Err, OnOk, OnErr, IfSome, if◌then◌else◌}
 use Rattle.std.specs.Arc.{arc_value}
 use Rattle.moka_policy.specs.declared.policy.Refused.{Refused}
+use Rattle.moka_policy.specs.declared.policy.Refused.TheVariants as causes
 use Rattle.moka_model.specs.declared.turns.Kind.TheVariants.{Compute}
 use Rattle.moka_model.specs.declared.comp_result.CompResult.{CompResult}
 use Rattle.moka_model.specs.declared.comp_result.CompResult.TheVariants as results
-use Rattle.moka_model.specs.Calls.{IsCopyOf, entry_under, fresh_entry}
+use Rattle.moka_model.specs.Lives.{Settings}
+use Rattle.moka_model.specs.Steps.{AcceptedStep}
+use Rattle.moka_model.specs.Calls.{Call, IsCopyOf, IsWait, IfAnswered, accepted, entry_under, fresh_entry}
 use Rattle.moka_model.specs.Calls as calls
 use Rattle.moka_model.specs.Entries.{entry_of}
 use Rattle.moka_rows.specs.declared.rows.Row.{Row}
@@ -16,7 +19,8 @@ use Rattle.moka_ways.specs.StateData.{StateData}
 use Rattle.moka_state.specs.declared.answers.BegunCompute.{BegunCompute}
 use Rattle.moka_state.specs.declared.answers.BegunCompute.TheVariants as begins
 use Rattle.moka_state.specs.declared.compute.Shown.{Shown}
-use Rattle.moka_state.specs.Given.{of_begin_compute}
+use Rattle.moka_state.specs.Begin.{EntryKeeps}
+use Rattle.moka_state.specs.Given.{Gives, of_begin_compute}
 
 -- A look for a compute finds the row of a key whose value is live: its entry, and where it is asked for a second copy of the value.
 -- Else there is no row of the key, or its value is dead.
@@ -36,6 +40,19 @@ pub record ComputeBegins {K V H W X F E : Type 0} (gives : Result (calls.Answer 
   pub stands : OnOk result follows
   pub refused : OnErr result (new ≡ old)
 
+-- One that may not wait is refused where it would have to; else the definitions give what is answered or refused.
+abbrev pub GivesAtOnce : {K V E : Type 0} → (K → K → Bool) → (V → V → Type 0) → (V → Type 0) → Settings K V →
+    List (AcceptedStep K V E) → Call K V E → Bool → Result (calls.Answer K V E) Refused → Type 0
+GivesAtOnce eq is_clone is_infallible settings steps call may_wait (Err causes.TurnIsOpen) =
+    (may_wait ≡ false) × IfAnswered IsWait (accepted eq settings steps call)
+GivesAtOnce eq is_clone is_infallible settings steps call may_wait result =
+    Gives eq is_clone is_infallible settings steps call result
+
+-- P holds where a ticket is handed out
+abbrev pub IfWaits : {K V : Type 0} → Type 0 → BegunCompute K V → Type 0
+IfWaits P (begins.Wait ticket) = P
+IfWaits P begun = ⊤
+
 -- a turn or a ticket that is handed out is a compute's, and has this very key
 abbrev pub IsCompute : {K V : Type 0} → K → BegunCompute K V → Type 0
 IsCompute key (begins.Run turn entry) = (turn.key.kind ≡ Compute) × (arc_value turn.key.key ≡ key)
@@ -45,6 +62,11 @@ IsCompute key (begins.Wait ticket) = (ticket.key.kind ≡ Compute) × (arc_value
 abbrev pub ShownKeeps : {K V : Type 0} → (K → V → Type 0) → BegunCompute K V → Type 0
 ShownKeeps keeps (begins.Run turn (Some entry)) = keeps (entry_of entry).key (entry_of entry).value
 ShownKeeps keeps begun = ⊤
+
+-- and under the key that was looked for
+abbrev pub ShownKeepsFor : {K V : Type 0} → (K → V → Type 0) → K → BegunCompute K V → Type 0
+ShownKeepsFor keeps key (begins.Run turn shown) = IfSome shown (EntryKeeps keeps key)
+ShownKeepsFor keeps key (begins.Wait ticket) = ⊤
 
 -- what a compute is answered that does nothing, removes or puts
 abbrev pub IsLeft : {K V : Type 0} → K → Option V → CompResult K V → Type 0

@@ -1,9 +1,12 @@
 -- What the forms give that answer entries.
 use Rattle.std.specs.Prelude.{Option, Some, None, Result, Ok, Err}
+use Rattle.std.specs.Arc.{arc_value}
+use Rattle.std.specs.declared.sync.Arc.{Arc}
+use Rattle.std.specs.declared.alloc.Global.{Global}
 use Rattle.moka_policy.specs.declared.policy.Refused.{Refused}
 use Rattle.moka_model.specs.declared.entry.Entry.{Entry}
 use Rattle.moka_model.specs.Entries.{entry_of}
-use Rattle.moka_model.specs.Calls.{Answer, Entered, GaveNothing}
+use Rattle.moka_model.specs.Calls.{Answer, Entered, GaveError, GaveNothing}
 
 module _ {K V E : Type 0} where
   -- what the result of one that may answer none is to the definitions
@@ -11,3 +14,9 @@ module _ {K V E : Type 0} where
   of_optional (Ok (Some entry)) = Ok (Entered (entry_of entry))
   of_optional (Ok None) = Ok GaveNothing
   of_optional (Err cause) = Err cause
+
+  -- and of one that may answer an error
+  abbrev pub of_tried : Result (Result (Entry K V) (Arc E Global)) Refused → Result (Answer K V E) Refused
+  of_tried (Ok (Ok entry)) = Ok (Entered (entry_of entry))
+  of_tried (Ok (Err error)) = Ok (GaveError (arc_value error))
+  of_tried (Err cause) = Err cause

@@ -5,7 +5,7 @@ ghost use Rattle.moka_model.specs.Calls.{BeginCompute, Finish, IsCopyOf};
 ghost use Rattle.moka_model.specs.Numbers.{stores_nothing};
 ghost use Rattle.moka_table.specs.Table.{entries};
 ghost use Rattle.moka_turns.specs.Handles.{turn_name};
-ghost use Rattle.moka_state.specs.Compute.{ComputeBegins, IsCompute, IsLeft, IsPut, IsRemoved, IsShown, ShownKeeps};
+ghost use Rattle.moka_state.specs.Compute.{ComputeBegins, GivesAtOnce, IfWaits, IsCompute, IsLeft, IsPut, IsRemoved, IsShown, ShownKeeps, ShownKeepsFor};
 ghost use Rattle.moka_state.specs.Finish.{FinishEnds, Fits, OutcomeKeeps};
 ghost use Rattle.moka_state.specs.Given.{Gives};
 ghost use Rattle.moka_state.specs.Hashes.{IsHashOf};
@@ -150,30 +150,34 @@ impl<K: Hash + Drop, V: Clone, C: CacheTypes<K, V>, R: RowStore<K, V>> State<K, 
     {
         let hash = self.hash(&**key);
         match key.clone() {
-            Ok(shared) => self.begin_computing(shared, hash, keep, now),
+            Ok(shared) => self.begin_computing(shared, hash, keep, now, true),
             Err(_) => Err(Refused::OutOfMemory),
         }
     }
 
-    // Waits for the open compute of a key, or opens one.
-    fn begin_computing(
+    // Waits for the open compute of a key, or opens one. Where it would have to wait and may not, it is
+    // refused with `TurnIsOpen`.
+    pub(crate) fn begin_computing(
         &mut self,
         key: Arc<K>,
         hash: u64,
         keep: bool,
         now: u64,
+        may_wait: bool,
     ) -> Result<BegunCompute<K, V>, Refused>
         requires hash { IsHashOf (⟦<C as StateView<K, V>>⟧.settings self.old.settings)
             (arc_value key) hash }
         ensures begins { ComputeBegins
             (λ given. ⟦<C as StateView<K, V>>⟧.at_each_history self.old (λ settings steps.
-            Gives K.eq V.is_clone V.is_infallible settings steps
-            (BeginCompute (arc_value key) keep now) given))
+            GivesAtOnce K.eq V.is_clone V.is_infallible settings steps
+            (BeginCompute (arc_value key) keep now) may_wait given))
             (⟦<C as StateView<K, V>>⟧.follows self.old
             (BeginCompute (arc_value key) keep now) self.new)
             self.old self.new result }
         ensures named { IfOk result (IsCompute (arc_value key)) }
+        ensures waits { IfOk result (IfWaits (may_wait ≡ true)) }
         ensures kept { IfOk result (ShownKeeps C.keeps) }
+        ensures kept_for { IfOk result (ShownKeepsFor C.keeps (arc_value key)) }
         ensures settings { self.new.settings ≡ self.old.settings }
     {
         let wanted = TurnKey {
@@ -183,23 +187,22 @@ impl<K: Hash + Drop, V: Clone, C: CacheTypes<K, V>, R: RowStore<K, V>> State<K, 
         };
         let now = self.latest.max(now);
         if self.turns.is_awaitable(&wanted) {
-            let ticket = match self.turns.wait_open(wanted) {
-                Ok(ticket) => ticket,
-                Err(cause) => return Err(cause),
-            };
+            if !may_wait {
+                return Err(Refused::TurnIsOpen);
+            }
+            let ticket = self.turns.wait_open(wanted)?;
             self.latest = now;
             return Ok(BegunCompute::Wait(ticket));
         }
-        if self.next_number == u64::MAX {
+        let next = self.next_number;
+        if next == u64::MAX {
             return Err(Refused::NumbersUsedUp);
         }
         let Ok(found) = look(&self.table, &*wanted.key, hash, keep, now) else {
             return Err(Refused::OutOfMemory);
         };
         let Some(shown) = found else {
-            let turn = self
-                .turns
-                .open_shown(wanted, self.next_number, false, None)?;
+            let turn = self.turns.open_shown(wanted, next, false, None)?;
             self.upkeep.source.note(hash);
             self.latest = now;
             self.next_number += 1;
@@ -210,7 +213,7 @@ impl<K: Hash + Drop, V: Clone, C: CacheTypes<K, V>, R: RowStore<K, V>> State<K, 
             entry,
             kept,
         } = shown;
-        let turn = self.turns.open_shown(wanted, self.next_number, true, kept)?;
+        let turn = self.turns.open_shown(wanted, next, true, kept)?;
         self.upkeep
             .hit(&mut self.table, number, hash, now, &self.behaviour);
         self.latest = now;

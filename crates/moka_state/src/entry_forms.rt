@@ -1,14 +1,14 @@
 //! The forms that answer entries, for who hands in the key.
-ghost use Rattle.std.specs.Prelude.{◌≡◌, ◌≢◌, Bool, Option, None, Some, Result, option_map, IfOk, IfSome};
+ghost use Rattle.std.specs.Prelude.{◌≡◌, ◌≢◌, Bool, Option, None, Some, Result, option_map, IfOk, IfSome, IsSome};
 ghost use Rattle.std.specs.Arc.{arc_value};
 ghost use Rattle.moka_model.specs.Entries.{entry_of};
 ghost use Rattle.moka_model.specs.Steps.{events_in};
-ghost use Rattle.moka_model.specs.Calls.{Begin, OrInsert, live_at};
+ghost use Rattle.moka_model.specs.Calls.{Begin, Finish, OrInsert, accepted, live_at};
 ghost use Rattle.moka_turns.specs.Handles.{turn_name};
 ghost use Rattle.moka_state.specs.Begin.{EntryKeeps, IsSaidOf};
-ghost use Rattle.moka_state.specs.EntryForms.{of_optional};
+ghost use Rattle.moka_state.specs.EntryForms.{of_optional, of_tried};
 ghost use Rattle.moka_state.specs.Finish.{Fits};
-ghost use Rattle.moka_state.specs.Forms.{EndsTurn, IfRefusedUnasked, IsForm, optional_outcome};
+ghost use Rattle.moka_state.specs.Forms.{EndsTurn, IfRefusedUnasked, IsForm, optional_outcome, tried_outcome};
 ghost use Rattle.moka_state.specs.Given.{Gives};
 ghost use Rattle.moka_state.specs.OrInsert.{OrInsertEnds, of_or_default as of_entry};
 
@@ -22,6 +22,7 @@ use moka_rows::rows::RowStore;
 use moka_turns::handles::Turn;
 use moka_ways::view::StateView;
 use std::hash::Hash;
+use std::sync::Arc;
 
 impl<K: Hash + Drop, V: Clone, C: CacheTypes<K, V>, R: RowStore<K, V>> State<K, V, C, R> {
     // As `or_insert`, for who hands in the key: it is shared where nothing is live. A refused call drops
@@ -145,6 +146,37 @@ impl<K: Hash + Drop, V: Clone, C: CacheTypes<K, V>, R: RowStore<K, V>> State<K, 
         }
     }
 
+    // As `try_get_with`; it answers the entry.
+    pub(crate) fn entry_try_with<F: FnOnce() -> Result<V, C::Error> + Drop>(
+        &mut self,
+        key: K,
+        init: F,
+        now: u64,
+    ) -> Result<Result<Entry<K, V>, Arc<C::Error>>, Refused>
+        requires asks { F.IsAlwaysCallable init }
+        requires keeps { (r : Result V C.Error) → F.post init r → IfOk r (C.keeps key) }
+        ensures form { (given : Option (Result V C.Error))
+            × ⟦<C as StateView<K, V>>⟧.at_each_history self.old (λ settings steps.
+            IsForm K.eq V.is_clone V.is_infallible settings steps (Begin key Kind.Try None now) now
+            (option_map tried_outcome given) (of_tried result)
+            (λ after. ⟦<C as StateView<K, V>>⟧.stands_for settings self.new after))
+            × IfSome given (F.post init)
+            × IfRefusedUnasked (self.new ≡ self.old) given (of_tried result) }
+        ensures kept { IfOk result
+            (λ tried. IfOk tried (λ entry. C.keeps key (entry_of entry).value)) }
+        ensures settings { self.new.settings ≡ self.old.settings }
+    {
+        let begun = match self.begin_at_once(key, Kind::Try, now) {
+            Ok(begun) => begun,
+            Err(cause) => return Err(cause),
+        };
+        match begun {
+            Begun::Found(entry) => Ok(Ok(entry)),
+            Begun::Run(turn) => self.end_with_tried_entry(turn, init(), now),
+            Begun::Wait(_ticket) => unreachable!(),
+        }
+    }
+
     // Ends the turn of a form with a value, and answers its entry.
     fn end_with_entry(&mut self, turn: Turn<K>, value: V, now: u64) -> Result<Entry<K, V>, Refused>
         requires fits { Fits C.Error turn.key.kind (Outcome.Value value) }
@@ -189,6 +221,38 @@ impl<K: Hash + Drop, V: Clone, C: CacheTypes<K, V>, R: RowStore<K, V>> State<K, 
             },
             None => match self.end_with_none(turn, now) {
                 Ok(_none) => Ok(None),
+                Err(cause) => Err(cause),
+            },
+        }
+    }
+
+    // Ends the turn of a form with a value or an error, and answers its entry or the shared error. What
+    // is said of the end holds where the turn is open.
+    fn end_with_tried_entry(
+        &mut self,
+        turn: Turn<K>,
+        given: Result<V, C::Error>,
+        now: u64,
+    ) -> Result<Result<Entry<K, V>, Arc<C::Error>>, Refused>
+        requires kind { turn.key.kind ≡ Kind.Try }
+        requires kept { IfOk given (C.keeps (arc_value turn.key.key)) }
+        ensures ends { ⟦<C as StateView<K, V>>⟧.at_each_history self.old (λ settings steps.
+            IsSome (accepted K.eq settings steps
+            (Finish (turn_name turn) (tried_outcome given) now))
+            → EndsTurn K.eq V.is_clone V.is_infallible settings steps
+            (turn_name turn) (tried_outcome given) now (of_tried result)
+            (λ after. ⟦<C as StateView<K, V>>⟧.stands_for settings self.new after)) }
+        ensures kept { IfOk result (λ tried. IfOk tried
+            (λ entry. C.keeps (arc_value turn.key.key) (entry_of entry).value)) }
+        ensures settings { self.new.settings ≡ self.old.settings }
+    {
+        match given {
+            Ok(value) => match self.end_with_entry(turn, value, now) {
+                Ok(entry) => Ok(Ok(entry)),
+                Err(cause) => Err(cause),
+            },
+            Err(error) => match self.end_with_error(turn, error, now) {
+                Ok(error) => Ok(Err(error)),
                 Err(cause) => Err(cause),
             },
         }

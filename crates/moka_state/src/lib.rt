@@ -5,6 +5,7 @@ pub mod answers;
 pub mod begin;
 pub mod by_ref;
 pub mod compute;
+mod compute_forms;
 mod entry_forms;
 pub mod entry_selector;
 pub mod finish;

@@ -1,4 +1,4 @@
-use Rattle.std.proofs.Common.{◌≡◌, ℕ, Option, Some, None, cond, option_map, List, [], ◌∷◌, ◌++◌, refl, sym, ap, ◌∙◌, subst, arith, max}
+use Rattle.std.proofs.Common.{◌≡◌, ℕ, Option, Some, None, cond, option_map, List, [], ◌∷◌, ◌++◌, refl, sym, ap, ◌∙◌, subst, arith, max, rules}
 use Rattle.std.specs.Arc.{arc_value}
 use Rattle.moka_model.specs.declared.turns.Kind.TheVariants.{Compute}
 use Rattle.moka_model.specs.Events.{Looked, Passed, Drawn}
@@ -18,14 +18,34 @@ use Rattle.moka_turns.proofs.Views.{table-keeps, table-holds}
 use Rattle.moka_state.proofs.Alike.{hash-alike}
 use Rattle.moka_state.proofs.Becoming.{becomes-passed, estimates-noted}
 use Rattle.moka_state.proofs.Begins.{becomes-drawn, looks-in-vain, move-stands, waits-told}
+use Rattle.moka_state.proofs.ComputeForms.{at-once-refused, err-is, open-waits}
 use Rattle.moka_state.proofs.Computes.{none-open, nothing-kept, compute-refused, compute-waits, after-compute-waits, compute-used-up, compute-runs, after-compute-runs, shows-none, shows-live, shows-hit}
+use Rattle.moka_state.proofs.Held.{same-key}
 use Rattle.moka_state.proofs.Sound.{IsSound-touched}
 use Rattle.moka_state.proofs.Turns.{sound-turns, same-turns, with-turns}
 use Rattle.moka_state.proofs.Views.{view-becomes}
 use Rattle.moka_state.proofs.state.State.begin_computing.Goals as goal
 
-pub returns-in-Err-clause-begins : goal.returns-in-Err-clause-begins
-returns-in-Err-clause-begins g c = record {
+pub returns-then-not-may_wait-clause-begins : goal.returns-then-not-may_wait-clause-begins
+returns-then-not-may_wait-clause-begins g c = record {
+  reply = λ given steps stands.
+      let s = c.self.inside in
+      let eq = g.K.PartialEq.eq in
+      let laws = g.met.K.Eq.laws in
+      let key = arc_value c.args.key in
+      let hash_of = hash_by g.C.Hasher.BuildHasher.build_hasher g.C.Hasher.Hasher.Hasher.write g.C.Hasher.Hasher.Hasher.finish g.K.Hash.hash_input s.behaviour.hasher in
+      let alike = hash-alike g.C.Hasher.BuildHasher.build_hasher g.C.Hasher.Hasher.Hasher.write g.C.Hasher.Hasher.Hasher.finish s.behaviour.hasher g.met.K.Hash.respects_eq in
+      let hash = rw (← c.self.view_is) at c.requires.hash in
+      let there = rw (← c.self.view_is) at stands in
+      let q : TurnKey g.row.K.Denot = record { hash = c.args.hash; kind = Compute; key = c.args.key } in
+      let keeps = table-keeps eq laws g.V.Clone.is_clone hash_of alike s.turns.opened.entries s.turns.ended.entries (turns steps) there.turns in
+      (search rules, open-waits eq g.V.Clone.is_clone given (events_in steps) key c.args.keep c.args.now _ _ (keeps.opened_is q hash) c.is_awaitable.result c.is_awaitable.ensures c.if-is_awaitable.true);
+  stands = tt;
+  refused = rw (← c.self.view_is) refl;
+}
+
+pub returns-in_err-ticket-clause-begins : goal.returns-in_err-ticket-clause-begins
+returns-in_err-ticket-clause-begins g c = rw (err-is c.from_residual.result _ c.from_residual.ensures.1) (record {
   reply = λ given steps stands.
       let s = c.self.inside in
       let eq = g.K.PartialEq.eq in
@@ -39,13 +59,14 @@ returns-in-Err-clause-begins g c = record {
       let keeps = table-keeps eq laws g.V.Clone.is_clone hash_of alike s.turns.opened.entries s.turns.ended.entries (turns steps) there.turns in
       let sound = sound-turns eq laws given steps there.legal in
       let counted = ap (λ (b : Books _ _). b.next_number) there.books in
-      let begins = c.in-Err.ensures.begins s.next_number hash_of (turns steps) alike hash sound keeps in
-      compute-refused eq g.V.Clone.is_clone g.V.Clone.is_infallible given steps key c.args.keep c.args.now sound.0 hash_of _ _ q s.next_number _ refl counted c.in-Err.cause begins;
+      let begins = c.in_err-ticket.ensures.begins s.next_number hash_of (turns steps) alike hash sound keeps in
+      at-once-refused eq g.V.Clone.is_clone g.V.Clone.is_infallible given steps (BeginCompute key c.args.keep c.args.now) c.args.may_wait _
+      (compute-refused eq g.V.Clone.is_clone g.V.Clone.is_infallible given steps key c.args.keep c.args.now sound.0 hash_of _ _ q s.next_number _ refl counted _ begins);
   stands = tt;
   refused =
       let s = c.self.inside in
-      rw (← c.self.view_is) (with-turns _ _ _ _ _ _ (same-turns (hash_by g.C.Hasher.BuildHasher.build_hasher g.C.Hasher.Hasher.Hasher.write g.C.Hasher.Hasher.Hasher.finish g.K.Hash.hash_input s.behaviour.hasher) _ _ _ _ c.in-Err.ensures.unchanged.0 c.in-Err.ensures.unchanged.1));
-}
+      rw (← c.self.view_is) (with-turns _ _ _ _ _ _ (same-turns (hash_by g.C.Hasher.BuildHasher.build_hasher g.C.Hasher.Hasher.Hasher.write g.C.Hasher.Hasher.Hasher.finish g.K.Hash.hash_input s.behaviour.hasher) _ _ _ _ c.in_err-ticket.ensures.unchanged.0 c.in_err-ticket.ensures.unchanged.1));
+})
 
 pub returns-then-is_awaitable-clause-begins : goal.returns-then-is_awaitable-clause-begins
 returns-then-is_awaitable-clause-begins g c = record {
@@ -62,9 +83,9 @@ returns-then-is_awaitable-clause-begins g c = record {
       let keeps = table-keeps eq laws g.V.Clone.is_clone hash_of alike s.turns.opened.entries s.turns.ended.entries (turns steps) there.turns in
       let sound = sound-turns eq laws given steps there.legal in
       let counted = ap (λ (b : Books _ _). b.next_number) there.books in
-      let begins = c.in-Ok.ensures.begins s.next_number hash_of (turns steps) alike hash sound keeps in
-      let told = waits-told eq g.V.Clone.is_clone hash_of _ _ q _ _ _ _ c.in-Ok.ticket begins in
-      compute-waits eq g.V.Clone.is_clone g.V.Clone.is_infallible given steps key c.args.keep c.args.now sound.0 told.0 told.1 told.4 (ticket_name c.in-Ok.ticket) told.3;
+      let begins = c.in_ok-ticket.ensures.begins s.next_number hash_of (turns steps) alike hash sound keeps in
+      let told = waits-told eq g.V.Clone.is_clone hash_of _ _ q _ _ _ _ c.in_ok-ticket.ticket begins in
+      compute-waits eq g.V.Clone.is_clone g.V.Clone.is_infallible given steps key c.args.keep c.args.now sound.0 told.0 told.1 told.4 (ticket_name c.in_ok-ticket.ticket) told.3;
   stands = λ given steps stands.
       let s = c.self.inside in
       let eq = g.K.PartialEq.eq in
@@ -78,8 +99,8 @@ returns-then-is_awaitable-clause-begins g c = record {
       let keeps = table-keeps eq laws g.V.Clone.is_clone hash_of alike s.turns.opened.entries s.turns.ended.entries (turns steps) there.turns in
       let sound = sound-turns eq laws given steps there.legal in
       let counted = ap (λ (b : Books _ _). b.next_number) there.books in
-      let begins = c.in-Ok.ensures.begins s.next_number hash_of (turns steps) alike hash sound keeps in
-      let told = waits-told eq g.V.Clone.is_clone hash_of _ _ q _ _ _ _ c.in-Ok.ticket begins in
+      let begins = c.in_ok-ticket.ensures.begins s.next_number hash_of (turns steps) alike hash sound keeps in
+      let told = waits-told eq g.V.Clone.is_clone hash_of _ _ q _ _ _ _ c.in_ok-ticket.ticket begins in
       rw c.max-now.ensures (move-stands eq given _ _ _ steps there (BeginCompute key c.args.keep c.args.now) (Passed c.args.now ∷ []) (Waited told.0.name.number)
       (after-compute-waits eq g.V.Clone.is_clone g.V.Clone.is_infallible given steps key c.args.keep c.args.now sound.0 told.0 told.1) _
       (view-becomes eq laws given _ _ (events_in steps) (Passed c.args.now) (view-of eq given _ steps there) (becomes-passed eq _ s.table _ s.latest s.next_number c.args.now))
@@ -87,8 +108,8 @@ returns-then-is_awaitable-clause-begins g c = record {
   refused = tt;
 }
 
-pub returns-then-self-clause-begins : goal.returns-then-self-clause-begins
-returns-then-self-clause-begins g c = record {
+pub returns-then-next-clause-begins : goal.returns-then-next-clause-begins
+returns-then-next-clause-begins g c = record {
   reply = λ given steps stands.
       let s = c.self.inside in
       let eq = g.K.PartialEq.eq in
@@ -103,7 +124,7 @@ returns-then-self-clause-begins g c = record {
       let sound = sound-turns eq laws given steps there.legal in
       let counted = ap (λ (b : Books _ _). b.next_number) there.books in
       let opened = none-open eq g.V.Clone.is_clone hash_of (turns steps) _ _ keeps q hash c.is_awaitable.result c.is_awaitable.ensures c.if-is_awaitable.false in
-      compute-used-up eq g.V.Clone.is_clone g.V.Clone.is_infallible given steps key c.args.keep c.args.now opened (sym counted ∙ c.if-self.true);
+      compute-used-up eq g.V.Clone.is_clone g.V.Clone.is_infallible given steps key c.args.keep c.args.now opened (sym counted ∙ c.if-next.true);
   stands = tt;
   refused = rw (← c.self.view_is) refl;
 }
@@ -124,9 +145,9 @@ returns-in_default-found-clause-begins g c = record {
       let sound = sound-turns eq laws given steps there.legal in
       let counted = ap (λ (b : Books _ _). b.next_number) there.books in
       let opened = none-open eq g.V.Clone.is_clone hash_of (turns steps) _ _ keeps q hash c.is_awaitable.result c.is_awaitable.ensures c.if-is_awaitable.false in
-      let shown = rw (c.deref.ensures, c.max-now.ensures, c.in_default-found.is) at c.in-Ok-look.ensures in
+      let shown = rw (c.deref.ensures, c.max-now.ensures, c.in_default-found.is) at c.in-Ok.ensures in
       let live = shows-none eq g.V.Clone.is_clone laws _ s.table _ s.latest s.next_number given steps there s.upkeep.lives refl c.self.invariant.0.dated hash_of alike c.self.invariant.0.hashed key c.args.keep c.args.now c.args.hash hash (omega (arith, c.max-now.ensures)) shown in
-      compute-runs eq g.V.Clone.is_clone g.V.Clone.is_infallible given steps key c.args.keep c.args.now opened s.next_number counted c.if-self.false (turn_name c.in_ok-turn.turn) c.in_ok-turn.ensures.name None live None tt;
+      compute-runs eq g.V.Clone.is_clone g.V.Clone.is_infallible given steps key c.args.keep c.args.now opened s.next_number counted c.if-next.false (turn_name c.in_ok-turn.turn) c.in_ok-turn.ensures.name None live None tt;
   stands = λ given steps stands.
       let s = c.self.inside in
       let eq = g.K.PartialEq.eq in
@@ -141,7 +162,7 @@ returns-in_default-found-clause-begins g c = record {
       let sound = sound-turns eq laws given steps there.legal in
       let counted = ap (λ (b : Books _ _). b.next_number) there.books in
       let opened = none-open eq g.V.Clone.is_clone hash_of (turns steps) _ _ keeps q hash c.is_awaitable.result c.is_awaitable.ensures c.if-is_awaitable.false in
-      let shown = rw (c.deref.ensures, c.max-now.ensures, c.in_default-found.is) at c.in-Ok-look.ensures in
+      let shown = rw (c.deref.ensures, c.max-now.ensures, c.in_default-found.is) at c.in-Ok.ensures in
       let live = shows-none eq g.V.Clone.is_clone laws _ s.table _ s.latest s.next_number given steps there s.upkeep.lives refl c.self.invariant.0.dated hash_of alike c.self.invariant.0.hashed key c.args.keep c.args.now c.args.hash hash (omega (arith, c.max-now.ensures)) shown in
       let becomes = looks-in-vain eq laws _ s.table _ s.latest s.next_number given steps there None key c.args.now live _ (estimates-noted g.C.Frequency.FrequencySource.noted g.C.Frequency.FrequencySource.count s.upkeep.source c.note.new.self c.args.hash _ c.note.ensures hash) in
       let value : Option g.row.V.Denot = cond c.args.keep None None in
@@ -158,7 +179,7 @@ returns-in_default-found-clause-begins g c = record {
 pub invariant_of-self-2 : goal.invariant_of-self-2
 invariant_of-self-2 g c =
     let s = c.self.inside in
-    let shown = rw c.in-Some.is at c.in-Ok-look.ensures in
+    let shown = rw c.in-Some.is at c.in-Ok.ensures in
     let used = rw shown.1 at c.hit.ensures.used in
     rw c.hit.ensures.lives (IsSound-touched _ _ s.upkeep.lives s.table c.hit.new.table c.self.invariant.0 c.in-Some.shown.number shown.0 used.0 shown.1 used.2 c.hit.ensures.notices used.1.dated, c.self.invariant.1)
 
@@ -178,9 +199,9 @@ returns-clause-begins g c = record {
       let sound = sound-turns eq laws given steps there.legal in
       let counted = ap (λ (b : Books _ _). b.next_number) there.books in
       let opened = none-open eq g.V.Clone.is_clone hash_of (turns steps) _ _ keeps q hash c.is_awaitable.result c.is_awaitable.ensures c.if-is_awaitable.false in
-      let shown = rw (c.deref.ensures, c.max-now.ensures, c.in-Some.is) at c.in-Ok-look.ensures in
+      let shown = rw (c.deref.ensures, c.max-now.ensures, c.in-Some.is) at c.in-Ok.ensures in
       let it = shows-live eq g.V.Clone.is_clone laws _ s.table _ s.latest s.next_number given steps there s.upkeep.lives refl c.self.invariant.0.dated hash_of alike c.self.invariant.0.hashed key c.args.keep c.args.now c.args.hash hash (omega (arith, c.max-now.ensures)) c.in-Some.shown shown in
-      compute-runs eq g.V.Clone.is_clone g.V.Clone.is_infallible given steps key c.args.keep c.args.now opened s.next_number counted c.if-self.false (turn_name c.in_ok-turn-2.turn) c.in_ok-turn-2.ensures.name (Some (stored_write it.0)) it.1 (Some (entry_of c.in-Some.shown.entry)) it.2;
+      compute-runs eq g.V.Clone.is_clone g.V.Clone.is_infallible given steps key c.args.keep c.args.now opened s.next_number counted c.if-next.false (turn_name c.in_ok-turn-2.turn) c.in_ok-turn-2.ensures.name (Some (stored_write it.0)) it.1 (Some (entry_of c.in-Some.shown.entry)) it.2;
   stands = λ given steps stands.
       let s = c.self.inside in
       let eq = g.K.PartialEq.eq in
@@ -195,7 +216,7 @@ returns-clause-begins g c = record {
       let sound = sound-turns eq laws given steps there.legal in
       let counted = ap (λ (b : Books _ _). b.next_number) there.books in
       let opened = none-open eq g.V.Clone.is_clone hash_of (turns steps) _ _ keeps q hash c.is_awaitable.result c.is_awaitable.ensures c.if-is_awaitable.false in
-      let shown = rw (c.deref.ensures, c.max-now.ensures, c.in-Some.is) at c.in-Ok-look.ensures in
+      let shown = rw (c.deref.ensures, c.max-now.ensures, c.in-Some.is) at c.in-Ok.ensures in
       let it = shows-live eq g.V.Clone.is_clone laws _ s.table _ s.latest s.next_number given steps there s.upkeep.lives refl c.self.invariant.0.dated hash_of alike c.self.invariant.0.hashed key c.args.keep c.args.now c.args.hash hash (omega (arith, c.max-now.ensures)) c.in-Some.shown shown in
       let becomes = shows-hit eq g.V.Clone.is_clone laws _ s.table _ s.latest s.next_number given steps there s.upkeep.lives refl c.self.invariant.0.dated hash_of alike c.self.invariant.0.hashed key c.args.keep c.args.now c.args.hash hash (omega (arith, c.max-now.ensures)) c.in-Some.shown c.hit.new.table shown (rw c.max-now.ensures at c.hit.ensures.used) c.hit.ensures.notices _ (estimates-noted g.C.Frequency.FrequencySource.noted g.C.Frequency.FrequencySource.count s.upkeep.source c.hit.new.self.source c.args.hash _ c.hit.ensures.noted hash) in
       let value : Option g.row.V.Denot = cond c.args.keep (Some it.0.value) None in
@@ -211,9 +232,19 @@ returns-clause-begins g c = record {
 
 pub returns-clause-kept : goal.returns-clause-kept
 returns-clause-kept g c =
-    let shown = rw c.in-Some.is at c.in-Ok-look.ensures in
+    let shown = rw c.in-Some.is at c.in-Ok.ensures in
     let row = shown.0 in
     let kept = of-row (λ r. g.C.CacheTypes.keeps (arc_value r.key) r.value) c.in-Some.shown.number _ row c.self.invariant.0.kept shown.1 in
     let entry = shown.4 in
     let copied = g.met.C.CacheTypes.copies_keep (arc_value row.key) row.value c.in-Some.shown.entry.value entry.1 kept in
     subst (λ k. g.C.CacheTypes.keeps k c.in-Some.shown.entry.value) (sym entry.0) copied
+
+pub returns-clause-kept_for : goal.returns-clause-kept_for
+returns-clause-kept_for g c =
+    let shown = rw (c.deref.ensures, c.in-Some.is) at c.in-Ok.ensures in
+    let row = shown.0 in
+    let entry = shown.4 in
+    let kept = of-row (λ r. g.C.CacheTypes.keeps (arc_value r.key) r.value) c.in-Some.shown.number _ row c.self.invariant.0.kept shown.1 in
+    let copied = g.met.C.CacheTypes.copies_keep (arc_value row.key) row.value c.in-Some.shown.entry.value entry.1 kept in
+    let same = same-key g.K.PartialEq.eq (arc_value c.args.key) c.args.hash row shown.2 in
+    (subst (λ k. g.C.CacheTypes.keeps k c.in-Some.shown.entry.value) (sym entry.0) copied, g.met.C.CacheTypes.equal_keys_keep (arc_value row.key) (arc_value c.args.key) c.in-Some.shown.entry.value same copied)

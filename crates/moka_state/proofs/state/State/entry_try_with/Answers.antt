@@ -1,0 +1,37 @@
+use Rattle.std.proofs.Common.{Some, None, Err}
+use Rattle.moka_model.specs.declared.turns.Kind.TheVariants.{Try}
+use Rattle.moka_state.specs.Forms.{tried_outcome}
+use Rattle.moka_turns.specs.Handles.{turn_name}
+use Rattle.moka_state.proofs.Forms.{finish-is-known, fits-tried, form-refused}
+use Rattle.moka_state.proofs.state.State.entry_try_with.Goals as goal
+
+pub returns-in-Err-clause-form : goal.returns-in-Err-clause-form
+returns-in-Err-clause-form g c =
+    let begins = rw c.in-Err.is at c.begin_at_once.ensures.begins in (
+      None,
+      λ settings steps stands. form-refused g.K.PartialEq.eq g.V.Clone.is_clone g.V.Clone.is_infallible settings steps _ c.args.key Try None c.args.now c.in-Err.cause (begins.reply settings steps stands),
+      tt,
+      begins.refused,
+    )
+
+pub returns-in-Found-clause-form : goal.returns-in-Found-clause-form
+returns-in-Found-clause-form g c =
+    let begins = rw (c.in-Ok.is, c.in-Found.is) at c.begin_at_once.ensures.begins in (
+      None,
+      λ settings steps stands. (tt, begins.reply settings steps stands, begins.stands settings steps stands),
+      tt,
+      tt,
+    )
+
+pub returns-in-Run-clause-form : goal.returns-in-Run-clause-form
+returns-in-Run-clause-form g c =
+    let begins = rw (c.in-Ok.is, c.in-Run.is) at c.begin_at_once.ensures.begins in
+    let named = rw (c.in-Ok.is, c.in-Run.is) at c.begin_at_once.ensures.named in
+    let ends = c.end_with_tried_entry.ensures.ends in (
+      Some c.init.result,
+      λ settings steps stands.
+          let known = finish-is-known g.K.PartialEq.eq g.met.K.Eq.laws g.V.Clone.is_clone g.V.Clone.is_infallible settings steps c.args.key Try (λ is. cc) None c.args.now (turn_name c.in-Run.turn) (begins.reply settings steps stands) (tried_outcome c.init.result) (fits-tried c.init.result c.in-Run.turn.key.kind named.0) c.args.now in
+          (turn_name c.in-Run.turn, begins.reply settings steps stands, ends settings _ (begins.stands settings steps stands) known),
+      c.init.ensures,
+      tt,
+    )

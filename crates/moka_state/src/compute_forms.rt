@@ -1,0 +1,224 @@
+//! The forms of a compute with a closure: begin, closure and finish at one moment.
+ghost use Rattle.std.specs.Prelude.{◌≡◌, Option, None, Some, Result, false, true, option_map, IfOk, IfSome};
+ghost use Rattle.std.specs.Arc.{arc_value};
+ghost use Rattle.moka_model.specs.Entries.{entry_of};
+ghost use Rattle.moka_model.specs.Calls as calls;
+ghost use Rattle.moka_model.specs.Calls.{BeginCompute};
+ghost use Rattle.moka_turns.specs.Handles.{turn_name};
+ghost use Rattle.moka_state.specs.Begin.{EntryKeeps};
+ghost use Rattle.moka_state.specs.Compute.{ComputeBegins, GivesAtOnce, IfWaits, IsCompute, ShownKeepsFor};
+ghost use Rattle.moka_state.specs.ComputeForms.{EndsCompute, IsComputeForm, IsErrorOf, IsUpserted, of_computing, of_trying, unless_failed};
+ghost use Rattle.moka_state.specs.Finish.{IsComputed, OutcomeKeeps};
+ghost use Rattle.moka_state.specs.Forms.{EndsTurn, IfRefusedUnasked};
+
+use crate::answers::{BegunCompute, FinishRefused, Finished};
+use crate::state::State;
+use moka_model::comp_result::CompResult;
+use moka_model::entry::Entry;
+use moka_model::turns::{Kind, Op, Outcome};
+use moka_policy::policy::{CacheTypes, Refused};
+use moka_rows::rows::RowStore;
+use moka_turns::handles::Turn;
+use moka_ways::view::StateView;
+use std::hash::Hash;
+
+impl<K: Hash + Drop, V: Clone, C: CacheTypes<K, V>, R: RowStore<K, V>> State<K, V, C, R> {
+    // Asks what is to be done with the value of a key, and does it, in one turn of a compute. It keeps a
+    // copy of the live value aside, which is answered where nothing is to be done.
+    pub(crate) fn compute_with<F: FnOnce(Option<Entry<K, V>>) -> Op<V> + Drop>(
+        &mut self,
+        key: K,
+        f: F,
+        now: u64,
+    ) -> Result<CompResult<K, V>, Refused>
+        requires asks { (shown : Option (Entry K V)) → IfSome shown (EntryKeeps C.keeps key)
+            → F.pre f shown }
+        requires keeps { (shown : Option (Entry K V)) (op : Op V)
+            → IfSome shown (EntryKeeps C.keeps key) → F.post f shown op
+            → OutcomeKeeps {E = C.Error} (C.keeps key) (Outcome.Op op) }
+        ensures form { (shown : Option (Entry K V)) × (given : Option (Op V))
+            × ⟦<C as StateView<K, V>>⟧.at_each_history self.old (λ settings steps.
+            IsComputeForm K.eq V.is_clone V.is_infallible settings steps
+            (BeginCompute key true now) now (option_map entry_of shown)
+            (option_map Some given) (of_computing result)
+            (λ after. ⟦<C as StateView<K, V>>⟧.stands_for settings self.new after))
+            × IfSome given (F.post f shown)
+            × IfRefusedUnasked (self.new ≡ self.old) given (of_computing {E = C.Error} result) }
+        ensures settings { self.new.settings ≡ self.old.settings }
+    {
+        let begun = match self.open_at_once(key, true, now) {
+            Ok(begun) => begun,
+            Err(cause) => return Err(cause),
+        };
+        match begun {
+            BegunCompute::Run(turn, shown) => self.end_compute(turn, f(shown), now),
+            BegunCompute::Wait(_ticket) => unreachable!(),
+        }
+    }
+
+    // As `compute_with`, for who puts a value in any case; it answers the entry that was put, and keeps
+    // no copy aside.
+    pub(crate) fn upsert_with<F: FnOnce(Option<Entry<K, V>>) -> V + Drop>(
+        &mut self,
+        key: K,
+        f: F,
+        now: u64,
+    ) -> Result<Entry<K, V>, Refused>
+        requires asks { (shown : Option (Entry K V)) → IfSome shown (EntryKeeps C.keeps key)
+            → F.pre f shown }
+        requires keeps { (shown : Option (Entry K V)) (v : V)
+            → IfSome shown (EntryKeeps C.keeps key) → F.post f shown v → C.keeps key v }
+        ensures form { (shown : Option (Entry K V)) × (given : Option V)
+            × (answer : Result (calls.Answer K V C.Error) Refused)
+            × ⟦<C as StateView<K, V>>⟧.at_each_history self.old (λ settings steps.
+            IsComputeForm K.eq V.is_clone V.is_infallible settings steps
+            (BeginCompute key false now) now (option_map entry_of shown)
+            (option_map (λ v. Some (Op.Put v)) given) answer
+            (λ after. ⟦<C as StateView<K, V>>⟧.stands_for settings self.new after))
+            × IsUpserted answer result × IfSome given (F.post f shown)
+            × IfRefusedUnasked (self.new ≡ self.old) given answer }
+        ensures kept { IfOk result (λ entry. C.keeps key (entry_of entry).value) }
+        ensures settings { self.new.settings ≡ self.old.settings }
+    {
+        let begun = match self.open_at_once(key, false, now) {
+            Ok(begun) => begun,
+            Err(cause) => return Err(cause),
+        };
+        match begun {
+            BegunCompute::Run(turn, shown) => self.end_with_put(turn, f(shown), now),
+            BegunCompute::Wait(_ticket) => unreachable!(),
+        }
+    }
+
+    // As `compute_with`, for a closure that may fail; then the turn is abandoned.
+    pub(crate) fn try_compute_with<
+        F: FnOnce(Option<Entry<K, V>>) -> Result<Op<V>, C::Error> + Drop,
+    >(&mut self, key: K, f: F, now: u64) -> Result<Result<CompResult<K, V>, C::Error>, Refused>
+        requires asks { (shown : Option (Entry K V)) → IfSome shown (EntryKeeps C.keeps key)
+            → F.pre f shown }
+        requires keeps { (shown : Option (Entry K V)) (said : Result (Op V) C.Error)
+            → IfSome shown (EntryKeeps C.keeps key) → F.post f shown said
+            → IfOk said (λ op. OutcomeKeeps {E = C.Error} (C.keeps key) (Outcome.Op op)) }
+        ensures form { (shown : Option (Entry K V)) × (given : Option (Result (Op V) C.Error))
+            × ⟦<C as StateView<K, V>>⟧.at_each_history self.old (λ settings steps.
+            IsComputeForm K.eq V.is_clone V.is_infallible settings steps
+            (BeginCompute key true now) now (option_map entry_of shown)
+            (option_map unless_failed given) (of_trying result)
+            (λ after. ⟦<C as StateView<K, V>>⟧.stands_for settings self.new after))
+            × IsErrorOf given result × IfSome given (F.post f shown)
+            × IfRefusedUnasked (self.new ≡ self.old) given (of_trying {E = C.Error} result) }
+        ensures settings { self.new.settings ≡ self.old.settings }
+    {
+        let begun = match self.open_at_once(key, true, now) {
+            Ok(begun) => begun,
+            Err(cause) => return Err(cause),
+        };
+        match begun {
+            BegunCompute::Run(turn, shown) => self.end_tried_compute(turn, f(shown), now),
+            BegunCompute::Wait(_ticket) => unreachable!(),
+        }
+    }
+
+    // The begin of a form of a compute, which does not wait: where a compute of the key is open, it is
+    // refused with `TurnIsOpen`.
+    fn open_at_once(&mut self, key: K, keep: bool, now: u64) -> Result<BegunCompute<K, V>, Refused>
+        ensures begins { ComputeBegins
+            (λ given. ⟦<C as StateView<K, V>>⟧.at_each_history self.old (λ settings steps.
+            GivesAtOnce K.eq V.is_clone V.is_infallible settings steps
+            (BeginCompute key keep now) false given))
+            (⟦<C as StateView<K, V>>⟧.follows self.old (BeginCompute key keep now) self.new)
+            self.old self.new result }
+        ensures named { IfOk result (IsCompute key) }
+        ensures waits { IfOk result (IfWaits (false ≡ true)) }
+        ensures kept { IfOk result (ShownKeepsFor C.keeps key) }
+        ensures settings { self.new.settings ≡ self.old.settings }
+    {
+        let hash = self.hash(&key);
+        match self.share(key) {
+            Ok(shared) => self.begin_computing(shared, hash, keep, now, false),
+            Err(_) => Err(Refused::OutOfMemory),
+        }
+    }
+
+    // Ends the turn of a compute with what is to be done; where that is refused, the turn is abandoned.
+    fn end_compute(
+        &mut self,
+        turn: Turn<K>,
+        op: Op<V>,
+        now: u64,
+    ) -> Result<CompResult<K, V>, Refused>
+        requires compute { turn.key.kind ≡ Kind.Compute }
+        requires kept { OutcomeKeeps {E = C.Error} (C.keeps (arc_value turn.key.key))
+            (Outcome.Op op) }
+        ensures ends { ⟦<C as StateView<K, V>>⟧.at_each_history self.old (λ settings steps.
+            EndsTurn K.eq V.is_clone V.is_infallible settings steps
+            (turn_name turn) (Outcome.Op op) now (of_computing result)
+            (λ after. ⟦<C as StateView<K, V>>⟧.stands_for settings self.new after)) }
+        ensures computed { IfOk result (IsComputed V.is_clone (arc_value turn.key.key) op) }
+        ensures settings { self.new.settings ≡ self.old.settings }
+    {
+        let refused = match self.finish_op(turn, op, now) {
+            Ok(Finished::Computed(computed)) => return Ok(computed),
+            Ok(Finished::Answer(_)) => unreachable!(),
+            Err(refused) => refused,
+        };
+        let FinishRefused {
+            turn,
+            outcome: _,
+            cause,
+        } = refused;
+        let _ = self.abandon(turn);
+        Err(cause)
+    }
+
+    // Ends the turn of a compute with a value that is put, and answers its entry.
+    fn end_with_put(&mut self, turn: Turn<K>, value: V, now: u64) -> Result<Entry<K, V>, Refused>
+        requires compute { turn.key.kind ≡ Kind.Compute }
+        requires kept { C.keeps (arc_value turn.key.key) value }
+        ensures ends { (answer : Result (calls.Answer K V C.Error) Refused)
+            × ⟦<C as StateView<K, V>>⟧.at_each_history self.old (λ settings steps.
+            EndsTurn K.eq V.is_clone V.is_infallible settings steps
+            (turn_name turn) (Outcome.Op (Op.Put value)) now answer
+            (λ after. ⟦<C as StateView<K, V>>⟧.stands_for settings self.new after))
+            × IsUpserted answer result }
+        ensures kept { IfOk result
+            (λ entry. C.keeps (arc_value turn.key.key) (entry_of entry).value) }
+        ensures settings { self.new.settings ≡ self.old.settings }
+    {
+        match self.end_compute(turn, Op::Put(value), now) {
+            Ok(CompResult::Inserted(entry)) => Ok(entry),
+            Ok(CompResult::ReplacedWith(entry)) => Ok(entry),
+            Ok(_) => unreachable!(),
+            Err(cause) => Err(cause),
+        }
+    }
+
+    // Ends the turn of a compute with what is to be done, or abandons it and answers the error.
+    fn end_tried_compute(
+        &mut self,
+        turn: Turn<K>,
+        given: Result<Op<V>, C::Error>,
+        now: u64,
+    ) -> Result<Result<CompResult<K, V>, C::Error>, Refused>
+        requires compute { turn.key.kind ≡ Kind.Compute }
+        requires kept { IfOk given
+            (λ op. OutcomeKeeps {E = C.Error} (C.keeps (arc_value turn.key.key)) (Outcome.Op op)) }
+        ensures ends { ⟦<C as StateView<K, V>>⟧.at_each_history self.old (λ settings steps.
+            EndsCompute K.eq V.is_clone V.is_infallible settings steps
+            (turn_name turn) (unless_failed given) now (of_trying result)
+            (λ after. ⟦<C as StateView<K, V>>⟧.stands_for settings self.new after)) }
+        ensures error { IsErrorOf (Some given) result }
+        ensures settings { self.new.settings ≡ self.old.settings }
+    {
+        match given {
+            Ok(op) => match self.end_compute(turn, op, now) {
+                Ok(computed) => Ok(Ok(computed)),
+                Err(cause) => Err(cause),
+            },
+            Err(error) => {
+                let _ = self.abandon(turn);
+                Ok(Err(error))
+            }
+        }
+    }
+}
