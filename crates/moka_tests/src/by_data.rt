@@ -3,11 +3,11 @@ ghost use Rattle.std.specs.Prelude.{◌≡◌, ◌*◌, min, Some, false, refl};
 ghost use Rattle.std.proofs.Math.Path.{◌∙◌};
 
 use crate::keys::ByNumber;
-use moka::policy::{
+use moka_base::policy::{
     CacheTypes, CountTable, EvictionPolicy, Expiry, ManualClock, NoListener, NoPredicate, Refused,
     Weigher,
 };
-use moka::state::{CacheState, Settings};
+use moka_state::state::{CacheState, Settings};
 use std::alloc::Global;
 use std::convert::Infallible;
 use std::sync::Arc;

@@ -4,9 +4,9 @@ use crate::subject::{
     Answer, CacheRows, Call, Row, Rules, UNLIMITED, answers, answers_by, answers_patiently,
 };
 use crate::values::Value;
-use moka::notification::RemovalCause;
-use moka::policy::Refused;
-use moka::state::ListRows;
+use moka_base::notification::RemovalCause;
+use moka_base::policy::Refused;
+use moka_state::list_rows::ListRows;
 use std::hash::BuildHasherDefault;
 use std::test::Fail;
 

@@ -5,10 +5,10 @@ use crate::subject::{
     answers_patiently,
 };
 use crate::values::Value;
-use moka::PredicateError;
-use moka::notification::RemovalCause;
-use moka::policy::Refused;
-use moka::state::ListRows;
+use moka_base::notification::RemovalCause;
+use moka_base::policy::Refused;
+use moka_state::list_rows::ListRows;
+use moka_state::predicate_error::PredicateError;
 use std::hash::BuildHasherDefault;
 use std::test::Fail;
 

@@ -5,7 +5,7 @@ ghost use Rattle.std.specs.Cmp.Rules.{comparing, hashing};
 ghost use Rattle.std.specs.Ordering.{on};
 ghost use Rattle.std.specs.Hash as fed;
 
-use moka::policy::NumberHash;
+use moka_base::policy::NumberHash;
 use std::hash::{BuildHasherDefault, Hash, Hasher};
 
 /// A key that a table names by a number.

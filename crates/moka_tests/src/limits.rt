@@ -4,7 +4,7 @@ use crate::subject::{
     answers_patiently, room,
 };
 use crate::values::Value;
-use moka::notification::RemovalCause;
+use moka_base::notification::RemovalCause;
 use std::alloc::{AllocError, Global};
 use std::test::Fail;
 

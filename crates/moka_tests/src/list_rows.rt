@@ -1,9 +1,11 @@
 //! The plain row store through its bound, by tables.
 ghost use Rattle.std.specs.Prelude.{◌++◌, IsSome, IfSome};
-ghost use Rattle.moka.specs.Rows.{row_under};
+ghost use Rattle.moka_state.specs.Rows.{row_under};
 
 use crate::subject::room;
-use moka::state::{EntryInfo, ListRows, PackedInfo, Row, RowStore, Touch};
+use moka_state::list_rows::ListRows;
+use moka_state::packed::PackedInfo;
+use moka_state::rows::{EntryInfo, Row, RowStore, Touch};
 use std::alloc::{AllocError, Global};
 use std::process::Abort;
 use std::sync::Arc;

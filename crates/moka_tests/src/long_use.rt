@@ -5,8 +5,8 @@ use crate::subject::{
     answers_over, room,
 };
 use crate::values::{Given, Value, plain};
-use moka::notification::RemovalCause;
-use moka::state::ListRows;
+use moka_base::notification::RemovalCause;
+use moka_state::list_rows::ListRows;
 use std::alloc::{AllocError, Global};
 use std::process::Abort;
 use std::test::Fail;

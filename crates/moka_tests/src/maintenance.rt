@@ -3,8 +3,8 @@ use crate::subject::{
     Answer, CacheRows, Call, Row, Rules, UNLIMITED, answers, answers_patiently, room,
 };
 use crate::values::Value;
-use moka::notification::RemovalCause;
-use moka::policy::Refused;
+use moka_base::notification::RemovalCause;
+use moka_base::policy::Refused;
 use std::alloc::{AllocError, Global};
 use std::test::Fail;
 

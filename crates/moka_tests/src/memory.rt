@@ -9,8 +9,8 @@ use crate::subject::{
     answers_patiently,
 };
 use crate::values::Value;
-use moka::notification::RemovalCause;
-use moka::state::ListRows;
+use moka_base::notification::RemovalCause;
+use moka_state::list_rows::ListRows;
 use std::test::Fail;
 
 /// A value that leaves in each way, and whose notice is taken then. What is kept after each call is counted with each

@@ -2,8 +2,9 @@
 use crate::keys::ByNumber;
 use crate::subject::{CacheRows, Rules, UNLIMITED, settings, shared};
 use crate::values::{Types, Value, Watch, plain};
-use moka::policy::Refused;
-use moka::state::{OrInsertRefused, State};
+use moka_base::policy::Refused;
+use moka_state::or_insert::OrInsertRefused;
+use moka_state::state::State;
 use std::alloc::Global;
 use std::process::Abort;
 use std::sync::Arc;

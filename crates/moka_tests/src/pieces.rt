@@ -1,7 +1,7 @@
 //! The pieces that a cache is made of, one by one.
 use crate::keys::ByNumber;
-use moka::notification::RemovalCause;
-use moka::policy::{
+use moka_base::notification::RemovalCause;
+use moka_base::policy::{
     CountTable, EvictionPolicy, ExpireBy, Expiry, FrequencySketch, FrequencySource, NoExpiry,
     NoPredicate, NoWeigher, NumberHash, Predicate, Refused, WeighBy, Weigher,
 };

@@ -7,15 +7,19 @@
 //!   and a write has handed back its key and its value.
 ghost use Rattle.std.specs.Prelude.{◌≡◌, ◌≢◌, false, Some, None, IsSome, IfSome, IfOk, []};
 ghost use Rattle.std.specs.List.{AllByRecursion};
-ghost use Rattle.moka.specs.Step.{StepKeeps};
+ghost use Rattle.moka_state.specs.Step.{StepKeeps};
 
 use crate::keys::{ByNumber, Collides, Key};
 use crate::values::{Counts, EitherText, Given, Types, Value, Watch, heavy, plain};
-use moka::PredicateError;
-use moka::notification::RemovalCause;
-use moka::policy::{CacheTypes, EvictionPolicy, Predicate, Refused};
-use moka::state::{DueRows, InsertRefused, ListRows, Reply, RowStore, Settings, State, Step};
-use moka::sync::PredicateId;
+use moka_base::notification::RemovalCause;
+use moka_base::policy::{CacheTypes, EvictionPolicy, Predicate, Refused};
+use moka_state::due_rows::DueRows;
+use moka_state::list_rows::ListRows;
+use moka_state::predicate_error::PredicateError;
+use moka_state::predicate_id::PredicateId;
+use moka_state::rows::RowStore;
+use moka_state::state::{InsertRefused, Settings, State};
+use moka_state::step::{Reply, Step};
 use rand_core::{Rng, SeedableRng};
 use rand_xoshiro::SplitMix64;
 use std::alloc::{AllocError, Global};

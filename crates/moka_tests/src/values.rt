@@ -4,7 +4,9 @@ ghost use Rattle.std.specs.Option.{option_or};
 ghost use Rattle.std.specs.Str.{bytes_eq};
 
 use crate::keys::Key;
-use moka::policy::{CacheTypes, CountTable, Expiry, ManualClock, NoListener, Predicate, Weigher};
+use moka_base::policy::{
+    CacheTypes, CountTable, Expiry, ManualClock, NoListener, Predicate, Weigher,
+};
 use std::alloc::AllocError;
 use std::cell::Cell;
 use std::convert::Infallible;

@@ -1,8 +1,8 @@
 //! Caches whose values are weighed and have lives of their own, by tables.
 use crate::subject::{Answer, Call, Row, Rules, UNLIMITED, answers, room};
 use crate::values::Given;
-use moka::notification::RemovalCause;
-use moka::policy::Refused;
+use moka_base::notification::RemovalCause;
+use moka_base::policy::Refused;
 use std::test::Fail;
 
 const WEIGHED: Rules = Rules {

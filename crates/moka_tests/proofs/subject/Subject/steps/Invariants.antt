@@ -2,8 +2,8 @@
 use Rattle.std.proofs.Common.{◌≡◌, Bool, ◌||◌}
 use Rattle.std.specs.List.{AllByRecursion}
 use Rattle.std.specs.Str.{bytes_eq}
-use Rattle.moka.specs.declared.state.Step.{Step}
-use Rattle.moka.specs.Step.{StepKeeps}
+use Rattle.moka_state.specs.declared.step.Step.{Step}
+use Rattle.moka_state.specs.Step.{StepKeeps}
 use Rattle.moka_tests.specs.declared.values.EitherText.{EitherText}
 use Rattle.moka_tests.specs.declared.values.Value.{Value}
 use Rattle.moka_tests.proofs.subject.Subject.steps.Given as goal
