@@ -15,14 +15,19 @@ pub(crate) type State = CacheState<u64, Arc<u64>, Plain>;
 
 /// A state in which these keys stand from moment 0 on, each with a value ten times as large.
 pub(crate) fn state(alloc: Global, keys: &[u64]) -> Result<State, Fail> {
-    let mut state: State = CacheBuilder::new(100)
+    let mut state = CacheBuilder::new(100)
         .eviction_policy(EvictionPolicy::lru())
         .time_to_idle(Duration::from_secs(5))
         .build_state(alloc, FoldState::default())?;
-    for key in keys {
-        insert(&mut state, alloc, *key, key.wrapping_mul(10), 0)?;
-    }
+    fill(&mut state, alloc, keys)?;
     Ok(state)
+}
+
+fn fill(state: &mut State, alloc: Global, keys: &[u64]) -> Result<(), Fail> {
+    for key in keys {
+        insert(state, alloc, *key, key.wrapping_mul(10), 0)?;
+    }
+    Ok(())
 }
 
 fn insert(state: &mut State, alloc: Global, key: u64, value: u64, now: u64) -> Result<(), Fail> {
@@ -92,26 +97,54 @@ fn next(
     }
 }
 
+// This comes next, of a walk over one state.
+fn comes(
+    rt: &impl Abort,
+    cursor: &mut WalkCursor<u64>,
+    state: &State,
+    now: u64,
+    pair: Option<(u64, u64)>,
+) {
+    assert_eq!(rt; next(rt, cursor, slice::from_ref(state), now), pair);
+}
+
 #[test]
 fn what_comes_is_live_when_it_comes(rt: HostRuntime) -> Result<(), Fail> {
     for (between, times) in CASES {
-        let mut state = state(rt.alloc(), &[1, 2])?;
-        let mut cursor = WalkCursor::new();
-        let (first, value) = next(&rt, &mut cursor, slice::from_ref(&state), 0).ok_or("a pair")?;
-        assert!(rt; first == 1 || first == 2);
-        assert_eq!(rt; value, first.wrapping_mul(10));
-        let other = 3u64.wrapping_sub(first);
-        let now = do_between(between, &mut state, rt.alloc(), other)?;
-        let second = times.map(|times| (other, other.wrapping_mul(times)));
-        if second.is_some() {
-            assert_eq!(rt;
-                next(&rt, &mut cursor, slice::from_ref(&state), now),
-                second
-            );
-        }
-        for _ in 0..2 {
-            assert_eq!(rt; next(&rt, &mut cursor, slice::from_ref(&state), now), None);
-        }
+        is_live_when_it_comes(&rt, rt.alloc(), between, times)?;
+    }
+    Ok(())
+}
+
+fn is_live_when_it_comes(
+    rt: &impl Abort,
+    alloc: Global,
+    between: Between,
+    times: Option<u64>,
+) -> Result<(), Fail> {
+    let mut state = state(alloc, &[1, 2])?;
+    comes_behind(rt, alloc, &mut state, between, times)
+}
+
+fn comes_behind(
+    rt: &impl Abort,
+    alloc: Global,
+    state: &mut State,
+    between: Between,
+    times: Option<u64>,
+) -> Result<(), Fail> {
+    let mut cursor = WalkCursor::new();
+    let (first, value) = next(rt, &mut cursor, slice::from_ref(state), 0).ok_or("a pair")?;
+    assert!(rt; first == 1 || first == 2);
+    assert_eq!(rt; value, first.wrapping_mul(10));
+    let other = 3u64.wrapping_sub(first);
+    let now = do_between(between, state, alloc, other)?;
+    let second = times.map(|times| (other, other.wrapping_mul(times)));
+    if second.is_some() {
+        comes(rt, &mut cursor, state, now, second);
+    }
+    for _ in 0..2 {
+        comes(rt, &mut cursor, state, now, None);
     }
     Ok(())
 }
@@ -153,31 +186,28 @@ fn over_no_segments_nothing_comes(rt: HostRuntime) -> Result<(), Fail> {
 
 #[test]
 fn a_walk_is_no_use_and_records_nothing(rt: HostRuntime) -> Result<(), Fail> {
-    let mut state = state(rt.alloc(), &[1])?;
+    records_nothing(&rt, &mut state(rt.alloc(), &[1])?);
+    Ok(())
+}
+
+fn records_nothing(rt: &impl Abort, state: &mut State) {
     let mut cursor = WalkCursor::new();
-    assert_eq!(rt;
-        next(&rt, &mut cursor, slice::from_ref(&state), 4 * SECOND),
-        Some((1, 10))
-    );
-    assert_eq!(rt;
-        next(&rt, &mut cursor, slice::from_ref(&state), 9 * SECOND),
-        None
-    );
+    comes(rt, &mut cursor, state, 4 * SECOND, Some((1, 10)));
+    comes(rt, &mut cursor, state, 9 * SECOND, None);
     assert!(rt; state.contains_key(&1, 4 * SECOND));
     assert!(rt; !state.contains_key(&1, 5 * SECOND));
-    Ok(())
 }
 
 #[test]
 fn an_earlier_moment_counts_as_the_latest(rt: HostRuntime) -> Result<(), Fail> {
-    let mut state = state(rt.alloc(), &[1])?;
+    counts_as_the_latest(&rt, rt.alloc(), &mut state(rt.alloc(), &[1])?)
+}
+
+fn counts_as_the_latest(rt: &impl Abort, alloc: Global, state: &mut State) -> Result<(), Fail> {
     state.run_pending_tasks(4 * SECOND);
-    insert(&mut state, rt.alloc(), 2, 20, 6 * SECOND)?;
+    insert(state, alloc, 2, 20, 6 * SECOND)?;
     let mut cursor = WalkCursor::new();
-    assert_eq!(rt;
-        next(&rt, &mut cursor, slice::from_ref(&state), 0),
-        Some((2, 20))
-    );
-    assert_eq!(rt; next(&rt, &mut cursor, slice::from_ref(&state), 0), None);
+    comes(rt, &mut cursor, state, 0, Some((2, 20)));
+    comes(rt, &mut cursor, state, 0, None);
     Ok(())
 }

@@ -2,7 +2,9 @@
 use crate::cursors::{State, state};
 use moka::common::iter::{Iter, ScanningGet};
 use moka::policy::Refused;
+use std::alloc::Global;
 use std::cell::Cell;
+use std::process::Abort;
 use std::sync::Arc;
 use std::test::Fail;
 
@@ -59,34 +61,50 @@ const REFUSALS: [(u64, usize); 7] = [(0, 1), (1, 2), (2, 2), (3, 3), (4, 2), (5,
 fn what_is_refused_is_passed_over_as_one_error(rt: HostRuntime) -> Result<(), Fail> {
     for (refused, pairs) in REFUSALS {
         let requests = Cell::new(0);
-        let mut caches = Vec::new(rt.alloc());
-        for keys in [&[1u64, 2] as &[u64], &[], &[3]] {
-            let state = state(rt.alloc(), keys)?;
-            caches.push(Scarce {
-                state,
-                requests: &requests,
-                refused,
-            })?;
-        }
-        let mut came = Vec::new(rt.alloc());
-        let mut errors: usize = 0;
-        for pair in Iter::new(&caches) {
-            match pair {
-                Ok((key, value)) => {
-                    assert_eq!(rt; *value, key.wrapping_mul(10));
-                    assert!(rt; !came.contains(&*key), "no key comes twice");
-                    came.push(*key)?;
-                }
-                Err(cause) => {
-                    assert_eq!(rt; cause, Refused::OutOfMemory);
-                    errors = errors.wrapping_add(1);
-                }
-            }
-        }
-        assert_eq!(rt; came.len(), pairs, "request {refused}");
+        let caches = three_states(rt.alloc(), &requests, refused)?;
+        let (came, errors) = walked(&rt, rt.alloc(), &caches)?;
+        assert_eq!(rt; came, pairs, "request {refused}");
         assert_eq!(rt; errors, if refused < 6 { 1 } else { 0 });
     }
     Ok(())
+}
+
+/// Three states that share a count of requests.
+fn three_states<'s>(
+    alloc: Global,
+    requests: &'s Cell<u64>,
+    refused: u64,
+) -> Result<Vec<Scarce<'s>>, Fail> {
+    let mut caches = Vec::with_capacity(alloc, 3)?;
+    for keys in [&[1u64, 2] as &[u64], &[], &[3]] {
+        let state = state(alloc, keys)?;
+        caches.push(Scarce {
+            state,
+            requests,
+            refused,
+        })?;
+    }
+    Ok(caches)
+}
+
+/// Walks over all, and counts the pairs that come, no key twice, and what was refused.
+fn walked(rt: &impl Abort, alloc: Global, caches: &[Scarce]) -> Result<(usize, usize), Fail> {
+    let mut came = Vec::new(alloc);
+    let mut errors: usize = 0;
+    for pair in Iter::new(caches) {
+        match pair {
+            Ok((key, value)) => {
+                assert_eq!(rt; *value, key.wrapping_mul(10));
+                assert!(rt; !came.contains(&*key), "no key comes twice");
+                came.push(*key)?;
+            }
+            Err(cause) => {
+                assert_eq!(rt; cause, Refused::OutOfMemory);
+                errors = errors.wrapping_add(1);
+            }
+        }
+    }
+    Ok((came.len(), errors))
 }
 
 #[test]
