@@ -22,14 +22,22 @@ const SHARES: [(u64, usize, usize, u64); 8] = [
 #[test]
 fn each_segment_has_its_share(rt: HostRuntime) -> Result<(), Fail> {
     for (capacity, wanted, segments, share) in SHARES {
-        let cache = opened(rt.alloc(), builder(capacity), wanted)?;
-        has_shares(
-            &rt,
-            &cache,
-            Policy::new(Some(capacity), segments, None, None),
-            share,
-        );
+        let policy = Policy::new(Some(capacity), segments, None, None);
+        opens_with_shares(&rt, rt.alloc(), policy, wanted, share)?;
     }
+    Ok(())
+}
+
+fn opens_with_shares(
+    rt: &impl Abort,
+    alloc: Global,
+    policy: Policy,
+    wanted: usize,
+    share: u64,
+) -> Result<(), Fail> {
+    let capacity = policy.max_capacity().ok_or("a capacity")?;
+    let cache = opened(alloc, builder(capacity), wanted)?;
+    has_shares(rt, &cache, policy, share);
     Ok(())
 }
 
@@ -49,7 +57,11 @@ fn every_setting_is_kept(rt: HostRuntime) -> Result<(), Fail> {
         .eviction_policy(EvictionPolicy::lru())
         .eviction_listener(NoListener)
         .name(rt.alloc(), "tracked_sessions")?;
-    let cache = opened(rt.alloc(), told, 24)?;
+    keeps_settings(&rt, &opened(rt.alloc(), told, 24)?);
+    Ok(())
+}
+
+fn keeps_settings(rt: &impl Abort, cache: &Texts) {
     let (live, idle) = (Duration::from_secs(2700), Duration::from_secs(900));
     assert_eq!(rt;
         cache.policy(),
@@ -62,7 +74,6 @@ fn every_setting_is_kept(rt: HostRuntime) -> Result<(), Fail> {
             Policy::new(Some(13), 1, Some(live), Some(idle))
         );
     }
-    Ok(())
 }
 
 #[test]
@@ -90,10 +101,19 @@ const PLACES: [(u64, usize); 6] = [
 #[test]
 fn a_key_is_of_the_segment_of_its_highest_bits(rt: HostRuntime) -> Result<(), Fail> {
     for (key, place) in PLACES {
-        let mut cache = opened(rt.alloc(), builder(100), 5)?;
-        is_of_segment(&rt, rt.alloc(), &mut cache, key, place)?;
+        opens_and_is_of_segment(&rt, rt.alloc(), key, place)?;
     }
     Ok(())
+}
+
+fn opens_and_is_of_segment(
+    rt: &impl Abort,
+    alloc: Global,
+    key: u64,
+    place: usize,
+) -> Result<(), Fail> {
+    let mut cache = opened(alloc, builder(100), 5)?;
+    is_of_segment(rt, alloc, &mut cache, key, place)
 }
 
 fn is_of_segment(

@@ -10,6 +10,7 @@ use moka_base::policy::{
 use moka_state::state::{CacheState, Settings};
 use std::alloc::Global;
 use std::convert::Infallible;
+use std::process::Abort;
 use std::sync::Arc;
 use std::test::Fail;
 use std::time::Duration;
@@ -108,7 +109,9 @@ impl CacheTypes<u64, u32> for ByData {
     ghost copies_compose = { λ _ _ _ a b. b ∙ a };
 }
 
-fn cache(alloc: Global, scale: u32, seconds: u64) -> Result<CacheState<u64, u32, ByData>, Refused> {
+type Cache = CacheState<u64, u32, ByData>;
+
+fn opened(alloc: Global, scale: u32, seconds: u64) -> Result<Cache, Refused> {
     let Ok(hasher) = Arc::new(alloc, ByNumber::default()) else {
         return Err(Refused::OutOfMemory);
     };
@@ -137,9 +140,11 @@ fn cache(alloc: Global, scale: u32, seconds: u64) -> Result<CacheState<u64, u32,
     )
 }
 
+type Case = (u32, u64, u64, u64, u64);
+
 /// A scale and a life in seconds; the last moment of that life; and the weight of two values of 3 and 4, and of what a
 /// capacity of 20 leaves of them.
-const CACHES: [(u32, u64, u64, u64, u64); 4] = [
+const CACHES: [Case; 4] = [
     (1, 1, 999_999_999, 7, 7),
     (2, 60, 59_999_999_999, 14, 14),
     (4, 2, 1_999_999_999, 28, 16),
@@ -148,15 +153,25 @@ const CACHES: [(u32, u64, u64, u64, u64); 4] = [
 
 #[test]
 fn weighs_and_expires_by_data_of_the_run(rt: HostRuntime) -> Result<(), Fail> {
-    for (scale, seconds, last, written, kept) in CACHES {
-        let mut cache = cache(rt.alloc(), scale, seconds)?;
-        assert!(rt; cache.insert(1, 3, 0).is_ok());
-        assert!(rt; cache.insert(2, 4, 0).is_ok());
-        assert!(rt; cache.contains_key(&1, last));
-        assert!(rt; !cache.contains_key(&1, last.wrapping_add(1)));
-        assert_eq!(rt; cache.weighted_size(), written);
-        cache.run_pending_tasks(0);
-        assert_eq!(rt; cache.weighted_size(), kept);
+    for case in CACHES {
+        opens_and_weighs(&rt, rt.alloc(), case)?;
     }
     Ok(())
+}
+
+fn opens_and_weighs(rt: &impl Abort, alloc: Global, case: Case) -> Result<(), Fail> {
+    let (scale, seconds, last, written, kept) = case;
+    weighs(rt, &mut opened(alloc, scale, seconds)?, last, written, kept);
+    Ok(())
+}
+
+// Writes two values, and looks at the end of their lives what they weigh.
+fn weighs(rt: &impl Abort, cache: &mut Cache, last: u64, written: u64, kept: u64) {
+    assert!(rt; cache.insert(1, 3, 0).is_ok());
+    assert!(rt; cache.insert(2, 4, 0).is_ok());
+    assert!(rt; cache.contains_key(&1, last));
+    assert!(rt; !cache.contains_key(&1, last.wrapping_add(1)));
+    assert_eq!(rt; cache.weighted_size(), written);
+    cache.run_pending_tasks(0);
+    assert_eq!(rt; cache.weighted_size(), kept);
 }
