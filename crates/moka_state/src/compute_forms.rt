@@ -1,5 +1,5 @@
 //! The forms of a compute with a closure: begin, closure and finish at one moment.
-ghost use Rattle.std.specs.Prelude.{◌≡◌, Option, None, Some, Result, false, true, option_map, IfOk, IfSome};
+ghost use Rattle.std.specs.Prelude.{◌≡◌, Option, Some, Result, false, true, option_map, IfOk, IfSome};
 ghost use Rattle.std.specs.Arc.{arc_value};
 ghost use Rattle.moka_model.specs.Entries.{entry_of};
 ghost use Rattle.moka_model.specs.Calls as calls;

@@ -1,6 +1,4 @@
-use Rattle.std.proofs.Common.{Err, refl, subst, sym}
-use Rattle.moka_model.specs.declared.turns.Outcome.TheVariants as outcomes
-use Rattle.moka_model.specs.Calls.{Finish}
+use Rattle.std.proofs.Common.{refl}
 use Rattle.moka_turns.specs.Handles.{turn_name}
 use Rattle.moka_state.proofs.Forms.{abandon-stands}
 use Rattle.moka_state.proofs.state.State.end_tried_compute.Goals as goal

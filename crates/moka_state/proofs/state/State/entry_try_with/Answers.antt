@@ -1,4 +1,4 @@
-use Rattle.std.proofs.Common.{Some, None, Err}
+use Rattle.std.proofs.Common.{Some, None}
 use Rattle.moka_model.specs.declared.turns.Kind.TheVariants.{Try}
 use Rattle.moka_state.specs.Forms.{tried_outcome}
 use Rattle.moka_turns.specs.Handles.{turn_name}
