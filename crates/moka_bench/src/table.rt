@@ -2,7 +2,7 @@
 use crate::load::{LIMITS, LOADS, Load, SIZES, SMALL, WALKS, with_lives};
 use crate::measure::{Hashing, Outcome, Which, measured};
 use crate::removals::{REMOVALS, SWEEPS};
-use crate::{initializers, removals, segments};
+use crate::{computes, initializers, removals, segments};
 use std::alloc::{AllocError, Global};
 use std::rt::Runtime;
 use std::sync::Wait;
@@ -63,6 +63,7 @@ pub(crate) fn run<R: Runtime + Wait + Copy>(
             ("lives", Ok(rounds)) => print_lives(rt, alloc, rounds),
             ("limits", Ok(rounds)) => print_limits(rt, alloc, rounds),
             ("removals", Ok(rounds)) => removals::run(rt, alloc, rounds, &REMOVALS),
+            ("computes", Ok(rounds)) => computes::run(rt, alloc, rounds),
             ("initializers", Ok(rounds)) => initializers::run(rt, alloc, rounds),
             ("segments", Ok(rounds)) => segments::run(rt, alloc, rounds),
             ("walks", Ok(rounds)) => print_times(rt, alloc, rounds, &WALKS, &WALKED),
@@ -75,7 +76,7 @@ pub(crate) fn run<R: Runtime + Wait + Copy>(
 
 fn print_usage(rt: &impl io::Print) -> io::Result<()> {
     println!(rt;
-        "usage: moka_bench [(times | initializers | lives | limits | removals | segments | threads | walks) ROUNDS | memory NUMBER]"
+        "usage: moka_bench [(times | computes | initializers | lives | limits | removals | segments | threads | walks) ROUNDS | memory NUMBER]"
     )
 }
 
