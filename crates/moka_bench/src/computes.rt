@@ -38,7 +38,10 @@ struct GetAndInsert;
 impl Called for GetAndInsert {
     fn call(cache: &mut Numbers, key: u64, now: u64) -> Result<(), Refused> {
         cache.get(&key, now)?;
-        Ok(cache.insert(key, key, now)?)
+        match cache.insert(key, key, now) {
+            Ok(()) => Ok(()),
+            Err(refused) => Err(refused.cause),
+        }
     }
 }
 

@@ -140,7 +140,14 @@ fn an_ending_fits_the_kind(rt: HostRuntime) -> Result<(), Fail> {
     prints(&rt, rt.alloc(), &ENDINGS)
 }
 
-const COMPUTED: [Row; 4] = [
+const COMPUTED: [Row; 5] = [
+    // At a capacity of 0 nothing is stored, and what is put is answered.
+    (
+        "new capacity=0\ninsert 0 x\nbegin compute 0\nfinish compute 0 0 put y\nget 0\ncount\n\
+         notices\n",
+        "ok\nok\nrun 0 none\ninserted 0 y\nnone\n0\nend\n",
+        Status::Done,
+    ),
     (
         "new capacity=100\nbegin compute 1\nbegin compute 1\ncollect compute 1 0\n\
          finish compute 1 0 put a\ncollect compute 1 0\ncollect compute 1 0\nbegin compute 1\n\
@@ -183,6 +190,29 @@ const COMPUTED: [Row; 4] = [
 #[test]
 fn a_value_is_computed(rt: HostRuntime) -> Result<(), Fail> {
     prints(&rt, rt.alloc(), &COMPUTED)
+}
+
+#[test]
+fn what_is_put_replaces_what_its_begin_showed(rt: HostRuntime) -> Result<(), Fail> {
+    let mut script = Vec::new(rt.alloc());
+    script.extend_from_slice(b"new capacity=10 policy=lru\ninsert 1 v\ntasks\nbegin compute 1\n")?;
+    for key in 2..66_u64 {
+        writeln!(script, "insert {key} v")?;
+    }
+    script.extend_from_slice(b"finish compute 1 1 put w\nnotices\ncount\nget 1\n")?;
+
+    // The flush before the write lets the shown value leave, and it is replaced all the same.
+    let mut wanted = Vec::new(rt.alloc());
+    wanted.extend_from_slice(b"ok\nok\nok\nrun 1 some v\n")?;
+    for _ in 2..66_u64 {
+        wanted.extend_from_slice(b"ok\n")?;
+    }
+    wanted.extend_from_slice(b"replaced-with 1 w\n")?;
+    for key in 1..56_u64 {
+        writeln!(wanted, "notice {key} v Size")?;
+    }
+    wanted.extend_from_slice(b"end\n11\nsome w\n")?;
+    prints_bytes(&rt, rt.alloc(), &script, &wanted, Status::Done)
 }
 
 #[test]
