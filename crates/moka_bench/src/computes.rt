@@ -19,6 +19,7 @@ type Numbers = CacheState<u64, u64, Types<Fold, NoFrequencies>>;
 
 /// What is called of a key.
 trait Called {
+    /// Makes the call, at a moment.
     fn call(cache: &mut Numbers, key: u64, now: u64) -> Result<(), Refused>;
 }
 
