@@ -13,7 +13,7 @@ use std::sync::Arc;
 use std::test::Fail;
 
 /// The turn of a compute that runs, and what it is shown.
-fn ran(
+pub(crate) fn ran(
     rt: &impl Abort,
     cache: &mut Numbers,
     key: &Arc<u64>,
@@ -44,7 +44,7 @@ fn waited(rt: &impl Abort, cache: &mut Numbers, key: &Arc<u64>) -> Ticket<u64> {
 }
 
 /// What became of the value.
-fn computed(
+pub(crate) fn computed(
     rt: &impl Abort,
     cache: &mut Numbers,
     turn: Turn<u64>,
@@ -63,7 +63,7 @@ fn computed(
 }
 
 /// The key, the value and the marks of an entry.
-fn parts(entry: &Entry<u64, u64>) -> (u64, u64, bool, bool) {
+pub(crate) fn parts(entry: &Entry<u64, u64>) -> (u64, u64, bool, bool) {
     (
         *entry.key(),
         *entry.value(),
@@ -84,7 +84,9 @@ fn shows(rt: &impl Abort, shown: &Option<Entry<u64, u64>>, wanted: Option<u64>) 
 }
 
 /// What a result says: its word, and its entry.
-fn said(computed: CompResult<u64, u64>) -> (&'static str, Option<(u64, u64, bool, bool)>) {
+pub(crate) fn said(
+    computed: CompResult<u64, u64>,
+) -> (&'static str, Option<(u64, u64, bool, bool)>) {
     match computed {
         CompResult::StillNone(_) => ("still none", None),
         CompResult::Unchanged(entry) => ("unchanged", Some(parts(&entry))),
@@ -95,7 +97,7 @@ fn said(computed: CompResult<u64, u64>) -> (&'static str, Option<(u64, u64, bool
 }
 
 /// A result is said so.
-fn says(
+pub(crate) fn says(
     rt: &impl Abort,
     computed: CompResult<u64, u64>,
     word: &str,

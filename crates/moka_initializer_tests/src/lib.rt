@@ -15,6 +15,8 @@ mod or_inserts;
 #[cfg(test)]
 mod runs;
 #[cfg(test)]
+mod selector_computes;
+#[cfg(test)]
 mod selectors;
 #[cfg(test)]
 mod turns;

@@ -1,0 +1,414 @@
+//! What the calls of a selector answer whose closure may fail, or says what becomes of the value.
+use crate::caches::{Numbers, insert, opened, shared};
+use crate::computes::{computed, parts, ran, said, says};
+use moka_model::comp_result::CompResult;
+use moka_model::entry::Entry;
+use moka_model::turns::Op;
+use moka_policy::policy::Refused;
+use std::alloc::{AllocError, Global};
+use std::cell::Cell;
+use std::process::Abort;
+use std::rc::Rc;
+use std::sync::Arc;
+use std::test::Fail;
+
+/// Key, value, and whether it is fresh and replaced another.
+type Parts = (u64, u64, bool, bool);
+
+/// What a call answers.
+#[derive(Clone, Copy, Debug, PartialEq)]
+enum Told {
+    /// A word for what became of the value, and its entry.
+    Became(&'static str, Option<Parts>),
+    Entry(Parts),
+    Failed(u64),
+    Refused(Refused),
+}
+
+const IS_OPEN: Told = Told::Refused(Refused::TurnIsOpen);
+
+fn entry_of(given: Result<Entry<u64, u64>, Refused>) -> Told {
+    match given {
+        Ok(entry) => Told::Entry(parts(&entry)),
+        Err(cause) => Told::Refused(cause),
+    }
+}
+
+fn tried_of(given: Result<Result<Entry<u64, u64>, Arc<u64>>, Refused>) -> Told {
+    match given {
+        Ok(Ok(entry)) => Told::Entry(parts(&entry)),
+        Ok(Err(error)) => Told::Failed(*error),
+        Err(cause) => Told::Refused(cause),
+    }
+}
+
+fn became(computed: CompResult<u64, u64>) -> Told {
+    let (word, entry) = said(computed);
+    Told::Became(word, entry)
+}
+
+fn computed_of(given: Result<CompResult<u64, u64>, Refused>) -> Told {
+    match given {
+        Ok(computed) => became(computed),
+        Err(cause) => Told::Refused(cause),
+    }
+}
+
+fn tried_compute_of(given: Result<Result<CompResult<u64, u64>, u64>, Refused>) -> Told {
+    match given {
+        Ok(Ok(computed)) => became(computed),
+        Ok(Err(error)) => Told::Failed(error),
+        Err(cause) => Told::Refused(cause),
+    }
+}
+
+/// How often a closure was asked, and which live value it was shown. A closure shares it: one that is handed to a
+/// selector borrows nothing.
+#[derive(Drop)]
+struct Asked {
+    times: Cell<u64>,
+    shown: Cell<Option<u64>>,
+}
+
+impl Asked {
+    fn new() -> Asked {
+        Asked {
+            times: Cell::new(0),
+            shown: Cell::new(None),
+        }
+    }
+
+    /// A closure is asked, and shown this.
+    fn note(&self, shown: Option<u64>) {
+        self.times.set(self.times.get().wrapping_add(1));
+        self.shown.set(shown);
+    }
+
+    /// No closure was asked yet.
+    fn forget(&self) {
+        self.times.set(0);
+        self.shown.set(None);
+    }
+}
+
+/// No closure was asked yet. Where memory is refused, it asks once more.
+fn unasked(alloc: Global) -> Result<Rc<Asked>, AllocError> {
+    match Rc::new(alloc, Asked::new()) {
+        Ok(asked) => Ok(asked),
+        Err(_) => Ok(Rc::new(alloc, Asked::new())?),
+    }
+}
+
+/// The value of an entry that is shown.
+fn live(shown: Option<Entry<u64, u64>>) -> Option<u64> {
+    match shown {
+        Some(entry) => Some(*entry.value()),
+        None => None,
+    }
+}
+
+/// One more than what is live.
+fn next(live: Option<u64>) -> u64 {
+    match live {
+        Some(value) => value.wrapping_add(1),
+        None => 1,
+    }
+}
+
+fn inserted(cache: &mut Numbers, asked: Rc<Asked>, given: Result<u64, u64>) -> Told {
+    let selector = cache.entry(5, 0);
+    tried_of(selector.or_try_insert_with(move || {
+        asked.note(None);
+        given
+    }))
+}
+
+fn compute(cache: &mut Numbers, asked: Rc<Asked>, op: Op<u64>) -> Told {
+    let selector = cache.entry(5, 0);
+    computed_of(selector.and_compute_with(move |shown| {
+        asked.note(live(shown));
+        op
+    }))
+}
+
+fn upsert(cache: &mut Numbers, asked: Rc<Asked>) -> Told {
+    let selector = cache.entry(5, 0);
+    entry_of(selector.and_upsert_with(move |shown| {
+        let live = live(shown);
+        asked.note(live);
+        next(live)
+    }))
+}
+
+fn try_compute(cache: &mut Numbers, asked: Rc<Asked>, given: Result<Op<u64>, u64>) -> Told {
+    let selector = cache.entry(5, 0);
+    tried_compute_of(selector.and_try_compute_with(move |shown| {
+        asked.note(live(shown));
+        given
+    }))
+}
+
+fn insert_by_ref(cache: &mut Numbers, key: &u64, value: u64) -> Told {
+    match cache.entry_by_ref(key, 0) {
+        Ok(selector) => entry_of(selector.or_insert(value)),
+        Err(cause) => Told::Refused(cause),
+    }
+}
+
+fn upsert_by_ref(cache: &mut Numbers, asked: Rc<Asked>, key: &u64) -> Told {
+    match cache.entry_by_ref(key, 0) {
+        Ok(selector) => entry_of(selector.and_upsert_with(move |shown| {
+            let live = live(shown);
+            asked.note(live);
+            next(live)
+        })),
+        Err(cause) => Told::Refused(cause),
+    }
+}
+
+/// A call, with what its closure says. All are of one key.
+#[derive(Clone, Copy)]
+enum Call {
+    TryInsert(Result<u64, u64>),
+    Nop,
+    Put(u64),
+    Remove,
+    /// One more than what is live is put.
+    Upsert,
+    TryPut(u64),
+    TryFail(u64),
+    InsertByRef(u64),
+    UpsertByRef,
+}
+
+fn answer_by(cache: &mut Numbers, asked: Rc<Asked>, call: Call) -> Told {
+    match call {
+        Call::TryInsert(given) => inserted(cache, asked, given),
+        Call::Nop => compute(cache, asked, Op::Nop),
+        Call::Put(value) => compute(cache, asked, Op::Put(value)),
+        Call::Remove => compute(cache, asked, Op::Remove),
+        Call::Upsert => upsert(cache, asked),
+        Call::TryPut(value) => try_compute(cache, asked, Ok(Op::Put(value))),
+        Call::TryFail(error) => try_compute(cache, asked, Err(error)),
+        Call::InsertByRef(value) => insert_by_ref(cache, &5, value),
+        Call::UpsertByRef => upsert_by_ref(cache, asked, &5),
+    }
+}
+
+/// What a call answers, whose closure notes that it is asked.
+fn answer_of(cache: &mut Numbers, asked: &Rc<Asked>, call: Call) -> Told {
+    match asked.clone() {
+        Ok(asked) => answer_by(cache, asked, call),
+        Err(_) => Told::Refused(Refused::OutOfMemory),
+    }
+}
+
+/// A closure was asked so often, and shown this.
+fn was_asked(rt: &impl Abort, asked: &Asked, times: u64, shown: Option<u64>) {
+    assert_eq!(rt; (asked.times.get(), asked.shown.get()), (times, shown));
+}
+
+/// A call answers this, and its closure is asked, once.
+fn asks(
+    rt: &impl Abort,
+    cache: &mut Numbers,
+    asked: &Rc<Asked>,
+    call: Call,
+    shown: Option<u64>,
+    wanted: Told,
+) {
+    asked.forget();
+    is_said(rt, answer_of(cache, asked, call), wanted);
+    was_asked(rt, asked, 1, shown);
+}
+
+/// A call answers this, and its closure is not asked.
+fn asks_nothing(rt: &impl Abort, cache: &mut Numbers, asked: &Rc<Asked>, call: Call, wanted: Told) {
+    asked.forget();
+    is_said(rt, answer_of(cache, asked, call), wanted);
+    was_asked(rt, asked, 0, None);
+}
+
+fn is_said(rt: &impl Abort, told: Told, wanted: Told) {
+    assert_eq!(rt; told, wanted);
+}
+
+/// A look at the key finds this.
+fn finds(rt: &impl Abort, cache: &mut Numbers, wanted: Option<u64>) {
+    assert_eq!(rt; cache.get(&5, 0), Ok(wanted));
+}
+
+const STILL_NONE: Told = Told::Became("still none", None);
+
+const INSERTED: Told = Told::Became("inserted", Some((5, 1, true, false)));
+
+const REPLACED: Told = Told::Became("replaced", Some((5, 2, true, true)));
+
+const UNCHANGED: Told = Told::Became("unchanged", Some((5, 2, false, false)));
+
+const FRESH_3: Told = Told::Entry((5, 3, true, false));
+
+const FOUND_3: Told = Told::Entry((5, 3, false, false));
+
+const REMOVED: Told = Told::Became("removed", Some((5, 2, false, false)));
+
+#[test]
+fn a_value_is_computed(rt: HostRuntime) -> Result<(), Fail> {
+    let asked = unasked(rt.alloc())?;
+    let mut cache = opened(rt.alloc(), 0, 100)?;
+    is_computed(&rt, &mut cache, &asked);
+    Ok(())
+}
+
+fn is_computed(rt: &impl Abort, cache: &mut Numbers, asked: &Rc<Asked>) {
+    asks(rt, cache, asked, Call::Nop, None, STILL_NONE);
+    asks(rt, cache, asked, Call::Put(1), None, INSERTED);
+    asks(rt, cache, asked, Call::Put(2), Some(1), REPLACED);
+    asks(rt, cache, asked, Call::Nop, Some(2), UNCHANGED);
+    finds(rt, cache, Some(2));
+    asks(rt, cache, asked, Call::Remove, Some(2), REMOVED);
+    asks(rt, cache, asked, Call::Remove, None, STILL_NONE);
+    finds(rt, cache, None);
+}
+
+#[test]
+fn a_count_goes_up(rt: HostRuntime) -> Result<(), Fail> {
+    let asked = unasked(rt.alloc())?;
+    let mut cache = opened(rt.alloc(), 0, 100)?;
+    goes_up(&rt, &mut cache, &asked);
+    Ok(())
+}
+
+fn goes_up(rt: &impl Abort, cache: &mut Numbers, asked: &Rc<Asked>) {
+    let first = Told::Entry((5, 1, true, false));
+    let second = Told::Entry((5, 2, true, true));
+    let third = Told::Entry((5, 3, true, true));
+    asks(rt, cache, asked, Call::Upsert, None, first);
+    asks(rt, cache, asked, Call::Upsert, Some(1), second);
+    asks(rt, cache, asked, Call::Upsert, Some(2), third);
+    finds(rt, cache, Some(3));
+}
+
+#[test]
+fn a_closure_may_fail(rt: HostRuntime) -> Result<(), Fail> {
+    let asked = unasked(rt.alloc())?;
+    let mut cache = opened(rt.alloc(), 0, 100)?;
+    an_initializer_may_fail(&rt, &mut cache, &asked);
+    a_compute_may_fail(&rt, &mut cache, &asked);
+    Ok(())
+}
+
+fn an_initializer_may_fail(rt: &impl Abort, cache: &mut Numbers, asked: &Rc<Asked>) {
+    let failed = Told::Failed(9);
+    asks(rt, cache, asked, Call::TryInsert(Err(9)), None, failed);
+    finds(rt, cache, None);
+    asks(rt, cache, asked, Call::TryInsert(Ok(3)), None, FRESH_3);
+    asks_nothing(rt, cache, asked, Call::TryInsert(Ok(6)), FOUND_3);
+}
+
+/// Where the closure fails, nothing is written, and the next compute opens a turn.
+fn a_compute_may_fail(rt: &impl Abort, cache: &mut Numbers, asked: &Rc<Asked>) {
+    let failed = Told::Failed(9);
+    let replaced = Told::Became("replaced", Some((5, 4, true, true)));
+    asks(rt, cache, asked, Call::TryFail(9), Some(3), failed);
+    finds(rt, cache, Some(3));
+    asks(rt, cache, asked, Call::TryPut(4), Some(3), replaced);
+    finds(rt, cache, Some(4));
+}
+
+#[test]
+fn a_key_may_be_lent(rt: HostRuntime) -> Result<(), Fail> {
+    let asked = unasked(rt.alloc())?;
+    let mut cache = opened(rt.alloc(), 0, 100)?;
+    may_be_lent(&rt, &mut cache, &asked);
+    Ok(())
+}
+
+fn may_be_lent(rt: &impl Abort, cache: &mut Numbers, asked: &Rc<Asked>) {
+    let replaced = Told::Entry((5, 4, true, true));
+    asks_nothing(rt, cache, asked, Call::InsertByRef(3), FRESH_3);
+    asks_nothing(rt, cache, asked, Call::InsertByRef(6), FOUND_3);
+    asks(rt, cache, asked, Call::UpsertByRef, Some(3), replaced);
+}
+
+#[test]
+fn an_open_compute_refuses(rt: HostRuntime) -> Result<(), Fail> {
+    let key = shared(rt.alloc(), 5)?;
+    let asked = unasked(rt.alloc())?;
+    let mut cache = opened(rt.alloc(), 0, 100)?;
+    insert(&rt, &mut cache, 5, 7);
+    refuses(&rt, &mut cache, &asked, &key);
+    Ok(())
+}
+
+fn refuses(rt: &impl Abort, cache: &mut Numbers, asked: &Rc<Asked>, key: &Arc<u64>) {
+    let (turn, _) = ran(rt, cache, key, true);
+    all_are_refused(rt, cache, asked);
+    let result = computed(rt, cache, turn, Op::Put(8));
+    says(rt, result, "replaced", Some((5, 8, true, true)));
+    finds(rt, cache, Some(8));
+}
+
+fn all_are_refused(rt: &impl Abort, cache: &mut Numbers, asked: &Rc<Asked>) {
+    let before = counts(cache);
+    asks_nothing(rt, cache, asked, Call::Put(9), IS_OPEN);
+    asks_nothing(rt, cache, asked, Call::Upsert, IS_OPEN);
+    asks_nothing(rt, cache, asked, Call::TryPut(9), IS_OPEN);
+    counts_so(rt, cache, before);
+    finds(rt, cache, Some(7));
+}
+
+/// The number of stored keys and of notices, and whether the key is stored.
+fn counts(cache: &Numbers) -> (u64, usize, bool) {
+    (
+        cache.entry_count(),
+        cache.notice_count(),
+        cache.contains_key(&5, 0),
+    )
+}
+
+fn counts_so(rt: &impl Abort, cache: &Numbers, wanted: (u64, usize, bool)) {
+    assert_eq!(rt; counts(cache), wanted);
+}
+
+/// Calls of one key, one behind the other, and what they answer.
+const CALLS: [(Call, Told); 10] = [
+    (Call::TryInsert(Err(9)), Told::Failed(9)),
+    (Call::Nop, STILL_NONE),
+    (Call::Put(1), INSERTED),
+    (Call::Put(2), REPLACED),
+    (Call::Nop, UNCHANGED),
+    (Call::TryFail(9), Told::Failed(9)),
+    (Call::Remove, REMOVED),
+    (Call::UpsertByRef, Told::Entry((5, 1, true, false))),
+    (Call::TryPut(2), REPLACED),
+    (Call::Upsert, Told::Entry((5, 3, true, true))),
+];
+
+/// A call answers this. Where memory is refused it says so, nothing has changed, and it is asked once more.
+fn answers_again(rt: &impl Abort, cache: &mut Numbers, asked: &Rc<Asked>, row: (Call, Told)) {
+    let (call, wanted) = row;
+    let before = counts(cache);
+    let first = answer_of(cache, asked, call);
+    if first == wanted {
+        return;
+    }
+    is_said(rt, first, Told::Refused(Refused::OutOfMemory));
+    counts_so(rt, cache, before);
+    is_said(rt, answer_of(cache, asked, call), wanted);
+}
+
+/// It passes also where one request for memory is refused, whichever: `scripts/refused_memory` tries each.
+#[test]
+fn computes_answer_where_a_request_is_refused(rt: HostRuntime) -> Result<(), Fail> {
+    let asked = unasked(rt.alloc())?;
+    let mut cache = opened(rt.alloc(), 0, 100)?;
+    all_answer(&rt, &mut cache, &asked);
+    Ok(())
+}
+
+fn all_answer(rt: &impl Abort, cache: &mut Numbers, asked: &Rc<Asked>) {
+    for (call, wanted) in CALLS {
+        answers_again(rt, cache, asked, (call, wanted));
+    }
+}
