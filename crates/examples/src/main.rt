@@ -2,6 +2,7 @@
 #![tactic(auto)]
 
 mod calls;
+mod counters;
 mod first;
 mod found;
 mod limits;
@@ -21,6 +22,7 @@ use std::{env, io};
 #[derive(Clone, Copy)]
 enum Example {
     Calls,
+    Counters,
     First,
     Found,
     Threads,
@@ -34,8 +36,9 @@ enum Example {
 }
 
 impl Example {
-    const ALL: [Example; 11] = [
+    const ALL: [Example; 12] = [
         Example::Calls,
+        Example::Counters,
         Example::First,
         Example::Found,
         Example::Threads,
@@ -51,6 +54,7 @@ impl Example {
     fn name(self) -> &'static str {
         match self {
             Example::Calls => "calls",
+            Example::Counters => "counters",
             Example::First => "first",
             Example::Found => "found",
             Example::Threads => "threads",
@@ -103,6 +107,7 @@ fn main(rt: HostRuntime) -> Result<ExitCode> {
         println!(rt; "{}:", example.name())?;
         match example {
             Example::Calls => calls::main(rt)?,
+            Example::Counters => counters::main(rt)?,
             Example::First => first::main(rt)?,
             Example::Found => found::main(rt)?,
             Example::Threads => threads::main(rt)?,
