@@ -84,6 +84,9 @@ pub enum Refused {
     /// A turn of the key is open, so the call would have to wait for it.
     #[error("TurnIsOpen")]
     TurnIsOpen,
+    /// The call has waited for as many turns of other callers as it may, and each was abandoned.
+    #[error("WaitsAbandoned")]
+    WaitsAbandoned,
 }
 
 /// Which keys leave where a cache has passed its capacity, and which new ones are admitted. The default is

@@ -132,6 +132,7 @@ module _ {K V H W X F : Type 0} (E : Type 0) (eq : K → K → Bool) (behaviour 
     form-in None (Err causes.NumbersUsedUp) is = begins (Err causes.NumbersUsedUp) is
     form-in None (Err causes.UnknownTurn) is = begins (Err causes.UnknownTurn) is
     form-in None (Err causes.UnknownTicket) is = begins (Err causes.UnknownTicket) is
+    form-in None (Err causes.WaitsAbandoned) is = begins (Err causes.WaitsAbandoned) is
     form-in (Some outcome) result is = (is.0, begins (Ok (Run is.0 None)) is.1, ends is.0 outcome result (opened-key eq is_clone is_infallible share is.0 steps k kind said now is.1) is.2)
 
   -- a form on the state is that form on all segments

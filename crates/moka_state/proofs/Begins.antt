@@ -266,11 +266,13 @@ module _ {K V E : Type 0} (eq : K → K → Bool) (is_clone : V → V → Type 0
     gives-refused hash_of opened_now ended_now q number may_wait None opened counted causes.UnknownTurn begins = absurd begins
     gives-refused hash_of opened_now ended_now q number may_wait None opened counted causes.UnknownTicket begins = absurd begins
     gives-refused hash_of opened_now ended_now q number may_wait None opened counted causes.TurnIsOpen begins = absurd begins
+    gives-refused hash_of opened_now ended_now q number may_wait None opened counted causes.WaitsAbandoned begins = absurd begins
     gives-refused hash_of opened_now ended_now q number may_wait (Some t) opened counted causes.OutOfMemory begins = absurd begins
     gives-refused hash_of opened_now ended_now q number may_wait (Some t) opened counted causes.NumbersUsedUp begins =
         subst (Rattle.moka_model.specs.Calls.WantsNumber (next_number settings h) (turns steps)) (sym (accepted-is None none (Some t) opened)) (t, full t opened, begins.1)
     gives-refused hash_of opened_now ended_now q number may_wait (Some t) opened counted causes.UnknownTurn begins = absurd begins
     gives-refused hash_of opened_now ended_now q number may_wait (Some t) opened counted causes.UnknownTicket begins = absurd begins
+    gives-refused hash_of opened_now ended_now q number may_wait (Some t) opened counted causes.WaitsAbandoned begins = absurd begins
     gives-refused hash_of opened_now ended_now q number may_wait (Some t) opened counted causes.TurnIsOpen begins = (begins, subst (IfAnswered IsWait) (sym (accepted-is None none (Some t) opened)) tt)
 
 -- what a begin in the table was told

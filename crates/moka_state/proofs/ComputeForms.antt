@@ -29,6 +29,7 @@ module _ {K V E : Type 0} (eq : K → K → Bool) (is_clone : V → V → Type 0
   when-waiting (Err causes.UnknownTurn) gives = gives
   when-waiting (Err causes.UnknownTicket) gives = gives
   when-waiting (Err causes.TurnIsOpen) gives = let no = gives.0 in cc
+  when-waiting (Err causes.WaitsAbandoned) gives = gives
 
   -- what is refused is refused so at once
   pub at-once-refused : (may_wait : Bool) (cause : Refused) → Gives eq is_clone is_infallible settings steps call (Err cause) → GivesAtOnce eq is_clone is_infallible settings steps call may_wait (Err cause)
@@ -37,6 +38,7 @@ module _ {K V E : Type 0} (eq : K → K → Bool) (is_clone : V → V → Type 0
   at-once-refused may_wait causes.UnknownTurn gives = gives
   at-once-refused may_wait causes.UnknownTicket gives = gives
   at-once-refused may_wait causes.TurnIsOpen gives = absurd gives
+  at-once-refused may_wait causes.WaitsAbandoned gives = gives
 
   -- a form of a compute whose begin is refused
   pub compute-form-refused : (Stands : List (AcceptedStep K V E) → Type 0) (now : ℕ) (shown : Option (calls.Entry K V)) (cause : Refused) → GivesAtOnce eq is_clone is_infallible settings steps call false (Err cause)
@@ -46,6 +48,7 @@ module _ {K V E : Type 0} (eq : K → K → Bool) (is_clone : V → V → Type 0
   compute-form-refused Stands now shown causes.UnknownTurn gives = gives
   compute-form-refused Stands now shown causes.UnknownTicket gives = gives
   compute-form-refused Stands now shown causes.TurnIsOpen gives = gives.1
+  compute-form-refused Stands now shown causes.WaitsAbandoned gives = gives
 
 -- where the table has an open turn of a key, a compute would wait
 pub open-waits : {K V E : Type 0} (eq : K → K → Bool) (is_clone : V → V → Type 0) (settings : Settings K V) (h : List (Event K V)) (k : K) (keep : Bool) (at : ℕ) (o : Option (Turn K V E)) (row : Option (OpenTurn V)) → Agree (IsOpenRow eq is_clone) o row → (b : Bool) → b ≡ is_some row → b ≡ true

@@ -222,11 +222,13 @@ module _ {K V E : Type 0} (eq : K → K → Bool) (is_clone : V → V → Type 0
   compute-refused apart hash_of opened_now ended_now q number None opened counted causes.UnknownTurn begins = absurd begins
   compute-refused apart hash_of opened_now ended_now q number None opened counted causes.UnknownTicket begins = absurd begins
   compute-refused apart hash_of opened_now ended_now q number None opened counted causes.TurnIsOpen begins = absurd begins
+  compute-refused apart hash_of opened_now ended_now q number None opened counted causes.WaitsAbandoned begins = absurd begins
   compute-refused apart hash_of opened_now ended_now q number (Some t) opened counted causes.OutOfMemory begins = absurd begins
   compute-refused apart hash_of opened_now ended_now q number (Some t) opened counted causes.NumbersUsedUp begins = compute-full apart t opened begins.1
   compute-refused apart hash_of opened_now ended_now q number (Some t) opened counted causes.UnknownTurn begins = absurd begins
   compute-refused apart hash_of opened_now ended_now q number (Some t) opened counted causes.UnknownTicket begins = absurd begins
   compute-refused apart hash_of opened_now ended_now q number (Some t) opened counted causes.TurnIsOpen begins = cc
+  compute-refused apart hash_of opened_now ended_now q number (Some t) opened counted causes.WaitsAbandoned begins = absurd begins
 
 -- What a look for a compute finds is what the definitions find, in whatever list the state stands for.
 module _ {K V E : Type 0} (eq : K → K → Bool) (is_clone : V → V → Type 0) {rows : List (Turn K V E)} (laws : IsEquivalence eq) (settings : Settings K V) (contents : Contents K V) (frequency : List ℕ → ℕ → ℕ) (latest number : ℕ)

@@ -38,6 +38,7 @@ module _ {K V E : Type 0} (eq : K → K → Bool) (is_clone : V → V → Type 0
   form-refused k kind said now causes.UnknownTurn gives = gives
   form-refused k kind said now causes.UnknownTicket gives = gives
   form-refused k kind said now causes.TurnIsOpen gives = gives.1
+  form-refused k kind said now causes.WaitsAbandoned gives = gives
 
 -- what a state stands for after an abandon, be its turn known or not
 pub abandon-stands : {K V E : Type 0} (eq : K → K → Bool) (is_clone : V → V → Type 0) (is_infallible : V → Type 0) (settings : Settings K V) (steps : List (AcceptedStep K V E)) (view : WholeView K V E)

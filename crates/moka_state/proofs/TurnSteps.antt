@@ -120,6 +120,7 @@ module _ {K V E : Type 0} (eq : K → K → Bool) (settings : Settings K V) (ste
   gives-unsaid is_clone is_infallible b (Err causes.UnknownTurn) gives = let no = gives.1 in cc
   gives-unsaid is_clone is_infallible b (Err causes.UnknownTicket) gives = let no = gives.1 in cc
   gives-unsaid is_clone is_infallible b (Err causes.TurnIsOpen) gives = absurd gives
+  gives-unsaid is_clone is_infallible b (Err causes.WaitsAbandoned) gives = absurd gives
 
   -- and leaves a state that stands for the same
   stands-unsaid : IsEquivalence eq → {is_clone : V → V → Type 0} (view : WholeView K V E) (b : Bool) → IsLegal eq settings steps → StandsFor eq is_clone settings view (after eq settings (Begin k kind None at) steps)
@@ -160,6 +161,7 @@ begun-gives eq is_clone is_infallible settings steps call (Err causes.NumbersUse
 begun-gives eq is_clone is_infallible settings steps call (Err causes.UnknownTurn) is = is
 begun-gives eq is_clone is_infallible settings steps call (Err causes.UnknownTicket) is = is
 begun-gives eq is_clone is_infallible settings steps call (Err causes.TurnIsOpen) is = let no = is.0 in cc
+begun-gives eq is_clone is_infallible settings steps call (Err causes.WaitsAbandoned) is = is
 
 -- a begin of a compute is one that keeps no copy
 pub compute-gives : {K V E : Type 0} (eq : K → K → Bool) (is_clone : V → V → Type 0) (is_infallible : V → Type 0) (settings : Settings K V) (steps : List (AcceptedStep K V E)) (k : K) (kind : Kind) → kind ≡ Compute → (replace : Option Bool) (at : ℕ) (given : Result (Answer K V E) Refused)
@@ -173,6 +175,7 @@ compute-gives {K} {V} {E} eq is_clone is_infallible settings steps k kind is rep
     go (Err causes.UnknownTurn) gives = gives
     go (Err causes.UnknownTicket) gives = gives
     go (Err causes.TurnIsOpen) gives = gives
+    go (Err causes.WaitsAbandoned) gives = gives
 
 pub after-compute : {K V E : Type 0} (eq : K → K → Bool) (settings : Settings K V) (steps : List (AcceptedStep K V E)) (k : K) (kind : Kind) → kind ≡ Compute → (replace : Option Bool) (at : ℕ)
     → after eq settings (BeginCompute k false at) steps ≡ after eq settings (Begin k kind replace at) steps

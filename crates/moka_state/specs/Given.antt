@@ -50,6 +50,7 @@ Gives eq is_clone is_infallible settings steps call (Err causes.NumbersUsedUp) =
 Gives eq is_clone is_infallible settings steps call (Err causes.UnknownTurn) = IsRefusedAs eq settings UnknownTurn steps call
 Gives eq is_clone is_infallible settings steps call (Err causes.UnknownTicket) = IsRefusedAs eq settings UnknownTicket steps call
 Gives eq is_clone is_infallible settings steps call (Err causes.TurnIsOpen) = ⊥
+Gives eq is_clone is_infallible settings steps call (Err causes.WaitsAbandoned) = ⊥
 
 module _ {K V E : Type 0} where
   -- what the results of the calls are to the definitions

@@ -62,11 +62,14 @@ impl<K: Hash + Drop, V: Clone, C: CacheTypes<K, V>, R: RowStore<K, V>> State<K, 
         }
     }
 
-    // The entry of a key's live value, where there is one and the caller, who is shown it, does not ask
-    // to replace it. It is then used at this moment, as by a begin of any kind; a look that finds none
-    // changes nothing. It shares the stored key, and takes no memory but for the copy of the value: so
-    // it is refused only where a value is live.
-    pub(crate) fn acceptable_entry<F: FnMut(&V) -> bool + Drop>(
+    /// The entry of a key's live value, where there is one and the caller, who is shown it, does not ask
+    /// to replace it: what [`State::begin`] finds, for who has only lent the key and has its hash, as
+    /// [`State::hash`] answers it. The value is then used at this moment, as by a begin of any kind. A look
+    /// that finds none changes nothing, and is no step: a begin is to follow it.
+    ///
+    /// Refused with `OutOfMemory` for the copy of the value alone, so only where one is live; then nothing
+    /// has changed. The stored key is shared. It costs a `get` without the hash.
+    pub fn acceptable_entry<F: FnMut(&V) -> bool + Drop>(
         &mut self,
         key: &K,
         hash: u64,

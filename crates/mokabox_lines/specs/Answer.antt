@@ -25,6 +25,7 @@ refusal_number refusals.NumbersUsedUp = 2
 refusal_number refusals.UnknownTurn = 3
 refusal_number refusals.UnknownTicket = 4
 refusal_number refusals.TurnIsOpen = 5
+refusal_number refusals.WaitsAbandoned = 6
 
 -- the number by which a refusal to build is printed
 abbrev pub build_refusal_number : BuildError → ℕ

@@ -199,6 +199,7 @@ fn refusal_number(refused: Refused) -> u8
         Refused::UnknownTurn => 3,
         Refused::UnknownTicket => 4,
         Refused::TurnIsOpen => 5,
+        Refused::WaitsAbandoned => 6,
     }
 }
 
