@@ -49,6 +49,7 @@ impl<K: Hash + Drop, V: Clone, C: CacheTypes<K, V>, R: RowStore<K, V>> State<K, 
             self.old self.new result }
         ensures named { IfOk result (IsNamed kind (arc_value key.now)) }
         ensures kept { IfOk result (FoundKeeps C.keeps) }
+        ensures kept_for { IfOk result (FoundKeepsFor C.keeps (arc_value key.now)) }
         ensures settings { self.new.settings ≡ self.old.settings }
     {
         let hash = self.hash(&**key);
@@ -178,6 +179,7 @@ impl<K: Hash + Clone + Drop, V: Clone, C: CacheTypes<K, V>, R: RowStore<K, V>> S
             self.old self.new result
             × IfOk result (IsNamed kind asked) }
         ensures kept { IfOk result (FoundKeeps C.keeps) }
+        ensures kept_for { IfOk result (FoundKeepsFor C.keeps key.now) }
         ensures settings { self.new.settings ≡ self.old.settings }
     {
         self.begin_lent(key, kind, replace_if, now, true)

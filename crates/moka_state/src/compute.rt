@@ -146,6 +146,7 @@ impl<K: Hash + Drop, V: Clone, C: CacheTypes<K, V>, R: RowStore<K, V>> State<K, 
             self.old self.new result }
         ensures named { IfOk result (IsCompute (arc_value key.now)) }
         ensures kept { IfOk result (ShownKeeps C.keeps) }
+        ensures kept_for { IfOk result (ShownKeepsFor C.keeps (arc_value key.now)) }
         ensures settings { self.new.settings ≡ self.old.settings }
     {
         let hash = self.hash(&**key);

@@ -7,6 +7,11 @@ use Rattle.moka_policy.specs.declared.policy.Policy.{Policy}
 use Rattle.moka_state.specs.StateData.{SettingsData, StateData}
 use Rattle.moka_sync.specs.Builder.{BuilderData, settings_built}
 
+-- What stands under the lock of a shared cache, as data: a state and a clock.
+pub record LockedData (K V H W X F E T : Type 0) : Type 0 where
+  pub state : StateData K V H W X F E
+  pub clock : T
+
 -- What is known of a shared cache without its lock: the state that went under its lock, as it was then, and the clock that
 -- went there with it; and its listener. Of that state the settings never change.
 pub record CacheData (K V H W X F E L T : Type 0) : Type 0 where

@@ -1,2 +1,4 @@
 pub mod Builder
 pub mod Cache
+pub mod Kept
+pub mod Waiting

@@ -9,7 +9,9 @@ ghost use Rattle.moka_sync.specs.Cache.{IsBuilt};
 ghost use Rattle.moka_segments.specs.Segments.{share, bits_for};
 ghost use Rattle.moka_segmented.specs.SegmentedData.{data_of};
 
-use crate::cache::{Cache, Inside, Locked};
+use crate::cache::{Cache, Inside};
+use crate::hearer::Hearer;
+use crate::locked::Locked;
 use crate::opened::Opened;
 use moka_policy::builder_utils::{BuildError, ensure_expirations, ensure_flush_limit};
 use moka_policy::policy::{CacheTypes, EvictionPolicy, Expiry, Listener, Weigher};
@@ -21,7 +23,7 @@ use moka_state::view::StateView;
 use std::alloc::Global;
 use std::hash::{Hash, RandomState};
 use std::marker::{Model, PhantomData};
-use std::sync::Arc;
+use std::sync::{Arc, Condvar};
 use std::time::Duration;
 
 // A cache's segment is named by some of the 64 bits of a hash.
@@ -179,8 +181,8 @@ impl<K: Hash + Drop, V: Clone, C: CacheTypes<K, V>, T> CacheBuilder<K, V, C, T> 
         }
     }
 
-    /// Is to be told of each value that leaves a shared cache; it may be told of all that may be stored. It is kept, and
-    /// not called yet.
+    /// Is told of each value that leaves a shared cache, once, outside of the cache's lock, before the call returns in which it
+    /// left; it may be told of all that may be stored. A state tells nobody, so what builds a state drops it.
     pub fn eviction_listener(self, listener: C::Listener) -> Self
         requires { (key : K) (value : V) → C.keeps key value → C.Listener.hears listener key value }
         ensures { result ≡ record self { listener = Some listener } }
@@ -360,7 +362,8 @@ impl<K: Hash + Drop, V: Clone, C: CacheTypes<K, V>> CacheBuilder<K, V, C, Single
         ensures settings { IfOk result (λ inside.
             inside.locked.state.settings ≡ settings_built self hasher) }
         ensures clock { IfOk result (λ inside. inside.locked.clock ≡ clock) }
-        ensures listener { IfOk result (λ inside. inside.listener ≡ self.listener) }
+        ensures listener { IfOk result (λ inside.
+            option_map arc_value inside.listener ≡ self.listener) }
         ensures empty { IfOk result (λ inside. ⟦<C as StateView<K, V>>⟧.stands_for
             (⟦<C as StateView<K, V>>⟧.settings inside.locked.state.settings)
             inside.locked.state []) }
@@ -372,13 +375,18 @@ impl<K: Hash + Drop, V: Clone, C: CacheTypes<K, V>> CacheBuilder<K, V, C, Single
     {
         let told = self.limited()?;
         let name = copied(alloc, told.name.as_deref())?;
-        let (state, listener) = told.opened(alloc, hasher)?;
+        let clock = share(alloc, clock)?;
+        let (settings, listener) = told.settled(alloc, hasher)?;
+        let listener = Hearer::shared(alloc, listener)?;
+        let state = state_of(alloc, settings)?;
         let policy = state.policy();
         Ok(Inside {
-            locked: Opened::new(Locked { state, clock }),
+            locked: Opened::new(Locked::new(state, clock)),
+            ended: Condvar::new(),
             name,
             policy,
             listener,
+            alloc,
         })
     }
 
@@ -400,10 +408,7 @@ impl<K: Hash + Drop, V: Clone, C: CacheTypes<K, V>> CacheBuilder<K, V, C, Single
         ensures cause { IfErr result (λ cause. cause ≡ BuildError.OutOfMemory) }
     {
         let (settings, listener) = self.settled(alloc, hasher)?;
-        match CacheState::new(alloc, settings) {
-            Ok(state) => Ok((state, listener)),
-            Err(_) => Err(BuildError::OutOfMemory),
-        }
+        Ok((state_of(alloc, settings)?, listener))
     }
 }
 
@@ -515,6 +520,29 @@ where
             cause ≡ unwrap_or (build_refused self) BuildError.OutOfMemory) }
     {
         self.build_with_hasher(alloc, hasher, clock, waits)
+    }
+}
+
+// A state of these settings. Refused for want of memory alone.
+fn state_of<K: Hash + Drop, V: Clone, C: CacheTypes<K, V>>(
+    alloc: Global,
+    settings: Settings<K, V, C>,
+) -> Result<CacheState<K, V, C>, BuildError>
+    requires weighs { IfSome settings.weigher (λ weigher.
+        C.Weigher.weighs (arc_value weigher) (C.weight (arc_value weigher))) }
+    requires gives { IfSome settings.expiry (λ expiry.
+        C.Expiry.gives (arc_value expiry) (C.lifetimes (arc_value expiry))) }
+    requires limits { settings.flush_limit ≢ Some 0 }
+    requires unweighed { IsSome settings.flush_limit → settings.weigher ≡ None }
+    ensures settings { IfOk result (λ state. state.settings ≡ data_of settings) }
+    ensures empty { IfOk result (λ state. ⟦<C as StateView<K, V>>⟧.stands_for
+        (⟦<C as StateView<K, V>>⟧.settings state.settings) state []) }
+    ensures room { IfOk result (λ state. settings.initial_capacity ≤ state.initial_room) }
+    ensures cause { IfErr result (λ cause. cause ≡ BuildError.OutOfMemory) }
+{
+    match CacheState::new(alloc, settings) {
+        Ok(state) => Ok(state),
+        Err(_) => Err(BuildError::OutOfMemory),
     }
 }
 

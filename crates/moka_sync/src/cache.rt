@@ -1,111 +1,49 @@
 //! A cache that threads share.
-ghost use Rattle.std.specs.Prelude.{◌≡◌, ◌⊎◌, [], length, Some, None, option_map, IfSome, IfOk, IfErr, OnOk};
+ghost use Rattle.std.specs.Prelude.{◌≡◌, ◌⊎◌, [], option_map, Some, IfSome, IfOk, IfErr};
 ghost use Rattle.std.specs.Arc.{arc_value};
 ghost use Rattle.std.specs.Duration.{as_nanos};
-ghost use Rattle.moka_model.specs.Calls.{Get, ContainsKey, Insert, Invalidate, TakeNotice, Found, Contains, Noticed};
-ghost use Rattle.moka_state.specs.Write.{WriteEnds};
-ghost use Rattle.moka_table.specs.Table.{removal_of};
+ghost use Rattle.moka_state.specs.Begin.{EntryKeeps};
 ghost use Rattle.moka_sync.specs.Builder.{nothing_said};
-ghost use Rattle.moka_sync.specs.Cache.{CacheData, IsBuilt, Shows, AtToldMoment};
+ghost use Rattle.moka_sync.specs.Cache.{CacheData, IsBuilt, Shows};
 
 use crate::builder::{CacheBuilder, Single};
+use crate::hearer::Hearer;
+use crate::locked::{Gone, Locked};
 use crate::opened::Opened;
+use moka_model::entry::Entry;
 use moka_model::notification::Notice;
 use moka_policy::builder_utils::BuildError;
-use moka_policy::policy::{CacheTypes, Clock, Listener, Policy, Refused};
-use moka_state::state::{CacheState, InsertRefused};
+use moka_policy::policy::{CacheTypes, Policy, Refused};
+use moka_state::or_insert::OrInsertRefused;
+use moka_state::predicate_error::PredicateError;
+use moka_state::predicate_id::PredicateId;
+use moka_state::state::InsertRefused;
 use moka_state::view::StateView;
+use rand_core::Rng;
 use std::alloc::{AllocError, Global};
+use std::fmt::{self, Debug, Formatter};
 use std::hash::{Hash, RandomState};
 use std::marker::Model;
-use std::sync::{Arc, Wait};
-
-/// What the lock keeps: a state, which keeps that each stored and each noticed value stands in the cache's relation to its
-/// key, and the clock that its calls look at.
-#[derive(Drop)]
-pub(crate) struct Locked<K: Hash + Drop, V: Clone, C: CacheTypes<K, V>> {
-    pub state: CacheState<K, V, C>,
-    pub clock: C::Clock,
-}
-
-/// The notices that stood at the end of a call: the first one, and how many others.
-#[derive(Drop)]
-struct Gone<K: Drop, V: Drop> {
-    first: Option<Notice<K, V>>,
-    others: usize,
-}
-
-// Each call is the state's, at one moment that the clock told.
-impl<K: Hash + Drop, V: Clone, C: CacheTypes<K, V>> Locked<K, V, C> {
-    fn get(&mut self, key: &K) -> Result<Option<V>, Refused>
-        ensures step { AtToldMoment (C.Clock.tells self.old.clock) (λ now.
-            OnOk result (⟦<C as StateView<K, V>>⟧.follows self.old.state
-            (Get key.now now) self.new.state)
-            × IfOk result (λ found. ⟦<C as StateView<K, V>>⟧.answers self.old.state
-            (Get key.now now) (Found found))) }
-        ensures kept { IfOk result (λ found. IfSome found (C.keeps key.now)) }
-        ensures refused { IfErr result (λ cause.
-            (cause ≡ Refused.OutOfMemory) × (self.new.state ≡ self.old.state)) }
-    {
-        let now = self.clock.now();
-        self.state.get(key, now)
-    }
-
-    fn contains_key(&self, key: &K) -> bool
-        ensures { AtToldMoment (C.Clock.tells self.now.clock) (λ now.
-            ⟦<C as StateView<K, V>>⟧.answers self.now.state
-            (ContainsKey key.now now) (Contains result)) }
-    {
-        let now = self.clock.now();
-        self.state.contains_key(key, now)
-    }
-
-    fn insert(&mut self, key: K, value: V) -> Result<(), InsertRefused<K, V>>
-        requires { C.keeps key value }
-        ensures { AtToldMoment (C.Clock.tells self.old.clock) (λ now. WriteEnds
-            (⟦<C as StateView<K, V>>⟧.follows self.old.state (Insert key value now) self.new.state)
-            self.old.state self.new.state key value result) }
-    {
-        let now = self.clock.now();
-        self.state.insert(key, value, now)
-    }
-
-    fn invalidate(&mut self, key: &K)
-        ensures { AtToldMoment (C.Clock.tells self.old.clock) (λ now.
-            ⟦<C as StateView<K, V>>⟧.follows self.old.state (Invalidate key.now now) self.new.state) }
-    {
-        let now = self.clock.now();
-        self.state.invalidate(key, now);
-    }
-
-    fn take_gone(&mut self) -> Gone<K, V>
-        ensures first { ⟦<C as StateView<K, V>>⟧.answers self.old.state TakeNotice
-            (Noticed (option_map removal_of result.first)) }
-        ensures step { ⟦<C as StateView<K, V>>⟧.follows self.old.state TakeNotice self.new.state }
-        ensures others { result.others ≡ length self.new.state.books.notices }
-    {
-        let first = self.state.take_notice();
-        Gone {
-            first,
-            others: self.state.notice_count(),
-        }
-    }
-}
+use std::sync::{Arc, Condvar, Wait};
 
 /// What all clones of a cache share. The name and the policy are those of the state that went under the lock.
 #[derive(Drop)]
 pub(crate) struct Inside<K: Hash + Drop, V: Clone, C: CacheTypes<K, V>> {
     pub locked: Opened<Locked<K, V, C>>,
+    /// Who waits for another's turn sleeps here until one has ended.
+    pub ended: Condvar,
     pub name: Option<String>,
     pub policy: Policy,
-    pub listener: Option<C::Listener>,
+    pub listener: Option<Arc<Hearer<K, V, C>>>,
+    pub alloc: Global,
     ghost shows: { Shows locked.state.settings name policy },
-    ghost hears: { ∥ IfSome listener (λ listener.
-        (key : K) (value : V) → C.keeps key value → C.Listener.hears listener key value) ∥₁ },
 }
 
 /// A cache that threads share: each call is one step, under a lock, at the moment that its clock tells then. A clone is
 /// the same cache. `W` lets the lock wait, as a `HostRuntime` does. A call costs what it costs a state, and the lock.
+///
+/// Weigher, expiry, predicates, the source of frequencies and what says whether to replace a value are asked under the
+/// lock; initializers, the closures of computes and the listener are called outside of it, so they may use the cache.
 #[derive(Drop)]
 pub struct Cache<K: Hash + Drop, V: Clone, C: CacheTypes<K, V>, W> {
     pub(crate) inside: Arc<Inside<K, V, C>>,
@@ -118,7 +56,7 @@ impl<K: Hash + Drop, V: Clone, C: CacheTypes<K, V>, W> Model for Cache<K, V, C, 
     ghost view = { λ cache. record {
       opening = (arc_value cache.inside).locked.state;
       clock = (arc_value cache.inside).locked.clock;
-      listener = (arc_value cache.inside).listener;
+      listener = option_map arc_value (arc_value cache.inside).listener;
     } };
 }
 
@@ -130,6 +68,16 @@ impl<K: Hash + Drop, V: Clone, C: CacheTypes<K, V>, W: Clone> Clone for Cache<K,
             inside: self.inside.clone()?,
             waits: self.waits.clone()?,
         })
+    }
+}
+
+impl<K: Hash + Drop, V: Clone, C: CacheTypes<K, V>, W> Debug for Cache<K, V, C, W> {
+    /// Its name and its policy; what is stored is not shown, so no lock is taken.
+    fn fmt(&self, f: &mut Formatter<'_>) -> fmt::Result {
+        f.debug_struct("Cache")
+            .field("name", &self.inside.name)
+            .field("policy", &self.inside.policy)
+            .finish()
     }
 }
 
@@ -204,7 +152,7 @@ impl<K: Hash + Drop, V: Clone, C: CacheTypes<K, V>, W: Wait> Cache<K, V, C, W> {
     }
 
     /// Writes a value for a key. The value that stands for the key, live or expired, leaves. Where 64 keys wait, a
-    /// maintenance comes first. What left is dropped outside the lock, before the call returns.
+    /// maintenance comes first. The listener is told of what left once the lock is let go, before the call returns.
     ///
     /// Refused as the state's `insert` is: for want of memory, or of numbers. A refused write hands back the key and the
     /// value, and changes nothing.
@@ -223,6 +171,23 @@ impl<K: Hash + Drop, V: Clone, C: CacheTypes<K, V>, W: Wait> Cache<K, V, C, W> {
         done
     }
 
+    /// The entry of the live value of a key; where there is none, this one is written, and the entry of a copy of it is
+    /// answered. Its value stands in the cache's relation to the key. An open turn of the key does not matter.
+    ///
+    /// Refused as the state's `or_insert` is, and hands back the value; then nothing has changed.
+    pub fn or_insert(&self, key: &Arc<K>, value: V) -> Result<Entry<K, V>, OrInsertRefused<V>>
+        requires { C.keeps (arc_value key.now) value }
+        ensures kept { IfOk result (EntryKeeps C.keeps (arc_value key.now)) }
+        ensures value_back { IfErr result (λ refused. refused.value ≡ value) }
+    {
+        let mut locked = self.inside.locked.lock(&self.waits);
+        let done = locked.or_insert(key, value);
+        let gone = locked.take_gone();
+        drop(locked);
+        self.let_go(gone);
+        done
+    }
+
     /// Removes a key, where it is stored. Its value, live or expired, leaves. It takes no memory.
     pub fn invalidate(&self, key: &K) {
         let mut locked = self.inside.locked.lock(&self.waits);
@@ -232,12 +197,131 @@ impl<K: Hash + Drop, V: Clone, C: CacheTypes<K, V>, W: Wait> Cache<K, V, C, W> {
         self.let_go(gone);
     }
 
-    // Takes the notices under the lock, one at a time, and drops each outside of it: no listener is called yet.
-    fn let_go(&self, gone: Gone<K, V>) {
-        drop(gone.first);
+    /// Removes a key, and answers a copy of its live value, which stands in the cache's relation to the key. What stood
+    /// for the key, live or expired, leaves.
+    ///
+    /// Refused for want of memory for the value's copy alone; then nothing has changed.
+    pub fn remove(&self, key: &K) -> Result<Option<V>, Refused>
+        ensures kept { IfOk result (λ found. IfSome found (C.keeps key.now)) }
+        ensures cause { IfErr result (λ cause. cause ≡ Refused.OutOfMemory) }
+    {
+        let mut locked = self.inside.locked.lock(&self.waits);
+        let found = locked.remove(key);
+        let gone = locked.take_gone();
+        drop(locked);
+        self.let_go(gone);
+        found
+    }
+
+    /// Removes all keys: no value that stood is found from then on. Each leaves at a maintenance, or where its key is
+    /// written or removed. It takes no memory, and visits each row.
+    pub fn invalidate_all(&self) {
+        self.inside.locked.lock(&self.waits).invalidate_all();
+    }
+
+    /// Hides each value of which a predicate holds, and answers a new id, made of what the generator draws. What is written
+    /// later is not hidden. Asks the predicate once of each stored value.
+    ///
+    /// Refused with `InvalidationClosuresDisabled` where the cache was built without support for closures, and else with
+    /// `OutOfMemory`, for the id's text; then nothing is hidden.
+    pub fn invalidate_entries_if<G: Rng>(
+        &self,
+        predicate: C::Predicate,
+        generator: &mut G,
+    ) -> Result<PredicateId, PredicateError>
+        requires tests { C.Predicate.tests predicate (C.test predicate) }
+    {
+        self.inside
+            .locked
+            .lock(&self.waits)
+            .invalidate_entries_if(predicate, generator)
+    }
+
+    /// As [`Cache::invalidate_entries_if`] for a predicate that is shared already, without an id. It takes no memory, so it
+    /// is refused with `InvalidationClosuresDisabled` alone.
+    pub fn invalidate_entries_with_arc_fun(
+        &self,
+        predicate: Arc<C::Predicate>,
+    ) -> Result<(), PredicateError>
+        requires tests { C.Predicate.tests (arc_value predicate) (C.test (arc_value predicate)) }
+        ensures cause { IfErr result
+            (λ cause. cause ≡ PredicateError.InvalidationClosuresDisabled) }
+    {
+        self.inside
+            .locked
+            .lock(&self.waits)
+            .invalidate_entries_with_arc_fun(predicate)
+    }
+
+    /// Runs a maintenance, as a state does. The listener is told of what left once the lock is let go.
+    pub fn run_pending_tasks(&self) {
+        let mut locked = self.inside.locked.lock(&self.waits);
+        locked.run_pending_tasks();
+        let gone = locked.take_gone();
+        drop(locked);
+        self.let_go(gone);
+    }
+
+    /// Runs a maintenance within a limit on how many may leave, and answers whether it left a part undone.
+    pub fn run_pending_tasks_up_to(&self, limit: u64) -> bool {
+        let mut locked = self.inside.locked.lock(&self.waits);
+        let is_cut = locked.run_pending_tasks_up_to(limit);
+        let gone = locked.take_gone();
+        drop(locked);
+        self.let_go(gone);
+        is_cut
+    }
+
+    /// How many keys are stored, with those that wait and those whose values are expired.
+    pub fn entry_count(&self) -> u64 {
+        self.inside.locked.lock(&self.waits).entry_count()
+    }
+
+    /// How heavy all that is stored is, up to `u64::MAX`.
+    pub fn weighted_size(&self) -> u64 {
+        self.inside.locked.lock(&self.waits).weighted_size()
+    }
+
+    // Tells the listener of what left, with no lock held: of the first notice, and of so many others at most, each taken
+    // under the lock by itself.
+    pub(crate) fn let_go(&self, gone: Gone<K, V>)
+        requires { IfSome gone.first (λ notice. C.keeps (arc_value notice.key) notice.value) }
+    {
+        let Some(first) = gone.first else {
+            return;
+        };
+        self.tell(first);
         for _ in 0..gone.others {
-            let notice = self.inside.locked.lock(&self.waits).state.take_notice();
-            drop(notice);
+            let next = self.inside.locked.lock(&self.waits).take_notice();
+            let Some(notice) = next else {
+                return;
+            };
+            self.tell(notice);
         }
+    }
+
+    fn tell(&self, notice: Notice<K, V>)
+        requires { C.keeps (arc_value notice.key) notice.value }
+    {
+        if let Some(listener) = &self.inside.listener {
+            listener.tell(notice);
+        }
+    }
+}
+
+impl<K: Hash + Drop, V: Clone + Default, C: CacheTypes<K, V>, W: Wait> Cache<K, V, C, W> {
+    /// As [`Cache::or_insert`], of the default value, for who hands in the key.
+    ///
+    /// It asks that the key keeps whatever value is the default. Refused as the state's `or_default` is.
+    pub fn or_default(&self, key: K) -> Result<Entry<K, V>, Refused>
+        requires { (value : V) → V.is_default value → C.keeps key value }
+        ensures kept { IfOk result (EntryKeeps C.keeps key) }
+    {
+        let mut locked = self.inside.locked.lock(&self.waits);
+        let done = locked.or_default(key);
+        let gone = locked.take_gone();
+        drop(locked);
+        self.let_go(gone);
+        done
     }
 }

@@ -1,0 +1,66 @@
+//! Who is told of the values that leave a shared cache.
+ghost use Rattle.std.specs.Prelude.{◌≡◌, option_map, IfOk, IfErr, IfSome};
+ghost use Rattle.std.specs.Arc.{arc_value};
+
+use moka_model::notification::Notice;
+use moka_policy::builder_utils::BuildError;
+use moka_policy::policy::{CacheTypes, Listener};
+use std::alloc::Global;
+use std::hash::Hash;
+use std::marker::{Model, PhantomData};
+use std::sync::Arc;
+
+/// A listener that may be told of all that the cache keeps.
+#[derive(Drop)]
+pub(crate) struct Hearer<K: Hash + Drop, V: Clone, C: CacheTypes<K, V>> {
+    listener: C::Listener,
+    pairs: PhantomData<(K, V)>,
+}
+
+impl<K: Hash + Drop, V: Clone, C: CacheTypes<K, V>> Model for Hearer<K, V, C> {
+    ghost Value = { C.Listener };
+
+    ghost view = { λ it. it.listener };
+
+    ghost invariant = { λ it.
+        (key : K) (value : V) → C.keeps key value → C.Listener.hears it.listener key value };
+}
+
+impl<K: Hash + Drop, V: Clone, C: CacheTypes<K, V>> Hearer<K, V, C> {
+    fn new(listener: C::Listener) -> Self
+        requires { (key : K) (value : V) → C.keeps key value → C.Listener.hears listener key value }
+        ensures { result ≡ listener }
+    {
+        Hearer {
+            listener,
+            pairs: PhantomData,
+        }
+    }
+
+    // Shares a listener, where there is one. Refused for want of memory alone.
+    pub(crate) fn shared(
+        alloc: Global,
+        listener: Option<C::Listener>,
+    ) -> Result<Option<Arc<Self>>, BuildError>
+        requires { IfSome listener (λ listener.
+            (key : K) (value : V) → C.keeps key value → C.Listener.hears listener key value) }
+        ensures shared { IfOk result (λ shared. option_map arc_value shared ≡ listener) }
+        ensures cause { IfErr result (λ cause. cause ≡ BuildError.OutOfMemory) }
+    {
+        let Some(listener) = listener else {
+            return Ok(None);
+        };
+        match Arc::new(alloc, Hearer::new(listener)) {
+            Ok(shared) => Ok(Some(shared)),
+            Err(_) => Err(BuildError::OutOfMemory),
+        }
+    }
+
+    // Tells the listener of a value that left.
+    pub(crate) fn tell(&self, notice: Notice<K, V>)
+        requires { C.keeps (arc_value notice.key) notice.value }
+    {
+        let Notice { key, value, cause } = notice;
+        self.listener.removed(key, value, cause);
+    }
+}

@@ -1,0 +1,249 @@
+//! Callers that wait for each other's turns.
+//!
+//! Who asks for a value that another works out sleeps until that one has ended, and is given a copy of what came of it.
+//! Where the other gave up it asks again, and works the value out itself if nobody else does by then.
+ghost use Rattle.std.specs.Prelude.{◌≡◌, ◌≢◌, IfOk};
+ghost use Rattle.std.specs.Arc.{arc_value};
+ghost use Rattle.moka_turns.specs.Handles.{ticket_name};
+ghost use Rattle.moka_state.specs.Given.{IfUnspent};
+ghost use Rattle.moka_sync.specs.Kept.{CollectedFits, CollectedKeeps};
+ghost use Rattle.moka_sync.specs.Waiting.{AskedKeeps, IsShownTurn};
+
+use crate::cache::Cache;
+use moka_model::entry::Entry;
+use moka_model::turns::Kind;
+use moka_policy::policy::{CacheTypes, Refused};
+use moka_state::answers::{Answer, Begun, BegunCompute, CollectRefused, Collected};
+use moka_state::handles::{Ticket, Turn};
+use moka_waiting::answers as waiting;
+use moka_waiting::answers::Waited;
+use moka_waiting::caller::Caller;
+use moka_waiting::wait::{MAX_RETRIES, wait_for};
+use std::hash::Hash;
+use std::marker::{Model, PhantomData};
+use std::sync::{Arc, Wait};
+
+/// What a caller with an initializer is given.
+pub(crate) enum Asked<K, V, E> {
+    /// What there is, or what another's initializer gave.
+    Answer(Answer<K, V, E>),
+    /// The turn to work it out.
+    Turn(Turn<K>),
+}
+
+/// The turn of a compute, with the entry of the live value, if there is one.
+pub(crate) struct ShownTurn<K, V> {
+    pub turn: Turn<K>,
+    pub shown: Option<Entry<K, V>>,
+}
+
+// A caller with an initializer of a kind, who may ask to replace a live value.
+#[derive(Drop)]
+struct Initializer<K, V, P> {
+    key: Arc<K>,
+    kind: Kind,
+    replace_if: Option<P>,
+    values: PhantomData<V>,
+}
+
+// A caller with a compute.
+#[derive(Drop)]
+struct Computer<K> {
+    key: Arc<K>,
+    keep: bool,
+}
+
+impl<K, V, P: FnMut(&V) -> bool> Model for Initializer<K, V, P> {
+    ghost use Rattle.moka_sync.specs.Waiting.{InitializerData};
+
+    ghost Value = { InitializerData K };
+
+    ghost view = { λ it. record { key = arc_value it.key; kind = it.kind } };
+
+    ghost invariant = { λ it. (it.kind ≢ Kind.Compute) × ((state : P) → P.IsAlwaysCallable state) };
+}
+
+impl<K> Model for Computer<K> {
+    ghost use Rattle.moka_sync.specs.Waiting.{ComputerData};
+
+    ghost Value = { ComputerData K };
+
+    ghost view = { λ it. record { key = arc_value it.key } };
+}
+
+impl<K, V, P: FnMut(&V) -> bool> Initializer<K, V, P> {
+    fn new(key: Arc<K>, kind: Kind, replace_if: Option<P>) -> Self
+        requires initializer { kind ≢ Kind.Compute }
+        requires shows { (state : P) → P.IsAlwaysCallable state }
+        ensures { result ≡ record { key = arc_value key; kind = kind } }
+    {
+        Initializer {
+            key,
+            kind,
+            replace_if,
+            values: PhantomData,
+        }
+    }
+}
+
+impl<
+    K: Hash + Drop,
+    V: Clone,
+    C: CacheTypes<K, V>,
+    W: Wait,
+    P: FnMut(&V) -> bool + Drop,
+> Caller<Cache<K, V, C, W>, Answer<K, V, C::Error>> for Initializer<K, V, P> {
+    ghost use Rattle.std.specs.Prelude.{◌≡◌, ⊤};
+    ghost use Rattle.moka_sync.specs.Waiting.{BeginTells, CollectTells};
+
+    type Turn = Turn<K>;
+
+    type Ticket = Ticket<K>;
+
+    type Refused = Refused;
+
+    ghost begun = { λ _ old told new. (new ≡ old) × BeginTells C.keeps old told };
+
+    ghost collected = { λ _ old ticket told new. (new ≡ old) × CollectTells C.keeps ticket told };
+
+    ghost begin_refused = { λ _ _ _ _. ⊤ };
+
+    ghost collect_refused = { λ _ _ _ _ _. ⊤ };
+
+    fn begin(
+        &mut self,
+        at: &Cache<K, V, C, W>,
+    ) -> Result<waiting::Begun<Answer<K, V, C::Error>, Turn<K>, Ticket<K>>, Refused> {
+        let replace_if = match &mut self.replace_if {
+            Some(replace_if) => Some(|value: &V| replace_if(value)),
+            None => None,
+        };
+        match at.begin(&self.key, self.kind, replace_if) {
+            Ok(Begun::Found(entry)) => Ok(waiting::Begun::Found(Answer::Entry(entry))),
+            Ok(Begun::Run(turn)) => Ok(waiting::Begun::Run(turn)),
+            Ok(Begun::Wait(ticket)) => Ok(waiting::Begun::Wait(ticket)),
+            Err(cause) => Err(cause),
+        }
+    }
+
+    fn collect(
+        &mut self,
+        at: &Cache<K, V, C, W>,
+        ticket: Ticket<K>,
+    ) -> Result<waiting::Collected<Answer<K, V, C::Error>, Ticket<K>>, Refused> {
+        match at.collect_or_sleep(ticket) {
+            Ok(Collected::Ready(answer)) => Ok(waiting::Collected::Ready(answer)),
+            Ok(Collected::NotYet(ticket)) => Ok(waiting::Collected::NotYet(ticket)),
+            Ok(Collected::Abandoned) => Ok(waiting::Collected::Again),
+            Ok(Collected::Ended) => Ok(waiting::Collected::Again),
+            Err(cause) => Err(cause),
+        }
+    }
+}
+
+impl<K: Hash + Drop, V: Clone, C: CacheTypes<K, V>, W: Wait> Caller<Cache<K, V, C, W>, ()>
+    for Computer<K> {
+    ghost use Rattle.std.specs.Prelude.{◌≡◌, ⊤};
+    ghost use Rattle.moka_sync.specs.Waiting.{ComputeTells, ComputeEnds};
+
+    type Turn = ShownTurn<K, V>;
+
+    type Ticket = Ticket<K>;
+
+    type Refused = Refused;
+
+    ghost begun = { λ _ old told new. (new ≡ old) × ComputeTells C.keeps old told };
+
+    ghost collected = { λ _ old ticket told new. (new ≡ old)
+        × (ticket.key.kind ≡ Kind.Compute → ComputeEnds ticket told) };
+
+    ghost begin_refused = { λ _ _ _ _. ⊤ };
+
+    ghost collect_refused = { λ _ _ _ _ _. ⊤ };
+
+    fn begin(
+        &mut self,
+        at: &Cache<K, V, C, W>,
+    ) -> Result<waiting::Begun<(), ShownTurn<K, V>, Ticket<K>>, Refused> {
+        match at.begin_compute(&self.key, self.keep) {
+            Ok(BegunCompute::Run(turn, shown)) => {
+                Ok(waiting::Begun::Run(ShownTurn { turn, shown }))
+            }
+            Ok(BegunCompute::Wait(ticket)) => Ok(waiting::Begun::Wait(ticket)),
+            Err(cause) => Err(cause),
+        }
+    }
+
+    fn collect(
+        &mut self,
+        at: &Cache<K, V, C, W>,
+        ticket: Ticket<K>,
+    ) -> Result<waiting::Collected<(), Ticket<K>>, Refused> {
+        match at.collect_or_sleep(ticket) {
+            Ok(Collected::Ready(_)) => Ok(waiting::Collected::Ready(())),
+            Ok(Collected::NotYet(ticket)) => Ok(waiting::Collected::NotYet(ticket)),
+            Ok(Collected::Abandoned) => Ok(waiting::Collected::Again),
+            Ok(Collected::Ended) => Ok(waiting::Collected::Again),
+            Err(cause) => Err(cause),
+        }
+    }
+}
+
+impl<K: Hash + Drop, V: Clone, C: CacheTypes<K, V>, W: Wait> Cache<K, V, C, W> {
+    // A collect that sleeps until some turn has ended, where this one has not yet. A ticket whose collect is refused is
+    // spent.
+    fn collect_or_sleep(&self, ticket: Ticket<K>) -> Result<Collected<K, V, C::Error>, Refused>
+        ensures unspent { IfOk result
+            (IfUnspent (λ same. ticket_name same ≡ ticket_name ticket)) }
+        ensures kept { IfOk result (CollectedKeeps C.keeps (arc_value ticket.key.key)) }
+        ensures fits { IfOk result (CollectedFits ticket.key.kind) }
+    {
+        let mut locked = self.inside.locked.lock(&self.waits);
+        match locked.collect(ticket) {
+            Ok(Collected::NotYet(ticket)) => {
+                drop(self.inside.ended.wait(&self.waits, locked));
+                Ok(Collected::NotYet(ticket))
+            }
+            Ok(collected) => Ok(collected),
+            Err(refused) => {
+                let CollectRefused { ticket, cause } = refused;
+                let _ = locked.leave(ticket);
+                Err(cause)
+            }
+        }
+    }
+
+    // What there is for a key, or what another's initializer gave; or else the turn to work it out, once nobody else has
+    // it. Refused as a begin and a collect are, and with `WaitsAbandoned` where as many turns as may be waited for were
+    // abandoned.
+    pub(crate) fn ask<P: FnMut(&V) -> bool + Drop>(
+        &self,
+        key: Arc<K>,
+        kind: Kind,
+        replace_if: Option<P>,
+    ) -> Result<Asked<K, V, C::Error>, Refused>
+        requires initializer { kind ≢ Kind.Compute }
+        requires shows { (state : P) → P.IsAlwaysCallable state }
+        ensures { IfOk result (AskedKeeps C.keeps kind (arc_value key)) }
+    {
+        let mut caller = Initializer::new(key, kind, replace_if);
+        match wait_for(&self.waits, &mut caller, self, Some(MAX_RETRIES)) {
+            Ok(Waited::Value(answer)) => Ok(Asked::Answer(answer)),
+            Ok(Waited::Turn(turn)) => Ok(Asked::Turn(turn)),
+            Ok(Waited::TooMany) => Err(Refused::WaitsAbandoned),
+            Err(cause) => Err(cause),
+        }
+    }
+
+    // The turn of a compute of a key, once nobody else has it. Refused as a begin and a collect are.
+    pub(crate) fn ask_to_compute(&self, key: Arc<K>, keep: bool) -> Result<ShownTurn<K, V>, Refused>
+        ensures { IfOk result (IsShownTurn C.keeps (arc_value key)) }
+    {
+        let mut caller = Computer { key, keep };
+        match wait_for(&self.waits, &mut caller, self, None) {
+            Ok(Waited::Turn(turn)) => Ok(turn),
+            Ok(_) => unreachable!(),
+            Err(cause) => Err(cause),
+        }
+    }
+}
