@@ -5,6 +5,7 @@ use Rattle.std.specs.Option.{IfSome}
 use Rattle.std.specs.List.{AllByRecursion}
 use Rattle.std.proofs.ByRecursion.{All-append}
 use Rattle.std.proofs.lemmas.Bool.{cond_both, and_parts}
+use Rattle.std.proofs.lemmas.Option.{same_Some}
 use Rattle.moka_model.specs.declared.turns.Kind.{Kind}
 use Rattle.moka_model.specs.declared.turns.Kind.TheVariants.{With, Optionally, Try, Compute}
 use Rattle.moka_model.specs.declared.turns.Op.TheVariants as ops
@@ -16,7 +17,7 @@ use Rattle.moka_model.specs.Numbers.{stores_nothing, is_flush_due}
 use Rattle.moka_model.specs.Removals.{notices_left}
 use Rattle.moka_model.specs.Steps.{AcceptedStep, events_in, turns}
 use Rattle.moka_model.specs.Calls.{Call, Get, ContainsKey, Insert, Invalidate, Remove, InvalidateAll, InvalidateIf, RunPendingTasks, RunPendingTasksUpTo, EntryCount, WeightedSize, TakeNotice, OrInsert, Begin, BeginCompute, Finish, Abandon, Collect, Leave}
-use Rattle.moka_model.specs.Calls.{Answer, Done, Inserted, ReplacedWith, Accepted, IsLegal, without_move, write_events, look_event, acceptable, entry_of, fresh_entry, begun, begun_compute, or_inserted, put_by, removed_by, kept_by, answer_by, is_replacing, finished, collected, abandons, spends, live_at, accepted, with_step, after}
+use Rattle.moka_model.specs.Calls.{Answer, Done, Inserted, ReplacedWith, Accepted, IsLegal, without_move, write_events, look_event, acceptable, entry_of, fresh_entry, begun, begun_compute, or_inserted, put_by, removed_by, kept_by, answer_by, is_replacing, finished, collected, abandons, spends, live_at, accepted, with_step, after, answer_of}
 use Rattle.moka_model.specs.Turns.{Turn, Name, End, AreApart, IsIn, fits, found, same_kind, same_name, is_open, has_ticket, is_open_for, is_open_as, has_ticket_as}
 use Rattle.moka_model.specs.Turns as turning
 use Rattle.moka_model.proofs.Callers.{found-is, numbered-alone, legal-fit, turns-apart}
@@ -177,3 +178,10 @@ module _ {K V E : Type 0} (keeps : K → V → Type 0) (eq : K → K → Bool) (
   -- and its answer keeps
   pub answer-keeps : (call : Call K V E) (it : Accepted K V E) → CallKeeps keeps call → accepted eq settings steps call ≡ Some it → AnswerKeeps keeps call it.answer
   answer-keeps call it owed is = let it_keeps : IfSome (Some it) (ItKeeps call) = subst (λ o. IfSome o (ItKeeps call)) is (accepted-keeps call owed) in it_keeps.2
+
+  pub said-keeps : (call : Call K V E) (answer : Answer K V E) → CallKeeps keeps call → answer_of (accepted eq settings steps call) ≡ Some answer → AnswerKeeps keeps call answer
+  said-keeps call answer owed = go (accepted eq settings steps call) (accepted-keeps call owed)
+    where
+      go : (o : Option (Accepted K V E)) → IfSome o (ItKeeps call) → answer_of o ≡ Some answer → AnswerKeeps keeps call answer
+      go None kept says = cc
+      go (Some it) kept says = subst (AnswerKeeps keeps call) (same_Some it.answer answer says) kept.2
