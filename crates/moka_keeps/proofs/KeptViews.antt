@@ -1,0 +1,32 @@
+-- A state keeps a history that keeps from call to call, and what it hands out keeps.
+use Rattle.std.proofs.Common.{◌≡◌, Bool, Option, Some, None, List, [], refl}
+use Rattle.std.specs.Cmp.{IsEquivalence}
+use Rattle.moka_model.specs.Lives.{Settings}
+use Rattle.moka_model.specs.Steps.{AcceptedStep}
+use Rattle.moka_model.specs.Calls.{Call, Answer, Accepted, accepted, after}
+use Rattle.moka_model.specs.StandsFor.{WholeView, StandsFor, AtEachHistory, Follows, IsAnswerOf, Answers}
+use Rattle.moka_keeps.specs.Keeps.{IsAlike, IsCopied, CallKeeps, AnswerKeeps, HasKeptHistory}
+use Rattle.moka_keeps.proofs.KeptCalls.{steps-keep, answer-keeps}
+use Rattle.moka_keeps.proofs.KeptCopies.{copy-keeps}
+
+-- a state for which nothing was done has such a history
+pub kept-opening : {K V E : Type 0} (keeps : K → V → Type 0) (eq : K → K → Bool) (is_clone : V → V → Type 0) (settings : Settings K V) (view : WholeView K V E) → StandsFor eq is_clone settings view [] → HasKeptHistory keeps eq is_clone view
+kept-opening keeps eq is_clone settings view stands = record { settings = settings; steps = []; stands = stands; keep = (tt, tt) }
+
+module _ {K V E : Type 0} (keeps : K → V → Type 0) (eq : K → K → Bool) (is_clone : V → V → Type 0) (laws : IsEquivalence eq) (alike : IsAlike keeps eq) where
+  -- and so does what follows a call that keeps
+  pub kept-after : (old new : WholeView K V E) (call : Call K V E) → Follows eq is_clone old call new → CallKeeps keeps call → HasKeptHistory keeps eq is_clone old → HasKeptHistory keeps eq is_clone new
+  kept-after old new call follows owed kept = record {
+    settings = kept.settings;
+    steps = after eq kept.settings call kept.steps;
+    stands = follows kept.settings kept.steps kept.stands;
+    keep = steps-keep keeps eq kept.settings laws alike kept.steps kept.stands.legal kept.keep call owed;
+  }
+
+  -- What is handed out of it keeps.
+  pub kept-answer : IsCopied keeps is_clone → (view : WholeView K V E) (call : Call K V E) (answer : Answer K V E) → Answers eq is_clone view call answer → CallKeeps keeps call → HasKeptHistory keeps eq is_clone view → AnswerKeeps keeps call answer
+  kept-answer copied view call answer answers owed kept = go (accepted eq kept.settings kept.steps call) refl (answers kept.settings kept.steps kept.stands)
+    where
+      go : (o : Option (Accepted K V E)) → accepted eq kept.settings kept.steps call ≡ o → IsAnswerOf is_clone o answer → AnswerKeeps keeps call answer
+      go None is none = absurd none
+      go (Some it) is copy = copy-keeps keeps is_clone copied call it.answer answer copy (answer-keeps keeps eq kept.settings laws alike kept.steps kept.stands.legal kept.keep call it owed is)

@@ -1,0 +1,85 @@
+-- A relation in which all keys and values stand that are handed in, and what then holds of all that is kept and handed out.
+use Rattle.std.specs.Prelude.{⊤, ◌≡◌, Bool, true, Option, Some, None, List, IfSome}
+use Rattle.std.specs.List.{AllByRecursion}
+use Rattle.moka_model.specs.declared.turns.Op.TheVariants.{Put}
+use Rattle.moka_model.specs.declared.turns.Outcome.TheVariants as outcomes
+use Rattle.moka_model.specs.Lives.{Settings}
+use Rattle.moka_model.specs.Events.{Event, Written}
+use Rattle.moka_model.specs.Removals.{Removal}
+use Rattle.moka_model.specs.Turns.{Turn, End}
+use Rattle.moka_model.specs.Turns as turning
+use Rattle.moka_model.specs.Steps.{AcceptedStep, events_in, turns}
+use Rattle.moka_model.specs.Calls.{Call, Get, ContainsKey, Insert, Invalidate, Remove, OrInsert, Begin, BeginCompute, Finish, Abandon, Collect, Leave}
+use Rattle.moka_model.specs.Calls.{Entry, Answer, Found, Noticed, Entered, Run, Unchanged, Inserted, ReplacedWith, Removed}
+use Rattle.moka_model.specs.StandsFor.{WholeView, StandsFor}
+
+abbrev pub key_of : {K V E : Type 0} → Call K V E → Option K  -- the key that a call hands in, by itself or in a turn's name
+key_of (Get k at) = Some k
+key_of (ContainsKey k at) = Some k
+key_of (Insert k v at) = Some k
+key_of (Invalidate k at) = Some k
+key_of (Remove k at) = Some k
+key_of (OrInsert k v at) = Some k
+key_of (Begin k kind replace at) = Some k
+key_of (BeginCompute k keep at) = Some k
+key_of (Finish name outcome at) = Some name.key
+key_of (Abandon name) = Some name.key
+key_of (Collect name) = Some name.key
+key_of (Leave name) = Some name.key
+key_of call = None
+
+module _ {K V : Type 0} (keeps : K → V → Type 0) where
+  abbrev pub IsAlike : (K → K → Bool) → Type 0  -- It does not tell equal keys apart,
+  IsAlike eq = (a b : K) (v : V) → eq a b ≡ true → keeps a v → keeps b v
+
+  abbrev pub IsCopied : (V → V → Type 0) → Type 0  -- nor a value from its copies.
+  IsCopied is_clone = (k : K) (v w : V) → is_clone v w → keeps k v → keeps k w
+
+  abbrev pub EventKeeps : Event K V → Type 0  -- What is written stands in it;
+  EventKeeps (Written k v at) = keeps k v
+  EventKeeps e = ⊤
+
+  abbrev pub EndKeeps : {E : Type 0} → K → End V E → Type 0  -- so does the value that a turn ended with, to a key,
+  EndKeeps k (turning.Value v replaced) = keeps k v
+  EndKeeps k end = ⊤
+
+  abbrev pub TurnKeeps : {E : Type 0} → Turn K V E → Type 0  -- and to the turn's key that and the value that was kept aside.
+  TurnKeeps t = IfSome t.kept (keeps t.name.key) × IfSome t.end (EndKeeps t.name.key)
+
+  -- Accepted steps keep where all their events and turns do.
+  abbrev pub StepsKeep : {E : Type 0} → List (AcceptedStep K V E) → Type 0
+  StepsKeep steps = AllByRecursion EventKeeps (events_in steps) × AllByRecursion TurnKeeps (turns steps)
+
+  -- What a caller owes: a value that it hands in stands in the relation to the key that it is to be written under.
+  abbrev pub CallKeeps : {E : Type 0} → Call K V E → Type 0
+  CallKeeps (Insert k v at) = keeps k v
+  CallKeeps (OrInsert k v at) = keeps k v
+  CallKeeps (Finish name (outcomes.Value v) at) = keeps name.key v
+  CallKeeps (Finish name (outcomes.Op (Put v)) at) = keeps name.key v
+  CallKeeps call = ⊤
+
+  module _ {E : Type 0} (call : Call K V E) where
+    abbrev pub ValueKeeps : V → Type 0  -- a value stands in it to the key that the call hands in, if it hands in one
+    ValueKeeps v = IfSome (key_of call) (λ k. keeps k v)
+
+    abbrev pub EntryKeeps : Entry K V → Type 0  -- and to the key that it is handed out under
+    EntryKeeps e = keeps e.key e.value × ValueKeeps e.value
+
+    -- Each value that an answer hands out stands in the relation to its key, and to that of the call.
+    abbrev pub AnswerKeeps : Answer K V E → Type 0
+    AnswerKeeps (Found v) = IfSome v ValueKeeps
+    AnswerKeeps (Noticed l) = IfSome l (λ r. keeps r.key r.value)
+    AnswerKeeps (Entered e) = EntryKeeps e
+    AnswerKeeps (Run name e) = IfSome e EntryKeeps
+    AnswerKeeps (Unchanged e) = EntryKeeps e
+    AnswerKeeps (Inserted e) = EntryKeeps e
+    AnswerKeeps (ReplacedWith e) = EntryKeeps e
+    AnswerKeeps (Removed e) = EntryKeeps e
+    AnswerKeeps answer = ⊤
+
+  -- A state has a history that keeps: it stands for accepted steps that keep, under some settings.
+  pub record HasKeptHistory {E : Type 0} (eq : K → K → Bool) (is_clone : V → V → Type 0) (view : WholeView K V E) : Type 0 where
+    pub settings : Settings K V
+    pub steps : List (AcceptedStep K V E)
+    pub stands : StandsFor eq is_clone settings view steps
+    pub keep : StepsKeep steps
