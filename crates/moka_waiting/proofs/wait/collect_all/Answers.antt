@@ -10,9 +10,10 @@ returns-in-Again-clause-done g c = c.loop.invariant.0 0 Again _ (subst (λ b. g.
 
 pub loop-preserved : goal.loop-preserved
 loop-preserved g c =
-    let not_yet = subst (λ b. g.P.Caller.collected c.args.at.now c.loop.caller c.loop.ticket b c.collect.new.self) c.in-NotYet.is c.in_ok-value.ensures.done in
-    (λ n b u h. c.loop.invariant.0 (suc n) b u (c.in-NotYet.same, c.collect.new.self, not_yet, h),
-    λ n r u h. c.loop.invariant.1 (suc n) r u (c.in-NotYet.same, c.collect.new.self, not_yet, h))
+    let not_yet = subst (λ b. g.P.Caller.collected c.args.at.now c.loop.caller c.loop.ticket b c.collect.new.self) c.in-NotYet.is c.in_ok-value.ensures.done in (
+      λ n b u h. c.loop.invariant.0 (suc n) b u (c.in-NotYet.same, c.collect.new.self, not_yet, h),
+      λ n r u h. c.loop.invariant.1 (suc n) r u (c.in-NotYet.same, c.collect.new.self, not_yet, h),
+    )
 
 pub returns-in_err-value-clause-refused : goal.returns-in_err-value-clause-refused
 returns-in_err-value-clause-refused g c =
