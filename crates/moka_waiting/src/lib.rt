@@ -1,0 +1,6 @@
+//! The loop of a call that waits for another's turn.
+#![tactic(auto)]
+
+pub mod answers;
+pub mod caller;
+pub mod wait;

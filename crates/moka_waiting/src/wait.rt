@@ -1,0 +1,84 @@
+//! The loop that waits until there is a value or a turn.
+ghost use Rattle.std.specs.Prelude.{◌≡◌, Some, IfOk, IfErr, IfSome, IfNone};
+ghost use Rattle.moka_waiting.specs.Rounds.{IsOneLess, CollectsTo, IsCollectRefused, Ends, IsRefused};
+
+use crate::answers::{Begun, Collected, Waited};
+use crate::caller::Caller;
+use std::sync::Wait;
+
+/// So many waits of one call with an initializer may give nothing before it gives up.
+pub const MAX_RETRIES: u64 = 200;
+
+/// Waits until there is a value or a turn.
+///
+/// It begins first. Where it is told to wait, it collects until the turn has ended, and where that gave it nothing it
+/// begins again. After `most` such waits it gives up. Where `most` is None it never does, as a compute. With a `most` of
+/// 0 it does not even begin.
+///
+/// A begin or a collect that is refused ends it, and its refusal is handed on as it is.
+///
+/// Waiting is up to the caller's `collect`: this loop holds no lock, and takes no memory.
+#[tactic(auto, using(crate::proofs::Left::fewer, crate::proofs::Left::used_up, crate::proofs::Left::all_left))]
+pub fn wait_for<V, X, P: Caller<X, V>, R: Wait>(
+    rt: &R,
+    caller: &mut P,
+    at: &X,
+    most: Option<u64>,
+) -> Result<Waited<V, P::Turn>, P::Refused>
+    ensures done { IfOk result (λ w. Ends (P.begun at.now) (P.collected at.now)
+        most caller.old w caller.new) }
+    ensures refused { IfErr result (λ r. IsRefused (P.begun at.now) (P.collected at.now)
+        (P.begin_refused at.now) (P.collect_refused at.now) most caller.old r caller.new) }
+{
+    let mut left = most;
+    for _ in rt.forever() {
+        let Some(rest) = one_less(left) else {
+            return Ok(Waited::TooMany);
+        };
+        left = rest;
+        let ticket = match caller.begin(at)? {
+            Begun::Found(value) => return Ok(Waited::Value(value)),
+            Begun::Run(turn) => return Ok(Waited::Turn(turn)),
+            Begun::Wait(ticket) => ticket,
+        };
+        if let Some(value) = collect_all(rt, caller, at, ticket)? {
+            return Ok(Waited::Value(value));
+        }
+    }
+    unreachable!()
+}
+
+// Collects until the turn has ended. None where it gave this caller nothing.
+fn collect_all<V, X, P: Caller<X, V>, R: Wait>(
+    rt: &R,
+    caller: &mut P,
+    at: &X,
+    ticket: P::Ticket,
+) -> Result<Option<V>, P::Refused>
+    ensures done { IfOk result (λ value. CollectsTo (P.collected at.now)
+        caller.old ticket value caller.new) }
+    ensures refused { IfErr result (λ r. IsCollectRefused (P.collected at.now)
+        (P.collect_refused at.now) caller.old ticket r caller.new) }
+{
+    let mut ticket = ticket;
+    for _ in rt.forever() {
+        match caller.collect(at, ticket)? {
+            Collected::Ready(value) => return Ok(Some(value)),
+            Collected::NotYet(same) => ticket = same,
+            Collected::Again => return Ok(None),
+        }
+    }
+    unreachable!()
+}
+
+// One wait fewer of those that may be. None where there may be no more.
+fn one_less(left: Option<u64>) -> Option<Option<u64>>
+    ensures some { IfSome result (λ rest. IsOneLess left rest) }
+    ensures none { IfNone result (left ≡ Some 0) }
+{
+    match left {
+        Some(0) => None,
+        Some(n) => Some(Some(n - 1)),
+        None => Some(None),
+    }
+}
