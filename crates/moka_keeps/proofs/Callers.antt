@@ -2,3 +2,4 @@
 pub use Rattle.moka_keeps.proofs.KeptCalls.{steps-keep, answer-keeps}
 pub use Rattle.moka_keeps.proofs.KeptCopies.{copy-keeps}
 pub use Rattle.moka_keeps.proofs.KeptViews.{kept-opening, kept-after, kept-answer}
+pub use Rattle.moka_keeps.proofs.FittingEnds.{turns-fit, ticket-fits}

@@ -1,4 +1,5 @@
 pub mod Callers
+pub mod FittingEnds
 pub mod KeptCalls
 pub mod KeptCopies
 pub mod KeptTurns
