@@ -14,7 +14,6 @@ use Rattle.moka_model.specs.declared.turns.Outcome.TheVariants as outcomes
 use Rattle.moka_model.specs.Lives.{Settings, Write}
 use Rattle.moka_model.specs.Events.{Event, Looked, Written, Hidden, Maintained, Passed}
 use Rattle.moka_model.specs.Numbers.{stores_nothing, is_flush_due}
-use Rattle.moka_model.specs.Removals.{notices_left}
 use Rattle.moka_model.specs.Steps.{AcceptedStep, events_in, turns}
 use Rattle.moka_model.specs.Calls.{Call, Get, ContainsKey, Insert, Invalidate, Remove, InvalidateAll, InvalidateIf, RunPendingTasks, RunPendingTasksUpTo, EntryCount, WeightedSize, TakeNotice, OrInsert, Begin, BeginCompute, Finish, Abandon, Collect, Leave}
 use Rattle.moka_model.specs.Calls.{Answer, Done, Inserted, ReplacedWith, Accepted, IsLegal, without_move, write_events, look_event, acceptable, entry_of, fresh_entry, begun, begun_compute, or_inserted, put_by, removed_by, kept_by, answer_by, is_replacing, finished, collected, abandons, spends, live_at, accepted, with_step, after, answer_of}

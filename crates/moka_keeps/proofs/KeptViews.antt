@@ -1,10 +1,9 @@
 -- A state keeps a history that keeps from call to call, and what it hands out keeps.
-use Rattle.std.proofs.Common.{◌≡◌, Bool, Option, Some, None, List, [], refl}
+use Rattle.std.proofs.Common.{◌≡◌, Bool, Option, Some, None, [], refl}
 use Rattle.std.specs.Cmp.{IsEquivalence}
 use Rattle.moka_model.specs.Lives.{Settings}
-use Rattle.moka_model.specs.Steps.{AcceptedStep}
 use Rattle.moka_model.specs.Calls.{Call, Answer, Accepted, accepted, after}
-use Rattle.moka_model.specs.StandsFor.{WholeView, StandsFor, AtEachHistory, Follows, IsAnswerOf, Answers}
+use Rattle.moka_model.specs.StandsFor.{WholeView, StandsFor, Follows, IsAnswerOf, Answers}
 use Rattle.moka_keeps.specs.Keeps.{IsAlike, IsCopied, CallKeeps, AnswerKeeps, HasKeptHistory}
 use Rattle.moka_keeps.proofs.KeptCalls.{steps-keep, answer-keeps}
 use Rattle.moka_keeps.proofs.KeptCopies.{copy-keeps}

@@ -37,12 +37,13 @@ pub fn what_is_handed_out_is_kept<K: Eq, V: Clone, C: CacheTypes<K, V>, E>()
 
 /// A state that stands for steps that keep hands out what keeps, and after each call whose value the
 /// caller keeps it stands for such steps again; so does one for which nothing was done.
-pub fn a_state_with_a_kept_history_has_one_after_each_call<K: Eq, V: Clone, C: CacheTypes<K, V>, E>()
-    ensures opening { (settings : Settings K V) (view : WholeView K V E) (none : List (AcceptedStep K V E)) → none ≡ []
+pub fn a_kept_history_goes_on<K: Eq, V: Clone, C: CacheTypes<K, V>, E>()
+    ensures opening { (settings : Settings K V) (view : WholeView K V E)
+        (none : List (AcceptedStep K V E)) → none ≡ []
         → StandsFor K.eq V.is_clone settings view none → HasKeptHistory C.keeps K.eq V.is_clone view }
-    ensures next { (old new : WholeView K V E) (call : Call K V E) → Follows K.eq V.is_clone old call new
-        → CallKeeps C.keeps call → HasKeptHistory C.keeps K.eq V.is_clone old
-        → HasKeptHistory C.keeps K.eq V.is_clone new }
+    ensures next { (old new : WholeView K V E) (call : Call K V E)
+        → Follows K.eq V.is_clone old call new → CallKeeps C.keeps call
+        → HasKeptHistory C.keeps K.eq V.is_clone old → HasKeptHistory C.keeps K.eq V.is_clone new }
     ensures handed_out { (view : WholeView K V E) (call : Call K V E) (answer : Answer K V E)
         → Answers K.eq V.is_clone view call answer → CallKeeps C.keeps call
         → HasKeptHistory C.keeps K.eq V.is_clone view → AnswerKeeps C.keeps call answer }
@@ -94,11 +95,13 @@ pub fn a_compute_is_answered_a_kept_value<K: Eq, V: Clone, C: CacheTypes<K, V>, 
 pub fn a_finished_value_is_kept_under_the_tickets_key<K: Eq, V: Clone, C: CacheTypes<K, V>, E>()
     ensures collected { (name ticket : Name K) (v : V) (at : ℕ) (e : Entry K V) → C.keeps name.key v
         → AfterKept C.keeps K.eq (λ settings steps.
-        answer_of (accepted {E = E} K.eq settings (after K.eq settings (Finish name (outcomes.Value v) at) steps) (Collect ticket))
+        answer_of (accepted {E = E} K.eq settings
+        (after K.eq settings (Finish name (outcomes.Value v) at) steps) (Collect ticket))
         ≡ Some (Entered e) → C.keeps e.key e.value × C.keeps ticket.key e.value) }
     ensures found { (name : Name K) (k : K) (v w : V) (at now : ℕ) → C.keeps name.key v
         → AfterKept C.keeps K.eq (λ settings steps.
-        answer_of (accepted {E = E} K.eq settings (after K.eq settings (Finish name (outcomes.Value v) at) steps) (Get k now))
+        answer_of (accepted {E = E} K.eq settings
+        (after K.eq settings (Finish name (outcomes.Value v) at) steps) (Get k now))
         ≡ Some (Found (Some w)) → C.keeps k w) }
     ensures answered { (name : Name K) (v : V) (at : ℕ) (e : Entry K V) → C.keeps name.key v
         → WhereAnswered {E = E} C.keeps K.eq (Finish name (outcomes.Value v) at) (Entered e)
@@ -110,10 +113,11 @@ pub fn a_finished_value_is_kept_under_the_tickets_key<K: Eq, V: Clone, C: CacheT
 pub fn an_inserted_value_is_found_as_kept<K: Eq, V: Clone, C: CacheTypes<K, V>, E>()
     ensures next { (k q : K) (v w : V) (at now : ℕ) → C.keeps k v
         → AfterKept C.keeps K.eq (λ settings steps.
-        answer_of (accepted {E = E} K.eq settings (after K.eq settings (Insert k v at) steps) (Get q now))
+        answer_of (accepted {E = E} K.eq settings (after K.eq settings (Insert k v at) steps)
+        (Get q now))
         ≡ Some (Found (Some w)) → C.keeps q w) }
-    ensures first { (settings : Settings K V) (none : List (AcceptedStep K V E)) (k q : K) (v w : V) (at now : ℕ)
-        → none ≡ [] → C.keeps k v
+    ensures first { (settings : Settings K V) (none : List (AcceptedStep K V E)) (k q : K) (v w : V)
+        (at now : ℕ) → none ≡ [] → C.keeps k v
         → answer_of (accepted K.eq settings (after K.eq settings (Insert k v at) none) (Get q now))
         ≡ Some (Found (Some w)) → C.keeps q w }
 {}
