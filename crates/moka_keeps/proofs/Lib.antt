@@ -4,3 +4,4 @@ pub mod KeptCopies
 pub mod KeptTurns
 pub mod KeptViews
 pub mod KeptWrites
+pub mod Owed
