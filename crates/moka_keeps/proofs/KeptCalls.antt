@@ -178,6 +178,7 @@ module _ {K V E : Type 0} (keeps : K → V → Type 0) (eq : K → K → Bool) (
   pub answer-keeps : (call : Call K V E) (it : Accepted K V E) → CallKeeps keeps call → accepted eq settings steps call ≡ Some it → AnswerKeeps keeps call it.answer
   answer-keeps call it owed is = let it_keeps : IfSome (Some it) (ItKeeps call) = subst (λ o. IfSome o (ItKeeps call)) is (accepted-keeps call owed) in it_keeps.2
 
+  -- so does what it is said to answer
   pub said-keeps : (call : Call K V E) (answer : Answer K V E) → CallKeeps keeps call → answer_of (accepted eq settings steps call) ≡ Some answer → AnswerKeeps keeps call answer
   said-keeps call answer owed = go (accepted eq settings steps call) (accepted-keeps call owed)
     where

@@ -27,14 +27,14 @@ pub fn what_was_handed_in_stays_kept<K: Eq, V: Clone, C: CacheTypes<K, V>, E>()
         (λ settings steps. StepsKeep C.keeps (after K.eq settings call steps)) }
 {}
 
-/// No call owes more than that its value is kept: where every value is kept under every key, none owes
-/// anything.
+/// No call owes more than that its value is kept: where each value is kept under each key, no call
+/// owes anything.
 pub fn no_call_owes_more<K: Eq, V: Clone, C: CacheTypes<K, V>, E>()
     ensures { ((k : K) (v : V) → C.keeps k v) → (call : Call K V E) → CallKeeps C.keeps call }
 {}
 
-/// Whatever an accepted call answers keeps, after steps that keep: each value stands in the relation
-/// to the key that it comes under, and to the key that the call asked for. So do its copies.
+/// What an accepted call answers keeps, after steps that keep: each value stands in the relation to
+/// the key that it comes under, and to the key that the call hands in. So do its copies.
 pub fn what_is_handed_out_is_kept<K: Eq, V: Clone, C: CacheTypes<K, V>, E>()
     ensures answer { (call : Call K V E) (answer : Answer K V E) → CallKeeps C.keeps call
         → WhereAnswered C.keeps K.eq call answer (AnswerKeeps C.keeps call answer) }
@@ -58,8 +58,8 @@ pub fn a_kept_history_goes_on<K: Eq, V: Clone, C: CacheTypes<K, V>, E>()
         → HasKeptHistory C.keeps K.eq V.is_clone view → AnswerKeeps C.keeps call answer }
 {}
 
-/// What a look finds for a key is kept under that key, even where it was written under an equal one;
-/// and where a look is answered with an entry, also under the entry's own key.
+/// What a look finds for a key is kept under that key, even where it was written under an equal
+/// one; and where a look is answered with an entry, also under the entry's own key.
 pub fn a_look_finds_a_kept_value<K: Eq, V: Clone, C: CacheTypes<K, V>, E>()
     ensures get { (k : K) (v : V) (at : ℕ)
         → WhereAnswered {E = E} C.keeps K.eq (Get k at) (Found (Some v)) (C.keeps k v) }
@@ -82,8 +82,8 @@ pub fn a_notice_tells_of_a_kept_value<K: Eq, V: Clone, C: CacheTypes<K, V>, E>()
         (C.keeps l.key l.value) }
 {}
 
-/// What a compute is answered is kept under the key of its turn's name: the value that it put, which
-/// its caller keeps there, the one that it removed, and the one that was kept aside at its begin.
+/// What a compute is answered is kept under the key of its turn's name: the value that it put,
+/// which its caller keeps there, the one that it removed, and the one that its begin kept aside.
 pub fn a_compute_is_answered_a_kept_value<K: Eq, V: Clone, C: CacheTypes<K, V>, E>()
     ensures inserted { (name : Name K) (v : V) (at : ℕ) (e : Entry K V) → C.keeps name.key v
         → WhereAnswered {E = E} C.keeps K.eq (Finish name (outcomes.Op (Put v)) at) (Inserted e)
@@ -99,8 +99,9 @@ pub fn a_compute_is_answered_a_kept_value<K: Eq, V: Clone, C: CacheTypes<K, V>, 
         (C.keeps e.key e.value × C.keeps name.key e.value) }
 {}
 
-/// A value with which a turn is finished, and which is kept under the key of the turn's name, is kept
-/// under the key of a ticket that collects it next, and under a key that the next look finds it for.
+/// A value with which a turn is finished, and which is kept under the key of the turn's name, is
+/// kept under the key of a ticket that collects it next, and under a key that the next look finds
+/// it for.
 pub fn a_finished_value_is_kept_under_the_tickets_key<K: Eq, V: Clone, C: CacheTypes<K, V>, E>()
     ensures collected { (name ticket : Name K) (v : V) (at : ℕ) (e : Entry K V) → C.keeps name.key v
         → AfterKept C.keeps K.eq (λ settings steps.
