@@ -38,8 +38,9 @@ pub fn no_call_owes_more<K: Eq, V: Clone, C: CacheTypes<K, V>, E>()
 pub fn what_is_handed_out_is_kept<K: Eq, V: Clone, C: CacheTypes<K, V>, E>()
     ensures answer { (call : Call K V E) (answer : Answer K V E) → CallKeeps C.keeps call
         → WhereAnswered C.keeps K.eq call answer (AnswerKeeps C.keeps call answer) }
-    ensures copy { (call : Call K V E) (answer copy : Answer K V E) → IsAnswer V.is_clone answer copy
-        → AnswerKeeps C.keeps call answer → AnswerKeeps C.keeps call copy }
+    ensures copy { (call : Call K V E) (answer copy : Answer K V E)
+        → IsAnswer V.is_clone answer copy → AnswerKeeps C.keeps call answer
+        → AnswerKeeps C.keeps call copy }
 {}
 
 /// A state for which nothing was done stands for steps that keep, and where one does, so does the
@@ -118,8 +119,8 @@ pub fn a_finished_value_is_kept_under_the_tickets_key<K: Eq, V: Clone, C: CacheT
         (C.keeps e.key e.value × C.keeps name.key e.value) }
 {}
 
-/// A value that is inserted, and which is kept under its key, is kept under a key that the next look
-/// finds it for. Where nothing else was done this needs nothing more.
+/// A value that is inserted, and which is kept under its key, is kept under a key that the next
+/// look finds it for. Where nothing else was done this needs nothing more.
 pub fn an_inserted_value_is_found_as_kept<K: Eq, V: Clone, C: CacheTypes<K, V>, E>()
     ensures next { (k q : K) (v w : V) (at now : ℕ) → C.keeps k v
         → AfterKept C.keeps K.eq (λ settings steps.
