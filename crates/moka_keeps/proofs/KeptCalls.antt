@@ -14,7 +14,6 @@ use Rattle.moka_model.specs.declared.turns.Outcome.TheVariants as outcomes
 use Rattle.moka_model.specs.Lives.{Settings, Write}
 use Rattle.moka_model.specs.Events.{Event, Looked, Written, Hidden, Maintained, Passed}
 use Rattle.moka_model.specs.Numbers.{stores_nothing, is_flush_due}
-use Rattle.moka_model.specs.Removals.{notices_left}
 use Rattle.moka_model.specs.Steps.{AcceptedStep, events_in, turns}
 use Rattle.moka_model.specs.Calls.{Call, Get, ContainsKey, Insert, Invalidate, Remove, InvalidateAll, InvalidateIf, RunPendingTasks, RunPendingTasksUpTo, EntryCount, WeightedSize, TakeNotice, OrInsert, Begin, BeginCompute, Finish, Abandon, Collect, Leave}
 use Rattle.moka_model.specs.Calls.{Answer, Done, Inserted, ReplacedWith, Accepted, IsLegal, without_move, write_events, look_event, acceptable, entry_of, fresh_entry, begun, begun_compute, or_inserted, put_by, removed_by, kept_by, answer_by, is_replacing, finished, collected, abandons, spends, live_at, accepted, with_step, after, answer_of}
@@ -179,6 +178,7 @@ module _ {K V E : Type 0} (keeps : K → V → Type 0) (eq : K → K → Bool) (
   pub answer-keeps : (call : Call K V E) (it : Accepted K V E) → CallKeeps keeps call → accepted eq settings steps call ≡ Some it → AnswerKeeps keeps call it.answer
   answer-keeps call it owed is = let it_keeps : IfSome (Some it) (ItKeeps call) = subst (λ o. IfSome o (ItKeeps call)) is (accepted-keeps call owed) in it_keeps.2
 
+  -- so does what it is said to answer
   pub said-keeps : (call : Call K V E) (answer : Answer K V E) → CallKeeps keeps call → answer_of (accepted eq settings steps call) ≡ Some answer → AnswerKeeps keeps call answer
   said-keeps call answer owed = go (accepted eq settings steps call) (accepted-keeps call owed)
     where

@@ -1,5 +1,5 @@
 -- A copy of an answer keeps where the answer does.
-use Rattle.std.proofs.Common.{◌≡◌, Option, Some, None, sym, subst}
+use Rattle.std.proofs.Common.{Option, Some, None, sym, subst}
 use Rattle.std.specs.Option.{IfSome}
 use Rattle.moka_model.specs.Calls.{Call, Answer, Found, Entered, Run, Unchanged, Inserted, ReplacedWith, Removed, Entry, IsCopyOf, IsCopiedEntry, IsEntryOf, IsAnswer}
 use Rattle.moka_keeps.specs.Keeps.{key_of, IsCopied, ValueKeeps, EntryKeeps, AnswerKeeps}

@@ -1,5 +1,5 @@
 -- After a move that keeps, all turns keep.
-use Rattle.std.proofs.Common.{◌≡◌, ⊎_elim, inl, inr, ℕ, Bool, Option, Some, None, List, [], ◌∷◌, ◌++◌, refl, sym, subst}
+use Rattle.std.proofs.Common.{◌≡◌, ⊎_elim, inl, inr, ℕ, Option, Some, None, List, [], ◌∷◌, refl, subst}
 use Rattle.std.specs.Option.{IfSome}
 use Rattle.std.specs.List.{AllByRecursion}
 use Rattle.moka_model.specs.Turns.{Turn, Move, Opened, Waited, Ended, Spent, IsIn, opening, waited_for, ended_with, spent, moved_by}

@@ -1,5 +1,5 @@
 -- After events that keep, all that stands keeps, and all that left.
-use Rattle.std.proofs.Common.{◌≡◌, ℕ, max, Bool, true, false, cond, option_map, Option, Some, None, List, [], ◌∷◌, ◌++◌, filter, map, slice_get, sym, ap, ◌∙◌, subst}
+use Rattle.std.proofs.Common.{◌≡◌, ℕ, max, Bool, true, false, cond, option_map, Option, Some, None, List, [], ◌∷◌, ◌++◌, slice_get, sym, ◌∙◌, subst}
 use Rattle.std.specs.Cmp.{IsEquivalence}
 use Rattle.std.specs.Option.{IfSome, option_to_list}
 use Rattle.std.specs.List.{All, AllByRecursion}

@@ -5,3 +5,4 @@ pub mod KeptCopies
 pub mod KeptTurns
 pub mod KeptViews
 pub mod KeptWrites
+pub mod Owed

@@ -5,7 +5,6 @@ use Rattle.moka_model.specs.declared.turns.Op.TheVariants.{Put}
 use Rattle.moka_model.specs.declared.turns.Outcome.TheVariants as outcomes
 use Rattle.moka_model.specs.Lives.{Settings}
 use Rattle.moka_model.specs.Events.{Event, Written}
-use Rattle.moka_model.specs.Removals.{Removal}
 use Rattle.moka_model.specs.Turns.{Turn, End}
 use Rattle.moka_model.specs.Turns as turning
 use Rattle.moka_model.specs.Steps.{AcceptedStep, events_in, turns}

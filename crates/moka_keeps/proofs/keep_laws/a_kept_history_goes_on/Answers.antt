@@ -1,5 +1,5 @@
 use Rattle.moka_keeps.proofs.KeptViews.{kept-after, kept-answer}
-use Rattle.moka_keeps.proofs.keep_laws.a_state_with_a_kept_history_has_one_after_each_call.Goals as goal
+use Rattle.moka_keeps.proofs.keep_laws.a_kept_history_goes_on.Goals as goal
 
 pub returns-clause-next : goal.returns-clause-next
 returns-clause-next g c old new call follows owed kept = kept-after g.C.CacheTypes.keeps g.K.PartialEq.eq g.V.Clone.is_clone g.met.K.Eq.laws g.met.C.CacheTypes.equal_keys_keep old new call follows owed kept
