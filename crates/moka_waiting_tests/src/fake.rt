@@ -133,23 +133,10 @@ pub fn ended(waited: Result<Waited<u64, Turn>, Refusal>) -> Ending {
         Ok(Waited::Value(value)) => Ending::Value(value),
         Ok(Waited::Turn(Turn { number })) => Ending::Turn(number),
         Ok(Waited::TooMany) => Ending::TooMany,
-        Err(
-            Refusal {
-                number,
-                ticket: None,
-            },
-        ) => Ending::BeginRefused(number),
-        Err(
-            Refusal {
-                number,
-                ticket: Some(
-                    Ticket {
-                        number: _,
-                        collected,
-                    },
-                ),
-            },
-        ) => { Ending::CollectRefused(number, collected) }
+        Err(Refusal { number, ticket }) => match ticket {
+            None => Ending::BeginRefused(number),
+            Some(Ticket { number, collected }) => Ending::CollectRefused(number, collected),
+        },
     }
 }
 
