@@ -1,27 +1,14 @@
 -- A caller that keeps an invariant, whatever its calls answer: what the loop comes to is as each of them would have it.
-use Rattle.std.proofs.Common.{ℕ, zero, suc, Option, Some, None, ◌⊎◌, ⊎_elim, subst, sym}
+use Rattle.std.proofs.Common.{ℕ, zero, suc, Option, Some, None, ⊎_elim, subst, sym}
 use Rattle.std.specs.Prelude.{⊤}
 use Rattle.moka_waiting.specs.declared.answers.Begun.{Begun}
 use Rattle.moka_waiting.specs.declared.answers.Begun.TheVariants.{Found, Run, Wait}
 use Rattle.moka_waiting.specs.declared.answers.Collected.{Collected}
 use Rattle.moka_waiting.specs.declared.answers.Collected.TheVariants.{Ready, NotYet, Again}
+use Rattle.moka_waiting.specs.declared.answers.Waited.{Waited}
 use Rattle.moka_waiting.specs.declared.answers.Waited.TheVariants.{Value, Turn, TooMany}
-use Rattle.moka_waiting.specs.Rounds.{Collects, CollectsTo, CollectsRefused, IsCollectRefused, Waits, Rounds, Ends, WaitsRefused, IsRefused}
-
--- `Q` holds of values, `R` of turns, and `OfTicket` of tickets.
-module _ {V T K : Type 0} (Q : V → Type 0) (R : T → Type 0) (OfTicket : K → Type 0) where
-  -- it holds of what a begin answers
-  abbrev pub HoldsOfBegun : Begun V T K → Type 0
-  HoldsOfBegun (Found v) = Q v
-  HoldsOfBegun (Run t) = R t
-  HoldsOfBegun (Wait t) = OfTicket t
-
-module _ {V K : Type 0} (Q : V → Type 0) (OfTicket : K → Type 0) where
-  -- it holds of what a collect answers
-  abbrev pub HoldsOfCollected : Collected V K → Type 0
-  HoldsOfCollected (Ready v) = Q v
-  HoldsOfCollected (NotYet t) = OfTicket t
-  HoldsOfCollected Again = ⊤
+use Rattle.moka_waiting.specs.Holds.{HoldsOfBegun, HoldsOfCollected, HoldsOfWaited}
+use Rattle.moka_waiting.specs.Rounds.{Collects, CollectsTo, CollectsRefused, Waits, Rounds, Ends, WaitsRefused, IsRefused}
 
 module _ {V : Type 0} (Q : V → Type 0) where
   -- it holds of the value, if there is one
@@ -62,6 +49,12 @@ module _ {P V T K : Type 0} (begun : P → Begun V T K → P → Type 0) (collec
   pub too-many-keeps : (most : Option ℕ) (s u : P) → Inv s → Ends begun collected most s TooMany u → Inv u
   too-many-keeps None s u inv h = absurd h
   too-many-keeps (Some most) s u inv h = rounds-keep most s u inv h
+
+  -- however it ends
+  pub ends-hold : (most : Option ℕ) (s : P) (w : Waited V T) (u : P) → Inv s → Ends begun collected most s w u → Inv u × HoldsOfWaited Q R w
+  ends-hold most s (Value v) u inv h = value-holds most s v u inv h
+  ends-hold most s (Turn t) u inv h = turn-holds most s t u inv h
+  ends-hold most s TooMany u inv h = (too-many-keeps most s u inv h, tt)
 
   -- `F` holds of what each refused call gives.
   module _ {E : Type 0} (begin_refused : P → E → P → Type 0) (collect_refused : P → K → E → P → Type 0) (F : E → Type 0)

@@ -1,5 +1,5 @@
 -- What is left of the rounds that there may be.
-use Rattle.std.proofs.Common.{◌≡◌, ℕ, zero, suc, ◌+◌, ◌<◌, Option, Some, None, subst, arith}
+use Rattle.std.proofs.Common.{◌≡◌, ℕ, zero, suc, Option, Some, None, subst, arith}
 use Rattle.moka_waiting.specs.declared.answers.Begun.{Begun}
 use Rattle.moka_waiting.specs.declared.answers.Collected.{Collected}
 use Rattle.moka_waiting.specs.declared.answers.Waited.TheVariants.{TooMany}

@@ -12,8 +12,8 @@ pub const MAX_RETRIES: u64 = 200;
 /// Waits until there is a value or a turn.
 ///
 /// It begins first. Where it is told to wait, it collects until the turn has ended, and where that gave it nothing it
-/// begins again. After `most` such waits it gives up. Where `most` is None it never does, as a compute. With a `most` of
-/// 0 it does not even begin.
+/// begins again. After `most` such waits it gives up. Where `most` is None it never does, as for a compute. With a `most`
+/// of 0 it does not even begin.
 ///
 /// A begin or a collect that is refused ends it, and its refusal is handed on as it is.
 ///

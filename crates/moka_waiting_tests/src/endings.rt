@@ -1,11 +1,11 @@
 //! How the loop ends, and after how many calls.
-use crate::fake::{Calls, Ending, Last, Place, ended};
-use moka_waiting::wait::{MAX_RETRIES, wait_for};
+use crate::fake::{Calls, Ending, Last, Place, ended, wait};
+use moka_waiting::wait::MAX_RETRIES;
 use std::process::Abort;
 use std::sync::Wait;
 use std::test::Fail;
 
-/// A place by its fields, how many waits there may be, how the loop ends there, and after how many begins and collects.
+/// A place of value 5 by its other fields, how many waits there may be, how the loop ends there, and after how many begins and collects.
 type Case = ((u64, u64, Last), Option<u64>, Ending, (u64, u64));
 
 fn end_so(rt: &(impl Wait + Abort), cases: &[Case]) {
@@ -15,12 +15,13 @@ fn end_so(rt: &(impl Wait + Abort), cases: &[Case]) {
             nothing,
             not_yet,
             last,
+            value: 5,
         };
         let mut calls = Calls {
             begins: 0,
             collects: 0,
         };
-        let found = ended(wait_for(rt, &mut calls, &place, *most));
+        let found = ended(wait(rt, &mut calls, &place, *most));
         assert_eq!(rt; found, *expected, "row {row}");
         assert_eq!(rt; (calls.begins, calls.collects), *counted, "row {row}");
     }
@@ -30,12 +31,12 @@ const MOST: Option<u64> = Some(MAX_RETRIES);
 
 /// With a limit. Where no turn gives anything it begins 200 times, and no more.
 const LIMITED: [Case; 7] = [
-    ((0, 0, Last::Found(5)), MOST, Ending::Value(5), (1, 0)),
+    ((0, 0, Last::Found), MOST, Ending::Value(5), (1, 0)),
     ((0, 0, Last::Turn), MOST, Ending::Turn(1), (1, 0)),
     ((199, 0, Last::Turn), MOST, Ending::Turn(200), (200, 199)),
-    ((199, 0, Last::Ready(5)), MOST, Ending::Value(5), (200, 200)),
+    ((199, 0, Last::Ready), MOST, Ending::Value(5), (200, 200)),
     ((200, 0, Last::Turn), MOST, Ending::TooMany, (200, 200)),
-    ((200, 2, Last::Found(5)), MOST, Ending::TooMany, (200, 600)),
+    ((200, 2, Last::Found), MOST, Ending::TooMany, (200, 600)),
     ((0, 0, Last::Turn), Some(0), Ending::TooMany, (0, 0)),
 ];
 
@@ -48,8 +49,8 @@ fn it_gives_up_after_so_many_waits(rt: HostRuntime) -> Result<(), Fail> {
 /// Without a limit.
 const UNLIMITED: [Case; 3] = [
     ((300, 0, Last::Turn), None, Ending::Turn(301), (301, 300)),
-    ((300, 0, Last::Found(5)), None, Ending::Value(5), (301, 300)),
-    ((300, 1, Last::Ready(5)), None, Ending::Value(5), (301, 602)),
+    ((300, 0, Last::Found), None, Ending::Value(5), (301, 300)),
+    ((300, 1, Last::Ready), None, Ending::Value(5), (301, 602)),
 ];
 
 #[test]
@@ -60,13 +61,8 @@ fn without_a_limit_it_goes_on(rt: HostRuntime) -> Result<(), Fail> {
 
 /// That it is not yet counts for nothing, however often it is told.
 const PATIENT: [Case; 2] = [
-    ((0, 3, Last::Ready(5)), Some(1), Ending::Value(5), (1, 4)),
-    (
-        (1, 100, Last::Ready(5)),
-        Some(2),
-        Ending::Value(5),
-        (2, 202),
-    ),
+    ((0, 3, Last::Ready), Some(1), Ending::Value(5), (1, 4)),
+    ((1, 100, Last::Ready), Some(2), Ending::Value(5), (2, 202)),
 ];
 
 #[test]

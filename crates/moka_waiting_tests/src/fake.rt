@@ -1,7 +1,12 @@
 //! A place that answers as it is told to, and a caller who counts. Its turns, tickets and refusals may not be let go, as
 //! those of a cache.
+ghost use Rattle.std.specs.Prelude.{◌≡◌, ◌+◌, ◌<◌, ◌≤◌, IfOk, IfErr, IfSome};
+ghost use Rattle.moka_waiting.specs.Holds.{HoldsOfWaited};
+
 use moka_waiting::answers::{Begun, Collected, Waited};
 use moka_waiting::caller::Caller;
+use moka_waiting::wait::wait_for;
+use std::sync::Wait;
 
 /// The turn of the begin of this number.
 pub struct Turn {
@@ -14,18 +19,18 @@ pub struct Ticket {
     collected: u64,
 }
 
-/// A refused call: a begin of this number, or a collect, with its ticket.
-pub enum Refusal {
-    Begin(u64),
-    Collect(Ticket),
+/// A refused call: a begin of this number, or a collect of its ticket, which is handed back.
+pub struct Refusal {
+    number: u64,
+    ticket: Option<Ticket>,
 }
 
 /// What comes in the end.
 #[derive(Clone, Copy)]
 pub enum Last {
-    Found(u64),
+    Found,
     Turn,
-    Ready(u64),
+    Ready,
     BeginRefused,
     CollectRefused,
 }
@@ -38,6 +43,8 @@ pub struct Place {
     /// So often each ticket is told that it is not yet.
     pub not_yet: u64,
     pub last: Last,
+    /// The value that is found or collected.
+    pub value: u64,
 }
 
 /// How many calls there were.
@@ -48,29 +55,38 @@ pub struct Calls {
 }
 
 impl Caller<Place, u64> for Calls {
+    ghost use Rattle.std.specs.Prelude.{◌≡◌, ◌+◌, ◌<◌, ◌≤◌, None, IfSome};
+    ghost use Rattle.moka_waiting.specs.Holds.{HoldsOfBegun, HoldsOfCollected};
+
     type Turn = Turn;
 
     type Ticket = Ticket;
 
     type Refused = Refusal;
 
-    ghost begun = { λ _ _ _ _. Unit {0} };
+    ghost begun = { λ at s b u. HoldsOfBegun (λ v. v ≡ at.value) (λ t. at.nothing < t.number)
+        (λ t. t.collected ≤ at.not_yet) b };
 
-    ghost collected = { λ _ _ _ _ _. Unit {0} };
+    ghost collected = { λ at s t b u. HoldsOfCollected (λ v. v ≡ at.value)
+        (λ t. t.collected ≤ at.not_yet) b };
 
-    ghost begin_refused = { λ _ _ _ _. Unit {0} };
+    ghost begin_refused = { λ at s r u. r.ticket ≡ None };
 
-    ghost collect_refused = { λ _ _ _ _ _. Unit {0} };
+    ghost collect_refused = { λ at s t r u. (t.collected ≤ at.not_yet)
+        → IfSome r.ticket (λ back. back.collected ≤ at.not_yet + 1) };
 
     fn begin(&mut self, at: &Place) -> Result<Begun<u64, Turn, Ticket>, Refusal> {
         self.begins = self.begins.saturating_add(1);
         let number = self.begins;
         if number > at.nothing {
             match at.last {
-                Last::Found(value) => return Ok(Begun::Found(value)),
+                Last::Found => return Ok(Begun::Found(at.value)),
                 Last::Turn => return Ok(Begun::Run(Turn { number })),
-                Last::BeginRefused => return Err(Refusal::Begin(number)),
-                Last::Ready(_) | Last::CollectRefused => {}
+                Last::BeginRefused => return Err(Refusal {
+                    number,
+                    ticket: None,
+                }),
+                Last::Ready | Last::CollectRefused => {}
             }
         }
         Ok(Begun::Wait(Ticket {
@@ -87,9 +103,12 @@ impl Caller<Place, u64> for Calls {
             return Ok(Collected::NotYet(Ticket { number, collected }));
         }
         match at.last {
-            Last::Ready(value) if number > at.nothing => Ok(Collected::Ready(value)),
+            Last::Ready if number > at.nothing => Ok(Collected::Ready(at.value)),
             Last::CollectRefused if number > at.nothing => {
-                Err(Refusal::Collect(Ticket { number, collected }))
+                Err(Refusal {
+                    number,
+                    ticket: Some(Ticket { number, collected }),
+                })
             }
             _ => Ok(Collected::Again),
         }
@@ -114,9 +133,25 @@ pub fn ended(waited: Result<Waited<u64, Turn>, Refusal>) -> Ending {
         Ok(Waited::Value(value)) => Ending::Value(value),
         Ok(Waited::Turn(Turn { number })) => Ending::Turn(number),
         Ok(Waited::TooMany) => Ending::TooMany,
-        Err(Refusal::Begin(number)) => Ending::BeginRefused(number),
-        Err(Refusal::Collect(Ticket { number, collected })) => {
-            Ending::CollectRefused(number, collected)
-        }
+        Err(Refusal { number, ticket }) => match ticket {
+            None => Ending::BeginRefused(number),
+            Some(Ticket { number, collected }) => Ending::CollectRefused(number, collected),
+        },
     }
+}
+
+/// What each call of a caller keeps to, the loop keeps to: a value is the place's, a turn comes behind those that give
+/// nothing, and a ticket that is handed back was collected once more than it was told that it is not yet, at most.
+pub fn wait(
+    rt: &impl Wait,
+    calls: &mut Calls,
+    place: &Place,
+    most: Option<u64>,
+) -> Result<Waited<u64, Turn>, Refusal>
+    ensures done { IfOk result (λ w. HoldsOfWaited (λ v. v ≡ place.now.value)
+        (λ t. place.now.nothing < t.number) w) }
+    ensures refused { IfErr result (λ r. IfSome r.ticket
+        (λ back. back.collected ≤ place.now.not_yet + 1)) }
+{
+    wait_for(rt, calls, place, most)
 }
