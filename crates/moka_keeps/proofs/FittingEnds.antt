@@ -59,11 +59,11 @@ end-fits Compute (outcomes.Value v) replaced is = cc
 end-fits Compute outcomes.Nothing replaced is = cc
 end-fits Compute (outcomes.Failed e) replaced is = cc
 
-abandoned-fits : {V E : Type 0} (kind : Kind) → EndFits {V} {E} kind turning.Abandoned
-abandoned-fits With = tt
-abandoned-fits Optionally = tt
-abandoned-fits Try = tt
-abandoned-fits Compute = tt
+abandoned-fits : (V E : Type 0) (kind : Kind) → EndFits {V = V} {E = E} kind turning.Abandoned
+abandoned-fits V E With = tt
+abandoned-fits V E Optionally = tt
+abandoned-fits V E Try = tt
+abandoned-fits V E Compute = tt
 
 module _ {K V E : Type 0} where
   -- a move ends a turn as its kind may, where it ends one
@@ -155,7 +155,7 @@ module _ {K V E : Type 0} (eq : K → K → Bool) (settings : Settings K V) wher
         (subst (λ kind. EndFits kind (end_by outcome (is_replacing eq settings (events_in steps) name.key at))) (sym (same_name-kind eq t.name name (and_parts (is_open t) (same_name eq t.name name) passes).1))
         (end-fits name.kind outcome (is_replacing eq settings (events_in steps) name.key at) so))))
         (λ _. tt)
-    accepted-fits (Abandon name) = on-found (is_open_as eq name) (λ t. abandons t.name.number) (λ t is passes. ends t is turning.Abandoned (abandoned-fits t.name.kind))
+    accepted-fits (Abandon name) = on-found (is_open_as eq name) (λ t. abandons t.name.number) (λ t is passes. ends t is turning.Abandoned (abandoned-fits V E t.name.kind))
     accepted-fits (Collect name) = on-found (has_ticket_as eq name) (λ t. collected name t.name.number t.end) (λ t is passes. collects name t.name.number t.end)
     accepted-fits (Leave name) = on-found (has_ticket_as eq name) (λ t. spends t.name.number) (λ t is passes. tt)
 

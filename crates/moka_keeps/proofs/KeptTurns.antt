@@ -12,7 +12,7 @@ module _ {A : Type 0} (P : A → Type 0) where
   each-of (y ∷ ys) all x (inl same) = subst P same all.0
   each-of (y ∷ ys) all x (inr is) = each-of ys all.1 x is
 
-  all-of : (xs : List A) → ((x : A) → IsIn x xs → P x) → AllByRecursion P xs
+  pub all-of : (xs : List A) → ((x : A) → IsIn x xs → P x) → AllByRecursion P xs
   all-of [] each = tt
   all-of (x ∷ xs) each = (each x (inl refl), all-of xs (λ y is. each y (inr is)))
 
