@@ -21,7 +21,7 @@ use moka_state::state::InsertRefused;
 use moka_state::view::StateView;
 use rand_core::Rng;
 use std::alloc::{AllocError, Global};
-use std::fmt::{self, Debug, Formatter};
+use std::fmt::{self, Debug, Formatter, Write};
 use std::hash::{Hash, RandomState};
 use std::marker::Model;
 use std::sync::{Arc, Condvar, Wait};
@@ -73,7 +73,7 @@ impl<K: Hash + Drop, V: Clone, C: CacheTypes<K, V>, W: Clone> Clone for Cache<K,
 
 impl<K: Hash + Drop, V: Clone, C: CacheTypes<K, V>, W> Debug for Cache<K, V, C, W> {
     /// Its name and its policy; what is stored is not shown, so no lock is taken.
-    fn fmt(&self, f: &mut Formatter<'_>) -> fmt::Result {
+    fn fmt<O: Write>(&self, f: &mut Formatter<O>) -> fmt::Result {
         f.debug_struct("Cache")
             .field("name", &self.inside.name)
             .field("policy", &self.inside.policy)

@@ -39,7 +39,7 @@ pub(crate) struct ShownTurn<K, V> {
 
 // A caller with an initializer of a kind, who may ask to replace a live value.
 #[derive(Drop)]
-struct Initializer<K, V, P> {
+struct Initializer<K, V, P: FnMut(&V) -> bool> {
     key: Arc<K>,
     kind: Kind,
     replace_if: Option<P>,

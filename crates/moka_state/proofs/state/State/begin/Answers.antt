@@ -1,3 +1,4 @@
+use Rattle.std.specs.Arc.{arc_value}
 use Rattle.moka_state.proofs.state.State.begin.Goals as goal
 
 pub returns-in-Ok-clause-begins : goal.returns-in-Ok-clause-begins
@@ -12,3 +13,6 @@ returns-in-Ok-clause-begins g c =
         refused = ends.refused;
       },
     )
+
+pub returns-in-Ok-clause-kept_for : goal.returns-in-Ok-clause-kept_for
+returns-in-Ok-clause-kept_for g c = c.begin_turn.ensures.kept_for (arc_value c.args.key.now)
