@@ -381,7 +381,7 @@ impl<K: Hash + Drop, V: Clone, C: CacheTypes<K, V>> CacheBuilder<K, V, C, Single
         let state = state_of(alloc, settings)?;
         let policy = state.policy();
         Ok(Inside {
-            locked: Opened::new(Locked::new(state, clock)),
+            locked: Opened::new(Locked { state, clock }),
             ended: Condvar::new(),
             name,
             policy,

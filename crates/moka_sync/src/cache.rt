@@ -287,11 +287,12 @@ impl<K: Hash + Drop, V: Clone, C: CacheTypes<K, V>, W: Wait> Cache<K, V, C, W> {
     pub(crate) fn let_go(&self, gone: Gone<K, V>)
         requires { IfSome gone.first (λ notice. C.keeps (arc_value notice.key) notice.value) }
     {
-        let Some(first) = gone.first else {
+        let Gone { first, others } = gone;
+        let Some(first) = first else {
             return;
         };
         self.tell(first);
-        for _ in 0..gone.others {
+        for _ in 0..others {
             let next = self.inside.locked.lock(&self.waits).take_notice();
             let Some(notice) = next else {
                 return;

@@ -1,11 +1,10 @@
 //! The forms of initializers with a closure, as they answer entries. The closure is asked with no lock held.
-ghost use Rattle.std.specs.Prelude.{◌≡◌, ◌≢◌, true, IfOk, IfSome};
+ghost use Rattle.std.specs.Prelude.{◌≡◌, ◌≢◌, Option, Result, true, IfOk, IfSome, MatchOption, MatchResult};
 ghost use Rattle.std.specs.Arc.{arc_value};
 ghost use Rattle.moka_model.specs.Entries.{entry_of};
 ghost use Rattle.moka_state.specs.Begin.{EntryKeeps};
 ghost use Rattle.moka_state.specs.Finish.{Fits, IsGiven, OutcomeKeeps, outcome_of};
 ghost use Rattle.moka_sync.specs.Kept.{AnswerFits, GivenKeeps};
-ghost use Rattle.moka_sync.specs.Waiting.{IsGivenTo};
 
 use crate::cache::Cache;
 use crate::value_initializer::Asked;
@@ -326,7 +325,7 @@ impl<K: Hash + Clone + Drop, V: Clone, C: CacheTypes<K, V>, W: Wait> Cache<K, V,
 // The entry of what an initializer of the kind `With` is given.
 fn entry_in<K: Drop, V: Drop, E: Drop>(answer: Answer<K, V, E>) -> Entry<K, V>
     requires { AnswerFits Kind.With answer }
-    ensures { (keeps : K → V → Type 0) (key : K) → GivenKeeps keeps key answer → EntryKeeps keeps key result }
+    ensures { answer ≡ Answer.Entry result }
 {
     match answer {
         Answer::Entry(entry) => entry,
@@ -338,8 +337,7 @@ fn entry_in<K: Drop, V: Drop, E: Drop>(answer: Answer<K, V, E>) -> Entry<K, V>
 // The entry, if there is one, of what an initializer of the kind `Optionally` is given.
 fn optional_in<K: Drop, V: Drop, E: Drop>(answer: Answer<K, V, E>) -> Option<Entry<K, V>>
     requires { AnswerFits Kind.Optionally answer }
-    ensures { (keeps : K → V → Type 0) (key : K) → GivenKeeps keeps key answer
-        → IfSome result (EntryKeeps keeps key) }
+    ensures { MatchOption result (answer ≡ Answer.Nothing) (λ entry. answer ≡ Answer.Entry entry) }
 {
     match answer {
         Answer::Entry(entry) => Some(entry),
@@ -351,8 +349,8 @@ fn optional_in<K: Drop, V: Drop, E: Drop>(answer: Answer<K, V, E>) -> Option<Ent
 // The entry, or the error, of what an initializer of the kind `Try` is given.
 fn tried_in<K: Drop, V: Drop, E: Drop>(answer: Answer<K, V, E>) -> Result<Entry<K, V>, Arc<E>>
     requires { AnswerFits Kind.Try answer }
-    ensures { (keeps : K → V → Type 0) (key : K) → GivenKeeps keeps key answer
-        → IfOk result (EntryKeeps keeps key) }
+    ensures { MatchResult result (λ entry. answer ≡ Answer.Entry entry)
+        (λ error. answer ≡ Answer.Failed error) }
 {
     match answer {
         Answer::Entry(entry) => Ok(entry),

@@ -56,7 +56,7 @@ impl<'a, K: Hash + Drop, V: Clone, C: CacheTypes<K, V>, W: Wait> OwnedKeyEntrySe
     /// Refused as [`Cache::or_insert`]; it then drops key and value, and has changed nothing.
     pub fn or_insert(self, value: V) -> Result<Entry<K, V>, Refused>
         requires keeps { C.keeps self.key value }
-        ensures kept { IfOk result (EntryKeeps C.keeps self.key) }
+        ensures kept { IfOk result (EntryKeeps C.keeps self.entry.key) }
     {
         let OwnedKeyEntrySelector { cache, key } = self;
         let key = cache.share(key)?;
@@ -70,7 +70,7 @@ impl<'a, K: Hash + Drop, V: Clone, C: CacheTypes<K, V>, W: Wait> OwnedKeyEntrySe
     pub fn or_insert_with<F: FnOnce() -> V + Drop>(self, init: F) -> Result<Entry<K, V>, Refused>
         requires asks { F.IsAlwaysCallable init }
         requires keeps { (v : V) → F.post init v → C.keeps self.key v }
-        ensures kept { IfOk result (λ entry. C.keeps self.key (entry_of entry).value) }
+        ensures kept { IfOk result (λ entry. C.keeps self.entry.key (entry_of entry).value) }
     {
         let OwnedKeyEntrySelector { cache, key } = self;
         cache.value_entry(key, init)
@@ -86,7 +86,7 @@ impl<'a, K: Hash + Drop, V: Clone, C: CacheTypes<K, V>, W: Wait> OwnedKeyEntrySe
         requires asks { F.IsAlwaysCallable init }
         requires shows { (state : P) → P.IsAlwaysCallable state }
         requires keeps { (v : V) → F.post init v → C.keeps self.key v }
-        ensures kept { IfOk result (λ entry. C.keeps self.key (entry_of entry).value) }
+        ensures kept { IfOk result (λ entry. C.keeps self.entry.key (entry_of entry).value) }
     {
         let OwnedKeyEntrySelector { cache, key } = self;
         cache.value_entry_if(key, init, replace_if)
@@ -100,7 +100,7 @@ impl<'a, K: Hash + Drop, V: Clone, C: CacheTypes<K, V>, W: Wait> OwnedKeyEntrySe
         requires asks { F.IsAlwaysCallable init }
         requires keeps { (o : Option V) → F.post init o → IfSome o (C.keeps self.key) }
         ensures kept { IfOk result
-            (λ found. IfSome found (λ entry. C.keeps self.key (entry_of entry).value)) }
+            (λ found. IfSome found (λ entry. C.keeps self.entry.key (entry_of entry).value)) }
     {
         let OwnedKeyEntrySelector { cache, key } = self;
         cache.optional_entry(key, init)
@@ -114,7 +114,7 @@ impl<'a, K: Hash + Drop, V: Clone, C: CacheTypes<K, V>, W: Wait> OwnedKeyEntrySe
         requires asks { F.IsAlwaysCallable init }
         requires keeps { (r : Result V C.Error) → F.post init r → IfOk r (C.keeps self.key) }
         ensures kept { IfOk result
-            (λ tried. IfOk tried (λ entry. C.keeps self.key (entry_of entry).value)) }
+            (λ tried. IfOk tried (λ entry. C.keeps self.entry.key (entry_of entry).value)) }
     {
         let OwnedKeyEntrySelector { cache, key } = self;
         cache.tried_entry(key, init)
@@ -135,7 +135,7 @@ impl<'a, K: Hash + Drop, V: Clone, C: CacheTypes<K, V>, W: Wait> OwnedKeyEntrySe
         requires keeps { (shown : Option (Entry K V)) (op : Op V)
             → IfSome shown (EntryKeeps C.keeps self.key) → F.post f shown op
             → OutcomeKeeps {E = C.Error} (C.keeps self.key) (Outcome.Op op) }
-        ensures kept { IfOk result (ResultKeeps C.keeps self.key) }
+        ensures kept { IfOk result (ResultKeeps C.keeps self.entry.key) }
     {
         let OwnedKeyEntrySelector { cache, key } = self;
         let key = cache.share(key)?;
@@ -153,7 +153,7 @@ impl<'a, K: Hash + Drop, V: Clone, C: CacheTypes<K, V>, W: Wait> OwnedKeyEntrySe
         requires keeps { (shown : Option (Entry K V)) (said : Result (Op V) C.Error)
             → IfSome shown (EntryKeeps C.keeps self.key) → F.post f shown said
             → IfOk said (λ op. OutcomeKeeps {E = C.Error} (C.keeps self.key) (Outcome.Op op)) }
-        ensures kept { IfOk result (λ tried. IfOk tried (ResultKeeps C.keeps self.key)) }
+        ensures kept { IfOk result (λ tried. IfOk tried (ResultKeeps C.keeps self.entry.key)) }
     {
         let OwnedKeyEntrySelector { cache, key } = self;
         let key = cache.share(key)?;
@@ -170,7 +170,7 @@ impl<'a, K: Hash + Drop, V: Clone, C: CacheTypes<K, V>, W: Wait> OwnedKeyEntrySe
             → IfSome shown (EntryKeeps C.keeps self.key) → F.pre f shown }
         requires keeps { (shown : Option (Entry K V)) (v : V)
             → IfSome shown (EntryKeeps C.keeps self.key) → F.post f shown v → C.keeps self.key v }
-        ensures kept { IfOk result (λ entry. C.keeps self.key (entry_of entry).value) }
+        ensures kept { IfOk result (λ entry. C.keeps self.entry.key (entry_of entry).value) }
     {
         let OwnedKeyEntrySelector { cache, key } = self;
         let key = cache.share(key)?;
@@ -183,7 +183,7 @@ impl<'a, K: Hash + Drop, V: Clone + Default, C: CacheTypes<K, V>, W: Wait>
     /// As [`OwnedKeyEntrySelector::or_insert`], of the default value. It asks that the key keeps whatever value is the default.
     pub fn or_default(self) -> Result<Entry<K, V>, Refused>
         requires keeps { (value : V) → V.is_default value → C.keeps self.key value }
-        ensures kept { IfOk result (EntryKeeps C.keeps self.key) }
+        ensures kept { IfOk result (EntryKeeps C.keeps self.entry.key) }
     {
         let OwnedKeyEntrySelector { cache, key } = self;
         cache.or_default(key)
@@ -195,7 +195,7 @@ impl<'a, K: Hash + Clone + Drop, V: Clone, C: CacheTypes<K, V>, W: Wait> RefKeyE
     pub fn or_insert(self, value: V) -> Result<Entry<K, V>, Refused>
         requires copies { (a b : K) → K.is_clone a b → K.eq a b ≡ true }
         requires keeps { C.keeps self.key.now value }
-        ensures kept { IfOk result (EntryKeeps C.keeps self.key.now) }
+        ensures kept { IfOk result (EntryKeeps C.keeps self.entry.key.now) }
     {
         let RefKeyEntrySelector { cache, key } = self;
         let key = cache.share_copy(key)?;
@@ -210,7 +210,7 @@ impl<'a, K: Hash + Clone + Drop, V: Clone, C: CacheTypes<K, V>, W: Wait> RefKeyE
         requires copies { (a b : K) → K.is_clone a b → K.eq a b ≡ true }
         requires asks { F.IsAlwaysCallable init }
         requires keeps { (v : V) → F.post init v → C.keeps self.key.now v }
-        ensures kept { IfOk result (λ entry. C.keeps self.key.now (entry_of entry).value) }
+        ensures kept { IfOk result (λ entry. C.keeps self.entry.key.now (entry_of entry).value) }
     {
         let RefKeyEntrySelector { cache, key } = self;
         cache.value_entry_by_ref(key, init)
@@ -226,7 +226,7 @@ impl<'a, K: Hash + Clone + Drop, V: Clone, C: CacheTypes<K, V>, W: Wait> RefKeyE
         requires asks { F.IsAlwaysCallable init }
         requires shows { (state : P) → P.IsAlwaysCallable state }
         requires keeps { (v : V) → F.post init v → C.keeps self.key.now v }
-        ensures kept { IfOk result (λ entry. C.keeps self.key.now (entry_of entry).value) }
+        ensures kept { IfOk result (λ entry. C.keeps self.entry.key.now (entry_of entry).value) }
     {
         let RefKeyEntrySelector { cache, key } = self;
         cache.value_entry_if_by_ref(key, init, replace_if)
@@ -241,7 +241,7 @@ impl<'a, K: Hash + Clone + Drop, V: Clone, C: CacheTypes<K, V>, W: Wait> RefKeyE
         requires asks { F.IsAlwaysCallable init }
         requires keeps { (o : Option V) → F.post init o → IfSome o (C.keeps self.key.now) }
         ensures kept { IfOk result
-            (λ found. IfSome found (λ entry. C.keeps self.key.now (entry_of entry).value)) }
+            (λ found. IfSome found (λ entry. C.keeps self.entry.key.now (entry_of entry).value)) }
     {
         let RefKeyEntrySelector { cache, key } = self;
         cache.optional_entry_by_ref(key, init)
@@ -256,7 +256,7 @@ impl<'a, K: Hash + Clone + Drop, V: Clone, C: CacheTypes<K, V>, W: Wait> RefKeyE
         requires asks { F.IsAlwaysCallable init }
         requires keeps { (r : Result V C.Error) → F.post init r → IfOk r (C.keeps self.key.now) }
         ensures kept { IfOk result
-            (λ tried. IfOk tried (λ entry. C.keeps self.key.now (entry_of entry).value)) }
+            (λ tried. IfOk tried (λ entry. C.keeps self.entry.key.now (entry_of entry).value)) }
     {
         let RefKeyEntrySelector { cache, key } = self;
         cache.tried_entry_by_ref(key, init)
@@ -273,7 +273,7 @@ impl<'a, K: Hash + Clone + Drop, V: Clone, C: CacheTypes<K, V>, W: Wait> RefKeyE
         requires keeps { (shown : Option (Entry K V)) (op : Op V)
             → IfSome shown (EntryKeeps C.keeps self.key.now) → F.post f shown op
             → OutcomeKeeps {E = C.Error} (C.keeps self.key.now) (Outcome.Op op) }
-        ensures kept { IfOk result (ResultKeeps C.keeps self.key.now) }
+        ensures kept { IfOk result (ResultKeeps C.keeps self.entry.key.now) }
     {
         let RefKeyEntrySelector { cache, key } = self;
         let key = cache.share_copy(key)?;
@@ -291,7 +291,7 @@ impl<'a, K: Hash + Clone + Drop, V: Clone, C: CacheTypes<K, V>, W: Wait> RefKeyE
         requires keeps { (shown : Option (Entry K V)) (said : Result (Op V) C.Error)
             → IfSome shown (EntryKeeps C.keeps self.key.now) → F.post f shown said
             → IfOk said (λ op. OutcomeKeeps {E = C.Error} (C.keeps self.key.now) (Outcome.Op op)) }
-        ensures kept { IfOk result (λ tried. IfOk tried (ResultKeeps C.keeps self.key.now)) }
+        ensures kept { IfOk result (λ tried. IfOk tried (ResultKeeps C.keeps self.entry.key.now)) }
     {
         let RefKeyEntrySelector { cache, key } = self;
         let key = cache.share_copy(key)?;
@@ -308,7 +308,7 @@ impl<'a, K: Hash + Clone + Drop, V: Clone, C: CacheTypes<K, V>, W: Wait> RefKeyE
             → IfSome shown (EntryKeeps C.keeps self.key.now) → F.pre f shown }
         requires keeps { (shown : Option (Entry K V)) (v : V)
             → IfSome shown (EntryKeeps C.keeps self.key.now) → F.post f shown v → C.keeps self.key.now v }
-        ensures kept { IfOk result (λ entry. C.keeps self.key.now (entry_of entry).value) }
+        ensures kept { IfOk result (λ entry. C.keeps self.entry.key.now (entry_of entry).value) }
     {
         let RefKeyEntrySelector { cache, key } = self;
         let key = cache.share_copy(key)?;
@@ -322,7 +322,7 @@ impl<'a, K: Hash + Clone + Drop, V: Clone + Default, C: CacheTypes<K, V>, W: Wai
     pub fn or_default(self) -> Result<Entry<K, V>, Refused>
         requires copies { (a b : K) → K.is_clone a b → K.eq a b ≡ true }
         requires keeps { (value : V) → V.is_default value → C.keeps self.key.now value }
-        ensures kept { IfOk result (EntryKeeps C.keeps self.key.now) }
+        ensures kept { IfOk result (EntryKeeps C.keeps self.entry.key.now) }
     {
         let RefKeyEntrySelector { cache, key } = self;
         match key.clone() {

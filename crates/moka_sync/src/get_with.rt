@@ -1,7 +1,6 @@
 //! The forms of initializers with a closure: the live value of a key, or else what the closure gives. Of callers with one key
 //! and kind one at a time runs its closure, and the others are given a copy of what came of it.
-ghost use Rattle.std.specs.Prelude.{◌≡◌, true, IfOk, IfSome};
-ghost use Rattle.std.specs.Arc.{arc_value};
+ghost use Rattle.std.specs.Prelude.{◌≡◌, Option, Result, true, IfOk, IfSome};
 
 use crate::cache::Cache;
 use crate::entry_forms::without;

@@ -1,9 +1,8 @@
 //! What stands under the lock of a shared cache, and its calls: each is one of the state's, at a moment that the clock
 //! tells.
-ghost use Rattle.std.specs.Prelude.{◌≡◌, ◌≢◌, Bool, Option, None, [], length, map, option_map, IfOk, IfErr, IfSome, OnOk, OnErr};
+ghost use Rattle.std.specs.Prelude.{◌≡◌, length, option_map, IfOk, IfErr, IfSome, OnOk, OnErr};
 ghost use Rattle.std.specs.Arc.{arc_value};
-ghost use Rattle.moka_model.specs.Steps.{events_in};
-ghost use Rattle.moka_model.specs.Calls.{Get, ContainsKey, Insert, Invalidate, Remove, InvalidateAll, InvalidateIf, RunPendingTasks, RunPendingTasksUpTo, EntryCount, WeightedSize, TakeNotice, Found, Contains, Counted, Left, Noticed, live_at};
+ghost use Rattle.moka_model.specs.Calls.{Get, ContainsKey, Insert, Invalidate, Remove, InvalidateAll, InvalidateIf, RunPendingTasks, RunPendingTasksUpTo, EntryCount, WeightedSize, TakeNotice, Found, Contains, Counted, Left, Noticed};
 ghost use Rattle.moka_state.specs.Write.{WriteEnds};
 ghost use Rattle.moka_table.specs.Table.{removal_of};
 ghost use Rattle.moka_sync.specs.Cache.{LockedData, AtToldMoment};
@@ -35,9 +34,11 @@ pub(crate) struct Gone<K: Drop, V: Drop> {
 }
 
 impl<K: Hash + Drop, V: Clone, C: CacheTypes<K, V>> Model for Locked<K, V, C> {
+    ghost use Rattle.std.specs.Arc.{arc_value};
     ghost use Rattle.moka_ways.specs.Behaviour.{hash_by, behaviour_by};
     ghost use Rattle.moka_ways.specs.StateData.{estimates, view_by};
     ghost use Rattle.moka_keeps.specs.Keeps.{HasKeptHistory};
+    ghost use Rattle.moka_sync.specs.Cache.{LockedData};
 
     ghost Value = { LockedData K V C.Hasher C.Weigher C.Expiry C.Frequency C.Error C.Clock };
 
@@ -51,16 +52,6 @@ impl<K: Hash + Drop, V: Clone, C: CacheTypes<K, V>> Model for Locked<K, V, C> {
 }
 
 impl<K: Hash + Drop, V: Clone, C: CacheTypes<K, V>> Locked<K, V, C> {
-    /// A state that nothing has been done to, and a clock.
-    pub(crate) fn new(state: CacheState<K, V, C>, clock: Arc<C::Clock>) -> Self
-        requires { ⟦<C as StateView<K, V>>⟧.stands_for
-            (⟦<C as StateView<K, V>>⟧.settings state.settings) state [] }
-        ensures state { result.state ≡ state }
-        ensures clock { result.clock ≡ arc_value clock }
-    {
-        Locked { state, clock }
-    }
-
     pub(crate) fn get(&mut self, key: &K) -> Result<Option<V>, Refused>
         ensures step { AtToldMoment (C.Clock.tells self.old.clock) (λ now.
             OnOk result (⟦<C as StateView<K, V>>⟧.follows self.old.state

@@ -10,6 +10,7 @@ ghost use Rattle.moka_sync.specs.Kept.{CollectedFits, CollectedKeeps};
 ghost use Rattle.moka_sync.specs.Waiting.{AskedKeeps, IsShownTurn};
 
 use crate::cache::Cache;
+use crate::entry_forms::without;
 use moka_model::entry::Entry;
 use moka_model::turns::Kind;
 use moka_policy::policy::{CacheTypes, Refused};
@@ -54,16 +55,20 @@ struct Computer<K> {
 }
 
 impl<K, V, P: FnMut(&V) -> bool> Model for Initializer<K, V, P> {
+    ghost use Rattle.std.specs.Prelude.{◌≢◌};
+    ghost use Rattle.std.specs.Arc.{arc_value};
+    ghost use Rattle.moka_model.specs.declared.turns.Kind.TheVariants.{Compute};
     ghost use Rattle.moka_sync.specs.Waiting.{InitializerData};
 
     ghost Value = { InitializerData K };
 
     ghost view = { λ it. record { key = arc_value it.key; kind = it.kind } };
 
-    ghost invariant = { λ it. (it.kind ≢ Kind.Compute) × ((state : P) → P.IsAlwaysCallable state) };
+    ghost invariant = { λ it. (it.kind ≢ Compute) × ((state : P) → P.IsAlwaysCallable state) };
 }
 
 impl<K> Model for Computer<K> {
+    ghost use Rattle.std.specs.Arc.{arc_value};
     ghost use Rattle.moka_sync.specs.Waiting.{ComputerData};
 
     ghost Value = { ComputerData K };
@@ -114,11 +119,12 @@ impl<
         &mut self,
         at: &Cache<K, V, C, W>,
     ) -> Result<waiting::Begun<Answer<K, V, C::Error>, Turn<K>, Ticket<K>>, Refused> {
-        let replace_if = match &mut self.replace_if {
-            Some(replace_if) => Some(|value: &V| replace_if(value)),
-            None => None,
+        let key = &self.key;
+        let begun = match &mut self.replace_if {
+            Some(replace_if) => at.begin(key, self.kind, Some(|value: &V| replace_if(value))),
+            None => at.begin(key, self.kind, without(|_: &V| false)),
         };
-        match at.begin(&self.key, self.kind, replace_if) {
+        match begun {
             Ok(Begun::Found(entry)) => Ok(waiting::Begun::Found(Answer::Entry(entry))),
             Ok(Begun::Run(turn)) => Ok(waiting::Begun::Run(turn)),
             Ok(Begun::Wait(ticket)) => Ok(waiting::Begun::Wait(ticket)),
@@ -144,6 +150,7 @@ impl<
 impl<K: Hash + Drop, V: Clone, C: CacheTypes<K, V>, W: Wait> Caller<Cache<K, V, C, W>, ()>
     for Computer<K> {
     ghost use Rattle.std.specs.Prelude.{◌≡◌, ⊤};
+    ghost use Rattle.moka_model.specs.declared.turns.Kind.TheVariants.{Compute};
     ghost use Rattle.moka_sync.specs.Waiting.{ComputeTells, ComputeEnds};
 
     type Turn = ShownTurn<K, V>;
@@ -155,7 +162,7 @@ impl<K: Hash + Drop, V: Clone, C: CacheTypes<K, V>, W: Wait> Caller<Cache<K, V, 
     ghost begun = { λ _ old told new. (new ≡ old) × ComputeTells C.keeps old told };
 
     ghost collected = { λ _ old ticket told new. (new ≡ old)
-        × (ticket.key.kind ≡ Kind.Compute → ComputeEnds ticket told) };
+        × (ticket.key.kind ≡ Compute → ComputeEnds ticket told) };
 
     ghost begin_refused = { λ _ _ _ _. ⊤ };
 
