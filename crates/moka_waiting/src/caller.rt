@@ -8,6 +8,7 @@ use crate::answers::{Begun, Collected};
 /// Neither turns nor tickets need be `Drop`. What a refused call was given, or what the caller still holds then, is in
 /// the refusal.
 pub trait Caller<X, V> {
+    ghost use Rattle.std.specs.Prelude.{⊤, ◌≡◌, IfOk, IfErr};
     ghost use Rattle.moka_waiting.specs.declared.answers.Begun.{Begun};
     ghost use Rattle.moka_waiting.specs.declared.answers.Collected.{Collected};
 
@@ -19,6 +20,9 @@ pub trait Caller<X, V> {
 
     /// Why a call was refused, with what is handed back.
     type Refused;
+
+    /// What its calls ask of the caller, as that its closures may be called. Each call leaves it so.
+    ghost ready: { Self → Type 0 } = { λ _. ⊤ };
 
     /// What a begin may answer, between the caller before it and the caller after it.
     ghost begun: { X → Self → Begun V Self.Turn Self.Ticket → Self → Type 0 };
@@ -34,6 +38,8 @@ pub trait Caller<X, V> {
 
     /// Asks for the value, or for the turn to make it.
     fn begin(&mut self, at: &X) -> Result<Begun<V, Self::Turn, Self::Ticket>, Self::Refused>
+        requires { ready self.old }
+        ensures still { ready self.new }
         ensures done { IfOk result (λ b. begun at.now self.old b self.new) }
         ensures refused { IfErr result (λ r. begin_refused at.now self.old r self.new) };
 
@@ -44,6 +50,8 @@ pub trait Caller<X, V> {
         at: &X,
         ticket: Self::Ticket,
     ) -> Result<Collected<V, Self::Ticket>, Self::Refused>
+        requires { ready self.old }
+        ensures still { ready self.new }
         ensures done { IfOk result (λ b. collected at.now self.old ticket b self.new) }
         ensures refused { IfErr result (λ r. collect_refused at.now self.old ticket r self.new) };
 }

@@ -25,6 +25,7 @@ pub fn wait_for<V, X, P: Caller<X, V>, R: Wait>(
     at: &X,
     most: Option<u64>,
 ) -> Result<Waited<V, P::Turn>, P::Refused>
+    requires { P.ready caller.old }
     ensures done { IfOk result (λ w. Ends (P.begun at.now) (P.collected at.now)
         most caller.old w caller.new) }
     ensures refused { IfErr result (λ r. IsRefused (P.begun at.now) (P.collected at.now)
@@ -55,6 +56,8 @@ fn collect_all<V, X, P: Caller<X, V>, R: Wait>(
     at: &X,
     ticket: P::Ticket,
 ) -> Result<Option<V>, P::Refused>
+    requires { P.ready caller.old }
+    ensures still { P.ready caller.new }
     ensures done { IfOk result (λ value. CollectsTo (P.collected at.now)
         caller.old ticket value caller.new) }
     ensures refused { IfErr result (λ r. IsCollectRefused (P.collected at.now)

@@ -13,6 +13,7 @@ loop-preserved g c =
     let not_yet = subst (λ b. g.P.Caller.collected c.args.at.now c.loop.caller c.loop.ticket b c.collect.new.self) c.in-NotYet.is c.in_ok-value.ensures.done in (
       λ n b u h. c.loop.invariant.0 (suc n) b u (c.in-NotYet.same, c.collect.new.self, not_yet, h),
       λ n r u h. c.loop.invariant.1 (suc n) r u (c.in-NotYet.same, c.collect.new.self, not_yet, h),
+      c.collect.ensures.still,
     )
 
 pub returns-in_err-value-clause-refused : goal.returns-in_err-value-clause-refused
