@@ -64,7 +64,7 @@ impl<K, V, P: FnMut(&V) -> bool> Model for Initializer<K, V, P> {
 
     ghost view = { λ it. record { key = arc_value it.key; kind = it.kind } };
 
-    ghost invariant = { λ it. (it.kind ≢ Compute) × ((state : P) → P.IsAlwaysCallable state) };
+    ghost invariant = { λ it. it.kind ≢ Compute };
 }
 
 impl<K> Model for Computer<K> {
@@ -78,8 +78,7 @@ impl<K> Model for Computer<K> {
 
 impl<K, V, P: FnMut(&V) -> bool> Initializer<K, V, P> {
     fn new(key: Arc<K>, kind: Kind, replace_if: Option<P>) -> Self
-        requires initializer { kind ≢ Kind.Compute }
-        requires shows { (state : P) → P.IsAlwaysCallable state }
+        requires { kind ≢ Kind.Compute }
         ensures { result ≡ record { key = arc_value key; kind = kind } }
     {
         Initializer {
@@ -106,6 +105,8 @@ impl<
     type Ticket = Ticket<K>;
 
     type Refused = Refused;
+
+    ghost ready = { λ _. (state : P) → P.IsAlwaysCallable state };
 
     ghost begun = { λ _ old told new. (new ≡ old) × BeginTells C.keeps old told };
 
