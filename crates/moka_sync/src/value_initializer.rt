@@ -216,7 +216,7 @@ impl<K: Hash + Drop, V: Clone, C: CacheTypes<K, V>, W: Wait> Cache<K, V, C, W> {
         ensures kept_for { IfOk result.0 (FoundKeepsFor C.keeps (arc_value key.now)) }
     {
         let mut replace_if = replace_if;
-        let begun = self.begin(key, kind, Some(|value: &V| replace_if(value)));
+        let begun = self.begin(key, kind, Some(&mut replace_if));
         (begun, replace_if)
     }
 

@@ -1,0 +1,7 @@
+use Rattle.std.proofs.Common.{of_calls}
+use Rattle.std.specs.Fn.Refs.{Mut-at_Mut}
+use Rattle.moka_sync.proofs.cache.Cache.begin_if.Goals as goal
+
+-- A closure that is lent may be called where it may be called itself.
+pub begin-begun-requires-clause-asks : goal.begin-begun-requires-clause-asks
+begin-begun-requires-clause-asks g c = Mut-at_Mut g.P.FnMut _ _ (c.requires.shows _) (λ s a p. p) (λ s a r t e. (e.met.0, r, e.met.1))
