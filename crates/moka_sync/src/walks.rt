@@ -34,8 +34,8 @@ impl<K: Hash + Drop, V: Clone, C: CacheTypes<K, V>, W: Wait> ScanningGet<K, V>
 
 impl<K: Hash + Drop, V: Clone, C: CacheTypes<K, V>, W: Wait> Cache<K, V, C, W> {
     /// A walk over the pairs that are live when they come, each key once at most. It takes the stored keys at its first
-    /// step, and looks at one key in each; between two steps it holds no lock, and anything may be done to the cache. It is
-    /// no use of the values, and records nothing.
+    /// step, and looks them up one at a time; it holds the lock for each of these alone, and between them anything may be done
+    /// to the cache. It is no use of the values, and records nothing.
     ///
     /// A step yields an `Err` where memory is refused for the keys or for a copy, and the walk goes on.
     ///
