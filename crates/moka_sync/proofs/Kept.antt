@@ -10,7 +10,9 @@ use Rattle.moka_model.specs.declared.turns.Kind.TheVariants.{With, Optionally, T
 use Rattle.moka_model.specs.declared.turns.Op.TheVariants as ops
 use Rattle.moka_model.specs.declared.turns.Outcome.{Outcome}
 use Rattle.moka_model.specs.declared.turns.Outcome.TheVariants as outcomes
+use Rattle.moka_model.specs.declared.comp_result.CompResult.{CompResult}
 use Rattle.moka_model.specs.declared.comp_result.CompResult.TheVariants as results
+use Rattle.moka_model.specs.CompResults.{of_computed}
 use Rattle.moka_model.specs.Lives.{Settings}
 use Rattle.moka_model.specs.Turns.{Turn, Name, End, found, has_ticket_as}
 use Rattle.moka_model.specs.Turns as turning
@@ -25,7 +27,8 @@ use Rattle.moka_policy.specs.declared.policy.Refused.{Refused}
 use Rattle.moka_model.specs.declared.entry.Entry.{Entry}
 use Rattle.moka_state.specs.Begin.{ByFound}
 use Rattle.moka_state.specs.Finish.{OutcomeKeeps, outcome_of}
-use Rattle.moka_state.specs.Given.{Gives, of_finish, of_collect, of_collected}
+use Rattle.moka_state.specs.Given.{Gives, of_answer, of_finish, of_collect, of_collected}
+use Rattle.moka_state.specs.declared.answers.Answer.{Answer}
 use Rattle.moka_state.specs.declared.answers.Answer.TheVariants as answers
 use Rattle.moka_state.specs.declared.answers.Collected.{Collected}
 use Rattle.moka_state.specs.declared.answers.Collected.TheVariants as collects
@@ -33,7 +36,7 @@ use Rattle.moka_state.specs.declared.answers.Finished.{Finished}
 use Rattle.moka_state.specs.declared.answers.Finished.TheVariants as finishes
 use Rattle.moka_state.specs.declared.answers.FinishRefused.{FinishRefused}
 use Rattle.moka_turns.specs.declared.handles.CollectRefused.{CollectRefused}
-use Rattle.moka_sync.specs.Kept.{AnswerFits, CollectedFits, CollectedKeeps, FinishedKeeps}
+use Rattle.moka_sync.specs.Kept.{CollectedFits, CollectedKeeps, FinishedKeeps, GivenKeeps, ResultKeeps}
 
 module _ {K V E : Type 0} (keeps : K → V → Type 0) where
   -- who hands in an outcome that keeps owes no more
@@ -46,18 +49,21 @@ module _ {K V E : Type 0} (keeps : K → V → Type 0) where
   outcome-owed name at (outcomes.Op ops.Nop) kept = tt
 
   -- what an ended turn is answered keeps
-  finished-keeps : (name : Name K) (outcome : Outcome V E) (at : ℕ) (finished : Finished K V E) → (answer : calls.Answer K V E) → of_finish (Ok finished) ≡ Ok answer → AnswerKeeps keeps (Finish name outcome at) answer → FinishedKeeps keeps name.key finished
-  finished-keeps name outcome at (finishes.Answer (answers.Entry entry)) answer refl kept = kept
-  finished-keeps name outcome at (finishes.Answer answers.Nothing) answer refl kept = tt
-  finished-keeps name outcome at (finishes.Answer (answers.Failed error)) answer refl kept = tt
-  finished-keeps name outcome at (finishes.Computed (results.StillNone key)) answer refl kept = tt
-  finished-keeps name outcome at (finishes.Computed (results.Unchanged entry)) answer refl kept = kept
-  finished-keeps name outcome at (finishes.Computed (results.Inserted entry)) answer refl kept = kept
-  finished-keeps name outcome at (finishes.Computed (results.ReplacedWith entry)) answer refl kept = kept
-  finished-keeps name outcome at (finishes.Computed (results.Removed entry)) answer refl kept = kept
+  given-keeps : (name : Name K) (outcome : Outcome V E) (at : ℕ) (answer : Answer K V E) → AnswerKeeps keeps (Finish name outcome at) (of_answer answer) → GivenKeeps keeps name.key answer
+  given-keeps name outcome at (answers.Entry entry) kept = kept
+  given-keeps name outcome at answers.Nothing kept = tt
+  given-keeps name outcome at (answers.Failed error) kept = tt
+
+  -- and what an ended compute is answered
+  result-keeps : (name : Name K) (outcome : Outcome V E) (at : ℕ) (result : CompResult K V) → AnswerKeeps keeps (Finish name outcome at) (of_computed result) → ResultKeeps keeps name.key result
+  result-keeps name outcome at (results.StillNone key) kept = tt
+  result-keeps name outcome at (results.Unchanged entry) kept = kept
+  result-keeps name outcome at (results.Inserted entry) kept = kept
+  result-keeps name outcome at (results.ReplacedWith entry) kept = kept
+  result-keeps name outcome at (results.Removed entry) kept = kept
 
   -- what a ticket is told keeps
-  collected-keeps : (name : Name K) (told : Collected K V E) → AnswerKeeps keeps (Collect {E = E} name) (of_collected told) → CollectedKeeps keeps name.key told
+  collected-keeps : (name : Name K) (told : Collected K V E) → AnswerKeeps keeps {E = E} (Collect name) (of_collected told) → CollectedKeeps keeps name.key told
   collected-keeps name (collects.Ready (answers.Entry entry)) kept = kept
   collected-keeps name (collects.Ready answers.Nothing) kept = tt
   collected-keeps name (collects.Ready (answers.Failed error)) kept = tt
@@ -116,16 +122,16 @@ module _ {K V E S : Type 0} (keeps : K → V → Type 0) (eq : K → K → Bool)
 
   -- after the look of a begin
   pub kept-look : (old new : S) (key : K) (said : Option Bool) (at : ℕ) (result : Result (Option (Entry K V)) Refused) → ByFound ((kind : Kind) → kind ≢ Compute → Follows eq is_clone (view old) (Begin key kind said at) (view new)) (new ≡ old) result → Kept old → Kept new
-  kept-look old new key said at (Ok (Some entry)) stands kept = kept-after keeps eq is_clone laws alike (view old) (view new) (Begin key With said at) (stands With cc) tt kept
+  kept-look old new key said at (Ok (Some entry)) stands kept = kept-after keeps eq is_clone laws alike (view old) (view new) (Begin key With said at) (stands With (λ same. cc)) tt kept
   kept-look old new key said at (Ok None) stands kept = subst Kept (sym stands) kept
   kept-look old new key said at (Err refused) stands kept = subst Kept (sym stands) kept
 
   module _ (copied : IsCopied keeps is_clone) (is_infallible : V → Type 0) where
     pub finish-keeps : (old : S) (name : Name K) (outcome : Outcome V E) (at : ℕ) (result : Result (Finished K V E) (FinishRefused K V E)) → CallKeeps keeps (Finish name outcome at) → AtEachHistory eq is_clone (view old) (λ settings steps. Gives eq is_clone is_infallible settings steps (Finish name outcome at) (of_finish result)) → Kept old → IfOk result (FinishedKeeps keeps name.key)
     finish-keeps old name outcome at (Ok (finishes.Answer answer)) owed gives kept =
-        finished-keeps keeps name outcome at (finishes.Answer answer) _ refl (kept-told keeps eq is_clone laws alike copied (view old) (Finish name outcome at) _ kept owed (gives kept.settings kept.steps kept.stands).0)
+        given-keeps keeps name outcome at answer (kept-told keeps eq is_clone laws alike copied (view old) (Finish name outcome at) (of_answer answer) kept owed (gives kept.settings kept.steps kept.stands).0)
     finish-keeps old name outcome at (Ok (finishes.Computed computed)) owed gives kept =
-        finished-keeps keeps name outcome at (finishes.Computed computed) _ refl (kept-told keeps eq is_clone laws alike copied (view old) (Finish name outcome at) _ kept owed (gives kept.settings kept.steps kept.stands).0)
+        result-keeps keeps name outcome at computed (kept-told keeps eq is_clone laws alike copied (view old) (Finish name outcome at) (of_computed computed) kept owed (gives kept.settings kept.steps kept.stands).0)
     finish-keeps old name outcome at (Err refused) owed gives kept = tt
 
     pub collect-keeps : (old : S) (name : Name K) (result : Result (Collected K V E) (CollectRefused K)) → AtEachHistory eq is_clone (view old) (λ settings steps. Gives eq is_clone is_infallible settings steps (Collect name) (of_collect result)) → Kept old → IfOk result (CollectedKeeps keeps name.key)

@@ -1,8 +1,9 @@
 //! What stands under the lock of a shared cache, and its calls: each is one of the state's, at a moment that the clock
 //! tells.
-ghost use Rattle.std.specs.Prelude.{◌≡◌, length, option_map, IfOk, IfErr, IfSome, OnOk, OnErr};
+ghost use Rattle.std.specs.Prelude.{◌≡◌, length, map, option_map, IfOk, IfErr, IfSome, OnOk, OnErr};
 ghost use Rattle.std.specs.Arc.{arc_value};
 ghost use Rattle.moka_model.specs.Calls.{Get, ContainsKey, Insert, Invalidate, Remove, InvalidateAll, InvalidateIf, RunPendingTasks, RunPendingTasksUpTo, EntryCount, WeightedSize, TakeNotice, Found, Contains, Counted, Left, Noticed};
+ghost use Rattle.moka_state.specs.State.{all_writes};
 ghost use Rattle.moka_state.specs.Write.{WriteEnds};
 ghost use Rattle.moka_table.specs.Table.{removal_of};
 ghost use Rattle.moka_sync.specs.Cache.{LockedData, AtToldMoment};
@@ -195,6 +196,8 @@ impl<K: Hash + Drop, V: Clone, C: CacheTypes<K, V>> Locked<K, V, C> {
     }
 
     pub(crate) fn keys(&self) -> Result<Vec<Arc<K>>, Refused>
+        ensures keys { IfOk result (λ keys.
+            map arc_value keys.items ≡ map (λ w. w.key) (all_writes self.now.state)) }
         ensures cause { IfErr result (λ cause. cause ≡ Refused.OutOfMemory) }
     {
         self.state.scan_keys()

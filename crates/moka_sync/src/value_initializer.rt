@@ -5,6 +5,7 @@
 ghost use Rattle.std.specs.Prelude.{◌≡◌, ◌≢◌, IfOk};
 ghost use Rattle.std.specs.Arc.{arc_value};
 ghost use Rattle.moka_turns.specs.Handles.{ticket_name};
+ghost use Rattle.moka_state.specs.Begin.{FoundKeeps, FoundKeepsFor, IsNamed};
 ghost use Rattle.moka_state.specs.Given.{IfUnspent};
 ghost use Rattle.moka_sync.specs.Kept.{CollectedFits, CollectedKeeps};
 ghost use Rattle.moka_sync.specs.Waiting.{AskedKeeps, IsShownTurn};
@@ -120,10 +121,13 @@ impl<
         &mut self,
         at: &Cache<K, V, C, W>,
     ) -> Result<waiting::Begun<Answer<K, V, C::Error>, Turn<K>, Ticket<K>>, Refused> {
-        let key = &self.key;
-        let begun = match &mut self.replace_if {
-            Some(replace_if) => at.begin(key, self.kind, Some(|value: &V| replace_if(value))),
-            None => at.begin(key, self.kind, without(|_: &V| false)),
+        let begun = match self.replace_if.take() {
+            Some(replace_if) => {
+                let (begun, replace_if) = at.begin_if(&self.key, self.kind, replace_if);
+                self.replace_if = Some(replace_if);
+                begun
+            }
+            None => at.begin(&self.key, self.kind, without(|_: &V| false)),
         };
         match begun {
             Ok(Begun::Found(entry)) => Ok(waiting::Begun::Found(Answer::Entry(entry))),
@@ -198,6 +202,24 @@ impl<K: Hash + Drop, V: Clone, C: CacheTypes<K, V>, W: Wait> Caller<Cache<K, V, 
 }
 
 impl<K: Hash + Drop, V: Clone, C: CacheTypes<K, V>, W: Wait> Cache<K, V, C, W> {
+    // A begin whose caller says whether to replace a live value, and gets back what says so.
+    fn begin_if<P: FnMut(&V) -> bool + Drop>(
+        &self,
+        key: &Arc<K>,
+        kind: Kind,
+        replace_if: P,
+    ) -> (Result<Begun<K, V>, Refused>, P)
+        requires initializer { kind ≢ Kind.Compute }
+        requires shows { (state : P) → P.IsAlwaysCallable state }
+        ensures named { IfOk result.0 (IsNamed kind (arc_value key.now)) }
+        ensures kept { IfOk result.0 (FoundKeeps C.keeps) }
+        ensures kept_for { IfOk result.0 (FoundKeepsFor C.keeps (arc_value key.now)) }
+    {
+        let mut replace_if = replace_if;
+        let begun = self.begin(key, kind, Some(|value: &V| replace_if(value)));
+        (begun, replace_if)
+    }
+
     // A collect that sleeps until some turn has ended, where this one has not yet. A ticket whose collect is refused is
     // spent.
     fn collect_or_sleep(&self, ticket: Ticket<K>) -> Result<Collected<K, V, C::Error>, Refused>
@@ -250,7 +272,8 @@ impl<K: Hash + Drop, V: Clone, C: CacheTypes<K, V>, W: Wait> Cache<K, V, C, W> {
         let mut caller = Computer { key, keep };
         match wait_for(&self.waits, &mut caller, self, None) {
             Ok(Waited::Turn(turn)) => Ok(turn),
-            Ok(_) => unreachable!(),
+            Ok(Waited::Value(())) => unreachable!(),
+            Ok(Waited::TooMany) => unreachable!(),
             Err(cause) => Err(cause),
         }
     }

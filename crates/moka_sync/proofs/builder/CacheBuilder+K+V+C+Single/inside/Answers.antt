@@ -1,5 +1,5 @@
 use Rattle.moka_sync.proofs.builder.CacheBuilder+K+V+C+Single.inside.Goals as goal
 
--- The listener may be told of all that the cache keeps.
-pub invariant_of-result-clause-hears : goal.invariant_of-result-clause-hears
-invariant_of-result-clause-hears g c = ∣ c.in_ok-state.ensures.hears ∣₁
+-- The state under the lock is the one that was opened.
+pub returns-clause-empty : goal.returns-clause-empty
+returns-clause-empty g c = rw c.new.ensures c.in_ok-state.ensures.empty
