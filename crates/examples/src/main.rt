@@ -8,6 +8,7 @@ mod found;
 mod limits;
 mod lines;
 mod memoizer;
+mod read_through;
 mod segments;
 mod sessions;
 mod temp_files;
@@ -33,10 +34,11 @@ enum Example {
     Walks,
     Limits,
     Segments,
+    ReadThrough,
 }
 
 impl Example {
-    const ALL: [Example; 12] = [
+    const ALL: [Example; 13] = [
         Example::Calls,
         Example::Counters,
         Example::First,
@@ -49,6 +51,7 @@ impl Example {
         Example::Walks,
         Example::Limits,
         Example::Segments,
+        Example::ReadThrough,
     ];
 
     fn name(self) -> &'static str {
@@ -65,6 +68,7 @@ impl Example {
             Example::Walks => "walks",
             Example::Limits => "limits",
             Example::Segments => "segments",
+            Example::ReadThrough => "read_through",
         }
     }
 
@@ -118,6 +122,7 @@ fn main(rt: HostRuntime) -> Result<ExitCode> {
             Example::Walks => walks::main(rt)?,
             Example::Limits => limits::main(rt)?,
             Example::Segments => segments::main(rt)?,
+            Example::ReadThrough => read_through::main(rt)?,
         }
     }
     Ok(ExitCode::SUCCESS)

@@ -272,7 +272,7 @@ impl<W: Wait + Drop> Subject for Together<W> {
         }
     }
 
-    /// What waits is left to the next flush: the shared cache has no maintenance yet.
+    /// What waits is left to the next flush.
     fn settle(&mut self, _now: u64) {}
 }
 

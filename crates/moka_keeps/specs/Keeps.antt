@@ -8,7 +8,8 @@ use Rattle.moka_model.specs.Events.{Event, Written}
 use Rattle.moka_model.specs.Turns.{Turn, End}
 use Rattle.moka_model.specs.Turns as turning
 use Rattle.moka_model.specs.Steps.{AcceptedStep, events_in, turns}
-use Rattle.moka_model.specs.Calls.{Call, Get, ContainsKey, Insert, Invalidate, Remove, OrInsert, Begin, BeginCompute, Finish, Abandon, Collect, Leave}
+use Rattle.moka_model.specs.Calls.{Call, Get, ContainsKey, Insert, Invalidate, Remove, OrInsert, Begin, BeginCompute}
+use Rattle.moka_model.specs.Calls.{Finish, Abandon, Collect, Leave}
 use Rattle.moka_model.specs.Calls.{Entry, Answer, Found, Noticed, Entered, Run, Unchanged, Inserted, ReplacedWith, Removed}
 use Rattle.moka_model.specs.StandsFor.{WholeView, StandsFor}
 

@@ -181,8 +181,8 @@ impl<K: Hash + Drop, V: Clone, C: CacheTypes<K, V>, T> CacheBuilder<K, V, C, T> 
         }
     }
 
-    /// Is told of each value that leaves a shared cache, once, outside of the cache's lock, before the call returns in which it
-    /// left; it may be told of all that may be stored. A state tells nobody, so what builds a state drops it.
+    /// Is told of each value that leaves a shared cache, once, outside of the cache's lock, by the call in which it left or by
+    /// another one that runs then; it may be told of all that may be stored. A state tells nobody, so what builds a state drops it.
     pub fn eviction_listener(self, listener: C::Listener) -> Self
         requires { (key : K) (value : V) → C.keeps key value → C.Listener.hears listener key value }
         ensures { result ≡ record self { listener = Some listener } }

@@ -39,8 +39,8 @@ pub(crate) struct Inside<K: Hash + Drop, V: Clone, C: CacheTypes<K, V>> {
     ghost shows: { Shows locked.state.settings name policy },
 }
 
-/// A cache that threads share: each call is one step, under a lock, at the moment that its clock tells then. A clone is
-/// the same cache. `W` lets the lock wait, as a `HostRuntime` does. A call costs what it costs a state, and the lock.
+/// A cache that threads share: each call is one step or some, each under a lock, at the moment that its clock tells then. A
+/// clone is the same cache. `W` lets the lock wait, as a `HostRuntime` does. A call costs what it costs a state, and the locks.
 ///
 /// Weigher, expiry, predicates, the source of frequencies and what says whether to replace a value are asked under the
 /// lock; initializers, the closures of computes and the listener are called outside of it, so they may use the cache.
@@ -152,7 +152,7 @@ impl<K: Hash + Drop, V: Clone, C: CacheTypes<K, V>, W: Wait> Cache<K, V, C, W> {
     }
 
     /// Writes a value for a key. The value that stands for the key, live or expired, leaves. Where 64 keys wait, a
-    /// maintenance comes first. The listener is told of what left once the lock is let go, before the call returns.
+    /// maintenance comes first. The listener is told of what left once the lock is let go.
     ///
     /// Refused as the state's `insert` is: for want of memory, or of numbers. A refused write hands back the key and the
     /// value, and changes nothing.

@@ -31,7 +31,7 @@ impl<K: Hash + Drop, V: Clone, C: CacheTypes<K, V>, W: Wait> Cache<K, V, C, W> {
     /// Selects a key, for one call.
     ///
     /// ```
-    /// let visits = cache.entry(page).and_upsert_with(|entry| 1 + entry.map_or(0, Entry::into_value))?;
+    /// let count = cache.entry(page).and_upsert_with(one_more)?;
     /// ```
     pub fn entry(&self, key: K) -> OwnedKeyEntrySelector<'_, K, V, C, W>
         ensures { result.key ≡ key }
