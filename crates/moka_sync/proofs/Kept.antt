@@ -1,8 +1,7 @@
 -- What stands under a shared cache's lock keeps a history that keeps, and so what is handed out keeps.
-use Rattle.std.proofs.Common.{◌≡◌, ◌≢◌, ℕ, Bool, Option, Some, None, List, Result, Ok, Err, refl, sym, subst}
-use Rattle.std.specs.Prelude.{⊤, OnOk, OnErr, IfOk, IfSome, option_map}
+use Rattle.std.proofs.Common.{◌≡◌, ◌≢◌, ℕ, Bool, Option, Some, None, Result, Ok, Err, refl, sym, subst}
+use Rattle.std.specs.Prelude.{OnOk, OnErr, IfOk, IfSome, option_map}
 use Rattle.std.specs.Cmp.{IsEquivalence}
-use Rattle.std.specs.Arc.{arc_value}
 use Rattle.std.specs.declared.sync.Arc.{Arc}
 use Rattle.std.specs.declared.alloc.Global.{Global}
 use Rattle.moka_model.specs.declared.turns.Kind.{Kind}
@@ -13,13 +12,12 @@ use Rattle.moka_model.specs.declared.turns.Outcome.TheVariants as outcomes
 use Rattle.moka_model.specs.declared.comp_result.CompResult.{CompResult}
 use Rattle.moka_model.specs.declared.comp_result.CompResult.TheVariants as results
 use Rattle.moka_model.specs.CompResults.{of_computed}
-use Rattle.moka_model.specs.Lives.{Settings}
 use Rattle.moka_model.specs.Turns.{Turn, Name, End, found, has_ticket_as}
 use Rattle.moka_model.specs.Turns as turning
-use Rattle.moka_model.specs.Steps.{AcceptedStep, turns}
+use Rattle.moka_model.specs.Steps.{turns}
 use Rattle.moka_model.specs.Calls.{Call, Begin, Collect, Finish, accepted, answer_by, collected, IsAnswer}
 use Rattle.moka_model.specs.Calls as calls
-use Rattle.moka_model.specs.StandsFor.{WholeView, StandsFor, AtEachHistory, Follows, IsAnswerOf}
+use Rattle.moka_model.specs.StandsFor.{WholeView, AtEachHistory, Follows, IsAnswerOf}
 use Rattle.moka_keeps.specs.Keeps.{IsAlike, IsCopied, CallKeeps, AnswerKeeps, HasKeptHistory}
 use Rattle.moka_keeps.specs.Fits.{EndFits}
 use Rattle.moka_keeps.proofs.Callers.{kept-after, kept-told, ticket-fits}

@@ -1,5 +1,5 @@
 -- What the loop comes to for callers of a cache.
-use Rattle.std.proofs.Common.{◌≡◌, ℕ, Option, Some, None, ap, ◌∙◌, sym, subst, refl}
+use Rattle.std.proofs.Common.{◌≡◌, ℕ, Option, ap, ◌∙◌, subst, refl}
 use Rattle.std.specs.Arc.{arc_value}
 use Rattle.moka_model.specs.declared.turns.Kind.{Kind}
 use Rattle.moka_model.specs.declared.turns.Kind.TheVariants.{Compute}
@@ -7,7 +7,7 @@ use Rattle.moka_waiting.specs.declared.answers.Begun.{Begun}
 use Rattle.moka_waiting.specs.declared.answers.Collected.{Collected}
 use Rattle.moka_waiting.specs.declared.answers.Collected.TheVariants.{Ready, NotYet, Again}
 use Rattle.moka_waiting.specs.declared.answers.Waited.{Waited}
-use Rattle.moka_waiting.specs.Holds.{HoldsOfBegun, HoldsOfCollected, HoldsOfWaited}
+use Rattle.moka_waiting.specs.Holds.{HoldsOfCollected, HoldsOfWaited}
 use Rattle.moka_waiting.specs.Rounds.{Ends}
 use Rattle.moka_waiting.proofs.Callers.{ends-hold}
 use Rattle.moka_turns.specs.declared.handles.Turn.{Turn}

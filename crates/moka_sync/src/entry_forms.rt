@@ -62,7 +62,7 @@ impl<K: Hash + Drop, V: Clone, C: CacheTypes<K, V>, W: Wait> Cache<K, V, C, W> {
         self.value_entry_shared(key, init, without(|_: &V| false))
     }
 
-    // As `value_entry`, for a caller who says whether to replace a live value.
+    // As `value_entry`, for a caller who says whether to replace a live value. The key is shared first, on a hit too.
     pub(crate) fn value_entry_if<F: FnOnce() -> V + Drop, P: FnMut(&V) -> bool + Drop>(
         &self,
         key: K,
@@ -74,10 +74,6 @@ impl<K: Hash + Drop, V: Clone, C: CacheTypes<K, V>, W: Wait> Cache<K, V, C, W> {
         requires keeps { (v : V) → F.post init v → C.keeps key v }
         ensures { IfOk result (λ entry. C.keeps key (entry_of entry).value) }
     {
-        let mut replace_if = replace_if;
-        if let Some(found) = self.look(&key, Some(|value: &V| replace_if(value)))? {
-            return Ok(found);
-        }
         let key = self.share(key)?;
         self.value_entry_shared(key, init, Some(replace_if))
     }
@@ -275,10 +271,6 @@ impl<K: Hash + Clone + Drop, V: Clone, C: CacheTypes<K, V>, W: Wait> Cache<K, V,
         requires keeps { (v : V) → F.post init v → C.keeps key.now v }
         ensures { IfOk result (λ entry. C.keeps key.now (entry_of entry).value) }
     {
-        let mut replace_if = replace_if;
-        if let Some(found) = self.look(key, Some(|value: &V| replace_if(value)))? {
-            return Ok(found);
-        }
         let copy = self.share_copy(key)?;
         self.value_entry_shared(copy, init, Some(replace_if))
     }

@@ -49,7 +49,13 @@ impl<K: Hash + Clone + Drop, V: Clone, C: CacheTypes<K, V>, W: Wait> Cache<K, V,
     }
 }
 
-impl<'a, K: Hash + Drop, V: Clone, C: CacheTypes<K, V>, W: Wait> OwnedKeyEntrySelector<'a, K, V, C, W> {
+impl<'a, K: Hash + Drop, V: Clone, C: CacheTypes<K, V>, W: Wait> OwnedKeyEntrySelector<
+    'a,
+    K,
+    V,
+    C,
+    W,
+> {
     /// The entry of the key's live value; where there is none, of this one, which is written. No closure is asked and no turn
     /// opened; an open turn does not matter.
     ///
@@ -178,8 +184,13 @@ impl<'a, K: Hash + Drop, V: Clone, C: CacheTypes<K, V>, W: Wait> OwnedKeyEntrySe
     }
 }
 
-impl<'a, K: Hash + Drop, V: Clone + Default, C: CacheTypes<K, V>, W: Wait>
-    OwnedKeyEntrySelector<'a, K, V, C, W> {
+impl<'a, K: Hash + Drop, V: Clone + Default, C: CacheTypes<K, V>, W: Wait> OwnedKeyEntrySelector<
+    'a,
+    K,
+    V,
+    C,
+    W,
+> {
     /// As [`OwnedKeyEntrySelector::or_insert`], of the default value. It asks that the key keeps whatever value is the default.
     pub fn or_default(self) -> Result<Entry<K, V>, Refused>
         requires keeps { (value : V) → V.is_default value → C.keeps self.key value }
@@ -190,7 +201,13 @@ impl<'a, K: Hash + Drop, V: Clone + Default, C: CacheTypes<K, V>, W: Wait>
     }
 }
 
-impl<'a, K: Hash + Clone + Drop, V: Clone, C: CacheTypes<K, V>, W: Wait> RefKeyEntrySelector<'a, K, V, C, W> {
+impl<'a, K: Hash + Clone + Drop, V: Clone, C: CacheTypes<K, V>, W: Wait> RefKeyEntrySelector<
+    'a,
+    K,
+    V,
+    C,
+    W,
+> {
     /// As [`OwnedKeyEntrySelector::or_insert`].
     pub fn or_insert(self, value: V) -> Result<Entry<K, V>, Refused>
         requires copies { (a b : K) → K.is_clone a b → K.eq a b ≡ true }
@@ -316,8 +333,13 @@ impl<'a, K: Hash + Clone + Drop, V: Clone, C: CacheTypes<K, V>, W: Wait> RefKeyE
     }
 }
 
-impl<'a, K: Hash + Clone + Drop, V: Clone + Default, C: CacheTypes<K, V>, W: Wait>
-    RefKeyEntrySelector<'a, K, V, C, W> {
+impl<
+    'a,
+    K: Hash + Clone + Drop,
+    V: Clone + Default,
+    C: CacheTypes<K, V>,
+    W: Wait,
+> RefKeyEntrySelector<'a, K, V, C, W> {
     /// As [`OwnedKeyEntrySelector::or_default`].
     pub fn or_default(self) -> Result<Entry<K, V>, Refused>
         requires copies { (a b : K) → K.is_clone a b → K.eq a b ≡ true }

@@ -30,7 +30,7 @@ impl<K: Hash + Drop, V: Clone, C: CacheTypes<K, V>, W: Wait> Cache<K, V, C, W> {
     }
 
     /// As [`Cache::get_with`], for a caller who is shown the live value, under the lock, and says whether to replace it: one
-    /// that is to be replaced is taken for none. It may be asked more than once.
+    /// that is to be replaced is taken for none. It may be asked more than once. On a live key it takes memory for the key too.
     ///
     /// Deprecated in moka in favour of `entry` and `or_insert_with_if`.
     pub fn get_with_if<F: FnOnce() -> V + Drop, P: FnMut(&V) -> bool + Drop>(

@@ -3,10 +3,10 @@
 
 pub mod builder;
 pub mod cache;
-pub mod concurrent_cache_ext;
-pub mod entry_selector;
 mod compute_forms;
+pub mod concurrent_cache_ext;
 mod entry_forms;
+pub mod entry_selector;
 mod get_with;
 mod hearer;
 mod locked;

@@ -47,11 +47,7 @@ impl<K: Hash + Drop, V: Clone, C: CacheTypes<K, V>, W: Wait> Cache<K, V, C, W> {
     /// there is one; or a ticket, where another's compute of the key is open. It waits for nobody.
     ///
     /// Refused with `NumbersUsedUp` and with `OutOfMemory`, as that is; then nothing has changed.
-    pub fn begin_compute(
-        &self,
-        key: &Arc<K>,
-        keep: bool,
-    ) -> Result<BegunCompute<K, V>, Refused>
+    pub fn begin_compute(&self, key: &Arc<K>, keep: bool) -> Result<BegunCompute<K, V>, Refused>
         ensures named { IfOk result (IsCompute (arc_value key.now)) }
         ensures kept { IfOk result (ShownKeepsFor C.keeps (arc_value key.now)) }
     {
@@ -114,10 +110,7 @@ impl<K: Hash + Drop, V: Clone, C: CacheTypes<K, V>, W: Wait> Cache<K, V, C, W> {
     /// waits for nobody.
     ///
     /// Refused with `UnknownTicket` and with `OutOfMemory`, as that is; the ticket is handed back.
-    pub fn collect(
-        &self,
-        ticket: Ticket<K>,
-    ) -> Result<Collected<K, V, C::Error>, CollectRefused<K>>
+    pub fn collect(&self, ticket: Ticket<K>) -> Result<Collected<K, V, C::Error>, CollectRefused<K>>
         ensures unspent { IfOk result
             (IfUnspent (λ same. ticket_name same ≡ ticket_name ticket)) }
         ensures kept { IfOk result (CollectedKeeps C.keeps (arc_value ticket.key.key)) }

@@ -91,13 +91,10 @@ impl<K, V, P: FnMut(&V) -> bool> Initializer<K, V, P> {
     }
 }
 
-impl<
-    K: Hash + Drop,
-    V: Clone,
-    C: CacheTypes<K, V>,
-    W: Wait,
-    P: FnMut(&V) -> bool + Drop,
-> Caller<Cache<K, V, C, W>, Answer<K, V, C::Error>> for Initializer<K, V, P> {
+impl<K: Hash + Drop, V: Clone, C: CacheTypes<K, V>, W: Wait, P: FnMut(&V) -> bool + Drop> Caller<
+    Cache<K, V, C, W>,
+    Answer<K, V, C::Error>,
+> for Initializer<K, V, P> {
     ghost use Rattle.std.specs.Prelude.{◌≡◌, ⊤};
     ghost use Rattle.moka_sync.specs.Waiting.{BeginTells, CollectTells};
 

@@ -1,4 +1,3 @@
-use Rattle.std.proofs.Common.{of_calls}
 use Rattle.std.specs.Fn.Refs.{Mut-at_Mut}
 use Rattle.moka_sync.proofs.cache.Cache.begin_if.Goals as goal
 
