@@ -40,6 +40,8 @@ pub mod sync {
     pub use moka_sync::builder;
     pub use moka_sync::builder::CacheBuilder;
     pub use moka_sync::cache::Cache;
+    pub use moka_sync::concurrent_cache_ext::ConcurrentCacheExt;
+    pub use moka_sync::entry_selector::{OwnedKeyEntrySelector, RefKeyEntrySelector};
     pub use moka_walks::iter::Iter;
 
     /// Turns: one caller works out a value for a key, while others wait for what comes of it.

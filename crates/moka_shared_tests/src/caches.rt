@@ -1,0 +1,93 @@
+//! The caches under test, and who hears what leaves them.
+ghost use Rattle.std.specs.Prelude.{◌≡◌, ◌%◌, nat_eq};
+
+use moka::notification::RemovalCause;
+use moka::policy::{EvictionPolicy, Listener, ManualClock, NoExpiry, NoWeigher, Predicate};
+use moka::ready::{FoldState, ReadyTypes, SteadyPredicate};
+use moka::sync::builder::Single;
+use moka::sync::{Cache, CacheBuilder};
+use std::alloc::{AllocError, Global};
+use std::collections::VecDeque;
+use std::sync::{Arc, Mutex, Wait};
+use std::test::Fail;
+use std::time::Duration;
+
+/// Holds of odd values.
+#[derive(Drop)]
+pub(crate) struct Odd;
+
+impl Predicate<u64, u64> for Odd {
+    ghost tests = { λ _ test. test ≡ (λ _ value. nat_eq (value % 2) 1) };
+
+    fn holds(&self, _key: &u64, value: &u64) -> bool {
+        *value % 2 == 1
+    }
+}
+
+impl SteadyPredicate<u64, u64> for Odd {
+    ghost test = { λ _ _ value. nat_eq (value % 2) 1 };
+}
+
+/// What left: its key, its value, and why.
+pub(crate) type Left = (u64, u64, RemovalCause);
+
+/// What was heard and not yet asked for, in its order.
+pub(crate) type Queue = Mutex<VecDeque<Left>>;
+
+/// Notes what it hears.
+#[derive(Drop)]
+pub(crate) struct Notes<W> {
+    queue: Arc<Queue>,
+    waits: W,
+}
+
+impl<W> Notes<W> {
+    /// Notes into this queue.
+    pub(crate) fn new(queue: Arc<Queue>, waits: W) -> Self {
+        Notes { queue, waits }
+    }
+}
+
+impl<W: Wait> Listener<u64, u64> for Notes<W> {
+    ghost use Rattle.std.specs.Prelude.{⊤};
+
+    ghost hears = { λ _ _ _. ⊤ };
+
+    /// What finds no room is not noted, so whoever asks for it misses it.
+    fn removed(&self, key: Arc<u64>, value: u64, cause: RemovalCause)
+        requires { ⊤ }
+    {
+        let _ = self.queue.lock(&self.waits).push_back((*key, value, cause));
+    }
+}
+
+pub(crate) type Clock = Arc<ManualClock>;
+
+/// Initializers may fail with a number.
+pub(crate) type Types<W> = ReadyTypes<FoldState, NoWeigher, NoExpiry, Clock, Odd, u64, Notes<W>>;
+
+pub(crate) type Numbers<W> = Cache<u64, u64, Types<W>, W>;
+
+pub(crate) type Builder<W> = CacheBuilder<u64, u64, Types<W>, Single>;
+
+/// Shares a value. Where memory is refused, it asks once more.
+pub(crate) fn shared<T: Drop>(alloc: Global, value: T) -> Result<Arc<T>, AllocError> {
+    match Arc::new(alloc, value) {
+        Ok(value) => Ok(value),
+        Err(failed) => Ok(Arc::new(alloc, failed.value)?),
+    }
+}
+
+/// A builder of caches of so many keys, whose values live ten seconds, and may be hidden.
+pub(crate) fn builder<W: Wait + Drop>(capacity: u64) -> Builder<W> {
+    CacheBuilder::new(capacity)
+        .eviction_policy(EvictionPolicy::lru())
+        .time_to_live(Duration::from_secs(10))
+        .support_invalidation_closures()
+}
+
+/// A cache of a hundred keys, at moment 0.
+pub(crate) fn cache<W: Wait + Drop>(rt: W, alloc: Global) -> Result<Numbers<W>, Fail> {
+    let clock = shared(alloc, ManualClock::new(0))?;
+    Ok(builder(100).build_with_hasher(alloc, FoldState::default(), clock, rt)?)
+}

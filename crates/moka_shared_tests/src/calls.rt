@@ -1,0 +1,297 @@
+//! The calls of a shared cache that may take memory, each with what it answers.
+use crate::caches::{Numbers, Odd};
+use crate::told::{
+    Told, computed_of, entry_of, insert_of, option_of, optional_entry_of, or_insert_of, parts,
+    tried_compute_of, tried_entry_of, tried_of, value_of,
+};
+use moka::common::entry::Entry;
+use moka::ops::compute::Op;
+use moka::policy::Refused;
+use moka::sync::value_initializer::{Begun, BegunCompute, Kind};
+use rand_core::SeedableRng;
+use rand_xoshiro::SplitMix64;
+use std::sync::{Arc, Wait};
+
+pub(crate) fn insert<W: Wait + Drop>(cache: &Numbers<W>, key: u64, value: u64) -> Told {
+    insert_of(cache.insert(key, value))
+}
+
+pub(crate) fn or_insert<W: Wait + Drop>(cache: &Numbers<W>, key: &Arc<u64>, value: u64) -> Told {
+    or_insert_of(cache.or_insert(key, value))
+}
+
+pub(crate) fn or_default<W: Wait + Drop>(cache: &Numbers<W>, key: u64) -> Told {
+    entry_of(cache.or_default(key))
+}
+
+/// Hides the odd values. The id is not shown: each is new.
+pub(crate) fn hide_odd<W: Wait + Drop>(cache: &Numbers<W>) -> Told {
+    let mut generator = SplitMix64::seed_from_u64(7);
+    match cache.invalidate_entries_if(Odd, &mut generator) {
+        Ok(_) => Told::Done,
+        Err(_) => Told::Refused(Refused::OutOfMemory),
+    }
+}
+
+pub(crate) fn get_with<W: Wait + Drop>(cache: &Numbers<W>, key: u64, value: u64) -> Told {
+    value_of(cache.get_with(key, move || value))
+}
+
+/// Where a live value of that number is turned down.
+pub(crate) fn get_with_if<W: Wait + Drop>(
+    cache: &Numbers<W>,
+    key: u64,
+    value: u64,
+    unwanted: u64,
+) -> Told {
+    value_of(cache.get_with_if(key, move || value, move |live| *live == unwanted))
+}
+
+pub(crate) fn get_with_by_ref<W: Wait + Drop>(cache: &Numbers<W>, key: u64, value: u64) -> Told {
+    value_of(cache.get_with_by_ref(&key, move || value))
+}
+
+pub(crate) fn optionally<W: Wait + Drop>(cache: &Numbers<W>, key: u64, value: Option<u64>) -> Told {
+    option_of(cache.optionally_get_with(key, move || value))
+}
+
+pub(crate) fn optionally_by_ref<W: Wait + Drop>(
+    cache: &Numbers<W>,
+    key: u64,
+    value: Option<u64>,
+) -> Told {
+    option_of(cache.optionally_get_with_by_ref(&key, move || value))
+}
+
+pub(crate) fn try_get_with<W: Wait + Drop>(
+    cache: &Numbers<W>,
+    key: u64,
+    value: Result<u64, u64>,
+) -> Told {
+    tried_of(cache.try_get_with(key, move || value))
+}
+
+pub(crate) fn try_by_ref<W: Wait + Drop>(
+    cache: &Numbers<W>,
+    key: u64,
+    value: Result<u64, u64>,
+) -> Told {
+    tried_of(cache.try_get_with_by_ref(&key, move || value))
+}
+
+/// How a key is selected: by `entry`, or by `entry_by_ref`.
+#[derive(Clone, Copy)]
+pub(crate) enum Key {
+    Owned(u64),
+    Lent(u64),
+}
+
+impl Key {
+    pub(crate) fn new(number: u64, is_lent: bool) -> Self {
+        if is_lent {
+            Key::Lent(number)
+        } else {
+            Key::Owned(number)
+        }
+    }
+
+    pub(crate) fn number(self) -> u64 {
+        match self {
+            Key::Owned(key) | Key::Lent(key) => key,
+        }
+    }
+}
+
+/// What a closure says is to become of a value.
+#[derive(Clone, Copy)]
+pub(crate) enum Doing {
+    Nop,
+    /// One more than what is live is put, or 1.
+    Count,
+    Remove,
+}
+
+/// One more than what is shown.
+pub(crate) fn next_of(shown: Option<Entry<u64, u64>>) -> u64 {
+    match shown {
+        Some(entry) => entry.value().wrapping_add(1),
+        None => 1,
+    }
+}
+
+pub(crate) fn op_of(doing: Doing, shown: Option<Entry<u64, u64>>) -> Op<u64> {
+    match doing {
+        Doing::Nop => Op::Nop,
+        Doing::Count => Op::Put(next_of(shown)),
+        Doing::Remove => Op::Remove,
+    }
+}
+
+pub(crate) fn try_op_of(
+    doing: Result<Doing, u64>,
+    shown: Option<Entry<u64, u64>>,
+) -> Result<Op<u64>, u64> {
+    match doing {
+        Ok(doing) => Ok(op_of(doing, shown)),
+        Err(error) => Err(error),
+    }
+}
+
+pub(crate) fn entry_or_insert<W: Wait + Drop>(cache: &Numbers<W>, key: Key, value: u64) -> Told {
+    entry_of(match key {
+        Key::Owned(key) => cache.entry(key).or_insert(value),
+        Key::Lent(key) => cache.entry_by_ref(&key).or_insert(value),
+    })
+}
+
+pub(crate) fn entry_or_default<W: Wait + Drop>(cache: &Numbers<W>, key: Key) -> Told {
+    entry_of(match key {
+        Key::Owned(key) => cache.entry(key).or_default(),
+        Key::Lent(key) => cache.entry_by_ref(&key).or_default(),
+    })
+}
+
+pub(crate) fn or_insert_with<W: Wait + Drop>(cache: &Numbers<W>, key: Key, value: u64) -> Told {
+    entry_of(match key {
+        Key::Owned(key) => cache.entry(key).or_insert_with(move || value),
+        Key::Lent(key) => cache.entry_by_ref(&key).or_insert_with(move || value),
+    })
+}
+
+/// Where a live value of that number is turned down.
+pub(crate) fn or_insert_with_if<W: Wait + Drop>(
+    cache: &Numbers<W>,
+    key: Key,
+    value: u64,
+    unwanted: u64,
+) -> Told {
+    entry_of(match key {
+        Key::Owned(key) => {
+            let selector = cache.entry(key);
+            selector.or_insert_with_if(move || value, move |live| *live == unwanted)
+        }
+        Key::Lent(key) => {
+            let selector = cache.entry_by_ref(&key);
+            selector.or_insert_with_if(move || value, move |live| *live == unwanted)
+        }
+    })
+}
+
+pub(crate) fn or_optionally_insert_with<W: Wait + Drop>(
+    cache: &Numbers<W>,
+    key: Key,
+    value: Option<u64>,
+) -> Told {
+    optional_entry_of(match key {
+        Key::Owned(key) => cache.entry(key).or_optionally_insert_with(move || value),
+        Key::Lent(key) => cache
+            .entry_by_ref(&key)
+            .or_optionally_insert_with(move || value),
+    })
+}
+
+pub(crate) fn or_try_insert_with<W: Wait + Drop>(
+    cache: &Numbers<W>,
+    key: Key,
+    value: Result<u64, u64>,
+) -> Told {
+    tried_entry_of(match key {
+        Key::Owned(key) => cache.entry(key).or_try_insert_with(move || value),
+        Key::Lent(key) => cache.entry_by_ref(&key).or_try_insert_with(move || value),
+    })
+}
+
+pub(crate) fn and_compute_with<W: Wait + Drop>(cache: &Numbers<W>, key: Key, doing: Doing) -> Told {
+    computed_of(match key {
+        Key::Owned(key) => {
+            let selector = cache.entry(key);
+            selector.and_compute_with(move |shown| op_of(doing, shown))
+        }
+        Key::Lent(key) => {
+            let selector = cache.entry_by_ref(&key);
+            selector.and_compute_with(move |shown| op_of(doing, shown))
+        }
+    })
+}
+
+pub(crate) fn and_try_compute_with<W: Wait + Drop>(
+    cache: &Numbers<W>,
+    key: Key,
+    doing: Result<Doing, u64>,
+) -> Told {
+    tried_compute_of(match key {
+        Key::Owned(key) => {
+            let selector = cache.entry(key);
+            selector.and_try_compute_with(move |shown| try_op_of(doing, shown))
+        }
+        Key::Lent(key) => {
+            let selector = cache.entry_by_ref(&key);
+            selector.and_try_compute_with(move |shown| try_op_of(doing, shown))
+        }
+    })
+}
+
+pub(crate) fn and_upsert_with<W: Wait + Drop>(cache: &Numbers<W>, key: Key) -> Told {
+    entry_of(match key {
+        Key::Owned(key) => cache
+            .entry(key)
+            .and_upsert_with(move |shown| next_of(shown)),
+        Key::Lent(key) => {
+            let selector = cache.entry_by_ref(&key);
+            selector.and_upsert_with(move |shown| next_of(shown))
+        }
+    })
+}
+
+pub(crate) type Begins = Result<Begun<u64, u64>, Refused>;
+
+pub(crate) type BeginsCompute = Result<BegunCompute<u64, u64>, Refused>;
+
+/// Spends what a begin handed out, and says what it was.
+pub(crate) fn spent<W: Wait + Drop>(cache: &Numbers<W>, begun: Begins) -> Told {
+    match begun {
+        Ok(Begun::Found(entry)) => Told::Entry(parts(&entry)),
+        Ok(Begun::Run(turn)) => {
+            let _ = cache.abandon(turn);
+            Told::Runs
+        }
+        Ok(Begun::Wait(ticket)) => {
+            let _ = cache.leave(ticket);
+            Told::Waits
+        }
+        Err(cause) => Told::Refused(cause),
+    }
+}
+
+/// Spends what the begin of a compute handed out, and says what it was.
+pub(crate) fn spent_compute<W: Wait + Drop>(cache: &Numbers<W>, begun: BeginsCompute) -> Told {
+    match begun {
+        Ok(BegunCompute::Run(turn, _)) => {
+            let _ = cache.abandon(turn);
+            Told::Runs
+        }
+        Ok(BegunCompute::Wait(ticket)) => {
+            let _ = cache.leave(ticket);
+            Told::Waits
+        }
+        Err(cause) => Told::Refused(cause),
+    }
+}
+
+/// A begin where a live value of that number is turned down; what it hands out is spent.
+pub(crate) fn begin<W: Wait + Drop>(cache: &Numbers<W>, key: &Arc<u64>, unwanted: u64) -> Told {
+    let begun = cache.begin(key, Kind::With, Some(|live: &u64| *live == unwanted));
+    spent(cache, begun)
+}
+
+/// A begin by a key that is lent; what it hands out is spent.
+pub(crate) fn begin_by_ref<W: Wait + Drop>(cache: &Numbers<W>, key: u64) -> Told {
+    let begun = cache.begin_by_ref(&key, Kind::With, None::<fn(&u64) -> bool>);
+    spent(cache, begun)
+}
+
+/// The begin of a compute; what it hands out is spent.
+pub(crate) fn begin_compute<W: Wait + Drop>(cache: &Numbers<W>, key: &Arc<u64>) -> Told {
+    let begun = cache.begin_compute(key, true);
+    spent_compute(cache, begun)
+}

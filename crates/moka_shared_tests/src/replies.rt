@@ -1,0 +1,264 @@
+//! What the calls of a shared cache answer, one after another on one cache.
+
+use crate::caches::{Numbers, cache, shared};
+use crate::calls;
+use crate::calls::{Doing, Key};
+use crate::told::{Told, option_of};
+use moka::sync::ConcurrentCacheExt;
+use std::process::Abort;
+use std::sync::{Arc, Wait};
+use std::test::Fail;
+
+fn is(rt: &impl Abort, call: &str, told: Told, wanted: Told) {
+    assert_eq!(rt; told, wanted, "{call}");
+}
+
+const fn entry(key: u64, value: u64, is_fresh: bool) -> Told {
+    Told::Entry((key, value, is_fresh, false))
+}
+
+#[test]
+fn writes_and_removals_answer(rt: HostRuntime) -> Result<(), Fail> {
+    let key = shared(rt.alloc(), 1)?;
+    let cache = cache(rt, rt.alloc())?;
+    writes(&rt, &cache, &key);
+    removals(&rt, &cache);
+    Ok(())
+}
+
+fn writes<W: Wait + Drop>(rt: &impl Abort, cache: &Numbers<W>, key: &Arc<u64>) {
+    is(
+        rt,
+        "or_insert",
+        calls::or_insert(cache, key, 10),
+        entry(1, 10, true),
+    );
+    is(
+        rt,
+        "or_insert",
+        calls::or_insert(cache, key, 11),
+        entry(1, 10, false),
+    );
+    is(
+        rt,
+        "or_default",
+        calls::or_default(cache, 2),
+        entry(2, 0, true),
+    );
+    is(rt, "insert", calls::insert(cache, 3, 31), Told::Done);
+    is(rt, "get", get(cache, 3), Told::Value(31));
+}
+
+fn removals<W: Wait + Drop>(rt: &impl Abort, cache: &Numbers<W>) {
+    assert_eq!(rt; cache.entry_count(), 3);
+    is(
+        rt,
+        "invalidate_entries_if",
+        calls::hide_odd(cache),
+        Told::Done,
+    );
+    is(rt, "get", get(cache, 3), Told::Nothing);
+    is(rt, "remove", remove(cache, 2), Told::Value(0));
+    is(rt, "remove", remove(cache, 2), Told::Nothing);
+    cache.invalidate(&1);
+    cache.sync();
+    assert_eq!(rt; cache.weighted_size(), 0);
+}
+
+fn get<W: Wait + Drop>(cache: &Numbers<W>, key: u64) -> Told {
+    option_of(cache.get(&key))
+}
+
+fn remove<W: Wait + Drop>(cache: &Numbers<W>, key: u64) -> Told {
+    option_of(cache.remove(&key))
+}
+
+#[test]
+fn initializers_answer(rt: HostRuntime) -> Result<(), Fail> {
+    let cache = cache(rt, rt.alloc())?;
+    initializers(&rt, &cache);
+    by_reference(&rt, &cache);
+    Ok(())
+}
+
+fn initializers<W: Wait + Drop>(rt: &impl Abort, cache: &Numbers<W>) {
+    is(
+        rt,
+        "get_with",
+        calls::get_with(cache, 1, 10),
+        Told::Value(10),
+    );
+    is(
+        rt,
+        "get_with",
+        calls::get_with(cache, 1, 11),
+        Told::Value(10),
+    );
+    is(
+        rt,
+        "get_with_if",
+        calls::get_with_if(cache, 1, 12, 11),
+        Told::Value(10),
+    );
+    is(
+        rt,
+        "get_with_if",
+        calls::get_with_if(cache, 1, 12, 10),
+        Told::Value(12),
+    );
+    is(
+        rt,
+        "optionally_get_with",
+        calls::optionally(cache, 2, None),
+        Told::Nothing,
+    );
+    is(
+        rt,
+        "optionally_get_with",
+        calls::optionally(cache, 2, Some(20)),
+        Told::Value(20),
+    );
+    is(
+        rt,
+        "try_get_with",
+        calls::try_get_with(cache, 3, Err(9)),
+        Told::Failed(9),
+    );
+    is(
+        rt,
+        "try_get_with",
+        calls::try_get_with(cache, 3, Ok(30)),
+        Told::Value(30),
+    );
+}
+
+fn by_reference<W: Wait + Drop>(rt: &impl Abort, cache: &Numbers<W>) {
+    is(
+        rt,
+        "get_with_by_ref",
+        calls::get_with_by_ref(cache, 4, 40),
+        Told::Value(40),
+    );
+    is(
+        rt,
+        "get_with_by_ref",
+        calls::get_with_by_ref(cache, 4, 41),
+        Told::Value(40),
+    );
+    is(
+        rt,
+        "optionally_by_ref",
+        calls::optionally_by_ref(cache, 5, None),
+        Told::Nothing,
+    );
+    is(
+        rt,
+        "optionally_by_ref",
+        calls::optionally_by_ref(cache, 5, Some(50)),
+        Told::Value(50),
+    );
+    is(
+        rt,
+        "try_by_ref",
+        calls::try_by_ref(cache, 6, Err(9)),
+        Told::Failed(9),
+    );
+    is(
+        rt,
+        "try_by_ref",
+        calls::try_by_ref(cache, 6, Ok(60)),
+        Told::Value(60),
+    );
+}
+
+#[test]
+fn selectors_answer(rt: HostRuntime) -> Result<(), Fail> {
+    let cache = cache(rt, rt.alloc())?;
+    for is_lent in [false, true] {
+        cache.invalidate_all();
+        selectors(&rt, &cache, is_lent);
+        computes(&rt, &cache, is_lent);
+    }
+    Ok(())
+}
+
+fn selectors<W: Wait + Drop>(rt: &impl Abort, cache: &Numbers<W>, is_lent: bool) {
+    let key = |number| Key::new(number, is_lent);
+    is(
+        rt,
+        "or_insert",
+        calls::entry_or_insert(cache, key(1), 10),
+        entry(1, 10, true),
+    );
+    is(
+        rt,
+        "or_default",
+        calls::entry_or_default(cache, key(2)),
+        entry(2, 0, true),
+    );
+    is(
+        rt,
+        "or_insert_with",
+        calls::or_insert_with(cache, key(1), 11),
+        entry(1, 10, false),
+    );
+    is(
+        rt,
+        "or_optionally_insert_with",
+        calls::or_optionally_insert_with(cache, key(3), None),
+        Told::Nothing,
+    );
+    is(
+        rt,
+        "or_try_insert_with",
+        calls::or_try_insert_with(cache, key(3), Err(9)),
+        Told::Failed(9),
+    );
+}
+
+fn computes<W: Wait + Drop>(rt: &impl Abort, cache: &Numbers<W>, is_lent: bool) {
+    let key = |number| Key::new(number, is_lent);
+    is(
+        rt,
+        "and_upsert_with",
+        calls::and_upsert_with(cache, key(4)),
+        entry(4, 1, true),
+    );
+    let counted = calls::and_compute_with(cache, key(4), Doing::Count);
+    assert!(rt; matches!(counted, Told::Became(_, Some((4, 2, true, true)))));
+    let removed = calls::and_compute_with(cache, key(4), Doing::Remove);
+    assert!(rt; matches!(removed, Told::Became(_, Some((4, 2, false, false)))));
+    is(
+        rt,
+        "and_try_compute_with",
+        calls::and_try_compute_with(cache, key(4), Err(9)),
+        Told::Failed(9),
+    );
+}
+
+#[test]
+fn turns_answer(rt: HostRuntime) -> Result<(), Fail> {
+    let key = shared(rt.alloc(), 1)?;
+    let cache = cache(rt, rt.alloc())?;
+    is(&rt, "begin", calls::begin(&cache, &key, 0), Told::Runs);
+    is(
+        &rt,
+        "begin_by_ref",
+        calls::begin_by_ref(&cache, 1),
+        Told::Runs,
+    );
+    is(
+        &rt,
+        "begin_compute",
+        calls::begin_compute(&cache, &key),
+        Told::Runs,
+    );
+    is(&rt, "get", get(&cache, 1), Told::Nothing);
+    is(
+        &rt,
+        "get_with",
+        calls::get_with(&cache, 1, 10),
+        Told::Value(10),
+    );
+    Ok(())
+}

@@ -1,0 +1,587 @@
+//! Threads that share a cache: closures, listeners and steps of walks leave it free for others, and callers wait for each
+//! other's turns.
+ghost use Rattle.std.specs.Prelude.{◌≡◌, ◌≢◌};
+ghost use Rattle.moka_model.specs.declared.turns.Kind.{Kind};
+
+use crate::caches::{Numbers, cache, shared};
+use crate::calls::next_of;
+use crate::marks::{Marks, come, mark, new_marks, pause, so_far};
+use moka::notification::RemovalCause;
+use moka::ops::compute::Op;
+use moka::policy::{Listener, ManualClock, NoExpiry, NoPredicate, NoWeigher, Refused};
+use moka::ready::{FoldState, ReadyTypes};
+use moka::sync::value_initializer::{Begun, FinishRefused, Kind, Outcome, Turn};
+use moka::sync::{Cache, CacheBuilder};
+use std::alloc::Global;
+use std::process::Abort;
+use std::rt::Clock;
+use std::sync::{Arc, Wait};
+use std::test::Fail;
+use std::thread;
+use std::thread::{JoinHandle, Threads};
+use std::time::Duration;
+
+/// Says that it is inside, and waits there until one is done. How many are.
+fn inside_until_done(rt: &impl Clock, marks: &Marks) -> u64 {
+    mark(&marks.arrived);
+    come(rt, &marks.done, 1);
+    so_far(&marks.done)
+}
+
+/// Looks for a key once another thread is inside, and is done.
+fn gets_once_one_is_inside<W: Wait + Clock + Drop>(
+    rt: &W,
+    cache: &Numbers<W>,
+    marks: &Marks,
+    key: u64,
+) -> Result<Option<u64>, Refused> {
+    come(rt, &marks.arrived, 1);
+    let found = cache.get(&key);
+    mark(&marks.done);
+    found
+}
+
+/// A call that asks a closure, outside of the lock.
+#[derive(Clone, Copy, Debug)]
+enum Form {
+    With,
+    Optionally,
+    Try,
+    Compute,
+    TryCompute,
+    Upsert,
+}
+
+const FORMS: [Form; 6] = [
+    Form::With,
+    Form::Optionally,
+    Form::Try,
+    Form::Compute,
+    Form::TryCompute,
+    Form::Upsert,
+];
+
+/// A call of key 1, whose closure waits until another thread is done.
+fn made_by<W: Wait + Clock + Drop>(rt: &W, cache: &Numbers<W>, marks: &Marks, form: Form) -> bool {
+    match form {
+        Form::With => cache.get_with(1, || inside_until_done(rt, marks)).is_ok(),
+        Form::Optionally => cache
+            .optionally_get_with(1, || Some(inside_until_done(rt, marks)))
+            .is_ok(),
+        Form::Try => cache
+            .try_get_with(1, || Ok(inside_until_done(rt, marks)))
+            .is_ok(),
+        Form::Compute => computes(rt, cache, marks),
+        Form::TryCompute => tries_to_compute(rt, cache, marks),
+        Form::Upsert => cache
+            .entry(1)
+            .and_upsert_with(|_| inside_until_done(rt, marks))
+            .is_ok(),
+    }
+}
+
+fn computes<W: Wait + Clock + Drop>(rt: &W, cache: &Numbers<W>, marks: &Marks) -> bool {
+    cache
+        .entry(1)
+        .and_compute_with(|_| Op::Put(inside_until_done(rt, marks)))
+        .is_ok()
+}
+
+fn tries_to_compute<W: Wait + Clock + Drop>(rt: &W, cache: &Numbers<W>, marks: &Marks) -> bool {
+    cache
+        .entry(1)
+        .and_try_compute_with(|_| Ok(Op::Put(inside_until_done(rt, marks))))
+        .is_ok()
+}
+
+#[test]
+fn a_get_answers_while_a_closure_runs(rt: HostRuntime) -> Result<(), Fail> {
+    for form in FORMS {
+        a_get_answers_within(rt, rt.alloc(), form)?;
+    }
+    Ok(())
+}
+
+fn a_get_answers_within<W>(rt: W, alloc: Global, form: Form) -> Result<(), Fail>
+where
+    W: Wait + Clock + Threads + Abort + Copy + Drop + Send + Sync + 'static,
+{
+    let marks = new_marks(alloc)?;
+    let cache = cache(rt, alloc)?;
+    a_get_answers(&rt, &cache, &marks, form)
+}
+
+fn a_get_answers<W>(rt: &W, cache: &Numbers<W>, marks: &Arc<Marks>, form: Form) -> Result<(), Fail>
+where
+    W: Wait + Clock + Threads + Abort + Copy + Drop + Send + Sync + 'static,
+{
+    cache.insert(2, 20)?;
+    let (theirs, others, handle) = (cache.clone()?, marks.clone()?, *rt);
+    let child = thread::spawn(
+        rt,
+        move || gets_once_one_is_inside(&handle, &theirs, &others, 2),
+    )?;
+    assert!(rt; made_by(rt, cache, marks, form), "{form:?}");
+    let found = child.join(rt);
+    assert_eq!(rt;
+        cache.get(&1),
+        Ok(Some(1)),
+        "the other has answered by then: {form:?}"
+    );
+    assert_eq!(rt; found, Ok(Some(20)));
+    Ok(())
+}
+
+/// Says when it is told, and waits until another is done.
+#[derive(Drop)]
+struct Slow<W> {
+    marks: Arc<Marks>,
+    rt: W,
+}
+
+impl<W: Clock> Listener<u64, u64> for Slow<W> {
+    ghost use Rattle.std.specs.Prelude.{⊤};
+
+    ghost hears = { λ _ _ _. ⊤ };
+
+    fn removed(&self, _key: Arc<u64>, _value: u64, _cause: RemovalCause)
+        requires { ⊤ }
+    {
+        if inside_until_done(&self.rt, &self.marks) == 1 {
+            mark(&self.marks.in_time);
+        }
+    }
+}
+
+/// The types of a cache that such a one listens to.
+type SlowTypes<W> = ReadyTypes<
+    FoldState,
+    NoWeigher,
+    NoExpiry,
+    Arc<ManualClock>,
+    NoPredicate,
+    u64,
+    Slow<W>,
+>;
+
+/// A cache that such a one listens to.
+type Heard<W> = Cache<u64, u64, SlowTypes<W>, W>;
+
+/// A call in which an expired value of key 1 leaves.
+#[derive(Clone, Copy, Debug)]
+enum Leaves {
+    Insert,
+    OrInsert,
+    OrDefault,
+    Invalidate,
+    Remove,
+    Maintenance,
+    PartOfOne,
+    Finish,
+}
+
+const LEAVES: [Leaves; 8] = [
+    Leaves::Insert,
+    Leaves::OrInsert,
+    Leaves::OrDefault,
+    Leaves::Invalidate,
+    Leaves::Remove,
+    Leaves::Maintenance,
+    Leaves::PartOfOne,
+    Leaves::Finish,
+];
+
+fn lets_one_leave<W: Wait + Clock + Drop>(cache: &Heard<W>, key: &Arc<u64>, call: Leaves) -> bool {
+    match call {
+        Leaves::Insert => cache.insert(1, 11).is_ok(),
+        Leaves::OrInsert => cache.or_insert(key, 11).is_ok(),
+        Leaves::OrDefault => cache.or_default(1).is_ok(),
+        Leaves::Invalidate => {
+            cache.invalidate(&1);
+            true
+        }
+        Leaves::Remove => cache.remove(&1).is_ok(),
+        Leaves::Maintenance => {
+            cache.run_pending_tasks();
+            true
+        }
+        Leaves::PartOfOne => !cache.run_pending_tasks_up_to(1),
+        Leaves::Finish => cache.get_with(1, || 11).is_ok(),
+    }
+}
+
+#[test]
+fn a_get_answers_while_the_listener_runs(rt: HostRuntime) -> Result<(), Fail> {
+    for call in LEAVES {
+        heard_slowly(rt, rt.alloc(), call)?;
+    }
+    Ok(())
+}
+
+fn heard_slowly<W>(rt: W, alloc: Global, call: Leaves) -> Result<(), Fail>
+where
+    W: Wait + Clock + Threads + Abort + Copy + Drop + Send + Sync + 'static,
+{
+    let key = shared(alloc, 1)?;
+    let marks = new_marks(alloc)?;
+    let clock = shared(alloc, ManualClock::new(0))?;
+    let listener = Slow {
+        marks: marks.clone()?,
+        rt,
+    };
+    let builder: CacheBuilder<u64, u64, SlowTypes<W>, _> = CacheBuilder::new(100);
+    let cache = builder
+        .time_to_live(Duration::from_secs(1))
+        .eviction_listener(listener)
+        .build_with_hasher(alloc, FoldState::default(), clock.clone()?, rt)?;
+    cache.insert(1, 10)?;
+    clock.set(1_000_000_000);
+    cache.insert(2, 20)?;
+    a_get_answers_in_between(&rt, &cache, (&key, &marks), call)
+}
+
+fn a_get_answers_in_between<W>(
+    rt: &W,
+    cache: &Heard<W>,
+    shared: (&Arc<u64>, &Arc<Marks>),
+    call: Leaves,
+) -> Result<(), Fail>
+where
+    W: Wait + Clock + Threads + Abort + Copy + Drop + Send + Sync + 'static,
+{
+    let (key, marks) = shared;
+    let (theirs, others, handle) = (cache.clone()?, marks.clone()?, *rt);
+    let child = thread::spawn(rt, move || gets_once_it_hears(&handle, &theirs, &others))?;
+    assert!(rt; lets_one_leave(cache, key, call), "{call:?}");
+    assert_eq!(rt; child.join(rt), Ok(Some(20)));
+    assert_eq!(rt;
+        so_far(&marks.in_time),
+        1,
+        "it was answered while the listener ran: {call:?}"
+    );
+    Ok(())
+}
+
+fn gets_once_it_hears<W: Wait + Clock + Drop>(
+    rt: &W,
+    cache: &Heard<W>,
+    marks: &Marks,
+) -> Result<Option<u64>, Refused> {
+    come(rt, &marks.arrived, 1);
+    let found = cache.get(&2);
+    mark(&marks.done);
+    found
+}
+
+/// What a caller is given.
+type Given = Result<u64, Refused>;
+
+/// How many threads.
+const THREADS: u64 = 4;
+
+/// The initializer: it gives its value once all have come and had time to wait.
+fn works_it_out(rt: &impl Clock, marks: &Marks) -> u64 {
+    mark(&marks.asks);
+    come(rt, &marks.arrived, THREADS);
+    pause(rt);
+    7
+}
+
+fn asks_with_others<W: Wait + Clock + Drop>(rt: &W, cache: &Numbers<W>, marks: &Marks) -> Given {
+    mark(&marks.arrived);
+    let given = cache.get_with(1, || works_it_out(rt, marks));
+    mark(&marks.done);
+    given
+}
+
+#[test]
+fn of_four_initializers_one_runs(rt: HostRuntime) -> Result<(), Fail> {
+    let marks = new_marks(rt.alloc())?;
+    let children = Vec::with_capacity(rt.alloc(), 4)?;
+    let cache = cache(rt, rt.alloc())?;
+    one_runs(&rt, &cache, &marks, children)
+}
+
+fn one_runs<W>(
+    rt: &W,
+    cache: &Numbers<W>,
+    marks: &Arc<Marks>,
+    children: Vec<JoinHandle<Given>>,
+) -> Result<(), Fail>
+where
+    W: Wait + Clock + Threads + Abort + Copy + Drop + Send + Sync + 'static,
+{
+    let mut children = children;
+    for _ in 0..THREADS {
+        let (theirs, others, handle) = (cache.clone()?, marks.clone()?, *rt);
+        let child = thread::spawn(rt, move || asks_with_others(&handle, &theirs, &others))?;
+        children.push(child)?;
+    }
+    assert!(rt; come(rt, &marks.done, THREADS), "all are answered");
+    for child in children {
+        assert_eq!(rt; child.join(rt), Ok(7));
+    }
+    assert_eq!(rt; so_far(&marks.asks), 1, "one initializer ran");
+    Ok(())
+}
+
+/// How one asks who is to wait for a turn.
+#[derive(Clone, Copy)]
+enum Way {
+    /// By `get_with`, where no value is live.
+    Plain,
+    /// By `get_with_if`, where the live value is turned down. Who is shown it has begun, and holds a ticket by the time that
+    /// anybody else gets to the cache.
+    If,
+}
+
+/// One more was asked, and gives this value.
+fn own(marks: &Marks) -> u64 {
+    mark(&marks.asks);
+    12
+}
+
+fn turns_it_down(marks: &Marks) -> bool {
+    mark(&marks.arrived);
+    true
+}
+
+fn asks<W: Wait + Drop>(cache: &Numbers<W>, marks: &Marks, way: Way) -> Given {
+    let given = match way {
+        Way::Plain => {
+            mark(&marks.arrived);
+            cache.get_with(1, || own(marks))
+        }
+        Way::If => cache.get_with_if(1, || own(marks), |_| turns_it_down(marks)),
+    };
+    mark(&marks.done);
+    given
+}
+
+/// The turn to work out a value of a kind, whatever is live.
+fn ran<W: Wait + Drop>(rt: &impl Abort, cache: &Numbers<W>, key: &Arc<u64>, kind: Kind) -> Turn<u64>
+    requires { kind ≢ Kind.Compute }
+    ensures { result.key.kind ≡ kind }
+{
+    match cache.begin(key, kind, Some(|_: &u64| true)) {
+        Ok(Begun::Run(turn)) => turn,
+        Ok(Begun::Wait(ticket)) => {
+            let _ = cache.leave(ticket);
+            panic!(rt; "another has the turn")
+        }
+        Ok(Begun::Found(_)) => panic!(rt; "a value is live"),
+        Err(cause) => panic!(rt; "{cause}"),
+    }
+}
+
+/// Ends a turn with 7.
+fn finishes<W: Wait + Drop>(rt: &impl Abort, cache: &Numbers<W>, turn: Turn<u64>)
+    requires { turn.key.kind ≡ Kind.With }
+{
+    if let Err(
+        FinishRefused {
+            turn,
+            outcome: _,
+            cause,
+        },
+    ) = cache.finish(turn, Outcome::Value(7))
+    {
+        let _ = cache.abandon(turn);
+        panic!(rt; "{cause}");
+    }
+}
+
+/// How the turn ends that another waits for.
+#[derive(Clone, Copy)]
+enum End {
+    /// With 7.
+    Finished,
+    Abandoned,
+}
+
+fn ends<W: Wait + Drop>(rt: &impl Abort, cache: &Numbers<W>, turn: Turn<u64>, end: End)
+    requires { turn.key.kind ≡ Kind.With }
+{
+    match end {
+        End::Finished => finishes(rt, cache, turn),
+        End::Abandoned => assert!(rt; cache.abandon(turn).is_ok()),
+    }
+}
+
+#[test]
+fn a_finished_turn_answers_who_waits(rt: HostRuntime) -> Result<(), Fail> {
+    waits_for_a_turn(rt, rt.alloc(), Way::Plain, End::Finished)?;
+    waits_for_a_turn(rt, rt.alloc(), Way::If, End::Finished)
+}
+
+#[test]
+fn an_abandoned_turn_goes_to_who_waits(rt: HostRuntime) -> Result<(), Fail> {
+    waits_for_a_turn(rt, rt.alloc(), Way::Plain, End::Abandoned)?;
+    waits_for_a_turn(rt, rt.alloc(), Way::If, End::Abandoned)
+}
+
+fn waits_for_a_turn<W>(rt: W, alloc: Global, way: Way, end: End) -> Result<(), Fail>
+where
+    W: Wait + Clock + Threads + Abort + Copy + Drop + Send + Sync + 'static,
+{
+    let key = shared(alloc, 1)?;
+    let marks = new_marks(alloc)?;
+    let cache = cache(rt, alloc)?;
+    if matches!(way, Way::If) {
+        cache.insert(1, 10)?;
+    }
+    is_answered(&rt, &cache, (&key, &marks), way, end)
+}
+
+fn is_answered<W>(
+    rt: &W,
+    cache: &Numbers<W>,
+    shared: (&Arc<u64>, &Arc<Marks>),
+    way: Way,
+    end: End,
+) -> Result<(), Fail>
+where
+    W: Wait + Clock + Threads + Abort + Copy + Drop + Send + Sync + 'static,
+{
+    let (key, marks) = shared;
+    let (theirs, others) = (cache.clone()?, marks.clone()?);
+    let turn = ran(rt, cache, key, Kind::With);
+    let child = thread::spawn(rt, move || asks(&theirs, &others, way));
+    assert!(rt; come(rt, &marks.arrived, 1), "the other waits");
+    pause(rt);
+    assert_eq!(rt; so_far(&marks.done), 0, "the other waits");
+    ends(rt, cache, turn, end);
+    assert!(rt; come(rt, &marks.done, 1), "the other is answered");
+    let wanted = match end {
+        End::Finished => (Ok(7), 0),
+        End::Abandoned => (Ok(12), 1),
+    };
+    assert_eq!(rt; (child?.join(rt), so_far(&marks.asks)), wanted);
+    Ok(())
+}
+
+/// Counts up the value of a key so often. The last value.
+fn counts<W: Wait + Drop>(cache: &Numbers<W>, marks: &Marks) -> Given {
+    let mut last = 0;
+    for _ in 0..8 {
+        last = cache
+            .entry(1)
+            .and_upsert_with(|shown| next_of(shown))?
+            .into_value();
+    }
+    mark(&marks.done);
+    Ok(last)
+}
+
+#[test]
+fn no_count_is_lost(rt: HostRuntime) -> Result<(), Fail> {
+    let marks = new_marks(rt.alloc())?;
+    let children = Vec::with_capacity(rt.alloc(), 4)?;
+    let cache = cache(rt, rt.alloc())?;
+    count_together(&rt, &cache, &marks, children)
+}
+
+fn count_together<W>(
+    rt: &W,
+    cache: &Numbers<W>,
+    marks: &Arc<Marks>,
+    children: Vec<JoinHandle<Given>>,
+) -> Result<(), Fail>
+where
+    W: Wait + Clock + Threads + Abort + Copy + Drop + Send + Sync + 'static,
+{
+    let mut children = children;
+    for _ in 0..THREADS {
+        let (theirs, others) = (cache.clone()?, marks.clone()?);
+        let child = thread::spawn(rt, move || counts(&theirs, &others))?;
+        children.push(child)?;
+    }
+    assert!(rt; come(rt, &marks.done, THREADS), "all have counted");
+    for child in children {
+        assert!(rt; child.join(rt).is_ok());
+    }
+    assert_eq!(rt; cache.get(&1), Ok(Some(32)));
+    Ok(())
+}
+
+/// The error that a caller is given whose own initializer fails with 5.
+fn fails<W: Wait + Drop>(cache: &Numbers<W>, marks: &Marks) -> Option<Arc<u64>> {
+    mark(&marks.arrived);
+    let given = cache.try_get_with(1, || {
+        mark(&marks.asks);
+        Err(5)
+    });
+    mark(&marks.done);
+    given.ok()?.err()
+}
+
+/// Ends a turn with an error.
+fn finishes_with<W: Wait + Drop>(
+    rt: &impl Abort,
+    cache: &Numbers<W>,
+    turn: Turn<u64>,
+    error: Arc<u64>,
+)
+    requires { turn.key.kind ≡ Kind.Try }
+{
+    if let Err(
+        FinishRefused {
+            turn,
+            outcome: _,
+            cause,
+        },
+    ) = cache.finish(turn, Outcome::Failed(error))
+    {
+        let _ = cache.abandon(turn);
+        panic!(rt; "{cause}");
+    }
+}
+
+/// Nobody can see that another waits who has only begun. One that came too late to wait runs its own initializer, and then
+/// all is tried once more.
+#[test]
+fn who_waits_is_given_the_same_error(rt: HostRuntime) -> Result<(), Fail> {
+    for _ in 0..100 {
+        if has_waited(rt, rt.alloc())? {
+            return Ok(());
+        }
+    }
+    Err(Fail::from("no thread has waited"))
+}
+
+fn has_waited<W>(rt: W, alloc: Global) -> Result<bool, Fail>
+where
+    W: Wait + Clock + Threads + Abort + Copy + Drop + Send + Sync + 'static,
+{
+    let key = shared(alloc, 1)?;
+    let error = shared(alloc, 9)?;
+    let marks = new_marks(alloc)?;
+    let cache = cache(rt, alloc)?;
+    is_given_the_error(&rt, &cache, (&key, &error), &marks)
+}
+
+fn is_given_the_error<W>(
+    rt: &W,
+    cache: &Numbers<W>,
+    numbers: (&Arc<u64>, &Arc<u64>),
+    marks: &Arc<Marks>,
+) -> Result<bool, Fail>
+where
+    W: Wait + Clock + Threads + Abort + Copy + Drop + Send + Sync + 'static,
+{
+    let (key, error) = numbers;
+    let (theirs, others, outcome) = (cache.clone()?, marks.clone()?, error.clone()?);
+    let turn = ran(rt, cache, key, Kind::Try);
+    let child = thread::spawn(rt, move || fails(&theirs, &others));
+    come(rt, &marks.arrived, 1);
+    pause(rt);
+    finishes_with(rt, cache, turn, outcome);
+    assert!(rt; come(rt, &marks.done, 1), "the other is answered");
+    let given = child?.join(rt).ok_or("an error")?;
+    if so_far(&marks.asks) > 0 {
+        return Ok(false);
+    }
+    assert_eq!(rt; *given, 9);
+    assert_eq!(rt; Arc::strong_count(error), 2, "it is shared, and not copied");
+    Ok(true)
+}
