@@ -21,7 +21,8 @@ pub struct OwnedKeyEntrySelector<'a, K: Hash + Drop, V: Clone, C: CacheTypes<K, 
     key: K,
 }
 
-/// As [`OwnedKeyEntrySelector`], of a key that is lent: it is copied where no value is live. [`Cache::entry_by_ref`] makes it.
+/// As [`OwnedKeyEntrySelector`], of a key that is lent, and copied at the call: by the forms of initializers where no value is
+/// live, by the others and by `or_insert_with_if` in any case. [`Cache::entry_by_ref`] makes it.
 pub struct RefKeyEntrySelector<'a, K: Hash + Drop, V: Clone, C: CacheTypes<K, V>, W> {
     cache: &'a Cache<K, V, C, W>,
     key: &'a K,
