@@ -68,16 +68,19 @@ pub fn bits_for(segments: usize) -> u32
     63
 }
 
-// How many segments so many bits name.
-fn count_of(bits: u32) -> usize
+/// How many segments so many bits name.
+pub fn count_of(bits: u32) -> usize
     requires { bits < 64 }
     ensures { result ≡ 2 ^ bits }
 {
     1 << bits
 }
 
-// What one of so many segments is made from: all that the whole is, but the name, with its share.
-fn share_of<K: Hash + Drop, V: Clone, C: CacheTypes<K, V>>(
+/// What one of so many segments is made from: all that the whole is, but the name, with its share of
+/// the capacity and of the initial capacity. The weigher, the expiry and the hasher are shared.
+///
+/// It asks that there is a segment. Refused for want of memory alone, of those three.
+pub fn share_of<K: Hash + Drop, V: Clone, C: CacheTypes<K, V>>(
     settings: &Settings<K, V, C>,
     count: usize,
 ) -> Result<Settings<K, V, C>, AllocError>

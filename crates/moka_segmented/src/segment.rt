@@ -247,8 +247,8 @@ impl<K: Hash + Drop, V: Clone, C: CacheTypes<K, V>, R: RowStore<K, V>> Segmented
     }
 }
 
-// The number of the segment of a hash, of 2 ^ bits segments.
-fn number_of_segment(bits: u32, hash: u64) -> usize
+/// The number of the segment of a hash, of `2 ^ bits` segments: what the hash's highest bits are.
+pub fn number_of_segment(bits: u32, hash: u64) -> usize
     requires { bits < 64 }
     ensures is { result ≡ segment_of bits hash }
     ensures within { result < 2 ^ bits }
