@@ -134,8 +134,8 @@ fn share_of_capacity(capacity: Option<u64>, count: u64) -> Option<u64>
     }
 }
 
-// Shares once more what is shared already, where there is something.
-fn shared_again<T: Drop>(value: &Option<Arc<T>>) -> Result<Option<Arc<T>>, AllocError>
+/// Shares once more what is shared already, where there is something. Refused for want of memory alone.
+pub fn shared_again<T: Drop>(value: &Option<Arc<T>>) -> Result<Option<Arc<T>>, AllocError>
     ensures { IfOk result (λ copy. option_map arc_value copy ≡ option_map arc_value value.now) }
 {
     match value {
