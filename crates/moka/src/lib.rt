@@ -42,6 +42,7 @@ pub mod sync {
     pub use moka_sync::cache::Cache;
     pub use moka_sync::concurrent_cache_ext::ConcurrentCacheExt;
     pub use moka_sync::entry_selector::{OwnedKeyEntrySelector, RefKeyEntrySelector};
+    pub use moka_sync::segment::SegmentedCache;
     pub use moka_walks::iter::Iter;
 
     /// Turns: one caller works out a value for a key, while others wait for what comes of it.

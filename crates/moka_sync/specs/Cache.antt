@@ -19,11 +19,13 @@ pub record CacheData (K V H W X F E L T : Type 0) : Type 0 where
   pub clock : T
   pub listener : Option L
 
--- The cache is what a builder makes that was told this: its state has these settings, with this hasher, it looks at this
--- clock, and it has this listener.
+-- Its state has these settings, it looks at this clock, and it has this listener.
+abbrev pub IsMadeOf : {K V H W X F E L T : Type 0} → SettingsData H W X → T → Option L → CacheData K V H W X F E L T → Type 0
+IsMadeOf settings clock listener cache = (cache.opening.settings ≡ settings) × (cache.clock ≡ clock) × (cache.listener ≡ listener)
+
+-- The cache is what a builder makes that was told this, with this hasher and this clock.
 abbrev pub IsBuilt : {K V H W X F E L T : Type 0} → BuilderData W X L → H → T → CacheData K V H W X F E L T → Type 0
-IsBuilt told hasher clock cache =
-    (cache.opening.settings ≡ settings_built told hasher) × (cache.clock ≡ clock) × (cache.listener ≡ told.listener)
+IsBuilt told hasher clock cache = IsMadeOf (settings_built told hasher) clock told.listener cache
 
 -- a name and a policy show these settings
 abbrev pub Shows : {H W X : Type 0} → SettingsData H W X → Option (String Global) → Policy → Type 0

@@ -9,10 +9,9 @@ ghost use Rattle.moka_sync.specs.Cache.{IsBuilt};
 ghost use Rattle.moka_segments.specs.Segments.{share, bits_for};
 ghost use Rattle.moka_segmented.specs.SegmentedData.{data_of};
 
-use crate::cache::{Cache, Inside};
+use crate::cache::Cache;
 use crate::hearer::Hearer;
-use crate::locked::Locked;
-use crate::opened::Opened;
+use crate::opening::cache_of;
 use moka_policy::builder_utils::{BuildError, ensure_expirations, ensure_flush_limit};
 use moka_policy::policy::{CacheTypes, EvictionPolicy, Expiry, Listener, Weigher};
 use moka_segmented::opening::{bits_for, opened};
@@ -23,7 +22,7 @@ use moka_state::view::StateView;
 use std::alloc::Global;
 use std::hash::{Hash, RandomState};
 use std::marker::{Model, PhantomData};
-use std::sync::{Arc, Condvar};
+use std::sync::Arc;
 use std::time::Duration;
 
 // A cache's segment is named by some of the 64 bits of a hash.
@@ -60,7 +59,7 @@ pub struct CacheBuilder<K: Hash + Drop, V: Clone, C: CacheTypes<K, V>, T> {
     closures: bool,
     flush_limit: Option<u64>,
     first_number: u64,
-    num_segments: usize,
+    pub(crate) num_segments: usize,
     built: PhantomData<(K, V, T)>,
 }
 
@@ -345,49 +344,12 @@ impl<K: Hash + Drop, V: Clone, C: CacheTypes<K, V>> CacheBuilder<K, V, C, Single
         ensures refused { IfErr result (λ cause.
             cause ≡ unwrap_or (build_refused self) BuildError.OutOfMemory) }
     {
-        let inside = self.inside(alloc, hasher, clock)?;
-        Ok(Cache {
-            inside: share(alloc, inside)?,
-            waits,
-        })
-    }
-
-    // What the clones of a cache share.
-    fn inside(
-        self,
-        alloc: Global,
-        hasher: C::Hasher,
-        clock: C::Clock,
-    ) -> Result<Inside<K, V, C>, BuildError>
-        ensures settings { IfOk result (λ inside.
-            inside.locked.state.settings ≡ settings_built self hasher) }
-        ensures clock { IfOk result (λ inside. inside.locked.clock ≡ clock) }
-        ensures listener { IfOk result (λ inside.
-            option_map arc_value inside.listener ≡ self.listener) }
-        ensures empty { IfOk result (λ inside. ⟦<C as StateView<K, V>>⟧.stands_for
-            (⟦<C as StateView<K, V>>⟧.settings inside.locked.state.settings)
-            inside.locked.state []) }
-        ensures room { IfOk result (λ inside.
-            self.initial_capacity ≤ inside.locked.state.initial_room) }
-        ensures accepted { OnOk result (build_refused self ≡ None) }
-        ensures refused { IfErr result (λ cause.
-            cause ≡ unwrap_or (build_refused self) BuildError.OutOfMemory) }
-    {
         let told = self.limited()?;
         let name = copied(alloc, told.name.as_deref())?;
         let clock = share(alloc, clock)?;
         let (settings, listener) = told.settled(alloc, hasher)?;
         let listener = Hearer::shared(alloc, listener)?;
-        let state = state_of(alloc, settings)?;
-        let policy = state.policy();
-        Ok(Inside {
-            locked: Opened::new(Locked { state, clock }),
-            ended: Condvar::new(),
-            name,
-            policy,
-            listener,
-            alloc,
-        })
+        cache_of(alloc, settings, name, clock, listener, waits)
     }
 
     // The state, and the listener that is still to be given a place.
@@ -445,7 +407,7 @@ impl<K: Hash + Drop, V: Clone, C: CacheTypes<K, V>> CacheBuilder<K, V, C, Segmen
 
 impl<K: Hash + Drop, V: Clone, C: CacheTypes<K, V>, T> CacheBuilder<K, V, C, T> {
     // The same builder, where its lives and its flush limit are accepted.
-    fn limited(self) -> Result<Self, BuildError>
+    pub(crate) fn limited(self) -> Result<Self, BuildError>
         ensures same { IfOk result (λ builder. builder ≡ self) }
         ensures accepted { OnOk result (build_refused self ≡ None) }
         ensures refused { IfErr result (λ cause. Some cause ≡ build_refused self) }
@@ -456,7 +418,7 @@ impl<K: Hash + Drop, V: Clone, C: CacheTypes<K, V>, T> CacheBuilder<K, V, C, T> 
     }
 
     // What a state is made from, and the listener that is still to be given a place.
-    fn settled(
+    pub(crate) fn settled(
         self,
         alloc: Global,
         hasher: C::Hasher,
@@ -524,7 +486,7 @@ where
 }
 
 // A state of these settings. Refused for want of memory alone.
-fn state_of<K: Hash + Drop, V: Clone, C: CacheTypes<K, V>>(
+pub(crate) fn state_of<K: Hash + Drop, V: Clone, C: CacheTypes<K, V>>(
     alloc: Global,
     settings: Settings<K, V, C>,
 ) -> Result<CacheState<K, V, C>, BuildError>
@@ -557,8 +519,8 @@ fn shared<T: Drop>(alloc: Global, value: Option<T>) -> Result<Option<Arc<T>>, Bu
     }
 }
 
-// Shares a value.
-fn share<T: Drop>(alloc: Global, value: T) -> Result<Arc<T>, BuildError>
+// Shares a value. Refused for want of memory alone.
+pub(crate) fn share<T: Drop>(alloc: Global, value: T) -> Result<Arc<T>, BuildError>
     ensures shared { IfOk result (λ shared. arc_value shared ≡ value) }
     ensures cause { IfErr result (λ cause. cause ≡ BuildError.OutOfMemory) }
 {

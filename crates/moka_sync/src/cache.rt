@@ -24,11 +24,11 @@ use std::alloc::{AllocError, Global};
 use std::fmt::{self, Debug, Formatter, Write};
 use std::hash::{Hash, RandomState};
 use std::marker::Model;
-use std::sync::{Arc, Condvar, Wait};
+use std::sync::{Arc, Condvar, MutexGuard, Wait};
 
 /// What all clones of a cache share. The name and the policy are those of the state that went under the lock.
 #[derive(Drop)]
-pub(crate) struct Inside<K: Hash + Drop, V: Clone, C: CacheTypes<K, V>> {
+pub(crate) struct Inside<K: Hash + Drop, V: Clone, C: CacheTypes<K, V>, W> {
     pub locked: Opened<Locked<K, V, C>>,
     /// Who waits for another's turn sleeps here until one has ended.
     pub ended: Condvar,
@@ -36,6 +36,7 @@ pub(crate) struct Inside<K: Hash + Drop, V: Clone, C: CacheTypes<K, V>> {
     pub policy: Policy,
     pub listener: Option<Arc<Hearer<K, V, C>>>,
     pub alloc: Global,
+    pub waits: W,
     ghost shows: { Shows locked.state.settings name policy },
 }
 
@@ -46,8 +47,7 @@ pub(crate) struct Inside<K: Hash + Drop, V: Clone, C: CacheTypes<K, V>> {
 /// lock; initializers, the closures of computes and the listener are called outside of it, so they may use the cache.
 #[derive(Drop)]
 pub struct Cache<K: Hash + Drop, V: Clone, C: CacheTypes<K, V>, W> {
-    pub(crate) inside: Arc<Inside<K, V, C>>,
-    pub(crate) waits: W,
+    pub(crate) inside: Arc<Inside<K, V, C, W>>,
 }
 
 impl<K: Hash + Drop, V: Clone, C: CacheTypes<K, V>, W> Model for Cache<K, V, C, W> {
@@ -60,13 +60,12 @@ impl<K: Hash + Drop, V: Clone, C: CacheTypes<K, V>, W> Model for Cache<K, V, C, 
     } };
 }
 
-impl<K: Hash + Drop, V: Clone, C: CacheTypes<K, V>, W: Clone> Clone for Cache<K, V, C, W> {
+impl<K: Hash + Drop, V: Clone, C: CacheTypes<K, V>, W: Drop> Clone for Cache<K, V, C, W> {
     ghost is_clone = { λ cache copy. copy ≡ cache };
 
     fn clone(&self) -> Result<Self, AllocError> {
         Ok(Cache {
             inside: self.inside.clone()?,
-            waits: self.waits.clone()?,
         })
     }
 }
@@ -143,12 +142,12 @@ impl<K: Hash + Drop, V: Clone, C: CacheTypes<K, V>, W: Wait> Cache<K, V, C, W> {
         ensures kept { IfOk result (λ found. IfSome found (C.keeps key.now)) }
         ensures cause { IfErr result (λ cause. cause ≡ Refused.OutOfMemory) }
     {
-        self.inside.locked.lock(&self.waits).get(key)
+        self.lock().get(key)
     }
 
     /// Whether a key has a live value. It is no use of the value, records nothing, and takes no memory.
     pub fn contains_key(&self, key: &K) -> bool {
-        self.inside.locked.lock(&self.waits).contains_key(key)
+        self.lock().contains_key(key)
     }
 
     /// Writes a value for a key. The value that stands for the key, live or expired, leaves. Where 64 keys wait, a
@@ -163,7 +162,7 @@ impl<K: Hash + Drop, V: Clone, C: CacheTypes<K, V>, W: Wait> Cache<K, V, C, W> {
         ensures cause { IfErr result (λ refused.
             (refused.cause ≡ Refused.OutOfMemory) ⊎ (refused.cause ≡ Refused.NumbersUsedUp)) }
     {
-        let mut locked = self.inside.locked.lock(&self.waits);
+        let mut locked = self.lock();
         let done = locked.insert(key, value);
         let gone = locked.take_gone();
         drop(locked);
@@ -180,7 +179,7 @@ impl<K: Hash + Drop, V: Clone, C: CacheTypes<K, V>, W: Wait> Cache<K, V, C, W> {
         ensures kept { IfOk result (EntryKeeps C.keeps (arc_value key.now)) }
         ensures value_back { IfErr result (λ refused. refused.value ≡ value) }
     {
-        let mut locked = self.inside.locked.lock(&self.waits);
+        let mut locked = self.lock();
         let done = locked.or_insert(key, value);
         let gone = locked.take_gone();
         drop(locked);
@@ -190,7 +189,7 @@ impl<K: Hash + Drop, V: Clone, C: CacheTypes<K, V>, W: Wait> Cache<K, V, C, W> {
 
     /// Removes a key, where it is stored. Its value, live or expired, leaves. It takes no memory.
     pub fn invalidate(&self, key: &K) {
-        let mut locked = self.inside.locked.lock(&self.waits);
+        let mut locked = self.lock();
         locked.invalidate(key);
         let gone = locked.take_gone();
         drop(locked);
@@ -205,7 +204,7 @@ impl<K: Hash + Drop, V: Clone, C: CacheTypes<K, V>, W: Wait> Cache<K, V, C, W> {
         ensures kept { IfOk result (λ found. IfSome found (C.keeps key.now)) }
         ensures cause { IfErr result (λ cause. cause ≡ Refused.OutOfMemory) }
     {
-        let mut locked = self.inside.locked.lock(&self.waits);
+        let mut locked = self.lock();
         let found = locked.remove(key);
         let gone = locked.take_gone();
         drop(locked);
@@ -216,7 +215,7 @@ impl<K: Hash + Drop, V: Clone, C: CacheTypes<K, V>, W: Wait> Cache<K, V, C, W> {
     /// Removes all keys: no value that stood is found from then on. Each leaves at a maintenance, or where its key is
     /// written or removed. It takes no memory, and visits each row.
     pub fn invalidate_all(&self) {
-        self.inside.locked.lock(&self.waits).invalidate_all();
+        self.lock().invalidate_all();
     }
 
     /// Hides each value of which a predicate holds, and answers a new id, made of what the generator draws. What is written
@@ -231,10 +230,7 @@ impl<K: Hash + Drop, V: Clone, C: CacheTypes<K, V>, W: Wait> Cache<K, V, C, W> {
     ) -> Result<PredicateId, PredicateError>
         requires tests { C.Predicate.tests predicate (C.test predicate) }
     {
-        self.inside
-            .locked
-            .lock(&self.waits)
-            .invalidate_entries_if(predicate, generator)
+        self.lock().invalidate_entries_if(predicate, generator)
     }
 
     /// As [`Cache::invalidate_entries_if`] for a predicate that is shared already, without an id. It takes no memory, so it
@@ -247,15 +243,12 @@ impl<K: Hash + Drop, V: Clone, C: CacheTypes<K, V>, W: Wait> Cache<K, V, C, W> {
         ensures cause { IfErr result
             (λ cause. cause ≡ PredicateError.InvalidationClosuresDisabled) }
     {
-        self.inside
-            .locked
-            .lock(&self.waits)
-            .invalidate_entries_with_arc_fun(predicate)
+        self.lock().invalidate_entries_with_arc_fun(predicate)
     }
 
     /// Runs a maintenance, as a state does. The listener is told of what left once the lock is let go.
     pub fn run_pending_tasks(&self) {
-        let mut locked = self.inside.locked.lock(&self.waits);
+        let mut locked = self.lock();
         locked.run_pending_tasks();
         let gone = locked.take_gone();
         drop(locked);
@@ -264,7 +257,7 @@ impl<K: Hash + Drop, V: Clone, C: CacheTypes<K, V>, W: Wait> Cache<K, V, C, W> {
 
     /// Runs a maintenance within a limit on how many may leave, and answers whether it left a part undone.
     pub fn run_pending_tasks_up_to(&self, limit: u64) -> bool {
-        let mut locked = self.inside.locked.lock(&self.waits);
+        let mut locked = self.lock();
         let is_cut = locked.run_pending_tasks_up_to(limit);
         let gone = locked.take_gone();
         drop(locked);
@@ -274,12 +267,26 @@ impl<K: Hash + Drop, V: Clone, C: CacheTypes<K, V>, W: Wait> Cache<K, V, C, W> {
 
     /// How many keys are stored, with those that wait and those whose values are expired.
     pub fn entry_count(&self) -> u64 {
-        self.inside.locked.lock(&self.waits).entry_count()
+        self.lock().entry_count()
     }
 
     /// How heavy all that is stored is, up to `u64::MAX`.
     pub fn weighted_size(&self) -> u64 {
-        self.inside.locked.lock(&self.waits).weighted_size()
+        self.lock().weighted_size()
+    }
+
+    // As `invalidate_entries_with_arc_fun` for a predicate that is lent.
+    pub(crate) fn hide_where(&self, predicate: &C::Predicate) -> Result<(), PredicateError>
+        requires tests { C.Predicate.tests predicate.now (C.test predicate.now) }
+        ensures cause { IfErr result
+            (λ cause. cause ≡ PredicateError.InvalidationClosuresDisabled) }
+    {
+        self.lock().hide_where(predicate)
+    }
+
+    // What stands under the lock, once nobody else has it.
+    pub(crate) fn lock(&self) -> MutexGuard<'_, Locked<K, V, C>> {
+        self.inside.locked.lock(&self.inside.waits)
     }
 
     // Tells the listener of what left, with no lock held: of the first notice, and of so many others at most, each taken
@@ -293,7 +300,7 @@ impl<K: Hash + Drop, V: Clone, C: CacheTypes<K, V>, W: Wait> Cache<K, V, C, W> {
         };
         self.tell(first);
         for _ in 0..others {
-            let next = self.inside.locked.lock(&self.waits).take_notice();
+            let next = self.lock().take_notice();
             let Some(notice) = next else {
                 return;
             };
@@ -318,7 +325,7 @@ impl<K: Hash + Drop, V: Clone + Default, C: CacheTypes<K, V>, W: Wait> Cache<K, 
         requires { (value : V) → V.is_default value → C.keeps key value }
         ensures kept { IfOk result (EntryKeeps C.keeps key) }
     {
-        let mut locked = self.inside.locked.lock(&self.waits);
+        let mut locked = self.lock();
         let done = locked.or_default(key);
         let gone = locked.take_gone();
         drop(locked);

@@ -1,6 +1,7 @@
 //! What shared caches have in common beside their calls.
 
 use crate::cache::Cache;
+use crate::segment::SegmentedCache;
 use moka_policy::policy::CacheTypes;
 use std::hash::Hash;
 use std::sync::Wait;
@@ -13,6 +14,13 @@ pub trait ConcurrentCacheExt<K, V> {
 
 impl<K: Hash + Drop, V: Clone, C: CacheTypes<K, V>, W: Wait> ConcurrentCacheExt<K, V>
     for Cache<K, V, C, W> {
+    fn sync(&self) {
+        self.run_pending_tasks();
+    }
+}
+
+impl<K: Hash + Drop, V: Clone, C: CacheTypes<K, V>, W: Wait> ConcurrentCacheExt<K, V>
+    for SegmentedCache<K, V, C, W> {
     fn sync(&self) {
         self.run_pending_tasks();
     }

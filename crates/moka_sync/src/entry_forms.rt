@@ -32,7 +32,7 @@ impl<K: Hash + Drop, V: Clone, C: CacheTypes<K, V>, W: Wait> Cache<K, V, C, W> {
         requires asks { IfSome replace_if (λ f. F.IsAlwaysCallable f) }
         ensures { IfOk result (λ found. IfSome found (EntryKeeps C.keeps key.now)) }
     {
-        self.inside.locked.lock(&self.waits).look(key, replace_if)
+        self.lock().look(key, replace_if)
     }
 
     // A value that several may hold. Refused for want of memory alone.

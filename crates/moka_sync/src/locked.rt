@@ -141,6 +141,20 @@ impl<K: Hash + Drop, V: Clone, C: CacheTypes<K, V>> Locked<K, V, C> {
         self.state.invalidate_entries_with_arc_fun(predicate)
     }
 
+    // As `invalidate_entries_with_arc_fun` for a predicate that is lent.
+    pub(crate) fn hide_where(&mut self, predicate: &C::Predicate) -> Result<(), PredicateError>
+        requires tests { C.Predicate.tests predicate.now (C.test predicate.now) }
+        ensures step { OnOk result (⟦<C as StateView<K, V>>⟧.follows self.old.state
+            (InvalidateIf (C.test predicate.now)) self.new.state) }
+        ensures cause { IfErr result
+            (λ cause. cause ≡ PredicateError.InvalidationClosuresDisabled) }
+        ensures refused { OnErr result (self.new.state ≡ self.old.state) }
+    {
+        self.state.predicate_room()?;
+        self.state.hide_where(predicate);
+        Ok(())
+    }
+
     pub(crate) fn run_pending_tasks(&mut self)
         ensures { AtToldMoment (C.Clock.tells self.old.clock) (λ now.
             ⟦<C as StateView<K, V>>⟧.follows self.old.state (RunPendingTasks now) self.new.state) }

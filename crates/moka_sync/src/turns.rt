@@ -37,10 +37,7 @@ impl<K: Hash + Drop, V: Clone, C: CacheTypes<K, V>, W: Wait> Cache<K, V, C, W> {
         ensures kept { IfOk result (FoundKeeps C.keeps) }
         ensures kept_for { IfOk result (FoundKeepsFor C.keeps (arc_value key.now)) }
     {
-        self.inside
-            .locked
-            .lock(&self.waits)
-            .begin(key, kind, replace_if)
+        self.lock().begin(key, kind, replace_if)
     }
 
     /// Begins a compute of a key, as a state's `begin_compute` does: answers a turn, with the entry of the live value, if
@@ -51,10 +48,7 @@ impl<K: Hash + Drop, V: Clone, C: CacheTypes<K, V>, W: Wait> Cache<K, V, C, W> {
         ensures named { IfOk result (IsCompute (arc_value key.now)) }
         ensures kept { IfOk result (ShownKeepsFor C.keeps (arc_value key.now)) }
     {
-        self.inside
-            .locked
-            .lock(&self.waits)
-            .begin_compute(key, keep)
+        self.lock().begin_compute(key, keep)
     }
 
     /// Ends a turn with what its initializer gave, as a state's `finish` does, and wakes those who wait for it.
@@ -74,7 +68,7 @@ impl<K: Hash + Drop, V: Clone, C: CacheTypes<K, V>, W: Wait> Cache<K, V, C, W> {
         ensures turn_back { IfErr result (λ refused. turn_name refused.turn ≡ turn_name turn) }
         ensures outcome_back { IfErr result (λ refused. refused.outcome ≡ outcome) }
     {
-        let mut locked = self.inside.locked.lock(&self.waits);
+        let mut locked = self.lock();
         let done = locked.finish(turn, outcome);
         let gone = locked.take_gone();
         drop(locked);
@@ -90,7 +84,7 @@ impl<K: Hash + Drop, V: Clone, C: CacheTypes<K, V>, W: Wait> Cache<K, V, C, W> {
     pub fn abandon(&self, turn: Turn<K>) -> Result<(), Refused>
         ensures cause { IfErr result (λ cause. cause ≡ Refused.UnknownTurn) }
     {
-        let done = self.inside.locked.lock(&self.waits).abandon(turn);
+        let done = self.lock().abandon(turn);
         self.inside.ended.notify_all();
         done
     }
@@ -102,7 +96,7 @@ impl<K: Hash + Drop, V: Clone, C: CacheTypes<K, V>, W: Wait> Cache<K, V, C, W> {
     pub fn leave(&self, ticket: Ticket<K>) -> Result<(), Refused>
         ensures cause { IfErr result (λ cause. cause ≡ Refused.UnknownTicket) }
     {
-        self.inside.locked.lock(&self.waits).leave(ticket)
+        self.lock().leave(ticket)
     }
 
     /// Asks what came of a turn, as a state's `collect` does: the ticket of an ended turn is spent, and answered a copy of
@@ -118,7 +112,7 @@ impl<K: Hash + Drop, V: Clone, C: CacheTypes<K, V>, W: Wait> Cache<K, V, C, W> {
         ensures handed_back { IfErr result (λ refused.
             ticket_name refused.ticket ≡ ticket_name ticket) }
     {
-        self.inside.locked.lock(&self.waits).collect(ticket)
+        self.lock().collect(ticket)
     }
 }
 
@@ -138,9 +132,6 @@ impl<K: Hash + Clone + Drop, V: Clone, C: CacheTypes<K, V>, W: Wait> Cache<K, V,
         ensures kept { IfOk result (FoundKeeps C.keeps) }
         ensures kept_for { IfOk result (FoundKeepsFor C.keeps key.now) }
     {
-        self.inside
-            .locked
-            .lock(&self.waits)
-            .begin_by_ref(key, kind, replace_if)
+        self.lock().begin_by_ref(key, kind, replace_if)
     }
 }

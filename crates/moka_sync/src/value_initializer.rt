@@ -225,10 +225,10 @@ impl<K: Hash + Drop, V: Clone, C: CacheTypes<K, V>, W: Wait> Cache<K, V, C, W> {
         ensures kept { IfOk result (CollectedKeeps C.keeps (arc_value ticket.key.key)) }
         ensures fits { IfOk result (CollectedFits ticket.key.kind) }
     {
-        let mut locked = self.inside.locked.lock(&self.waits);
+        let mut locked = self.lock();
         match locked.collect(ticket) {
             Ok(Collected::NotYet(ticket)) => {
-                drop(self.inside.ended.wait(&self.waits, locked));
+                drop(self.inside.ended.wait(&self.inside.waits, locked));
                 Ok(Collected::NotYet(ticket))
             }
             Ok(collected) => Ok(collected),
@@ -254,7 +254,7 @@ impl<K: Hash + Drop, V: Clone, C: CacheTypes<K, V>, W: Wait> Cache<K, V, C, W> {
         ensures { IfOk result (AskedKeeps C.keeps kind (arc_value key)) }
     {
         let mut caller = Initializer::new(key, kind, replace_if);
-        match wait_for(&self.waits, &mut caller, self, Some(MAX_RETRIES)) {
+        match wait_for(&self.inside.waits, &mut caller, self, Some(MAX_RETRIES)) {
             Ok(Waited::Value(answer)) => Ok(Asked::Answer(answer)),
             Ok(Waited::Turn(turn)) => Ok(Asked::Turn(turn)),
             Ok(Waited::TooMany) => Err(Refused::WaitsAbandoned),
@@ -267,7 +267,7 @@ impl<K: Hash + Drop, V: Clone, C: CacheTypes<K, V>, W: Wait> Cache<K, V, C, W> {
         ensures { IfOk result (IsShownTurn C.keeps (arc_value key)) }
     {
         let mut caller = Computer { key, keep };
-        match wait_for(&self.waits, &mut caller, self, None) {
+        match wait_for(&self.inside.waits, &mut caller, self, None) {
             Ok(Waited::Turn(turn)) => Ok(turn),
             Ok(Waited::Value(())) => unreachable!(),
             Ok(Waited::TooMany) => unreachable!(),

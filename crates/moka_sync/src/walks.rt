@@ -1,10 +1,12 @@
 //! What walks ask of a shared cache. A walk holds no lock between two of its steps.
-ghost use Rattle.std.specs.Prelude.{◌≡◌};
+ghost use Rattle.std.specs.Prelude.{◌≡◌, ◌∷◌, []};
+ghost use Rattle.moka_walks.specs.Walks.{start};
 
 use crate::cache::Cache;
 use moka_policy::policy::{CacheTypes, Refused};
-use moka_walks::iter::ScanningGet;
+use moka_walks::iter::{Iter, ScanningGet};
 use std::hash::Hash;
+use std::slice;
 use std::sync::{Arc, Wait};
 
 impl<K: Hash + Drop, V: Clone, C: CacheTypes<K, V>, W: Wait> ScanningGet<K, V>
@@ -20,13 +22,50 @@ impl<K: Hash + Drop, V: Clone, C: CacheTypes<K, V>, W: Wait> ScanningGet<K, V>
     }
 
     fn scanning_get(&self, key: &Arc<K>) -> Result<Option<V>, Refused> {
-        self.inside.locked.lock(&self.waits).scan_get(&**key)
+        self.lock().scan_get(&**key)
     }
 
     fn keys(&self, segment: usize) -> Result<Option<Vec<Arc<K>>>, Refused> {
         if segment != 0 {
             return Ok(None);
         }
-        Ok(Some(self.inside.locked.lock(&self.waits).keys()?))
+        Ok(Some(self.lock().keys()?))
+    }
+}
+
+impl<K: Hash + Drop, V: Clone, C: CacheTypes<K, V>, W: Wait> Cache<K, V, C, W> {
+    /// A walk over the pairs that are live when they come, each key once at most, in no order. It takes the lock at each step
+    /// and holds none between two of them, so the cache may be used meanwhile. A key that stands from the start to the end
+    /// comes; one that is written later may come or not.
+    ///
+    /// A step is refused for want of memory, for the list of the keys and for the copies; the walk then goes on.
+    ///
+    /// ```
+    /// for pair in cache.iter() {
+    ///     let (key, value) = pair?;
+    /// }
+    /// ```
+    pub fn iter(&self) -> Iter<'_, K, V, Cache<K, V, C, W>>
+        ensures caches { result.caches ≡ self.entry.now ∷ [] }
+        ensures start { result.cursor ≡ start }
+    {
+        Iter::new(slice::from_ref(self))
+    }
+}
+
+impl<'i, K: Hash + Drop, V: Clone, C: CacheTypes<K, V>, W: Wait> IntoIterator
+    for &'i Cache<K, V, C, W> {
+    ghost use Rattle.std.specs.Prelude.{◌≡◌, ◌∷◌, []};
+    ghost use Rattle.moka_walks.specs.Walks.{start};
+
+    type Item = Result<(Arc<K>, V), Refused>;
+
+    type IntoIter = Iter<'i, K, V, Cache<K, V, C, W>>;
+
+    ghost into_iter_gives = { λ cache walk. (walk.caches ≡ cache.now ∷ []) × (walk.cursor ≡ start) };
+
+    /// As [`Cache::iter`].
+    fn into_iter(self) -> Iter<'i, K, V, Cache<K, V, C, W>> {
+        self.iter()
     }
 }

@@ -1,5 +1,0 @@
-use Rattle.moka_sync.proofs.builder.CacheBuilder+K+V+C+Single.inside.Goals as goal
-
--- The state under the lock is the one that was opened.
-pub returns-clause-empty : goal.returns-clause-empty
-returns-clause-empty g c = rw c.new.ensures c.in_ok-state.ensures.empty

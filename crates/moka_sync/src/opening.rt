@@ -1,0 +1,216 @@
+//! Makes the caches that threads share, of what their builder was told.
+ghost use Rattle.std.specs.Prelude.{◌≡◌, ◌≢◌, ◌<◌, ◌≤◌, ◌^◌, [], Some, None, length, option_map, unwrap_or, IfSome, IfOk, IfErr, IsSome, OnOk};
+ghost use Rattle.std.specs.Arc.{arc_value};
+ghost use Rattle.std.specs.List.{AllByRecursion};
+ghost use Rattle.std.specs.String.{string_bytes};
+ghost use Rattle.moka_segments.specs.Segments.{share, bits_for};
+ghost use Rattle.moka_segmented.specs.SegmentedData.{data_of};
+ghost use Rattle.moka_sync.specs.Builder.{build_refused, settings_built};
+ghost use Rattle.moka_sync.specs.Cache.{IsMadeOf};
+ghost use Rattle.moka_sync.specs.Segments.{AreMadeOf, IsBuiltInSegments, settings_of_one};
+
+use crate::builder::{CacheBuilder, Segmented, share, state_of};
+use crate::cache::{Cache, Inside};
+use crate::hearer::Hearer;
+use crate::locked::Locked;
+use crate::opened::Opened;
+use crate::segment::{AllSegments, SegmentedCache};
+use moka_policy::builder_utils::BuildError;
+use moka_policy::policy::CacheTypes;
+use moka_segmented::opening::{bits_for, count_of, share_of, shared_again};
+use moka_state::state::Settings;
+use moka_state::view::StateView;
+use std::alloc::Global;
+use std::hash::{Hash, RandomState};
+use std::sync::{Arc, Condvar};
+
+// A cache without values of these settings, which are named so. Refused for want of memory alone.
+pub(crate) fn cache_of<K: Hash + Drop, V: Clone, C: CacheTypes<K, V>, W: Drop>(
+    alloc: Global,
+    settings: Settings<K, V, C>,
+    name: Option<String>,
+    clock: Arc<C::Clock>,
+    listener: Option<Arc<Hearer<K, V, C>>>,
+    waits: W,
+) -> Result<Cache<K, V, C, W>, BuildError>
+    requires named { option_map string_bytes name ≡ (data_of settings).name }
+    requires weighs { IfSome settings.weigher (λ weigher.
+        C.Weigher.weighs (arc_value weigher) (C.weight (arc_value weigher))) }
+    requires gives { IfSome settings.expiry (λ expiry.
+        C.Expiry.gives (arc_value expiry) (C.lifetimes (arc_value expiry))) }
+    requires limits { settings.flush_limit ≢ Some 0 }
+    requires unweighed { IsSome settings.flush_limit → settings.weigher ≡ None }
+    ensures made { IfOk result (IsMadeOf (data_of settings) (arc_value clock)
+        (option_map arc_value listener)) }
+    ensures empty { IfOk result (λ cache. ⟦<C as StateView<K, V>>⟧.stands_for
+        (⟦<C as StateView<K, V>>⟧.settings cache.opening.settings) cache.opening []) }
+    ensures room { IfOk result (λ cache.
+        settings.initial_capacity ≤ cache.opening.initial_room) }
+    ensures cause { IfErr result (λ cause. cause ≡ BuildError.OutOfMemory) }
+{
+    let state = state_of(alloc, settings)?;
+    let policy = state.policy();
+    let inside = Inside {
+        locked: Opened::new(Locked { state, clock }),
+        ended: Condvar::new(),
+        name,
+        policy,
+        listener,
+        alloc,
+        waits,
+    };
+    Ok(Cache {
+        inside: share(alloc, inside)?,
+    })
+}
+
+impl<K: Hash + Drop, V: Clone, C: CacheTypes<K, V>> CacheBuilder<K, V, C, Segmented> {
+    /// A cache without values, of these settings, that threads share, of as many segments as were wanted, or of the next
+    /// power of two. Each has its share of the capacity and of the initial capacity, and a source of frequencies of its own.
+    /// It hashes keys by this hasher, and its calls are at the moments that the clock tells; a copy of `waits` lets each lock
+    /// wait.
+    ///
+    /// Refused as [`CacheBuilder::build_segmented_state`] is.
+    pub fn build_with_hasher<W: Clone + Drop>(
+        self,
+        alloc: Global,
+        hasher: C::Hasher,
+        clock: C::Clock,
+        waits: W,
+    ) -> Result<SegmentedCache<K, V, C, W>, BuildError>
+        ensures built { IfOk result (IsBuiltInSegments self hasher clock) }
+        ensures empty { IfOk result (λ cache. AllByRecursion (λ segment.
+            ⟦<C as StateView<K, V>>⟧.stands_for
+            (⟦<C as StateView<K, V>>⟧.settings segment.opening.settings) segment.opening [])
+            cache.segments) }
+        ensures room { IfOk result (λ cache. AllByRecursion (λ segment.
+            share (2 ^ bits_for self.num_segments) self.initial_capacity
+            ≤ segment.opening.initial_room) cache.segments) }
+        ensures accepted { OnOk result (build_refused self ≡ None) }
+        ensures refused { IfErr result (λ cause.
+            cause ≡ unwrap_or (build_refused self) BuildError.OutOfMemory) }
+    {
+        let bits = bits_for(self.num_segments);
+        let told = self.limited()?;
+        let clock = share(alloc, clock)?;
+        let (settings, listener) = told.settled(alloc, hasher)?;
+        let listener = Hearer::shared(alloc, listener)?;
+        let segments = segments_of(alloc, &settings, bits, &clock, &listener, &waits)?;
+        let inside = AllSegments {
+            settings,
+            bits,
+            segments,
+        };
+        Ok(SegmentedCache {
+            inside: share(alloc, inside)?,
+        })
+    }
+}
+
+impl<K, V, C> CacheBuilder<K, V, C, Segmented>
+where
+    K: Hash + Drop,
+    V: Clone,
+    C: CacheTypes<K, V, Hasher = RandomState>,
+{
+    /// A cache without values, of these settings, that threads share, of several segments, and of keys that an attacker may
+    /// pick. It is [`CacheBuilder::build_with_hasher`] with this hasher.
+    pub fn build<W: Clone + Drop>(
+        self,
+        alloc: Global,
+        hasher: RandomState,
+        clock: C::Clock,
+        waits: W,
+    ) -> Result<SegmentedCache<K, V, C, W>, BuildError>
+        ensures built { IfOk result (IsBuiltInSegments self hasher clock) }
+        ensures empty { IfOk result (λ cache. AllByRecursion (λ segment.
+            ⟦<C as StateView<K, V>>⟧.stands_for
+            (⟦<C as StateView<K, V>>⟧.settings segment.opening.settings) segment.opening [])
+            cache.segments) }
+        ensures room { IfOk result (λ cache. AllByRecursion (λ segment.
+            share (2 ^ bits_for self.num_segments) self.initial_capacity
+            ≤ segment.opening.initial_room) cache.segments) }
+        ensures accepted { OnOk result (build_refused self ≡ None) }
+        ensures refused { IfErr result (λ cause.
+            cause ≡ unwrap_or (build_refused self) BuildError.OutOfMemory) }
+    {
+        self.build_with_hasher(alloc, hasher, clock, waits)
+    }
+}
+
+// The segments of a cache of these settings, that look at one clock and have one listener. Refused for want of memory alone.
+fn segments_of<K: Hash + Drop, V: Clone, C: CacheTypes<K, V>, W: Clone + Drop>(
+    alloc: Global,
+    settings: &Settings<K, V, C>,
+    bits: u32,
+    clock: &Arc<C::Clock>,
+    listener: &Option<Arc<Hearer<K, V, C>>>,
+    waits: &W,
+) -> Result<Vec<Cache<K, V, C, W>>, BuildError>
+    requires bits { bits < 64 }
+    requires weighs { IfSome settings.now.weigher (λ weigher.
+        C.Weigher.weighs (arc_value weigher) (C.weight (arc_value weigher))) }
+    requires gives { IfSome settings.now.expiry (λ expiry.
+        C.Expiry.gives (arc_value expiry) (C.lifetimes (arc_value expiry))) }
+    requires limits { settings.now.flush_limit ≢ Some 0 }
+    requires unweighed { IsSome settings.now.flush_limit → settings.now.weigher ≡ None }
+    ensures count { IfOk result (λ segments. length segments.items ≡ 2 ^ bits) }
+    ensures made { IfOk result (λ segments. AreMadeOf bits (data_of settings.now)
+        (arc_value clock.now) (option_map arc_value listener.now) segments.items) }
+    ensures empty { IfOk result (λ segments. AllByRecursion (λ segment.
+        ⟦<C as StateView<K, V>>⟧.stands_for
+        (⟦<C as StateView<K, V>>⟧.settings segment.opening.settings) segment.opening [])
+        segments.items) }
+    ensures room { IfOk result (λ segments. AllByRecursion (λ segment.
+        share (2 ^ bits) settings.now.initial_capacity ≤ segment.opening.initial_room)
+        segments.items) }
+    ensures cause { IfErr result (λ cause. cause ≡ BuildError.OutOfMemory) }
+{
+    let count = count_of(bits);
+    let Ok(mut segments) = Vec::with_capacity(alloc, count) else {
+        return Err(BuildError::OutOfMemory);
+    };
+    for _ in 0..count {
+        segments.push_reserved(one_of(alloc, settings, count, clock, listener, waits)?);
+    }
+    Ok(segments)
+}
+
+// One of so many segments.
+fn one_of<K: Hash + Drop, V: Clone, C: CacheTypes<K, V>, W: Clone + Drop>(
+    alloc: Global,
+    settings: &Settings<K, V, C>,
+    count: usize,
+    clock: &Arc<C::Clock>,
+    listener: &Option<Arc<Hearer<K, V, C>>>,
+    waits: &W,
+) -> Result<Cache<K, V, C, W>, BuildError>
+    requires some { 0 < count }
+    requires weighs { IfSome settings.now.weigher (λ weigher.
+        C.Weigher.weighs (arc_value weigher) (C.weight (arc_value weigher))) }
+    requires gives { IfSome settings.now.expiry (λ expiry.
+        C.Expiry.gives (arc_value expiry) (C.lifetimes (arc_value expiry))) }
+    requires limits { settings.now.flush_limit ≢ Some 0 }
+    requires unweighed { IsSome settings.now.flush_limit → settings.now.weigher ≡ None }
+    ensures made { IfOk result (IsMadeOf (settings_of_one count (data_of settings.now))
+        (arc_value clock.now) (option_map arc_value listener.now)) }
+    ensures empty { IfOk result (λ cache. ⟦<C as StateView<K, V>>⟧.stands_for
+        (⟦<C as StateView<K, V>>⟧.settings cache.opening.settings) cache.opening []) }
+    ensures room { IfOk result (λ cache.
+        share count settings.now.initial_capacity ≤ cache.opening.initial_room) }
+    ensures cause { IfErr result (λ cause. cause ≡ BuildError.OutOfMemory) }
+{
+    let Ok(share) = share_of(settings, count) else {
+        return Err(BuildError::OutOfMemory);
+    };
+    let Ok(clock) = clock.clone() else {
+        return Err(BuildError::OutOfMemory);
+    };
+    let Ok(listener) = shared_again(listener) else {
+        return Err(BuildError::OutOfMemory);
+    };
+    let Ok(waits) = waits.clone() else {
+        return Err(BuildError::OutOfMemory);
+    };
+    cache_of(alloc, share, None, clock, listener, waits)
+}
