@@ -43,6 +43,16 @@ fn one_more(shown: Option<Entry<u64, u64>>) -> u64 {
     }
 }
 
+// Adds up what is cached, a page after another. Others may use the cache meanwhile.
+fn cached<W: Wait + Drop>(cache: &Pages<W>) -> Result<u64> {
+    let mut sum = 0_u64;
+    for pair in cache.iter() {
+        let (_, page) = pair?;
+        sum = sum.wrapping_add(page);
+    }
+    Ok(sum)
+}
+
 /// Runs the example. A program's own `main` alone has a runtime that may wait and start threads, and hands it in.
 pub fn main<R: Runtime + AllocGlobal + Wait + Threads + Copy + Send + 'static>(
     rt: R,
@@ -61,5 +71,6 @@ pub fn main<R: Runtime + AllocGlobal + Wait + Threads + Copy + Send + 'static>(
     println!(rt; "{ours} and {others}")?;
     visit(&cache, 100)?;
     println!(rt; "visits: {}", visit(&cache, 100)?)?;
+    println!(rt; "cached: {}", cached(&cache)?)?;
     Ok(())
 }

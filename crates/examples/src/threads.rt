@@ -1,16 +1,16 @@
-//! Two threads that share a cache: what either wrote both find.
+//! Two threads that share a cache of four segments: what either wrote both find.
 
 use anyhow::Result;
 use moka::policy::ManualClock;
 use moka::ready::{FoldState, Plain};
-use moka::sync::{Cache, CacheBuilder};
+use moka::sync::{CacheBuilder, SegmentedCache};
 use std::rt::Runtime;
 use std::sync::{Arc, Wait};
 use std::thread;
 use std::thread::Threads;
 
 /// Squares by their roots.
-type Squares<W> = Cache<u64, u64, Plain<Arc<ManualClock>>, W>;
+type Squares<W> = SegmentedCache<u64, u64, Plain<Arc<ManualClock>>, W>;
 
 // Writes the squares of sixteen numbers, from this one on.
 fn fill<W: Wait + Drop>(squares: &Squares<W>, first: u64) -> Result<()> {
@@ -25,12 +25,9 @@ pub fn main<R: Runtime + AllocGlobal + Wait + Threads + Copy + Send + 'static>(
     rt: R,
 ) -> Result<()> {
     let clock = Arc::new(rt.alloc(), ManualClock::new(0))?;
-    let squares = CacheBuilder::new(100).build_with_hasher(
-        rt.alloc(),
-        FoldState::default(),
-        clock,
-        rt,
-    )?;
+    let squares = CacheBuilder::new(100)
+        .segments(4)?
+        .build_with_hasher(rt.alloc(), FoldState::default(), clock, rt)?;
     let theirs = squares.clone()?;
     let child = thread::spawn(&rt, move || fill(&theirs, 16))?;
     fill(&squares, 0)?;

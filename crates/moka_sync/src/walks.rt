@@ -42,7 +42,8 @@ impl<K: Hash + Drop, V: Clone, C: CacheTypes<K, V>, W: Wait> Cache<K, V, C, W> {
     ///
     /// ```
     /// for pair in cache.iter() {
-    ///     let (key, value) = pair?;
+    ///     let (_, page) = pair?;
+    ///     sum = sum.wrapping_add(page);
     /// }
     /// ```
     pub fn iter(&self) -> Iter<'_, K, V, Cache<K, V, C, W>>
