@@ -54,7 +54,7 @@ fn cached<W: Wait + Drop>(cache: &Pages<W>) -> Result<u64> {
 }
 
 /// Runs the example. A program's own `main` alone has a runtime that may wait and start threads, and hands it in.
-pub fn main<R: Runtime + AllocGlobal + Wait + Threads + Copy + Send + 'static>(
+pub fn main<R: Runtime + AllocGlobal + Wait + Threads + Copy + Send + Sync + 'static>(
     rt: R,
 ) -> Result<()> {
     let clock = Arc::new(rt.alloc(), ManualClock::new(0))?;

@@ -21,7 +21,7 @@ fn fill<W: Wait + Drop>(squares: &Squares<W>, first: u64) -> Result<()> {
 }
 
 /// Runs the example. A program's own `main` alone has a runtime that may wait and start threads, and hands it in.
-pub fn main<R: Runtime + AllocGlobal + Wait + Threads + Copy + Send + 'static>(
+pub fn main<R: Runtime + AllocGlobal + Wait + Threads + Copy + Send + Sync + 'static>(
     rt: R,
 ) -> Result<()> {
     let clock = Arc::new(rt.alloc(), ManualClock::new(0))?;

@@ -17,7 +17,7 @@ const THREADS: usize = 4;
 
 /// Prints, for the first three loads, the nanoseconds a call of a state alone and of the shared cache at one thread, and
 /// then of a map without a bound, of the kit's `lru` and of the shared cache where four threads share them; and the ratios.
-pub(crate) fn run<R: Runtime + Wait + Threads + Copy + Send + 'static>(
+pub(crate) fn run<R: Runtime + Wait + Threads + Copy + Send + Sync + 'static>(
     rt: R,
     alloc: Global,
     rounds: usize,
@@ -38,7 +38,7 @@ pub(crate) fn run<R: Runtime + Wait + Threads + Copy + Send + 'static>(
 }
 
 /// One run of each, one after another.
-fn round<R: Runtime + Wait + Threads + Copy + Send + 'static>(
+fn round<R: Runtime + Wait + Threads + Copy + Send + Sync + 'static>(
     rt: R,
     alloc: Global,
     load: &Load,
