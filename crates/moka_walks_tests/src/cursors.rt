@@ -1,9 +1,8 @@
 //! Walks by a cursor over states, to which something is done between two calls.
-use moka::common::iter::WalkCursor;
-use moka::policy::EvictionPolicy;
-use moka::ready::{FoldState, Plain};
-use moka::state::CacheState;
-use moka::sync::CacheBuilder;
+use moka_cursor::cursor::WalkCursor;
+use moka_policy::policy::EvictionPolicy;
+use moka_ready::ready::{FoldState, Plain};
+use moka_state::state::{CacheState, Settings};
 use std::alloc::Global;
 use std::process::Abort;
 use std::slice;
@@ -15,10 +14,21 @@ pub(crate) type State = CacheState<u64, Arc<u64>, Plain>;
 
 /// A state in which these keys stand from moment 0 on, each with a value ten times as large.
 pub(crate) fn state(alloc: Global, keys: &[u64]) -> Result<State, Fail> {
-    let mut state = CacheBuilder::new(100)
-        .eviction_policy(EvictionPolicy::lru())
-        .time_to_idle(Duration::from_secs(5))
-        .build_state(alloc, FoldState::default())?;
+    let settings = Settings {
+        name: None,
+        max_capacity: Some(100),
+        initial_capacity: 0,
+        eviction_policy: EvictionPolicy::lru(),
+        time_to_live: None,
+        time_to_idle: Some(Duration::from_secs(5)),
+        weigher: None,
+        expiry: None,
+        closures: false,
+        flush_limit: None,
+        first_number: 0,
+        hasher: Arc::new(alloc, FoldState::default())?,
+    };
+    let mut state = CacheState::new(alloc, settings)?;
     fill(&mut state, alloc, keys)?;
     Ok(state)
 }

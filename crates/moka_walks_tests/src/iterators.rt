@@ -1,7 +1,7 @@
 //! Walks by an iterator over caches that stand still, where memory is refused.
 use crate::cursors::{State, state};
-use moka::common::iter::{Iter, ScanningGet};
-use moka::policy::Refused;
+use moka_policy::policy::Refused;
+use moka_walks::iter::{Iter, ScanningGet};
 use std::alloc::Global;
 use std::cell::Cell;
 use std::process::Abort;
