@@ -1,14 +1,15 @@
 -- Which arguments ask for workers, what these write into their cache, and what is printed of them.
-use Rattle.std.specs.Prelude.{◌≡◌, ℕ, ◌+◌, ◌*◌, ◌<◌, nat_lt, Bool, ◌&&◌, List, [], ◌∷◌, ◌++◌, Option, Some, None, option_and_then, codes, ◌⊎◌, if◌then◌else◌}
+use Rattle.std.specs.Prelude.{◌≡◌, ℕ, ◌+◌, ◌*◌, nat_lt, ◌&&◌, List, [], ◌∷◌, ◌++◌, Option, Some, None, option_and_then}
+use Rattle.std.specs.Prelude.{Result, Ok, Err, IfOk, codes, if◌then◌else◌}
 use Rattle.std.specs.Fmt.{decimal}
 use Rattle.std.specs.Str.{bytes_eq}
-use Rattle.moka_policy.specs.declared.policy.Refused as moka_refused
+use Rattle.moka_policy.specs.declared.policy.Refused.{Refused}
 use Rattle.mokabox_lines.specs.Answer.{answer_line}
 use Rattle.mokabox_lines.specs.Fields.{number_of}
 use Rattle.mokabox_lines.specs.declared.answer.Answer.TheVariants as answers
 use Rattle.mokabox_threads.specs.declared.threads.Counts.{Counts}
 use Rattle.mokabox_threads.specs.declared.threads.Ended.{Ended}
-use Rattle.mokabox_threads.specs.declared.threads.Ended.TheVariants.{Counted, Refused}
+use Rattle.mokabox_threads.specs.declared.threads.Ended.TheVariants as endings
 
 -- so many workers, where there are some and at most sixteen
 abbrev pub few : ℕ → Option ℕ
@@ -25,18 +26,22 @@ workers_by (word ∷ count ∷ other ∷ more) = None
 abbrev pub value_text : ℕ → List ℕ
 value_text key = codes "value " ++ decimal key
 
--- the line that is printed of the counts
-abbrev pub counts_line : ℕ → Counts → List ℕ
-counts_line workers counts = codes "workers " ++ (decimal workers ++ (codes " present " ++ (decimal counts.present
+-- What came of so many workers: each of their keys was counted once, as there or as not there; or something was refused.
+abbrev pub IsCounted : ℕ → Result Counts Refused → Type 0
+IsCounted workers counted = IfOk counted (λ counts. counts.present + counts.absent ≡ 64 * workers)
+
+-- the line that is printed of it
+abbrev pub counted_line : ℕ → Result Counts Refused → List ℕ
+counted_line workers (Ok counts) = codes "workers " ++ (decimal workers ++ (codes " present " ++ (decimal counts.present
     ++ (codes " absent " ++ (decimal counts.absent ++ (10 ∷ []))))))
+counted_line workers (Err cause) = answer_line (answers.Refused cause)
 
--- the exit status
+-- how the program ends then
+abbrev pub ended_by : Result Counts Refused → Ended
+ended_by (Ok counts) = endings.Counted
+ended_by (Err cause) = endings.Refused
+
+-- its exit status
 abbrev pub code_of : Ended → ℕ
-code_of Counted = 0
-code_of Refused = 1
-
--- What is printed of so many workers, and the status: a line of the counts, in which each key is counted once, or of a refusal.
-abbrev pub WorkersPrint : ℕ → List ℕ → ℕ → Type 0
-WorkersPrint workers printed status =
-    ((counts : Counts) × (counts.present + counts.absent ≡ 64 * workers) × (printed ≡ counts_line workers counts) × (status ≡ 0))
-    ⊎ ((cause : moka_refused.Refused) × (printed ≡ answer_line (answers.Refused cause)) × (status ≡ 1))
+code_of endings.Counted = 0
+code_of endings.Refused = 1

@@ -1,7 +1,7 @@
 //! Workers that share a cache, and what is printed of them.
-ghost use Rattle.std.specs.Prelude.{◌≡◌, ◌+◌, ◌*◌, ◌≤◌, ◌×◌, ℕ, List, IfOk};
+ghost use Rattle.std.specs.Prelude.{◌≡◌, ◌≤◌, IfOk, OnOk, Result};
 ghost use Rattle.std.specs.Io.KnownBytes.{Appends};
-ghost use Rattle.mokabox_threads.specs.Threads.{WorkersPrint, code_of};
+ghost use Rattle.mokabox_threads.specs.Threads.{IsCounted, code_of, counted_line, ended_by};
 
 use crate::worker::{Texts, count, work};
 use moka::policy::{ManualClock, Refused};
@@ -9,11 +9,10 @@ use moka::ready::FoldState;
 use moka::sync::CacheBuilder;
 use mokabox_lines::answer::{Answer, write_answer};
 use std::alloc::Global;
-use std::io;
 use std::io::Write;
 use std::sync::Wait;
-use std::thread;
 use std::thread::Threads;
+use std::{io, thread};
 
 /// Where workers come by before they write.
 pub trait Gate {
@@ -77,10 +76,16 @@ where
     G: Gate + Sync,
     W: Write,
     requires { workers ≤ 16 }
-    ensures { IfOk result (λ ended. (printed : List ℕ) × WorkersPrint workers printed (code_of ended)
-        × Appends (W.contents writer.old) (W.contents writer.new) printed) }
+    ensures { IfOk result (λ ended. (counted : Result Counts Refused) × IsCounted workers counted
+        × (ended ≡ ended_by counted)
+        × Appends (W.contents writer.old) (W.contents writer.new) (counted_line workers counted)) }
 {
-    write_ended(writer, workers, run_workers(rt, alloc, workers, gate))
+    let counted = run_workers(rt, alloc, workers, gate);
+    write_counted(writer, workers, &counted)?;
+    Ok(match counted {
+        Ok(_) => Ended::Counted,
+        Err(_) => Ended::Refused,
+    })
 }
 
 // Runs so many workers, and counts which of their keys are there then.
@@ -89,7 +94,7 @@ where
     R: Threads + Wait + Sync + Send + Copy,
     G: Gate + Sync,
     requires { workers ≤ 16 }
-    ensures { IfOk result (λ counts. counts.present + counts.absent ≡ 64 * workers) }
+    ensures { IsCounted workers result }
 {
     let texts = new_texts(alloc, rt)?;
     let done = thread::map_indices(
@@ -120,26 +125,24 @@ fn new_texts<W: Wait + Drop>(alloc: Global, waits: W) -> Result<Texts<W>, Refuse
     built.map_err(|_| Refused::OutOfMemory)
 }
 
-// Writes how a run ended.
-fn write_ended<W: Write>(
+// Writes what came of so many workers.
+fn write_counted<W: Write>(
     writer: &mut W,
     workers: u64,
-    counted: Result<Counts, Refused>,
-) -> io::Result<Ended>
-    requires { IfOk counted (λ counts. counts.present + counts.absent ≡ 64 * workers) }
-    ensures { IfOk result (λ ended. (printed : List ℕ) × WorkersPrint workers printed (code_of ended)
-        × Appends (W.contents writer.old) (W.contents writer.new) printed) }
+    counted: &Result<Counts, Refused>,
+) -> io::Result<()>
+    ensures { OnOk result (Appends (W.contents writer.old) (W.contents writer.new)
+        (counted_line workers counted.now)) }
 {
-    let ended = match counted {
-        Ok(Counts { present, absent }) => {
-            writeln!(writer, "workers {workers} present {present} absent {absent}")?;
-            Ended::Counted
+    match counted {
+        Ok(counts) => {
+            let Counts { present, absent } = counts;
+            writeln!(
+                writer,
+                "workers {workers} present {present} absent {absent}"
+            )?;
         }
-        Err(refused) => {
-            write_answer(writer, &Answer::Refused(refused))?;
-            Ended::Refused
-        }
-    };
-    writer.flush()?;
-    Ok(ended)
+        Err(cause) => write_answer(writer, &Answer::Refused(*cause))?,
+    }
+    writer.flush()
 }
