@@ -1,7 +1,7 @@
 //! Which arguments ask for workers.
-ghost use Rattle.std.specs.Prelude.{◌≡◌, ◌≤◌, ◌×◌, map, IfSome};
+ghost use Rattle.std.specs.Prelude.{◌≡◌, ◌≤◌, map, IfSome};
 ghost use Rattle.std.specs.String.{string_bytes};
-ghost use Rattle.mokabox_threads.specs.Threads.{workers_by};
+ghost use Rattle.mokabox_threads.specs.Threads.{few, workers_by};
 
 use mokabox_lines::fields::number;
 

@@ -20,7 +20,7 @@ impl Keeps<u64, String> for Values {
 
     ghost equal_keys_keep = { λ a b value same kept. kept ∙ ap value_text (eqb-true a b same) };
 
-    ghost copies_keep = { λ key value copy is_copy kept. ap string_bytes is_copy ∙ kept };
+    ghost copies_keep = { λ key value copy is_copy kept. is_copy ∙ kept };
 }
 
 /// The cache that the workers share.
