@@ -1,21 +1,31 @@
-//! Runs a script of cache calls that it reads from standard input, and prints their answers.
+//! Runs a script of cache calls that it reads from standard input, and prints their answers; or workers that share a cache.
 #![tactic(auto)]
 
 use mokabox_script::program::run_program;
 use mokabox_script::script::Status;
+use mokabox_threads::arguments::workers_of;
+use mokabox_threads::threads::{OpenGate, run_threads};
 use std::io::{BufReader, BufWriter};
 use std::process::ExitCode;
+use std::rt::Runtime;
+use std::sync::Wait;
+use std::thread::Threads;
 use std::{env, io};
 
 fn main(rt: HostRuntime) -> ExitCode {
-    let status = run(&rt).unwrap_or(Status::Failed);
-    ExitCode::from(status.code())
+    let status = run(rt).unwrap_or(Status::Failed.code());
+    ExitCode::from(status)
 }
 
-// Runs the program between standard input and standard output.
-fn run(rt: &HostRuntime) -> io::Result<Status> {
-    let arguments: Vec<String> = env::args(rt)?.skip(1).collect(rt.alloc())?;
+// Runs the program between standard input and standard output, and answers its exit status. What asks for no workers is the
+// script's, which says how the program is called where it is asked for nothing that there is.
+fn run<R: Runtime + AllocGlobal + Wait + Threads + Copy + Send + Sync>(rt: R) -> io::Result<u8> {
+    let arguments: Vec<String> = env::args(&rt)?.skip(1).collect(rt.alloc())?;
+    let mut writer = BufWriter::new(rt.alloc(), io::writer(&rt))?;
+    if let Some(workers) = workers_of(&arguments) {
+        let ended = run_threads(rt, rt.alloc(), workers, &OpenGate, &mut writer)?;
+        return Ok(ended.code());
+    }
     let reader = BufReader::new(rt.alloc(), rt.reader())?;
-    let mut writer = BufWriter::new(rt.alloc(), io::writer(rt))?;
-    Ok(run_program(rt.alloc(), &arguments, reader, &mut writer))
+    Ok(run_program(rt.alloc(), &arguments, reader, &mut writer).code())
 }

@@ -23,3 +23,5 @@ mod scripts;
 mod segments;
 #[cfg(test)]
 mod turns;
+#[cfg(test)]
+mod workers;

@@ -116,10 +116,13 @@ impl Read for Source<'_> {
 
 /// A writer that takes so many bytes and then fails.
 #[derive(Drop)]
-struct Sink {
-    taken: Vec<u8>,
-    room: usize,
-    flush_fails: bool,
+pub struct Sink {
+    /// What it took.
+    pub taken: Vec<u8>,
+    /// How many bytes it takes still.
+    pub room: usize,
+    /// Whether a flush fails.
+    pub flush_fails: bool,
 }
 
 impl Write for Sink {

@@ -1,0 +1,4 @@
+-- Definitions that those of this crate rest on, passed on to the crates above.
+pub use Rattle.mokabox_lines.specs.Answer
+pub use Rattle.mokabox_lines.specs.Fields
+pub mod Threads

@@ -1,0 +1,47 @@
+-- Which arguments ask for workers, what these write into their cache, and what is printed of them.
+use Rattle.std.specs.Prelude.{◌≡◌, ℕ, ◌+◌, ◌*◌, nat_lt, ◌&&◌, List, [], ◌∷◌, ◌++◌, Option, Some, None, option_and_then}
+use Rattle.std.specs.Prelude.{Result, Ok, Err, IfOk, codes, if◌then◌else◌}
+use Rattle.std.specs.Fmt.{decimal}
+use Rattle.std.specs.Str.{bytes_eq}
+use Rattle.moka_policy.specs.declared.policy.Refused.{Refused}
+use Rattle.mokabox_lines.specs.Answer.{answer_line}
+use Rattle.mokabox_lines.specs.Fields.{number_of}
+use Rattle.mokabox_lines.specs.declared.answer.Answer.TheVariants as answers
+use Rattle.mokabox_threads.specs.declared.threads.Counts.{Counts}
+use Rattle.mokabox_threads.specs.declared.threads.Ended.{Ended}
+use Rattle.mokabox_threads.specs.declared.threads.Ended.TheVariants as endings
+
+-- so many workers, where there are some and at most sixteen
+abbrev pub few : ℕ → Option ℕ
+few count = if nat_lt 0 count && nat_lt count 17 then Some count else None
+
+-- how many workers the arguments ask for, the program's own name not being one of them: the word `threads` and a number
+abbrev pub workers_by : List (List ℕ) → Option ℕ
+workers_by [] = None
+workers_by (word ∷ []) = None
+workers_by (word ∷ count ∷ []) = if bytes_eq word (codes "threads") then option_and_then few (number_of count) else None
+workers_by (word ∷ count ∷ other ∷ more) = None
+
+-- the value that a worker writes for a key
+abbrev pub value_text : ℕ → List ℕ
+value_text key = codes "value " ++ decimal key
+
+-- What came of so many workers: each of their keys was counted once, as there or as not there; or something was refused.
+abbrev pub IsCounted : ℕ → Result Counts Refused → Type 0
+IsCounted workers counted = IfOk counted (λ counts. counts.present + counts.absent ≡ 64 * workers)
+
+-- the line that is printed of it
+abbrev pub counted_line : ℕ → Result Counts Refused → List ℕ
+counted_line workers (Ok counts) = codes "workers " ++ (decimal workers ++ (codes " present " ++ (decimal counts.present
+    ++ (codes " absent " ++ (decimal counts.absent ++ (10 ∷ []))))))
+counted_line workers (Err cause) = answer_line (answers.Refused cause)
+
+-- how the program ends then
+abbrev pub ended_by : Result Counts Refused → Ended
+ended_by (Ok counts) = endings.Counted
+ended_by (Err cause) = endings.Refused
+
+-- its exit status
+abbrev pub code_of : Ended → ℕ
+code_of endings.Counted = 0
+code_of endings.Refused = 1

@@ -1,0 +1,6 @@
+//! The program's workers: threads that share a cache, each with keys of its own.
+#![tactic(auto)]
+
+pub mod arguments;
+pub mod threads;
+mod worker;
