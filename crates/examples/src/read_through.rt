@@ -43,6 +43,21 @@ fn one_more(shown: Option<Entry<u64, u64>>) -> u64 {
     }
 }
 
+// Two threads read the pages, and then two visits are counted.
+fn run<R: Runtime + Wait + Threads + Copy + Send + 'static>(
+    rt: &R,
+    cache: &Pages<R>,
+) -> Result<()> {
+    let theirs = cache.clone()?;
+    let child = thread::spawn(rt, move || read(&theirs))?;
+    let ours = read(cache)?;
+    let others = child.join(rt)?;
+    println!(rt; "{ours} and {others}")?;
+    visit(cache, 100)?;
+    println!(rt; "visits: {}", visit(cache, 100)?)?;
+    Ok(())
+}
+
 /// Runs the example. A program's own `main` alone has a runtime that may wait and start threads, and hands it in.
 pub fn main<R: Runtime + AllocGlobal + Wait + Threads + Copy + Send + 'static>(
     rt: R,
@@ -54,12 +69,5 @@ pub fn main<R: Runtime + AllocGlobal + Wait + Threads + Copy + Send + 'static>(
         clock,
         rt,
     )?;
-    let theirs = cache.clone()?;
-    let child = thread::spawn(&rt, move || read(&theirs))?;
-    let ours = read(&cache)?;
-    let others = child.join(&rt)?;
-    println!(rt; "{ours} and {others}")?;
-    visit(&cache, 100)?;
-    println!(rt; "visits: {}", visit(&cache, 100)?)?;
-    Ok(())
+    run(&rt, &cache)
 }
