@@ -14,13 +14,22 @@ use std::time::Duration;
 pub(crate) type State = CacheState<u64, Arc<u64>, Plain>;
 
 /// A state in which these keys stand from moment 0 on, each with a value ten times as large.
-pub(crate) fn state(alloc: Global, keys: &[u64]) -> Result<State, Fail> {
+fn state(alloc: Global, keys: &[u64]) -> Result<State, Fail> {
     let mut state = CacheBuilder::new(100)
         .eviction_policy(EvictionPolicy::lru())
         .time_to_idle(Duration::from_secs(5))
         .build_state(alloc, FoldState::default())?;
     fill(&mut state, alloc, keys)?;
     Ok(state)
+}
+
+/// A state for each list of keys.
+pub(crate) fn states(alloc: Global, lists: &[&[u64]]) -> Result<Vec<State>, Fail> {
+    let mut states = Vec::with_capacity(alloc, lists.len())?;
+    for keys in lists {
+        states.push(state(alloc, keys)?)?;
+    }
+    Ok(states)
 }
 
 fn fill(state: &mut State, alloc: Global, keys: &[u64]) -> Result<(), Fail> {
@@ -151,10 +160,7 @@ fn comes_behind(
 
 #[test]
 fn a_segment_is_reached_once_it_is_needed(rt: HostRuntime) -> Result<(), Fail> {
-    let mut states = Vec::with_capacity(rt.alloc(), 2)?;
-    states.push(state(rt.alloc(), &[1])?)?;
-    states.push(state(rt.alloc(), &[])?)?;
-    is_reached_once_it_is_needed(&rt, rt.alloc(), &mut states)
+    is_reached_once_it_is_needed(&rt, rt.alloc(), &mut states(rt.alloc(), &[&[1], &[]])?)
 }
 
 fn is_reached_once_it_is_needed(
