@@ -146,6 +146,22 @@ fn steps<C: CacheTypes<u64, String>>(
 }
 
 // What a cache weighs after a name was written, and a minute later.
+fn weights_of<W, E>(
+    names: &mut CacheState<u64, String, WeighedNames<W, E>>,
+    alloc: Global,
+    name: String,
+) -> Result<(u64, u64)>
+where
+    W: Weigher<u64, String> + Drop,
+    E: Expiry<u64, String> + Drop,
+{
+    names.run(steps(alloc, name)?)?;
+    let weight = names.weighted_size();
+    names.run_pending_tasks(60_000_000_000);
+    Ok((weight, names.weighted_size()))
+}
+
+// The same of a new cache.
 fn weights<W, E>(alloc: Global, weigher: W, expiry: E, name: String) -> Result<(u64, u64)>
 where
     W: Weigher<u64, String> + Drop,
@@ -153,11 +169,8 @@ where
     requires weighs { W.weighs weigher length_of }
     requires gives { E.gives expiry a_minute }
 {
-    let mut cache = opened(alloc, weigher, expiry)?;
-    cache.run(steps(alloc, name)?)?;
-    let weight = cache.weighted_size();
-    cache.run_pending_tasks(60_000_000_000);
-    Ok((weight, cache.weighted_size()))
+    let mut names = opened(alloc, weigher, expiry)?;
+    weights_of(&mut names, alloc, name)
 }
 
 fn by_closures(alloc: Global, name: String) -> Result<(u64, u64)> {

@@ -42,8 +42,12 @@ pub fn main(rt: HostRuntime) -> Result<()> {
     let mut counts: Counts = CacheBuilder::new(1_000)
         .time_to_live(Duration::from_secs(10))
         .build_state(rt.alloc(), FoldState::default())?;
+    run(&rt, &mut counts)
+}
+
+fn run(rt: &HostRuntime, counts: &mut Counts) -> Result<()> {
     for (page, seconds) in [(7, 0), (3, 1), (7, 9), (7, 12), (3, 12)] {
-        let opened = count(&mut counts, page, SECOND.saturating_mul(seconds))?;
+        let opened = count(counts, page, SECOND.saturating_mul(seconds))?;
         println!(rt; "page {page} at {seconds} s: {opened}")?;
     }
     Ok(())

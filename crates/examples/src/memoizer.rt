@@ -53,8 +53,15 @@ pub(crate) enum Failed {
 /// Runs the example.
 pub fn main(rt: HostRuntime) -> Result<(), Failed> {
     let mut cache = CacheBuilder::new(1_000).build_state(rt.alloc(), FoldState::default())?;
+    run(&rt, &mut cache)
+}
+
+fn run(
+    rt: &HostRuntime,
+    cache: &mut CacheState<u32, u64, Keeping<Triangles>>,
+) -> Result<(), Failed> {
     for n in [10, 4, 10] {
-        println!(rt; "{n}: {}", memoized(&mut cache, n)?)?;
+        println!(rt; "{n}: {}", memoized(cache, n)?)?;
     }
     Ok(())
 }

@@ -53,6 +53,22 @@ fn cached<W: Wait + Drop>(cache: &Pages<W>) -> Result<u64> {
     Ok(sum)
 }
 
+// Two threads read the pages, and then two visits are counted.
+fn run<R: Runtime + Wait + Threads + Copy + Send + Sync + 'static>(
+    rt: &R,
+    cache: &Pages<R>,
+) -> Result<()> {
+    let theirs = cache.clone()?;
+    let child = thread::spawn(rt, move || read(&theirs))?;
+    let ours = read(cache)?;
+    let others = child.join(rt)?;
+    println!(rt; "{ours} and {others}")?;
+    visit(cache, 100)?;
+    println!(rt; "visits: {}", visit(cache, 100)?)?;
+    println!(rt; "cached: {}", cached(cache)?)?;
+    Ok(())
+}
+
 /// Runs the example. A program's own `main` alone has a runtime that may wait and start threads, and hands it in.
 pub fn main<R: Runtime + AllocGlobal + Wait + Threads + Copy + Send + Sync + 'static>(
     rt: R,
@@ -64,13 +80,5 @@ pub fn main<R: Runtime + AllocGlobal + Wait + Threads + Copy + Send + Sync + 'st
         clock,
         rt,
     )?;
-    let theirs = cache.clone()?;
-    let child = thread::spawn(&rt, move || read(&theirs))?;
-    let ours = read(&cache)?;
-    let others = child.join(&rt)?;
-    println!(rt; "{ours} and {others}")?;
-    visit(&cache, 100)?;
-    println!(rt; "visits: {}", visit(&cache, 100)?)?;
-    println!(rt; "cached: {}", cached(&cache)?)?;
-    Ok(())
+    run(&rt, &cache)
 }

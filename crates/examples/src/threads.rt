@@ -20,6 +20,21 @@ fn fill<W: Wait + Drop>(squares: &Squares<W>, first: u64) -> Result<()> {
     Ok(())
 }
 
+// Two threads fill it.
+fn run<R: Runtime + Wait + Threads + Copy + Send + Sync + 'static>(
+    rt: &R,
+    squares: &Squares<R>,
+) -> Result<()> {
+    let theirs = squares.clone()?;
+    let child = thread::spawn(rt, move || fill(&theirs, 16))?;
+    fill(squares, 0)?;
+    child.join(rt)?;
+    for root in [3, 20, 40] {
+        println!(rt; "{root}: {:?}", squares.get(&root)?)?;
+    }
+    Ok(())
+}
+
 /// Runs the example. A program's own `main` alone has a runtime that may wait and start threads, and hands it in.
 pub fn main<R: Runtime + AllocGlobal + Wait + Threads + Copy + Send + Sync + 'static>(
     rt: R,
@@ -28,12 +43,5 @@ pub fn main<R: Runtime + AllocGlobal + Wait + Threads + Copy + Send + Sync + 'st
     let squares = CacheBuilder::new(100)
         .segments(4)?
         .build_with_hasher(rt.alloc(), FoldState::default(), clock, rt)?;
-    let theirs = squares.clone()?;
-    let child = thread::spawn(&rt, move || fill(&theirs, 16))?;
-    fill(&squares, 0)?;
-    child.join(&rt)?;
-    for root in [3, 20, 40] {
-        println!(rt; "{root}: {:?}", squares.get(&root)?)?;
-    }
-    Ok(())
+    run(&rt, &squares)
 }

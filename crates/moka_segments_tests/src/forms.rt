@@ -8,6 +8,7 @@ use moka::sync::segment::SegmentedState;
 use moka::sync::value_initializer::{Begun, Kind};
 use std::alloc::Global;
 use std::process::Abort;
+use std::sync::Arc;
 use std::test::Fail;
 
 /// Initializers may fail with a number.
@@ -54,92 +55,165 @@ fn stands_nowhere(rt: &impl Abort, cache: &Numbers, key: u64) {
     stands_in(rt, cache, key, cache.segments().len());
 }
 
+/// Each form stands in a function of its own, since a call of one is dear to prove. What its closure would give, and what is
+/// answered.
+fn gets_with(rt: &impl Abort, cache: &mut Numbers, key: u64, given: u64, answered: u64) {
+    assert_eq!(rt; cache.get_with(key, move || given, 0), Ok(answered));
+}
+
+fn gets_with_by_ref(rt: &impl Abort, cache: &mut Numbers, key: u64, given: u64, answered: u64) {
+    assert_eq!(rt; cache.get_with_by_ref(&key, move || given, 0), Ok(answered));
+}
+
+/// A live value that is this one is to be replaced.
+fn gets_with_if(
+    rt: &impl Abort,
+    cache: &mut Numbers,
+    key: u64,
+    given: u64,
+    unwanted: u64,
+    answered: u64,
+) {
+    assert_eq!(rt;
+        cache.get_with_if(key, move || given, move |value| *value == unwanted, 0),
+        Ok(answered)
+    );
+}
+
+type Maybe = Option<u64>;
+
+fn may_get(rt: &impl Abort, cache: &mut Numbers, key: u64, given: Maybe, answered: Maybe) {
+    assert_eq!(rt;
+        cache.optionally_get_with(key, move || given, 0),
+        Ok(answered)
+    );
+}
+
+fn may_get_by_ref(rt: &impl Abort, cache: &mut Numbers, key: u64, given: Maybe, answered: Maybe) {
+    assert_eq!(rt;
+        cache.optionally_get_with_by_ref(&key, move || given, 0),
+        Ok(answered)
+    );
+}
+
+type Tried = Result<u64, u64>;
+
+fn tries(rt: &impl Abort, cache: &mut Numbers, key: u64, given: Tried, answered: Tried) {
+    is_told(rt, cache.try_get_with(key, move || given, 0), answered);
+}
+
+fn tries_by_ref(rt: &impl Abort, cache: &mut Numbers, key: u64, given: Tried, answered: Tried) {
+    is_told(
+        rt,
+        cache.try_get_with_by_ref(&key, move || given, 0),
+        answered,
+    );
+}
+
+fn is_told(rt: &impl Abort, told: Result<Result<u64, Arc<u64>>, Refused>, answered: Tried) {
+    match told {
+        Ok(Ok(value)) => assert_eq!(rt; answered, Ok(value)),
+        Ok(Err(error)) => assert_eq!(rt; answered, Err(*error)),
+        Err(_) => panic!(rt; "it is refused"),
+    }
+}
+
 #[test]
 fn what_is_worked_out_is_of_the_segment_of_its_key(rt: HostRuntime) -> Result<(), Fail> {
-    let mut cache = opened(rt.alloc())?;
+    is_worked_out(&rt, &mut opened(rt.alloc())?);
+    Ok(())
+}
+
+fn is_worked_out(rt: &impl Abort, cache: &mut Numbers) {
     for index in 0..KEYS.len() {
         let key = KEYS[index];
-        assert_eq!(rt; cache.get_with(key, || 7, 0), Ok(7));
-        stands_in(&rt, &cache, key, index);
-        assert_eq!(rt; cache.get_with(key, || 8, 0), Ok(7));
+        gets_with(rt, cache, key, 7, 7);
+        stands_in(rt, cache, key, index);
+        gets_with(rt, cache, key, 8, 7);
     }
-    Ok(())
 }
 
 #[test]
 fn what_is_turned_down_is_replaced_in_its_segment(rt: HostRuntime) -> Result<(), Fail> {
-    let mut cache = opened(rt.alloc())?;
+    is_turned_down(&rt, &mut opened(rt.alloc())?);
+    Ok(())
+}
+
+fn is_turned_down(rt: &impl Abort, cache: &mut Numbers) {
     for index in 0..KEYS.len() {
         let key = KEYS[index];
-        assert_eq!(rt; cache.get_with_if(key, || 7, |_| true, 0), Ok(7));
-        assert_eq!(rt; cache.get_with_if(key, || 8, |value| *value == 8, 0), Ok(7));
-        assert_eq!(rt; cache.get_with_if(key, || 8, |value| *value == 7, 0), Ok(8));
-        stands_in(&rt, &cache, key, index);
+        gets_with_if(rt, cache, key, 7, 7, 7);
+        gets_with_if(rt, cache, key, 8, 8, 7);
+        gets_with_if(rt, cache, key, 8, 7, 8);
+        stands_in(rt, cache, key, index);
     }
-    Ok(())
 }
 
 #[test]
 fn nothing_is_written_where_none_is_given(rt: HostRuntime) -> Result<(), Fail> {
-    let mut cache = opened(rt.alloc())?;
+    is_not_written(&rt, &mut opened(rt.alloc())?);
+    Ok(())
+}
+
+fn is_not_written(rt: &impl Abort, cache: &mut Numbers) {
     for index in 0..KEYS.len() {
         let key = KEYS[index];
-        assert_eq!(rt; cache.optionally_get_with(key, || None, 0), Ok(None));
-        stands_nowhere(&rt, &cache, key);
-        assert_eq!(rt; cache.optionally_get_with(key, || Some(7), 0), Ok(Some(7)));
-        stands_in(&rt, &cache, key, index);
-        assert_eq!(rt; cache.optionally_get_with(key, || None, 0), Ok(Some(7)));
+        may_get(rt, cache, key, None, None);
+        stands_nowhere(rt, cache, key);
+        may_get(rt, cache, key, Some(7), Some(7));
+        stands_in(rt, cache, key, index);
+        may_get(rt, cache, key, None, Some(7));
     }
-    Ok(())
 }
 
 #[test]
 fn nor_where_an_initializer_fails(rt: HostRuntime) -> Result<(), Fail> {
-    let mut cache = opened(rt.alloc())?;
+    fails(&rt, &mut opened(rt.alloc())?);
+    Ok(())
+}
+
+fn fails(rt: &impl Abort, cache: &mut Numbers) {
     for index in 0..KEYS.len() {
         let key = KEYS[index];
-        let failed = cache.try_get_with(key, || Err(9), 0);
-        assert!(rt; matches!(&failed, Ok(Err(error)) if **error == 9));
-        stands_nowhere(&rt, &cache, key);
-        assert!(rt; matches!(cache.try_get_with(key, || Ok(7), 0), Ok(Ok(7))));
-        stands_in(&rt, &cache, key, index);
-        assert!(rt; matches!(cache.try_get_with(key, || Err(9), 0), Ok(Ok(7))));
+        tries(rt, cache, key, Err(9), Err(9));
+        stands_nowhere(rt, cache, key);
+        tries(rt, cache, key, Ok(7), Ok(7));
+        stands_in(rt, cache, key, index);
+        tries(rt, cache, key, Err(9), Ok(7));
     }
-    Ok(())
 }
 
 #[test]
 fn lent_keys_are_of_the_same_segment(rt: HostRuntime) -> Result<(), Fail> {
-    let mut cache = opened(rt.alloc())?;
+    are_of_the_same_segment(&rt, &mut opened(rt.alloc())?);
+    Ok(())
+}
+
+fn are_of_the_same_segment(rt: &impl Abort, cache: &mut Numbers) {
     for index in 0..KEYS.len() {
         let key = KEYS[index];
-        assert_eq!(rt; cache.get_with_by_ref(&key, || 7, 0), Ok(7));
-        stands_in(&rt, &cache, key, index);
-        assert_eq!(rt; cache.get_with_by_ref(&key, || 8, 0), Ok(7));
+        gets_with_by_ref(rt, cache, key, 7, 7);
+        stands_in(rt, cache, key, index);
+        gets_with_by_ref(rt, cache, key, 8, 7);
     }
-    Ok(())
 }
 
 #[test]
 fn lent_keys_may_get_none_or_an_error(rt: HostRuntime) -> Result<(), Fail> {
-    let mut cache = opened(rt.alloc())?;
+    may_get_none_or_an_error(&rt, &mut opened(rt.alloc())?);
+    Ok(())
+}
+
+fn may_get_none_or_an_error(rt: &impl Abort, cache: &mut Numbers) {
     for index in 0..KEYS.len() {
         let key = KEYS[index];
-        assert_eq!(rt;
-            cache.optionally_get_with_by_ref(&key, || None, 0),
-            Ok(None)
-        );
-        let failed = cache.try_get_with_by_ref(&key, || Err(9), 0);
-        assert!(rt; matches!(&failed, Ok(Err(error)) if **error == 9));
-        stands_nowhere(&rt, &cache, key);
-        assert_eq!(rt;
-            cache.optionally_get_with_by_ref(&key, || Some(7), 0),
-            Ok(Some(7))
-        );
-        stands_in(&rt, &cache, key, index);
-        assert!(rt; matches!(cache.try_get_with_by_ref(&key, || Err(9), 0), Ok(Ok(7))));
+        may_get_by_ref(rt, cache, key, None, None);
+        tries_by_ref(rt, cache, key, Err(9), Err(9));
+        stands_nowhere(rt, cache, key);
+        may_get_by_ref(rt, cache, key, Some(7), Some(7));
+        stands_in(rt, cache, key, index);
+        tries_by_ref(rt, cache, key, Err(9), Ok(7));
     }
-    Ok(())
 }
 
 /// A begin of a lent key opens a turn of this number, of the key's segment, which is abandoned.
@@ -162,12 +236,15 @@ fn opens(rt: &impl Abort, cache: &mut Numbers, key: u64, number: u64) {
 
 #[test]
 fn an_open_turn_is_not_waited_for(rt: HostRuntime) -> Result<(), Fail> {
-    let mut cache = opened(rt.alloc())?;
-    for key in KEYS {
-        opens(&rt, &mut cache, key, 0);
-        assert_eq!(rt; cache.get_with(key, || 7, 0), Ok(7));
-    }
+    is_not_waited_for(&rt, &mut opened(rt.alloc())?);
     Ok(())
+}
+
+fn is_not_waited_for(rt: &impl Abort, cache: &mut Numbers) {
+    for key in KEYS {
+        opens(rt, cache, key, 0);
+        gets_with(rt, cache, key, 7, 7);
+    }
 }
 
 /// A form of a key is answered by the cache and by a state of its own alike.
@@ -204,22 +281,25 @@ fn has_as_many(rt: &impl Abort, cache: &Numbers, own: &One) {
 
 /// A cache is built, and its forms are answered as by the state.
 fn answers_as(rt: &impl Abort, alloc: Global, own: &mut One) -> Result<(), Fail> {
-    let mut cache = opened(alloc)?;
+    are_answered_alike(rt, &mut opened(alloc)?, own);
+    Ok(())
+}
+
+fn are_answered_alike(rt: &impl Abort, cache: &mut Numbers, own: &mut One) {
     for step in 0..30 {
         let key = UPPER + step % 12;
         let other = UPPER + 1 + step % 12;
-        assert!(rt; cache.get_with(step, || step, 0).is_ok());
-        works_out_alike(rt, &mut cache, own, key, step);
-        replaces_alike(rt, &mut cache, own, key, step);
-        gives_none_alike(rt, &mut cache, own, other, step);
+        gets_with(rt, cache, step, step, step);
+        works_out_alike(rt, cache, own, key, step);
+        replaces_alike(rt, cache, own, key, step);
+        gives_none_alike(rt, cache, own, other, step);
     }
     own.run_pending_tasks(30);
     cache.run_pending_tasks(30);
-    has_as_many(rt, &cache, own);
+    has_as_many(rt, cache, own);
     for key in UPPER..UPPER + 12 {
-        finds_alike(rt, &mut cache, own, key);
+        finds_alike(rt, cache, own, key);
     }
-    Ok(())
 }
 
 #[test]

@@ -5,7 +5,7 @@ ghost use Rattle.moka.specs.Step.{StepKeeps};
 
 use crate::caches::{Odd, SECOND, Texts, Types, UPPER, builder, opened, text};
 use moka::policy::{CacheTypes, Predicate};
-use moka::state::{Reply, Step};
+use moka::state::Step;
 use moka::sync::value_initializer::{Kind, Outcome, TurnName};
 use std::alloc::{AllocError, Global};
 use std::process::Abort;
@@ -96,12 +96,18 @@ fn name(alloc: Global, number: u64, kind: Kind, key: u64) -> Result<TurnName<u64
     })
 }
 
-fn says(
+/// Does a step, which is replied to so.
+fn replies(
     rt: &impl Abort,
     alloc: Global,
-    reply: &Reply<u64, String, Types>,
+    cache: &mut Texts,
+    step: Step<u64, String, Types>,
     expected: &str,
-) -> Result<(), Fail> {
+) -> Result<(), Fail>
+    requires { StepKeeps ⟦<Types as CacheTypes<u64, String>>⟧.keeps
+        ⟦<Odd as Predicate<u64, String>>⟧.tests ⟦<Types as CacheTypes<u64, String>>⟧.test step }
+{
+    let reply = cache.step(step);
     assert_eq!(rt; format!(in alloc; "{reply:?}")?.as_str(), expected);
     Ok(())
 }
@@ -114,54 +120,102 @@ fn steps_of_turns_name_their_turns(rt: HostRuntime) -> Result<(), Fail> {
     one_abandons(&rt, rt.alloc(), &mut cache)
 }
 
+/// A begin of a key.
+fn begin(
+    alloc: Global,
+    key: u64,
+    kind: Kind,
+    replace: Option<bool>,
+) -> Result<Step<u64, String, Types>, AllocError>
+    ensures { IfOk result (StepKeeps ⟦<Types as CacheTypes<u64, String>>⟧.keeps
+        ⟦<Odd as Predicate<u64, String>>⟧.tests ⟦<Types as CacheTypes<u64, String>>⟧.test) }
+{
+    Ok(Step::Begin {
+        key: Arc::new(alloc, key)?,
+        kind,
+        replace,
+        now: 0,
+    })
+}
+
 fn one_runs_and_one_waits(rt: &impl Abort, alloc: Global, cache: &mut Texts) -> Result<(), Fail> {
     for (word, rest) in [("Run", ", None"), ("Wait", "")] {
-        let reply = cache.step(Step::Begin {
-            key: Arc::new(alloc, UPPER)?,
-            kind: Kind::With,
-            replace: None,
-            now: 0,
-        });
         let named = format!(in alloc;
             "{word}(TurnName {{ number: 0, kind: With, key: {UPPER} }}{rest})"
         )?;
-        says(rt, alloc, &reply, named.as_str())?;
+        let step = begin(alloc, UPPER, Kind::With, None)?;
+        replies(rt, alloc, cache, step, named.as_str())?;
     }
-    let ticket = name(alloc, 0, Kind::With, UPPER)?;
-    says(
+    collects(rt, alloc, cache, (0, Kind::With, UPPER), "NotYet")?;
+    gives_nothing(
         rt,
         alloc,
-        &cache.step(Step::Collect { name: ticket }),
-        "NotYet",
+        cache,
+        (0, Kind::With, UPPER),
+        "Refused(UnknownTurn)",
     )?;
-    let reply = cache.step(Step::Finish {
-        name: name(alloc, 0, Kind::With, UPPER)?,
+    gives_a_text(rt, alloc, cache)?;
+    collects(
+        rt,
+        alloc,
+        cache,
+        (0, Kind::With, UPPER),
+        "Entered(Entry { key: 9223372036854775808, value: \"a\", is_fresh: false, is_old_value_replaced: false })",
+    )?;
+    let name = name(alloc, 0, Kind::With, UPPER)?;
+    replies(
+        rt,
+        alloc,
+        cache,
+        Step::Leave { name },
+        "Refused(UnknownTicket)",
+    )
+}
+
+/// A turn's number, kind and key.
+type Named = (u64, Kind, u64);
+
+fn collects(
+    rt: &impl Abort,
+    alloc: Global,
+    cache: &mut Texts,
+    named: Named,
+    expected: &str,
+) -> Result<(), Fail> {
+    let (number, kind, key) = named;
+    let name = name(alloc, number, kind, key)?;
+    replies(rt, alloc, cache, Step::Collect { name }, expected)
+}
+
+fn gives_nothing(
+    rt: &impl Abort,
+    alloc: Global,
+    cache: &mut Texts,
+    named: Named,
+    expected: &str,
+) -> Result<(), Fail> {
+    let (number, kind, key) = named;
+    let step = Step::Finish {
+        name: name(alloc, number, kind, key)?,
         outcome: Outcome::Nothing,
         now: 0,
-    });
-    says(rt, alloc, &reply, "Refused(UnknownTurn)")?;
-    let reply = cache.step(Step::Finish {
+    };
+    replies(rt, alloc, cache, step, expected)
+}
+
+fn gives_a_text(rt: &impl Abort, alloc: Global, cache: &mut Texts) -> Result<(), Fail> {
+    let step = Step::Finish {
         name: name(alloc, 0, Kind::With, UPPER)?,
         outcome: Outcome::Value(text(alloc, "a")?),
         now: 0,
-    });
-    says(
+    };
+    replies(
         rt,
         alloc,
-        &reply,
+        cache,
+        step,
         "Entered(Entry { key: 9223372036854775808, value: \"a\", is_fresh: true, is_old_value_replaced: false })",
-    )?;
-    let ticket = name(alloc, 0, Kind::With, UPPER)?;
-    let reply = cache.step(Step::Collect { name: ticket });
-    says(
-        rt,
-        alloc,
-        &reply,
-        "Entered(Entry { key: 9223372036854775808, value: \"a\", is_fresh: false, is_old_value_replaced: false })",
-    )?;
-    let ticket = name(alloc, 0, Kind::With, UPPER)?;
-    let reply = cache.step(Step::Leave { name: ticket });
-    says(rt, alloc, &reply, "Refused(UnknownTicket)")
+    )
 }
 
 fn a_live_value_is_replaced_or_not(
@@ -169,61 +223,39 @@ fn a_live_value_is_replaced_or_not(
     alloc: Global,
     cache: &mut Texts,
 ) -> Result<(), Fail> {
-    let reply = cache.step(Step::Begin {
-        key: Arc::new(alloc, UPPER)?,
-        kind: Kind::Optionally,
-        replace: Some(false),
-        now: 0,
-    });
-    says(
+    let step = begin(alloc, UPPER, Kind::Optionally, Some(false))?;
+    replies(
         rt,
         alloc,
-        &reply,
+        cache,
+        step,
         "Entered(Entry { key: 9223372036854775808, value: \"a\", is_fresh: false, is_old_value_replaced: false })",
     )?;
-    let reply = cache.step(Step::Begin {
-        key: Arc::new(alloc, UPPER)?,
-        kind: Kind::Optionally,
-        replace: Some(true),
-        now: 0,
-    });
-    says(
+    let step = begin(alloc, UPPER, Kind::Optionally, Some(true))?;
+    replies(
         rt,
         alloc,
-        &reply,
+        cache,
+        step,
         "Run(TurnName { number: 2, kind: Optionally, key: 9223372036854775808 }, None)",
     )?;
-    let reply = cache.step(Step::Finish {
-        name: name(alloc, 2, Kind::Optionally, UPPER)?,
-        outcome: Outcome::Nothing,
-        now: 0,
-    });
-    says(rt, alloc, &reply, "Nothing")
+    gives_nothing(rt, alloc, cache, (2, Kind::Optionally, UPPER), "Nothing")
 }
 
 fn one_abandons(rt: &impl Abort, alloc: Global, cache: &mut Texts) -> Result<(), Fail> {
-    for replace in [None, Some(true)] {
-        let _ = cache.step(Step::Begin {
-            key: Arc::new(alloc, 1)?,
-            kind: Kind::Try,
-            replace,
-            now: 0,
-        });
+    for (replace, expected) in [
+        (None, "Run(TurnName { number: 0, kind: Try, key: 1 }, None)"),
+        (
+            Some(true),
+            "Wait(TurnName { number: 0, kind: Try, key: 1 })",
+        ),
+    ] {
+        let step = begin(alloc, 1, Kind::Try, replace)?;
+        replies(rt, alloc, cache, step, expected)?;
     }
     for expected in ["Done", "Refused(UnknownTurn)"] {
-        let turn = name(alloc, 0, Kind::Try, 1)?;
-        says(
-            rt,
-            alloc,
-            &cache.step(Step::Abandon { name: turn }),
-            expected,
-        )?;
+        let name = name(alloc, 0, Kind::Try, 1)?;
+        replies(rt, alloc, cache, Step::Abandon { name }, expected)?;
     }
-    let ticket = name(alloc, 0, Kind::Try, 1)?;
-    says(
-        rt,
-        alloc,
-        &cache.step(Step::Collect { name: ticket }),
-        "Abandoned",
-    )
+    collects(rt, alloc, cache, (0, Kind::Try, 1), "Abandoned")
 }

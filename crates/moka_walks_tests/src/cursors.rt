@@ -13,7 +13,7 @@ use std::time::Duration;
 pub(crate) type State = CacheState<u64, Arc<u64>, Plain>;
 
 /// A state in which these keys stand from moment 0 on, each with a value ten times as large.
-pub(crate) fn state(alloc: Global, keys: &[u64]) -> Result<State, Fail> {
+fn state(alloc: Global, keys: &[u64]) -> Result<State, Fail> {
     let settings = Settings {
         name: None,
         max_capacity: Some(100),
@@ -31,6 +31,15 @@ pub(crate) fn state(alloc: Global, keys: &[u64]) -> Result<State, Fail> {
     let mut state = CacheState::new(alloc, settings)?;
     fill(&mut state, alloc, keys)?;
     Ok(state)
+}
+
+/// A state for each list of keys.
+pub(crate) fn states(alloc: Global, lists: &[&[u64]]) -> Result<Vec<State>, Fail> {
+    let mut states = Vec::with_capacity(alloc, lists.len())?;
+    for keys in lists {
+        states.push(state(alloc, keys)?)?;
+    }
+    Ok(states)
 }
 
 fn fill(state: &mut State, alloc: Global, keys: &[u64]) -> Result<(), Fail> {
@@ -161,10 +170,7 @@ fn comes_behind(
 
 #[test]
 fn a_segment_is_reached_once_it_is_needed(rt: HostRuntime) -> Result<(), Fail> {
-    let mut states = Vec::with_capacity(rt.alloc(), 2)?;
-    states.push(state(rt.alloc(), &[1])?)?;
-    states.push(state(rt.alloc(), &[])?)?;
-    is_reached_once_it_is_needed(&rt, rt.alloc(), &mut states)
+    is_reached_once_it_is_needed(&rt, rt.alloc(), &mut states(rt.alloc(), &[&[1], &[]])?)
 }
 
 fn is_reached_once_it_is_needed(

@@ -1,5 +1,5 @@
 //! Walks by an iterator over caches that stand still, where memory is refused.
-use crate::cursors::{State, state};
+use crate::cursors::{State, states};
 use moka_policy::policy::Refused;
 use moka_walks::iter::{Iter, ScanningGet};
 use std::alloc::Global;
@@ -12,7 +12,7 @@ use std::test::Fail;
 /// refused.
 #[derive(Drop)]
 struct Scarce<'s> {
-    state: State,
+    state: &'s State,
     requests: &'s Cell<u64>,
     refused: u64,
 }
@@ -59,25 +59,38 @@ const REFUSALS: [(u64, usize); 7] = [(0, 1), (1, 2), (2, 2), (3, 3), (4, 2), (5,
 
 #[test]
 fn what_is_refused_is_passed_over_as_one_error(rt: HostRuntime) -> Result<(), Fail> {
+    let states = states(rt.alloc(), &[&[1, 2], &[], &[3]])?;
     for (refused, pairs) in REFUSALS {
-        let requests = Cell::new(0);
-        let caches = three_states(rt.alloc(), &requests, refused)?;
-        let (came, errors) = walked(&rt, rt.alloc(), &caches)?;
-        assert_eq!(rt; came, pairs, "request {refused}");
-        assert_eq!(rt; errors, if refused < 6 { 1 } else { 0 });
+        is_passed_over(&rt, rt.alloc(), &states, refused, pairs)?;
     }
     Ok(())
 }
 
-/// Three states that share a count of requests.
-fn three_states<'s>(
+/// A walk changes nothing, so each goes over the same states.
+fn is_passed_over(
+    rt: &impl Abort,
     alloc: Global,
+    states: &[State],
+    refused: u64,
+    pairs: usize,
+) -> Result<(), Fail> {
+    let requests = Cell::new(0);
+    let caches = sharing(alloc, states, &requests, refused)?;
+    let (came, errors) = walked(rt, alloc, &caches)?;
+    assert_eq!(rt; came, pairs, "request {refused}");
+    assert_eq!(rt; errors, if refused < 6 { 1 } else { 0 });
+    Ok(())
+}
+
+/// These states, sharing a count of requests.
+fn sharing<'s>(
+    alloc: Global,
+    states: &'s [State],
     requests: &'s Cell<u64>,
     refused: u64,
 ) -> Result<Vec<Scarce<'s>>, Fail> {
-    let mut caches = Vec::with_capacity(alloc, 3)?;
-    for keys in [&[1u64, 2] as &[u64], &[], &[3]] {
-        let state = state(alloc, keys)?;
+    let mut caches = Vec::with_capacity(alloc, states.len())?;
+    for state in states {
         caches.push(Scarce {
             state,
             requests,
