@@ -1,4 +1,4 @@
-use Rattle.std.proofs.Common.{◌≡◌, ◌≤◌, ◌^◌, [], option_map, subst, arith}
+use Rattle.std.proofs.Common.{◌≤◌, ◌^◌, [], option_map, subst, arith}
 use Rattle.std.specs.Arc.{arc_value}
 use Rattle.moka_model.specs.StandsFor.{StandsFor}
 use Rattle.moka_ways.specs.Behaviour.{hash_by, behaviour_by}
