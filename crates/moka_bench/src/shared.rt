@@ -1,49 +1,40 @@
-//! What threads share: the shared cache beside other maps under one lock.
-use crate::load::{Load, SHARED};
+//! What threads share: the shared cache beside the state alone, and beside other maps under one lock.
+use crate::load::{LOADS, Load};
 use crate::measure::{Outcome, hits_of, nanos_since, prepare, timed};
 use crate::subject::{Again, Fold, Made, NoFrequencies, Ours, Theirs, Together, Unbounded};
-use crate::table::{NO_ROUND, Round, median_time, print_head, print_row, share};
+use crate::table::{NO_ROUND, Round, median_ratio, median_time, share};
 use moka::policy::EvictionPolicy;
 use std::alloc::{AllocError, Global};
+use std::io::Print;
 use std::rt::Runtime;
-use std::sync::atomic::{AtomicU64, Ordering};
 use std::sync::{Arc, Wait};
-use std::thread::{JoinHandle, Threads};
+use std::thread::Threads;
 use std::time::Instant;
 use std::{io, thread};
 
-/// How many threads share a cache, and how many look for one key at once.
+/// How many threads share a map.
 const THREADS: usize = 4;
 
-const LOOKERS: usize = 16;
-
-/// What is measured, in the order of `round`: the last two at one thread.
-const NAMES: [&str; 5] = [
-    "a map without a bound",
-    "the kit's lru",
-    "a cache",
-    "a cache, 1 thread",
-    "a state, 1 thread",
-];
-
-/// Prints a table of each load that four threads share, and what one key costs that sixteen look for at once.
+/// Prints, for the first three loads, the nanoseconds a call of a state alone and of the shared cache at one thread, and
+/// then of a map without a bound, of the kit's `lru` and of the shared cache where four threads share them; and the ratios.
 pub(crate) fn run<R: Runtime + Wait + Threads + Copy + Send + Sync + 'static>(
     rt: R,
     alloc: Global,
     rounds: usize,
 ) -> io::Result<()> {
-    for load in &SHARED {
+    println!(rt;
+        "| load | state | cache | ratio | map, 4 threads | lru, 4 | cache, 4 | ratio to the map |"
+    )?;
+    println!(rt; "|---|---|---|---|---|---|---|---|")?;
+    for load in LOADS.iter().take(3) {
         let keys: Arc<Vec<u64>> = Arc::new(alloc, load.keys(alloc)?)?;
         let mut all = Vec::with_capacity(alloc, rounds)?;
         for _ in 0..rounds {
             all.push(round(rt, alloc, load, &keys)?)?;
         }
-        print_head(&rt, load)?;
-        for (place, name) in NAMES.iter().enumerate() {
-            print_row(&rt, alloc, load, name, &all, place)?;
-        }
+        print_row(rt, alloc, load, all.as_slice())?;
     }
-    print_hot(rt, alloc, rounds)
+    Ok(())
 }
 
 /// One run of each, one after another.
@@ -55,15 +46,15 @@ fn round<R: Runtime + Wait + Threads + Copy + Send + Sync + 'static>(
 ) -> io::Result<Round> {
     let lru = EvictionPolicy::lru();
     let mut round = NO_ROUND;
-    round[0] = by_threads::<Unbounded<R>, R>(rt, alloc, load, keys)?;
-    round[1] = by_threads::<Theirs<Fold, R>, R>(rt, alloc, load, keys)?;
-    round[2] = by_threads::<Together<R>, R>(rt, alloc, load, keys)?;
-    round[3] = timed::<Together<R>, R>(&rt, alloc, lru, load, keys)?;
-    round[4] = timed::<Ours<Fold, NoFrequencies>, R>(&rt, alloc, lru, load, keys)?;
+    round[0] = timed::<Ours<Fold, NoFrequencies>, R>(&rt, alloc, lru, load, keys)?;
+    round[1] = timed::<Together<R>, R>(&rt, alloc, lru, load, keys)?;
+    round[2] = by_threads::<Unbounded<R>, R>(rt, alloc, load, keys)?;
+    round[3] = by_threads::<Theirs<Fold, R>, R>(rt, alloc, load, keys)?;
+    round[4] = by_threads::<Together<R>, R>(rt, alloc, load, keys)?;
     Ok(round)
 }
 
-/// The time of the second half of a load, of which each of the threads runs a part.
+/// The time of the second half of a load, of which each of the threads runs a part. What they find is not counted.
 fn by_threads<S: Again + Made<R>, R: Runtime + Wait + Threads + Copy>(
     rt: R,
     alloc: Global,
@@ -86,71 +77,33 @@ fn by_threads<S: Again + Made<R>, R: Runtime + Wait + Threads + Copy>(
         };
         threads.push(thread::spawn(&rt, work).map_err(|_| AllocError)?)?;
     }
-    let hits = joined(&rt, threads)?;
-    let nanos = nanos_since(&rt, begun)?;
-    Ok(Outcome { nanos, hits })
-}
-
-/// The time until as many threads as look for one key at once have it, and how often it was worked out.
-fn on_one_key<S: Again + Made<R>, R: Runtime + Wait + Threads + Copy + Send + Sync + 'static>(
-    rt: R,
-    alloc: Global,
-) -> io::Result<Outcome> {
-    let shared = S::made(alloc, &SHARED[0], EvictionPolicy::lru(), rt)?;
-    let asked: Arc<AtomicU64> = Arc::new(alloc, AtomicU64::new(0))?;
-    let mut threads = Vec::with_capacity(alloc, LOOKERS)?;
-    let begun = Instant::now(&rt)?;
-    for _ in 0..LOOKERS {
-        let (mut own, asked) = (shared.again()?, asked.clone()?);
-        let work = move || match own.look_slowly(&rt, &asked) {
-            Ok(()) => Ok(0),
-            Err(refused) => Err(refused),
-        };
-        threads.push(thread::spawn(&rt, work).map_err(|_| AllocError)?)?;
-    }
-    joined(&rt, threads)?;
-    let nanos = nanos_since(&rt, begun)?;
-    Ok(Outcome {
-        nanos,
-        hits: asked.load(Ordering::SeqCst),
-    })
-}
-
-/// Waits for all threads, and adds up what they counted.
-fn joined<R: Wait + Threads>(
-    rt: &R,
-    threads: Vec<JoinHandle<Result<u64, AllocError>>>,
-) -> Result<u64, AllocError> {
-    let mut hits = 0_u64;
     for running in threads {
-        hits = hits.wrapping_add(running.join(rt)?);
+        running.join(&rt)?;
     }
-    Ok(hits)
+    let nanos = nanos_since(&rt, begun)?;
+    Ok(Outcome { nanos, hits: 0 })
 }
 
-/// Prints the median of the microseconds that sixteen threads take for one key that takes a millisecond to be worked out,
-/// and the most that were asked to.
-fn print_hot<R: Runtime + Wait + Threads + Copy + Send + Sync + 'static>(
-    rt: R,
+/// Prints the medians of the rounds.
+fn print_row(
+    rt: impl Print + Drop,
     alloc: Global,
-    rounds: usize,
+    load: &Load,
+    rounds: &[Round],
 ) -> io::Result<()> {
-    let mut all = Vec::with_capacity(alloc, rounds)?;
-    let mut most = [0; 3];
-    for _ in 0..rounds {
-        let mut round = NO_ROUND;
-        round[0] = on_one_key::<Unbounded<R>, R>(rt, alloc)?;
-        round[1] = on_one_key::<Theirs<Fold, R>, R>(rt, alloc)?;
-        round[2] = on_one_key::<Together<R>, R>(rt, alloc)?;
-        for (asked, outcome) in most.iter_mut().zip(round.iter()) {
-            *asked = outcome.hits.max(*asked);
-        }
-        all.push(round)?;
+    let mut times = [0; 5];
+    for (place, time) in times.iter_mut().enumerate() {
+        *time = share(median_time(alloc, rounds, place)?, 1, u64::from(load.calls));
     }
-    println!(rt; "\none key, {LOOKERS} threads\n| cache | microseconds | asked |\n|---|---|---|")?;
-    for (place, (name, asked)) in NAMES.iter().zip(most.iter()).enumerate() {
-        let time = share(median_time(alloc, &all, place)?, 1, 1_000);
-        println!(rt; "| {name} | {time} | {asked} |")?;
-    }
-    Ok(())
+    let [alone, one, map, lru, four] = times;
+    let by_state = median_ratio(alloc, rounds, 1, 0)?;
+    let by_map = median_ratio(alloc, rounds, 4, 2)?;
+    println!(rt;
+        "| {} | {alone} | {one} | {}.{:02} | {map} | {lru} | {four} | {}.{:02} |",
+        load.name,
+        by_state / 100,
+        by_state % 100,
+        by_map / 100,
+        by_map % 100
+    )
 }

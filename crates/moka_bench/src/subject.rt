@@ -3,26 +3,22 @@ ghost use Rattle.std.specs.Prelude.{◌≡◌, true, refl};
 ghost use Rattle.std.proofs.Math.Path.{◌∙◌};
 ghost use Rattle.moka_bench.specs.OwnLives.{same_lives};
 
-use crate::load::{Call, Life, Load};
+use crate::load::{Life, Load};
 use crate::own_lives::SameLives;
 use lru::LruCache;
-use moka::ops::compute::Op;
 use moka::policy::{
     CacheTypes, CountTable, EvictionPolicy, FrequencySource, ManualClock, NoListener, NoWeigher,
     Predicate,
 };
-use moka::state::{CacheState, Reply, Settings, Step};
-use moka::sync::value_initializer::Kind as Turning;
+use moka::state::{CacheState, Settings};
 use moka::sync::{Cache, CacheBuilder};
 use std::alloc::{AllocError, Global};
 use std::collections::HashMap;
 use std::convert::Infallible;
 use std::hash::{BuildHasher, BuildHasherDefault, FoldHasher};
 use std::num::NonZeroUsize;
-use std::sync::atomic::{AtomicU64, Ordering};
 use std::sync::{Arc, Mutex, Wait};
-use std::thread;
-use std::time::{Clock, Duration};
+use std::time::Duration;
 
 /// A cache of numbers under measure. Each call of a load is at a moment of its own.
 pub(crate) trait Subject: Drop {
@@ -38,19 +34,6 @@ pub(crate) trait Subject: Drop {
     /// Walks over so many pairs at most, and answers how many came: none where a cache has no walks.
     fn walk(&mut self, _pairs: usize, _now: u64) -> Result<u64, AllocError> {
         Ok(0)
-    }
-
-    /// Opens so many turns of keys that no load has, where a cache has turns.
-    fn open(&mut self, _turns: u64) -> Result<(), AllocError> {
-        Ok(())
-    }
-
-    /// Calls this of a key; where a cache has no such calls, looks for the key and writes it where it is not found.
-    fn call(&mut self, _call: Call, key: u64, now: u64) -> Result<(), AllocError> {
-        if !self.look(key, now)? {
-            self.insert(key, now)?;
-        }
-        Ok(())
     }
 }
 
@@ -87,22 +70,6 @@ pub(crate) trait Emptied: Subject {
 pub(crate) trait Again: Subject + Send + 'static {
     /// The same cache, for another thread.
     fn again(&self) -> Result<Self, AllocError>;
-
-    /// Looks for key 0. Where it is not found, it is worked out and written: by whoever sees so, if a cache lets nobody wait.
-    fn look_slowly<R: Clock>(&mut self, rt: &R, asked: &AtomicU64) -> Result<(), AllocError> {
-        if !self.look(0, 0)? {
-            let value = work_out(rt, asked);
-            self.insert(value, 0)?;
-        }
-        Ok(())
-    }
-}
-
-/// Takes a millisecond, and counts how often it was asked to.
-fn work_out(rt: &impl Clock, asked: &AtomicU64) -> u64 {
-    asked.fetch_add(1, Ordering::SeqCst);
-    thread::sleep(rt, Duration::from_millis(1));
-    0
 }
 
 /// Holds of each value.
@@ -163,52 +130,7 @@ impl<H: BuildHasher + Drop, F: FrequencySource> CacheTypes<u64, u64> for Types<H
 /// A cache of this library.
 #[derive(Drop)]
 pub(crate) struct Ours<H: BuildHasher + Drop, F: FrequencySource> {
-    alloc: Global,
     cache: CacheState<u64, u64, Types<H, F>>,
-}
-
-impl<H: BuildHasher + Drop, F: FrequencySource> Ours<H, F> {
-    fn drop_notices(&mut self) {
-        for _ in 0..self.cache.notice_count() {
-            self.cache.take_notice();
-        }
-    }
-
-    /// Opens the turn of a key.
-    fn open_turn(&mut self, key: u64) -> Result<(), AllocError> {
-        let step = Step::Begin {
-            key: Arc::new(self.alloc, key)?,
-            kind: Turning::With,
-            replace: None,
-            now: 0,
-        };
-        match self.cache.step(step) {
-            Reply::Run(_, _) => Ok(()),
-            _ => Err(AllocError),
-        }
-    }
-
-    fn get_with(&mut self, key: u64, now: u64) -> bool {
-        self.cache.get_with(key, || key, now).is_ok()
-    }
-
-    fn or_insert(&mut self, key: u64, now: u64) -> bool {
-        self.cache.entry(key, now).or_insert(key).is_ok()
-    }
-
-    fn get_and_insert(&mut self, key: u64, now: u64) -> bool {
-        self.cache.get(&key, now).is_ok() && self.cache.insert(key, key, now).is_ok()
-    }
-
-    fn upsert_with(&mut self, key: u64, now: u64) -> bool {
-        let selector = self.cache.entry(key, now);
-        selector.and_upsert_with(move |_| key).is_ok()
-    }
-
-    fn compute_with(&mut self, key: u64, now: u64) -> bool {
-        let selector = self.cache.entry(key, now);
-        selector.and_compute_with(move |_| Op::Put(key)).is_ok()
-    }
 }
 
 impl<H: BuildHasher + Default + Drop, F: FrequencySource, W: Drop> Made<W> for Ours<H, F> {
@@ -240,7 +162,7 @@ impl<H: BuildHasher + Default + Drop, F: FrequencySource, W: Drop> Made<W> for O
             hasher: Arc::new(alloc, H::default())?,
         };
         match CacheState::new(alloc, settings) {
-            Ok(cache) => Ok(Ours { alloc, cache }),
+            Ok(cache) => Ok(Ours { cache }),
             Err(_) => Err(AllocError),
         }
     }
@@ -258,7 +180,9 @@ impl<H: BuildHasher + Default + Drop, F: FrequencySource> Subject for Ours<H, F>
         if self.cache.insert(key, key, now).is_err() {
             return Err(AllocError);
         }
-        self.drop_notices();
+        for _ in 0..self.cache.notice_count() {
+            self.cache.take_notice();
+        }
         Ok(())
     }
 
@@ -279,25 +203,6 @@ impl<H: BuildHasher + Default + Drop, F: FrequencySource> Subject for Ours<H, F>
             }
         }
         Ok(yielded)
-    }
-
-    fn open(&mut self, turns: u64) -> Result<(), AllocError> {
-        for turn in 0..turns {
-            self.open_turn(u64::MAX - turn)?;
-        }
-        Ok(())
-    }
-
-    fn call(&mut self, call: Call, key: u64, now: u64) -> Result<(), AllocError> {
-        let is_done = match call {
-            Call::GetWith => self.get_with(key, now),
-            Call::OrInsert => self.or_insert(key, now),
-            Call::GetAndInsert => self.get_and_insert(key, now),
-            Call::UpsertWith => self.upsert_with(key, now),
-            Call::ComputeWith => self.compute_with(key, now),
-        };
-        self.drop_notices();
-        if is_done { Ok(()) } else { Err(AllocError) }
     }
 }
 
@@ -369,14 +274,6 @@ impl<W: Wait + Drop> Subject for Together<W> {
 
     /// What waits is left to the next flush.
     fn settle(&mut self, _now: u64) {}
-
-    /// Of the calls that work a value out `get_with` alone is measured.
-    fn call(&mut self, _call: Call, key: u64, _now: u64) -> Result<(), AllocError> {
-        match self.cache.get_with(key, || key) {
-            Ok(_) => Ok(()),
-            Err(_) => Err(AllocError),
-        }
-    }
 }
 
 impl<W: Wait + Copy + Send + Drop + 'static> Again for Together<W> {
@@ -384,13 +281,6 @@ impl<W: Wait + Copy + Send + Drop + 'static> Again for Together<W> {
         Ok(Together {
             cache: self.cache.clone()?,
         })
-    }
-
-    fn look_slowly<R: Clock>(&mut self, rt: &R, asked: &AtomicU64) -> Result<(), AllocError> {
-        match self.cache.get_with(0, || work_out(rt, asked)) {
-            Ok(_) => Ok(()),
-            Err(_) => Err(AllocError),
-        }
     }
 }
 
