@@ -276,7 +276,7 @@ impl<W: Wait + Drop> Subject for Together<W> {
     fn settle(&mut self, _now: u64) {}
 }
 
-impl<W: Wait + Copy + Send + Drop + 'static> Again for Together<W> {
+impl<W: Wait + Copy + Send + Sync + Drop + 'static> Again for Together<W> {
     fn again(&self) -> Result<Self, AllocError> {
         Ok(Together {
             cache: self.cache.clone()?,
