@@ -30,8 +30,8 @@ pub(crate) fn print_counts<R: Runtime + Wait + Threads + Copy + Send + Sync>(
     println!(rt; "16 segments: 16 threads ask for one key, initializers: {segments}")
 }
 
-/// Prints how many initializers run at most in a round, and the medians of the microseconds until all threads have the value:
-/// where it has to be worked out, and where it is there.
+/// Prints how many initializers run at most in a round, and the medians of the microseconds until
+/// all threads have the value: where it has to be worked out, and where it is there.
 pub(crate) fn print_times<R: Runtime + Wait + Threads + Copy + Send + Sync>(
     rt: &R,
     alloc: Global,
@@ -62,8 +62,8 @@ fn print_row<S: Subject<R> + Sync, R: Runtime + Wait + Threads + Copy + Send + S
     println!(rt; "| {name} | {most} | {worked_out} | {there} |")
 }
 
-/// How many initializers ran, and the times until all threads had the value: where it was to be worked out, and where it was
-/// there. Both times begin before the threads do.
+/// How many initializers ran, and the times until all threads had the value: where it was to be
+/// worked out, and where it was there. Both times begin before the threads do.
 fn round<S: Subject<R> + Sync, R: Wait + Clock + Threads + Copy + Send + Sync>(
     rt: &R,
     alloc: Global,

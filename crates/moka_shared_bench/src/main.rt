@@ -1,5 +1,6 @@
-//! Measures the caches that threads share, beside a map and the kit's `lru` under one lock. Without arguments it prints what each
-//! finds of small loads, and how many initializers run where threads ask for one key.
+//! Measures the caches that threads share, beside a map and the kit's `lru` under one lock. Without
+//! arguments it prints what each finds of small loads, and how many initializers run where threads
+//! ask for one key.
 #![tactic(auto)]
 
 mod alone;

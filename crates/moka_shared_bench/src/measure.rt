@@ -65,7 +65,8 @@ pub(crate) fn measured<R: Wait + Clock + Threads + Copy + Send + Sync>(
     }
 }
 
-/// The time of the second half of the keys: the first half, by looks of one thread, brings the subject to where it stays.
+/// The time of the second half of the keys: the first half, by looks of one thread, brings the
+/// subject to where it stays.
 fn timed<S: Subject<R> + Sync, R: Wait + Clock + Threads + Copy + Send + Sync>(
     rt: &R,
     alloc: Global,
@@ -120,8 +121,8 @@ fn part_of(keys: &[u64], index: usize, threads: usize) -> &[u64] {
     }
 }
 
-/// Runs the keys one after another. How many were found: by looks those that were there, by an initializer at hand those whose
-/// value is the right one.
+/// Runs the keys one after another. How many were found: by looks those that were there, by an
+/// initializer at hand those whose value is the right one.
 fn found_of<S: Subject<R>, R>(
     subject: &S,
     call: Call,

@@ -21,8 +21,8 @@ impl Numbers {
         (number.wrapping_mul(u64::from(bound)) >> 32) as u32
     }
 
-    /// One of `2^octaves - 1` keys, from 1 on, each as often as its inverse, which is Zipf's law: an octave, and then
-    /// a key of it, which is taken the less often the greater it is.
+    /// One of `2^octaves - 1` keys, from 1 on, each as often as its inverse, which is Zipf's law:
+    /// an octave, and then a key of it, which is taken the less often the greater it is.
     pub(crate) fn skewed(&mut self, octaves: u32) -> u32 {
         let first = 1_u32.wrapping_shl(self.below(octaves));
         for _ in 0..64 {

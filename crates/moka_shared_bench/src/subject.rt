@@ -1,5 +1,5 @@
-//! What threads share: the caches of this library, and other maps under one lock. Each has the quick hasher, and what has a bound
-//! lets the least recently used leave.
+//! What threads share: the caches of this library, and other maps under one lock. Each has the
+//! quick hasher, and what has a bound lets the least recently used leave.
 use crate::initializer::Initializer;
 use lru::LruCache;
 use moka::policy::{EvictionPolicy, ManualClock};
@@ -47,8 +47,8 @@ impl<W: Wait + Clock + Drop> Subject<W> for LockedMap<W> {
     /// The lock is held while the initializer runs, or two of them might.
     fn get_with(&self, key: u64, initializer: &Initializer<W>) -> Result<u64, AllocError> {
         let mut map = self.map.lock(&self.waits);
-        if let Some(value) = map.get(&key) {
-            return Ok(*value);
+        if let Some(value) = map.get(&key).copied() {
+            return Ok(value);
         }
         let value = initializer.value_of(key);
         match map.insert(key, value) {
@@ -83,8 +83,8 @@ impl<W: Wait + Clock + Drop> Subject<W> for LockedLru<W> {
     /// The lock is held while the initializer runs, or two of them might.
     fn get_with(&self, key: u64, initializer: &Initializer<W>) -> Result<u64, AllocError> {
         let mut cache = self.cache.lock(&self.waits);
-        if let Some(value) = cache.get(&key) {
-            return Ok(*value);
+        if let Some(value) = cache.get(&key).copied() {
+            return Ok(value);
         }
         let value = initializer.value_of(key);
         match cache.put(key, value) {
