@@ -81,6 +81,8 @@ fn timed<S: Subject<R> + Sync, R: Wait + Clock + Threads + Copy + Send + Sync>(
     let begun = Instant::now(rt)?;
     let found = by_threads(rt, alloc, &subject, way, measured, &initializer)?;
     let nanos = nanos_since(rt, begun)?;
+    // What an initializer gave was not found.
+    let found = found.saturating_sub(initializer.asked());
     Ok(Outcome { nanos, found })
 }
 
