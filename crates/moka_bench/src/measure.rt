@@ -150,7 +150,7 @@ pub(crate) fn prepare<S: Subject>(
 }
 
 /// Runs keys of a load, each at its own moment, from a moment on. Answers how many of the looks found their key.
-pub(crate) fn hits_of<S: Subject>(
+fn hits_of<S: Subject>(
     subject: &mut S,
     kind: Kind,
     keys: &[u64],

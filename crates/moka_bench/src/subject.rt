@@ -11,7 +11,6 @@ use moka::policy::{
     Predicate,
 };
 use moka::state::{CacheState, Settings};
-use moka::sync::{Cache, CacheBuilder};
 use std::alloc::{AllocError, Global};
 use std::collections::HashMap;
 use std::convert::Infallible;
@@ -64,12 +63,6 @@ pub(crate) trait Emptied: Subject {
 
     /// Runs a maintenance in which so many leave at most, and answers whether it left something undone.
     fn settle_up_to(&mut self, limit: u64, now: u64) -> bool;
-}
-
-/// What threads can share.
-pub(crate) trait Again: Subject + Send + 'static {
-    /// The same cache, for another thread.
-    fn again(&self) -> Result<Self, AllocError>;
 }
 
 /// Holds of each value.
@@ -236,58 +229,10 @@ impl<H: BuildHasher + Default + Drop, F: FrequencySource> Emptied for Ours<H, F>
     }
 }
 
-/// The shared cache of this library, least recently used.
-#[derive(Drop)]
-pub(crate) struct Together<W: Drop> {
-    cache: Cache<u64, u64, Types<Fold, NoFrequencies>, W>,
-}
-
-impl<W: Wait + Drop> Made<W> for Together<W> {
-    fn made(
-        alloc: Global,
-        load: &Load,
-        policy: EvictionPolicy,
-        waits: W,
-    ) -> Result<Self, AllocError> {
-        let builder = CacheBuilder::new(u64::from(load.capacity)).eviction_policy(policy);
-        match builder.build_with_hasher(alloc, Fold::default(), ManualClock::new(0), waits) {
-            Ok(cache) => Ok(Together { cache }),
-            Err(_) => Err(AllocError),
-        }
-    }
-}
-
-impl<W: Wait + Drop> Subject for Together<W> {
-    fn look(&mut self, key: u64, _now: u64) -> Result<bool, AllocError> {
-        match self.cache.get(&key) {
-            Ok(found) => Ok(found.is_some()),
-            Err(_) => Err(AllocError),
-        }
-    }
-
-    fn insert(&mut self, key: u64, _now: u64) -> Result<(), AllocError> {
-        match self.cache.insert(key, key) {
-            Ok(()) => Ok(()),
-            Err(_) => Err(AllocError),
-        }
-    }
-
-    /// What waits is left to the next flush.
-    fn settle(&mut self, _now: u64) {}
-}
-
-impl<W: Wait + Copy + Send + Sync + Drop + 'static> Again for Together<W> {
-    fn again(&self) -> Result<Self, AllocError> {
-        Ok(Together {
-            cache: self.cache.clone()?,
-        })
-    }
-}
-
 /// The `lru` of the kit behind the kit's lock, as a program without this library would have it.
 #[derive(Drop)]
 pub(crate) struct Theirs<H: BuildHasher + Drop, W: Drop> {
-    cache: Arc<Mutex<LruCache<u64, u64, H>>>,
+    cache: Mutex<LruCache<u64, u64, H>>,
     waits: W,
 }
 
@@ -301,7 +246,7 @@ impl<H: BuildHasher + Default + Drop, W: Wait + Drop> Made<W> for Theirs<H, W> {
         let capacity = NonZeroUsize::new(load.capacity as usize).ok_or(AllocError)?;
         let cache = LruCache::with_hasher(alloc, capacity, H::default())?;
         Ok(Theirs {
-            cache: Arc::new(alloc, Mutex::new(cache))?,
+            cache: Mutex::new(cache),
             waits,
         })
     }
@@ -320,20 +265,11 @@ impl<H: BuildHasher + Default + Drop, W: Wait + Drop> Subject for Theirs<H, W> {
     fn settle(&mut self, _now: u64) {}
 }
 
-impl<W: Wait + Copy + Send + Drop + 'static> Again for Theirs<Fold, W> {
-    fn again(&self) -> Result<Self, AllocError> {
-        Ok(Theirs {
-            cache: self.cache.clone()?,
-            waits: self.waits,
-        })
-    }
-}
-
 /// A map without a bound, under one lock.
 #[derive(Drop)]
 pub(crate) struct Unbounded<W: Drop> {
     alloc: Global,
-    map: Arc<Mutex<HashMap<u64, u64, Fold>>>,
+    map: Mutex<HashMap<u64, u64, Fold>>,
     waits: W,
 }
 
@@ -347,7 +283,7 @@ impl<W: Wait + Drop> Made<W> for Unbounded<W> {
         let map = HashMap::with_hasher(alloc, Fold::default());
         Ok(Unbounded {
             alloc,
-            map: Arc::new(alloc, Mutex::new(map))?,
+            map: Mutex::new(map),
             waits,
         })
     }
@@ -381,15 +317,5 @@ impl<W: Wait + Drop> Subject for Unbounded<W> {
             }
         }
         Ok(found)
-    }
-}
-
-impl<W: Wait + Copy + Send + Drop + 'static> Again for Unbounded<W> {
-    fn again(&self) -> Result<Self, AllocError> {
-        Ok(Unbounded {
-            alloc: self.alloc,
-            map: self.map.clone()?,
-            waits: self.waits,
-        })
     }
 }

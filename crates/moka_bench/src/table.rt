@@ -76,7 +76,7 @@ pub(crate) fn run<R: Runtime + Wait + Copy>(
 
 fn print_usage(rt: &impl io::Print) -> io::Result<()> {
     println!(rt;
-        "usage: moka_bench [(times | computes | initializers | lives | limits | removals | segments | threads | walks) ROUNDS | memory NUMBER]"
+        "usage: moka_bench [(times | computes | initializers | lives | limits | removals | segments | walks) ROUNDS | memory NUMBER]"
     )
 }
 

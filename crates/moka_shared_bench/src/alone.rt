@@ -1,0 +1,66 @@
+//! The state that one owner has, which is what lies under the lock of a shared cache.
+use crate::load::Load;
+use crate::measure::{Outcome, nanos_since};
+use moka::policy::EvictionPolicy;
+use moka::ready::{FoldState, Plain};
+use moka::state::CacheState;
+use moka::sync::CacheBuilder;
+use std::alloc::{AllocError, Global};
+use std::io;
+use std::time::{Clock, Instant};
+
+/// A state of the same types as the shared caches.
+type Alone = CacheState<u64, u64, Plain>;
+
+/// Makes a state, and runs a load on it.
+pub(crate) fn timed<R: Clock>(
+    rt: &R,
+    alloc: Global,
+    load: &Load,
+    keys: &[u64],
+) -> io::Result<Outcome> {
+    let mut state = opened(alloc, load.capacity)?;
+    timed_on(rt, &mut state, keys)
+}
+
+fn opened(alloc: Global, capacity: u32) -> Result<Alone, AllocError> {
+    let builder = CacheBuilder::new(u64::from(capacity)).eviction_policy(EvictionPolicy::lru());
+    match builder.build_state(alloc, FoldState::default()) {
+        Ok(state) => Ok(state),
+        Err(_) => Err(AllocError),
+    }
+}
+
+/// The time of the second half of the keys: the first half brings the state to where it stays.
+fn timed_on<R: Clock>(rt: &R, state: &mut Alone, keys: &[u64]) -> io::Result<Outcome> {
+    let (before, measured) = keys.split_at(keys.len() / 2);
+    look_for_all(state, before)?;
+    let begun = Instant::now(rt)?;
+    let found = look_for_all(state, measured)?;
+    let nanos = nanos_since(rt, begun)?;
+    Ok(Outcome { nanos, found })
+}
+
+fn look_for_all(state: &mut Alone, keys: &[u64]) -> Result<u64, AllocError> {
+    let mut found = 0_u64;
+    for key in keys {
+        if look(state, *key)? {
+            found = found.wrapping_add(1);
+        }
+    }
+    Ok(found)
+}
+
+/// Looks for a key, and writes it where it is not found. Whether it was found.
+fn look(state: &mut Alone, key: u64) -> Result<bool, AllocError> {
+    let Ok(found) = state.get(&key, 0) else {
+        return Err(AllocError);
+    };
+    if found.is_none() && state.insert(key, key, 0).is_err() {
+        return Err(AllocError);
+    }
+    for _ in 0..state.notice_count() {
+        state.take_notice();
+    }
+    Ok(found.is_some())
+}

@@ -1,0 +1,80 @@
+//! Many threads that ask for one key at once, whose value takes a millisecond to work out.
+use crate::initializer::Initializer;
+use crate::measure::{Call, Way, by_threads, nanos_since};
+use crate::subject::{OneLock, Segments, Subject};
+use crate::table::{NO_ROUND, Round, median_time};
+use std::alloc::Global;
+use std::io;
+use std::rt::Runtime;
+use std::sync::Wait;
+use std::thread::Threads;
+use std::time::{Clock, Duration, Instant};
+
+/// Each of so many threads asks once.
+const CALLERS: Way = Way {
+    call: Call::GetWith,
+    threads: 16,
+};
+
+/// What they ask for.
+const KEYS: [u64; 16] = [7; 16];
+
+/// Prints how many initializers run.
+pub(crate) fn print_counts<R: Runtime + Wait + Threads + Copy + Send + Sync>(
+    rt: &R,
+    alloc: Global,
+) -> io::Result<()> {
+    let (one_lock, _) = round::<OneLock<R>, R>(rt, alloc)?;
+    let (segments, _) = round::<Segments<R>, R>(rt, alloc)?;
+    println!(rt; "one lock: 16 threads ask for one key, initializers: {one_lock}")?;
+    println!(rt; "16 segments: 16 threads ask for one key, initializers: {segments}")
+}
+
+/// Prints how many initializers run at most in a round, and the medians of the microseconds until
+/// all threads have the value: where it has to be worked out, and where it is there.
+pub(crate) fn print_times<R: Runtime + Wait + Threads + Copy + Send + Sync>(
+    rt: &R,
+    alloc: Global,
+    rounds: usize,
+) -> io::Result<()> {
+    println!(rt;
+        "\n| 16 threads, one key | initializers | worked out | there |\n|---|---|---|---|"
+    )?;
+    print_row::<OneLock<R>, R>(rt, alloc, "one lock", rounds)?;
+    print_row::<Segments<R>, R>(rt, alloc, "16 segments", rounds)
+}
+
+fn print_row<S: Subject<R> + Sync, R: Runtime + Wait + Threads + Copy + Send + Sync>(
+    rt: &R,
+    alloc: Global,
+    name: &str,
+    rounds: usize,
+) -> io::Result<()> {
+    let mut all = Vec::with_capacity(alloc, rounds)?;
+    let mut most = 0_u64;
+    for _ in 0..rounds {
+        let (initializers, times) = round::<S, R>(rt, alloc)?;
+        most = most.max(initializers);
+        all.push(times)?;
+    }
+    let worked_out = median_time(alloc, &all, 0)? / 1_000;
+    let there = median_time(alloc, &all, 1)? / 1_000;
+    println!(rt; "| {name} | {most} | {worked_out} | {there} |")
+}
+
+/// How many initializers ran, and the times until all threads had the value: where it was to be
+/// worked out, and where it was there. Both times begin before the threads do.
+fn round<S: Subject<R> + Sync, R: Wait + Clock + Threads + Copy + Send + Sync>(
+    rt: &R,
+    alloc: Global,
+) -> io::Result<(u64, Round)> {
+    let subject = S::made(alloc, 100, *rt)?;
+    let initializer = Initializer::new(Duration::from_millis(1), *rt);
+    let mut times = NO_ROUND;
+    for time in times.iter_mut().take(2) {
+        let begun = Instant::now(rt)?;
+        by_threads(rt, alloc, &subject, CALLERS, &KEYS, &initializer)?;
+        *time = nanos_since(rt, begun)?;
+    }
+    Ok((initializer.asked(), times))
+}

@@ -1,0 +1,151 @@
+//! One load on what threads share.
+use crate::alone;
+use crate::initializer::Initializer;
+use crate::load::Load;
+use crate::subject::{LockedLru, LockedMap, OneLock, Segments, Subject};
+use std::alloc::{AllocError, Global};
+use std::sync::Wait;
+use std::thread::Threads;
+use std::time::{Clock, Duration, Instant};
+use std::{io, thread};
+
+/// What is measured.
+#[derive(Clone, Copy)]
+pub(crate) enum Which {
+    /// A state that is not shared.
+    Alone,
+    /// A map without a bound, under one lock.
+    Map,
+    /// The kit's `lru`, under one lock.
+    Lru,
+    /// The shared cache.
+    OneLock,
+    /// The shared cache of several segments.
+    Segments,
+}
+
+/// What is done with each key.
+#[derive(Clone, Copy)]
+pub(crate) enum Call {
+    /// It is looked for, and written where it is not found.
+    Look,
+    /// It is asked for with an initializer at hand.
+    GetWith,
+}
+
+/// How the keys are run: by which call, and by how many threads, each of which runs a part of them.
+#[derive(Clone, Copy)]
+pub(crate) struct Way {
+    pub call: Call,
+    pub threads: usize,
+}
+
+/// What a run came to.
+#[derive(Clone, Copy)]
+pub(crate) struct Outcome {
+    pub nanos: u64,
+    pub found: u64,
+}
+
+/// Makes what is measured, and runs a load on it.
+pub(crate) fn measured<R: Wait + Clock + Threads + Copy + Send + Sync>(
+    rt: &R,
+    alloc: Global,
+    which: Which,
+    way: Way,
+    load: &Load,
+    keys: &[u64],
+) -> io::Result<Outcome> {
+    match which {
+        Which::Alone => alone::timed(rt, alloc, load, keys),
+        Which::Map => timed::<LockedMap<R>, R>(rt, alloc, way, load, keys),
+        Which::Lru => timed::<LockedLru<R>, R>(rt, alloc, way, load, keys),
+        Which::OneLock => timed::<OneLock<R>, R>(rt, alloc, way, load, keys),
+        Which::Segments => timed::<Segments<R>, R>(rt, alloc, way, load, keys),
+    }
+}
+
+/// The time of the second half of the keys: the first half, by looks of one thread, brings the
+/// subject to where it stays.
+fn timed<S: Subject<R> + Sync, R: Wait + Clock + Threads + Copy + Send + Sync>(
+    rt: &R,
+    alloc: Global,
+    way: Way,
+    load: &Load,
+    keys: &[u64],
+) -> io::Result<Outcome> {
+    let (before, measured) = keys.split_at(keys.len() / 2);
+    let subject = S::made(alloc, load.capacity, *rt)?;
+    let initializer = Initializer::new(Duration::ZERO, *rt);
+    found_of(&subject, Call::Look, before, &initializer)?;
+    let begun = Instant::now(rt)?;
+    let found = by_threads(rt, alloc, &subject, way, measured, &initializer)?;
+    let nanos = nanos_since(rt, begun)?;
+    // What an initializer gave was not found.
+    let found = found.saturating_sub(initializer.asked());
+    Ok(Outcome { nanos, found })
+}
+
+/// Runs the keys, a part of them in each of the threads. How many were found.
+pub(crate) fn by_threads<S: Subject<R> + Sync, R: Threads + Sync>(
+    rt: &R,
+    alloc: Global,
+    subject: &S,
+    way: Way,
+    keys: &[u64],
+    initializer: &Initializer<R>,
+) -> Result<u64, AllocError> {
+    let parts = thread::map_indices(
+        rt,
+        alloc,
+        way.threads,
+        &|index| found_of(
+            subject,
+            way.call,
+            part_of(keys, index, way.threads),
+            initializer,
+        ),
+    )?;
+    let mut found = 0_u64;
+    for part in parts {
+        found = found.wrapping_add(part?);
+    }
+    Ok(found)
+}
+
+/// The keys that one of so many threads runs.
+fn part_of(keys: &[u64], index: usize, threads: usize) -> &[u64] {
+    let len = keys.len().checked_div(threads).unwrap_or(0);
+    let first = len.wrapping_mul(index);
+    match keys.get(first..first.wrapping_add(len)) {
+        Some(part) => part,
+        None => &[],
+    }
+}
+
+/// Runs the keys one after another. How many were found: by looks those that were there, by an
+/// initializer at hand those whose value is the right one.
+fn found_of<S: Subject<R>, R>(
+    subject: &S,
+    call: Call,
+    keys: &[u64],
+    initializer: &Initializer<R>,
+) -> Result<u64, AllocError> {
+    let mut found = 0_u64;
+    for key in keys {
+        let is_found = match call {
+            Call::Look => subject.look(*key)?,
+            Call::GetWith => subject.get_with(*key, initializer)? == *key,
+        };
+        if is_found {
+            found = found.wrapping_add(1);
+        }
+    }
+    Ok(found)
+}
+
+/// The nanoseconds since a moment.
+pub(crate) fn nanos_since(clock: &impl Clock, begun: Instant) -> io::Result<u64> {
+    let took = begun.elapsed(clock)?.as_nanos();
+    Ok(u64::try_from(took).unwrap_or(u64::MAX))
+}
