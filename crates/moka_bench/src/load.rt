@@ -33,6 +33,22 @@ pub(crate) enum Kind {
     Replace,
     /// Each pair comes once. All keys were written before.
     Walk,
+    /// This is called of the key. All keys were written before.
+    Known(Call),
+    /// This is called of the key, a new one.
+    New(Call),
+}
+
+/// Calls that work a value out, and what they are compared with.
+#[derive(Clone, Copy, PartialEq)]
+pub(crate) enum Call {
+    GetWith,
+    OrInsert,
+    /// A `get`, and an `insert` whatever it found.
+    GetAndInsert,
+    UpsertWith,
+    /// `and_compute_with` that puts.
+    ComputeWith,
 }
 
 /// A load: the capacity of the caches, the keys, and what is done with each.
@@ -48,6 +64,8 @@ pub(crate) struct Load {
     pub life: Life,
     /// How many values leave before a write at most.
     pub flush_limit: Option<u64>,
+    /// How many turns of other keys are open.
+    pub open_turns: u64,
 }
 
 /// 100,000 of about a million keys.
@@ -59,6 +77,13 @@ const LOOKS: Load = Load {
     calls: 1_000_000,
     life: Life::Endless,
     flush_limit: None,
+    open_turns: 0,
+};
+
+const INSERTS: Load = Load {
+    name: "inserts",
+    kind: Kind::Insert,
+    ..LOOKS
 };
 
 const HITS: Load = Load {
@@ -67,12 +92,93 @@ const HITS: Load = Load {
     ..LOOKS
 };
 
-/// The loads on which initializers are measured.
-pub(crate) const INITIALIZED: [Load; 2] = [
-    HITS,
+const KNOWN_WITH: Load = Load {
+    name: "get_with of what is there",
+    kind: Kind::Known(Call::GetWith),
+    ..LOOKS
+};
+
+const NEW_WITH: Load = Load {
+    name: "get_with, 1 turn open",
+    kind: Kind::New(Call::GetWith),
+    open_turns: 1,
+    ..LOOKS
+};
+
+/// The first of the loads.
+pub(crate) const FIRST: [Load; 3] = [LOOKS, INSERTS, HITS];
+
+/// `get_with` of keys that are there, beside `get`.
+pub(crate) const KNOWN: [Load; 4] = [
     Load {
-        name: "misses",
+        name: "get",
+        ..HITS
+    },
+    Load {
+        name: "get_with, 1 turn open",
+        open_turns: 1,
+        ..KNOWN_WITH
+    },
+    Load {
+        name: "get_with, 1,000 open",
+        open_turns: 1_000,
+        ..KNOWN_WITH
+    },
+    Load {
+        name: "get_with, 100,000 open",
+        open_turns: 100_000,
+        ..KNOWN_WITH
+    },
+];
+
+/// `get_with` of new keys, beside a `get` and an `insert`.
+pub(crate) const NEW: [Load; 4] = [
+    Load {
+        name: "get and insert",
         kind: Kind::Miss,
+        ..LOOKS
+    },
+    NEW_WITH,
+    Load {
+        name: "get_with, 1,000 open",
+        open_turns: 1_000,
+        ..NEW_WITH
+    },
+    Load {
+        name: "get_with, 100,000 open",
+        open_turns: 100_000,
+        ..NEW_WITH
+    },
+];
+
+/// `or_insert` of keys that are there, beside `get`.
+pub(crate) const OR_INSERT: [Load; 2] = [
+    Load {
+        name: "get",
+        ..HITS
+    },
+    Load {
+        name: "or_insert",
+        kind: Kind::Known(Call::OrInsert),
+        ..LOOKS
+    },
+];
+
+/// Computes of keys that are there, beside a `get` and an `insert`.
+pub(crate) const COMPUTES: [Load; 3] = [
+    Load {
+        name: "get and insert",
+        kind: Kind::Known(Call::GetAndInsert),
+        ..LOOKS
+    },
+    Load {
+        name: "and_upsert_with",
+        kind: Kind::Known(Call::UpsertWith),
+        ..LOOKS
+    },
+    Load {
+        name: "and_compute_with",
+        kind: Kind::Known(Call::ComputeWith),
         ..LOOKS
     },
 ];
@@ -80,11 +186,7 @@ pub(crate) const INITIALIZED: [Load; 2] = [
 /// The loads, each of which every cache is measured on.
 pub(crate) const LOADS: [Load; 8] = [
     LOOKS,
-    Load {
-        name: "inserts",
-        kind: Kind::Insert,
-        ..LOOKS
-    },
+    INSERTS,
     HITS,
     Load {
         name: "looks, each value living 100,000 calls",
@@ -236,9 +338,11 @@ impl Load {
         for call in 0..calls {
             keys.push(match self.kind {
                 Kind::Look => u64::from(numbers.skewed(self.octaves)),
-                Kind::Insert | Kind::Miss | Kind::Walk => u64::from(call),
+                Kind::Insert | Kind::Miss | Kind::Walk | Kind::New(_) => u64::from(call),
                 Kind::Replace => u64::from(self.capacity).wrapping_add(u64::from(call)),
-                Kind::Hit | Kind::Overwrite => u64::from(numbers.below(self.capacity)),
+                Kind::Hit | Kind::Overwrite | Kind::Known(_) => {
+                    u64::from(numbers.below(self.capacity))
+                }
             })?;
         }
         Ok(keys)

@@ -1,8 +1,6 @@
 //! Measures the cache beside the `lru` of the kit. Without arguments it prints how many of a thousand looks each finds.
 #![tactic(auto)]
 
-mod computes;
-mod initializers;
 mod load;
 mod measure;
 mod numbers;

@@ -1,5 +1,6 @@
 //! One cache on one load.
 use crate::load::{Kind, Load};
+use crate::segments::InSegments;
 use crate::subject::{Fold, Made, NoFrequencies, Ours, Subject, Theirs, Unbounded};
 use moka::policy::{CountTable, EvictionPolicy, FrequencySketch};
 use std::alloc::{AllocError, Global};
@@ -23,6 +24,10 @@ pub(crate) enum Which {
     Table,
     /// Ours, TinyLFU with a sketch of about twice as many counters in a row as the capacity.
     Sketch,
+    /// Ours of one segment, least recently used.
+    Segment,
+    /// The same of sixteen.
+    Segments,
 }
 
 /// Which hasher it has: SipHash with fixed keys, or the kit's quick one.
@@ -69,6 +74,8 @@ fn by<H: BuildHasher + Default + Drop, R: Wait + Clock + Copy>(
         Which::Slowest => slowest::<Ours<H, NoFrequencies>, R>(rt, alloc, lru, load, keys),
         Which::Table => timed::<Ours<H, CountTable<20>>, R>(rt, alloc, tiny_lfu, load, keys),
         Which::Sketch => sketched::<H, R>(rt, alloc, load, keys),
+        Which::Segment => timed::<InSegments<H, 1>, R>(rt, alloc, lru, load, keys),
+        Which::Segments => timed::<InSegments<H, 16>, R>(rt, alloc, lru, load, keys),
     }
 }
 
@@ -139,7 +146,11 @@ pub(crate) fn prepare<S: Subject>(
     load: &Load,
     before: &[u64],
 ) -> Result<(), AllocError> {
-    if !matches!(load.kind, Kind::Look | Kind::Insert | Kind::Miss) {
+    subject.open(load.open_turns)?;
+    if !matches!(
+        load.kind,
+        Kind::Look | Kind::Insert | Kind::Miss | Kind::New(_)
+    ) {
         for key in 0..load.capacity {
             subject.insert(u64::from(key), 0)?;
         }
@@ -162,7 +173,9 @@ fn hits_of<S: Subject>(
     let mut hits = 0_u64;
     for (place, key) in keys.iter().enumerate() {
         let now = first.wrapping_add(place) as u64;
-        if matches!(kind, Kind::Look | Kind::Hit | Kind::Miss) && subject.look(*key, now)? {
+        if let Kind::Known(call) | Kind::New(call) = kind {
+            subject.call(call, *key, now)?;
+        } else if matches!(kind, Kind::Look | Kind::Hit | Kind::Miss) && subject.look(*key, now)? {
             hits = hits.wrapping_add(1);
         } else if kind != Kind::Hit {
             subject.insert(*key, now)?;

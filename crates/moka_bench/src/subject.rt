@@ -3,14 +3,16 @@ ghost use Rattle.std.specs.Prelude.{◌≡◌, true, refl};
 ghost use Rattle.std.proofs.Math.Path.{◌∙◌};
 ghost use Rattle.moka_bench.specs.OwnLives.{same_lives};
 
-use crate::load::{Life, Load};
+use crate::load::{Call, Life, Load};
 use crate::own_lives::SameLives;
 use lru::LruCache;
+use moka::ops::compute::Op;
 use moka::policy::{
     CacheTypes, CountTable, EvictionPolicy, FrequencySource, ManualClock, NoListener, NoWeigher,
     Predicate,
 };
-use moka::state::{CacheState, Settings};
+use moka::state::{CacheState, Reply, Settings, Step};
+use moka::sync::value_initializer::Kind as Turning;
 use std::alloc::{AllocError, Global};
 use std::collections::HashMap;
 use std::convert::Infallible;
@@ -33,6 +35,19 @@ pub(crate) trait Subject: Drop {
     /// Walks over so many pairs at most, and answers how many came: none where a cache has no walks.
     fn walk(&mut self, _pairs: usize, _now: u64) -> Result<u64, AllocError> {
         Ok(0)
+    }
+
+    /// Opens so many turns of keys that no load has, where a cache has turns.
+    fn open(&mut self, _turns: u64) -> Result<(), AllocError> {
+        Ok(())
+    }
+
+    /// Calls this of a key; where a cache has no such calls, looks for the key and writes it where it is not found.
+    fn call(&mut self, _call: Call, key: u64, now: u64) -> Result<(), AllocError> {
+        if !self.look(key, now)? {
+            self.insert(key, now)?;
+        }
+        Ok(())
     }
 }
 
@@ -123,7 +138,52 @@ impl<H: BuildHasher + Drop, F: FrequencySource> CacheTypes<u64, u64> for Types<H
 /// A cache of this library.
 #[derive(Drop)]
 pub(crate) struct Ours<H: BuildHasher + Drop, F: FrequencySource> {
+    alloc: Global,
     cache: CacheState<u64, u64, Types<H, F>>,
+}
+
+impl<H: BuildHasher + Drop, F: FrequencySource> Ours<H, F> {
+    fn drop_notices(&mut self) {
+        for _ in 0..self.cache.notice_count() {
+            self.cache.take_notice();
+        }
+    }
+
+    /// Opens the turn of a key.
+    fn open_turn(&mut self, key: u64) -> Result<(), AllocError> {
+        let step = Step::Begin {
+            key: Arc::new(self.alloc, key)?,
+            kind: Turning::With,
+            replace: None,
+            now: 0,
+        };
+        match self.cache.step(step) {
+            Reply::Run(_, _) => Ok(()),
+            _ => Err(AllocError),
+        }
+    }
+
+    fn get_with(&mut self, key: u64, now: u64) -> bool {
+        self.cache.get_with(key, || key, now).is_ok()
+    }
+
+    fn or_insert(&mut self, key: u64, now: u64) -> bool {
+        self.cache.entry(key, now).or_insert(key).is_ok()
+    }
+
+    fn get_and_insert(&mut self, key: u64, now: u64) -> bool {
+        self.cache.get(&key, now).is_ok() && self.cache.insert(key, key, now).is_ok()
+    }
+
+    fn upsert_with(&mut self, key: u64, now: u64) -> bool {
+        let selector = self.cache.entry(key, now);
+        selector.and_upsert_with(move |_| key).is_ok()
+    }
+
+    fn compute_with(&mut self, key: u64, now: u64) -> bool {
+        let selector = self.cache.entry(key, now);
+        selector.and_compute_with(move |_| Op::Put(key)).is_ok()
+    }
 }
 
 impl<H: BuildHasher + Default + Drop, F: FrequencySource, W: Drop> Made<W> for Ours<H, F> {
@@ -155,7 +215,7 @@ impl<H: BuildHasher + Default + Drop, F: FrequencySource, W: Drop> Made<W> for O
             hasher: Arc::new(alloc, H::default())?,
         };
         match CacheState::new(alloc, settings) {
-            Ok(cache) => Ok(Ours { cache }),
+            Ok(cache) => Ok(Ours { alloc, cache }),
             Err(_) => Err(AllocError),
         }
     }
@@ -173,9 +233,7 @@ impl<H: BuildHasher + Default + Drop, F: FrequencySource> Subject for Ours<H, F>
         if self.cache.insert(key, key, now).is_err() {
             return Err(AllocError);
         }
-        for _ in 0..self.cache.notice_count() {
-            self.cache.take_notice();
-        }
+        self.drop_notices();
         Ok(())
     }
 
@@ -196,6 +254,25 @@ impl<H: BuildHasher + Default + Drop, F: FrequencySource> Subject for Ours<H, F>
             }
         }
         Ok(yielded)
+    }
+
+    fn open(&mut self, turns: u64) -> Result<(), AllocError> {
+        for turn in 0..turns {
+            self.open_turn(u64::MAX - turn)?;
+        }
+        Ok(())
+    }
+
+    fn call(&mut self, call: Call, key: u64, now: u64) -> Result<(), AllocError> {
+        let is_done = match call {
+            Call::GetWith => self.get_with(key, now),
+            Call::OrInsert => self.or_insert(key, now),
+            Call::GetAndInsert => self.get_and_insert(key, now),
+            Call::UpsertWith => self.upsert_with(key, now),
+            Call::ComputeWith => self.compute_with(key, now),
+        };
+        self.drop_notices();
+        if is_done { Ok(()) } else { Err(AllocError) }
     }
 }
 

@@ -1,8 +1,10 @@
 //! What is printed.
-use crate::load::{LIMITS, LOADS, Load, SIZES, SMALL, WALKS, with_lives};
+use crate::load::{
+    COMPUTES, FIRST, KNOWN, LIMITS, LOADS, Load, NEW, OR_INSERT, SIZES, SMALL, WALKS, with_lives,
+};
 use crate::measure::{Hashing, Outcome, Which, measured};
+use crate::removals;
 use crate::removals::{REMOVALS, SWEEPS};
-use crate::{computes, initializers, removals, segments};
 use std::alloc::{AllocError, Global};
 use std::rt::Runtime;
 use std::sync::Wait;
@@ -38,6 +40,13 @@ const WALKED: [Named; 2] = [
     (Which::Lru, Hashing::Fold, "a state, key by key"),
 ];
 
+/// A state beside caches of several segments.
+const SEGMENTED: [Named; 3] = [
+    (Which::Lru, Hashing::Fold, "a state"),
+    (Which::Segment, Hashing::Fold, "one segment"),
+    (Which::Segments, Hashing::Fold, "16 segments"),
+];
+
 /// What runs the loads with lives and with limits: all calls, and the longest of them.
 const SLOWEST: [Named; 2] = [
     (Which::Lru, Hashing::Fold, "all calls"),
@@ -63,9 +72,9 @@ pub(crate) fn run<R: Runtime + Wait + Copy>(
             ("lives", Ok(rounds)) => print_lives(rt, alloc, rounds),
             ("limits", Ok(rounds)) => print_limits(rt, alloc, rounds),
             ("removals", Ok(rounds)) => removals::run(rt, alloc, rounds, &REMOVALS),
-            ("computes", Ok(rounds)) => computes::run(rt, alloc, rounds),
-            ("initializers", Ok(rounds)) => initializers::run(rt, alloc, rounds),
-            ("segments", Ok(rounds)) => segments::run(rt, alloc, rounds),
+            ("computes", Ok(rounds)) => print_calls(rt, alloc, rounds, &[&OR_INSERT, &COMPUTES]),
+            ("initializers", Ok(rounds)) => print_calls(rt, alloc, rounds, &[&KNOWN, &NEW]),
+            ("segments", Ok(rounds)) => print_times(rt, alloc, rounds, &FIRST, &SEGMENTED),
             ("walks", Ok(rounds)) => print_times(rt, alloc, rounds, &WALKS, &WALKED),
             ("memory", Ok(number)) => print_memory(rt, alloc, number),
             _ => print_usage(rt),
@@ -100,16 +109,50 @@ fn print_times<R: Runtime + Wait + Copy>(
 ) -> io::Result<()> {
     for load in loads {
         let all = rounds_of(rt, alloc, rounds, load, caches)?;
-        println!(rt;
-            "\n{}: {} calls, capacity {}",
-            load.name, load.calls, load.capacity
-        )?;
-        println!(rt; "| cache | time | ns a call | hits |\n|---|---|---|---|")?;
+        print_head(rt, load)?;
         for (place, (_, _, name)) in caches.iter().enumerate() {
             print_row(rt, alloc, load, name, &all, place)?;
         }
     }
     Ok(())
+}
+
+/// Prints the head of the table of a load.
+fn print_head(rt: &impl io::Print, load: &Load) -> io::Result<()> {
+    println!(rt;
+        "\n{}: {} calls, capacity {}\n| cache | time | ns a call | hits |\n|---|---|---|---|",
+        load.name, load.calls, load.capacity
+    )
+}
+
+/// Prints a table for calls on a cache by itself, each compared with the first of its list.
+fn print_calls<R: Runtime + Wait + Copy>(
+    rt: &R,
+    alloc: Global,
+    rounds: usize,
+    lists: &[&[Load]],
+) -> io::Result<()> {
+    println!(rt; "| call | time | ns a call | hits |\n|---|---|---|---|")?;
+    for loads in lists {
+        let mut all = Vec::with_capacity(alloc, rounds)?;
+        for _ in 0..rounds {
+            all.push(round_of(rt, alloc, loads)?)?;
+        }
+        for (place, load) in loads.iter().enumerate() {
+            print_row(rt, alloc, load, load.name, &all, place)?;
+        }
+    }
+    Ok(())
+}
+
+/// One run of each load on a cache by itself.
+fn round_of<R: Wait + Clock + Copy>(rt: &R, alloc: Global, loads: &[Load]) -> io::Result<Round> {
+    let mut round = NO_ROUND;
+    for (load, outcome) in loads.iter().zip(round.iter_mut()) {
+        let keys = load.keys(alloc)?;
+        *outcome = measured(rt, alloc, Which::Lru, Hashing::Fold, load, &keys)?;
+    }
+    Ok(round)
 }
 
 /// Runs so many rounds. In each the caches run one after another, so that what else the machine does meets all of them.
