@@ -63,7 +63,7 @@ fn print_row<S: Subject<R> + Sync, R: Runtime + Wait + Threads + Copy + Send + S
 }
 
 /// How many initializers ran, and the times until all threads had the value: where it was to be
-/// worked out, and where it was there. Both times begin before the threads do.
+/// worked out, and where it was there.
 fn round<S: Subject<R> + Sync, R: Wait + Clock + Threads + Copy + Send + Sync>(
     rt: &R,
     alloc: Global,
@@ -71,10 +71,19 @@ fn round<S: Subject<R> + Sync, R: Wait + Clock + Threads + Copy + Send + Sync>(
     let subject = S::made(alloc, 100, *rt)?;
     let initializer = Initializer::new(Duration::from_millis(1), *rt);
     let mut times = NO_ROUND;
-    for time in times.iter_mut().take(2) {
-        let begun = Instant::now(rt)?;
-        by_threads(rt, alloc, &subject, CALLERS, &KEYS, &initializer)?;
-        *time = nanos_since(rt, begun)?;
-    }
+    times[0] = asked(rt, alloc, &subject, &initializer)?;
+    times[1] = asked(rt, alloc, &subject, &initializer)?;
     Ok((initializer.asked(), times))
+}
+
+/// The nanoseconds from before the first thread begins until the last has ended.
+fn asked<S: Subject<R> + Sync, R: Clock + Threads + Sync>(
+    rt: &R,
+    alloc: Global,
+    subject: &S,
+    initializer: &Initializer<R>,
+) -> io::Result<u64> {
+    let begun = Instant::now(rt)?;
+    by_threads(rt, alloc, subject, CALLERS, &KEYS, initializer)?;
+    nanos_since(rt, begun)
 }

@@ -78,7 +78,7 @@ impl Load {
         for call in 0..calls {
             keys.push(u64::from(match self.kind {
                 Kind::Looks { octaves } => numbers.skewed(octaves),
-                Kind::Hits { keys } if call >= keys => numbers.below(keys),
+                Kind::Hits { keys: stored } if call >= stored => numbers.below(stored),
                 Kind::Misses | Kind::Hits { .. } => call,
             }))?;
         }

@@ -99,12 +99,10 @@ pub(crate) fn by_threads<S: Subject<R> + Sync, R: Threads + Sync>(
         rt,
         alloc,
         way.threads,
-        &|index| found_of(
-            subject,
-            way.call,
-            part_of(keys, index, way.threads),
-            initializer,
-        ),
+        &|index| match part_of(keys, index, way.threads) {
+            Some(part) => found_of(subject, way.call, part, initializer),
+            None => Ok(0),
+        },
     )?;
     let mut found = 0_u64;
     for part in parts {
@@ -114,13 +112,10 @@ pub(crate) fn by_threads<S: Subject<R> + Sync, R: Threads + Sync>(
 }
 
 /// The keys that one of so many threads runs.
-fn part_of(keys: &[u64], index: usize, threads: usize) -> &[u64] {
-    let len = keys.len().checked_div(threads).unwrap_or(0);
+fn part_of(keys: &[u64], index: usize, threads: usize) -> Option<&[u64]> {
+    let len = keys.len().checked_div(threads)?;
     let first = len.wrapping_mul(index);
-    match keys.get(first..first.wrapping_add(len)) {
-        Some(part) => part,
-        None => &[],
-    }
+    keys.get(first..first.wrapping_add(len))
 }
 
 /// Runs the keys one after another. How many were found: by looks those that were there, by an

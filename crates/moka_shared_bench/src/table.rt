@@ -226,9 +226,12 @@ fn print_columns<R: Runtime + Wait + Threads + Copy + Send + Sync>(
     columns: &[Column],
 ) -> io::Result<()> {
     let keys = load.keys(alloc)?;
-    for Column { name, which, way } in columns {
-        let found = measured(rt, alloc, *which, *way, load, &keys)?.found;
-        println!(rt; "{name}: {found} of {} {} found", load.calls, load.name)?;
+    for column in columns {
+        let found = measured(rt, alloc, column.which, column.way, load, &keys)?.found;
+        println!(rt;
+            "{}: {found} of {} {} found",
+            column.name, load.calls, load.name
+        )?;
     }
     Ok(())
 }
@@ -294,8 +297,8 @@ fn round<R: Wait + Clock + Threads + Copy + Send + Sync>(
     columns: &[Column],
 ) -> io::Result<Round> {
     let mut round = NO_ROUND;
-    for (Column { which, way, .. }, time) in columns.iter().zip(round.iter_mut()) {
-        *time = measured(rt, alloc, *which, *way, load, keys)?.nanos;
+    for (column, time) in columns.iter().zip(round.iter_mut()) {
+        *time = measured(rt, alloc, column.which, column.way, load, keys)?.nanos;
     }
     Ok(round)
 }
