@@ -1,0 +1,1 @@
+//! What a builder makes of its settings, and what it refuses.
