@@ -75,9 +75,7 @@ fn a_get_in_the_same_segment_answers_while_a_closure_runs(rt: HostRuntime) -> Re
 }
 
 #[test]
-fn a_get_in_another_segment_answers_while_a_segment_is_locked(
-    rt: HostRuntime,
-) -> Result<(), Fail> {
+fn a_get_in_another_segment_answers_while_a_segment_is_locked(rt: HostRuntime) -> Result<(), Fail> {
     for key in [SECOND, THIRD, FOURTH] {
         answers_within(rt, rt.alloc(), Form::ReplaceIf, key)?;
     }

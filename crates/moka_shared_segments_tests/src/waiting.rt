@@ -74,10 +74,7 @@ where
     let mut children = children;
     for _ in 0..THREADS {
         let (theirs, others, handle) = (cache.clone()?, marks.clone()?, *rt);
-        let child = thread::spawn(
-            rt,
-            move || asks_with_others(&handle, &theirs, &others, key),
-        )?;
+        let child = thread::spawn(rt, move || asks_with_others(&handle, &theirs, &others, key))?;
         children.push(child)?;
     }
     assert!(rt; come(rt, &marks.done, THREADS), "all are answered");

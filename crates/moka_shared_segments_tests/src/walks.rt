@@ -97,7 +97,10 @@ where
     for key in KEYS {
         assert!(rt; came.contains(&key), "a key that stood comes: {key}");
     }
-    assert!(rt; !came.contains(&LATE), "a key that is written meanwhile does not come");
+    assert!(rt;
+        !came.contains(&LATE),
+        "a key that is written meanwhile does not come"
+    );
     Ok(())
 }
 
