@@ -1,0 +1,210 @@
+//! What a builder makes of its settings, and what it refuses.
+
+use crate::caches::Hasher;
+use moka::common::builder_utils::BuildError;
+use moka::policy::{EvictionPolicy, ManualClock, NoListener, Policy};
+use moka::ready::{FoldState, Plain, PlainRandom, ReadyTypes};
+use moka::sync::builder::Single;
+use moka::sync::{Cache, CacheBuilder, SegmentedCache};
+use std::alloc::Global;
+use std::hash::RandomState;
+use std::process::Abort;
+use std::sync::Wait;
+use std::test::Fail;
+use std::time::Duration;
+
+/// Numbers by numbers, each key being its own hash.
+type ByNumber<W> = SegmentedCache<u64, u64, ReadyTypes<Hasher>, W>;
+
+type Builder = CacheBuilder<u64, u64, ReadyTypes<Hasher>, Single>;
+
+/// A cache of keys that an attacker may pick.
+type ByRandom<W> = SegmentedCache<u64, u64, PlainRandom, W>;
+
+#[test]
+fn a_new_cache_of_five_segments_has_eight(rt: HostRuntime) -> Result<(), Fail> {
+    let keys = RandomState::new(&rt)?;
+    let cache = SegmentedCache::new(rt.alloc(), 100, 5, keys, ManualClock::new(0), rt)?;
+    stores_thirteen_in_each(&rt, &cache)
+}
+
+/// A thousand keys are so many that each segment is filled, whatever their hashes.
+fn stores_thirteen_in_each<W: Wait + Drop>(
+    rt: &impl Abort,
+    cache: &ByRandom<W>,
+) -> Result<(), Fail> {
+    assert_eq!(rt; cache.policy(), Policy::new(Some(100), 8, None, None));
+    assert_eq!(rt; cache.name(), None);
+    for key in 0..1_000 {
+        cache.insert(key, key)?;
+    }
+    assert_eq!(rt;
+        cache.get(&999)?,
+        Some(999),
+        "it was written last, so it waits"
+    );
+    cache.run_pending_tasks();
+    assert_eq!(rt; cache.entry_count(), 104);
+    Ok(())
+}
+
+/// A capacity, a wanted number of segments, how many there are, and the share of each.
+const SHARES: [(u64, usize, usize, u64); 6] = [
+    (100, 1, 1, 100),
+    (100, 5, 8, 13),
+    (100, 15, 16, 7),
+    (100, 24, 32, 4),
+    (0, 4, 4, 0),
+    (1, 4, 4, 1),
+];
+
+#[test]
+fn each_segment_stores_its_share(rt: HostRuntime) -> Result<(), Fail> {
+    for (capacity, wanted, segments, share) in SHARES {
+        let policy = Policy::new(Some(capacity), segments, None, None);
+        opens_with_shares(rt, rt.alloc(), policy, wanted, share)?;
+    }
+    Ok(())
+}
+
+fn opens_with_shares<W: Wait + Abort + Copy + Drop>(
+    rt: W,
+    alloc: Global,
+    policy: Policy,
+    wanted: usize,
+    share: u64,
+) -> Result<(), Fail> {
+    let builder = Builder::new(policy.max_capacity().ok_or("a capacity")?);
+    let cache = builder
+        .eviction_policy(EvictionPolicy::lru())
+        .segments(wanted)?
+        .build_with_hasher(alloc, Hasher::default(), ManualClock::new(0), rt)?;
+    has_shares(&rt, &cache, policy, share)
+}
+
+/// Of more keys of the first segment than have room in all so many stay as its share is.
+fn has_shares<W: Wait + Drop>(
+    rt: &impl Abort,
+    cache: &ByNumber<W>,
+    policy: Policy,
+    share: u64,
+) -> Result<(), Fail> {
+    assert_eq!(rt; cache.policy(), policy);
+    for key in 0..110 {
+        cache.insert(key, key)?;
+    }
+    cache.run_pending_tasks();
+    assert_eq!(rt; cache.entry_count(), share);
+    Ok(())
+}
+
+#[test]
+fn every_setting_is_kept(rt: HostRuntime) -> Result<(), Fail> {
+    let told: Builder = Builder::new(400)
+        .time_to_live(Duration::from_secs(2700))
+        .time_to_idle(Duration::from_secs(900))
+        .eviction_listener(NoListener)
+        .name(rt.alloc(), "tracked_sessions")?;
+    let cache = told
+        .segments(24)?
+        .build_with_hasher(rt.alloc(), Hasher::default(), ManualClock::new(0), rt)?;
+    keeps_settings(&rt, &cache);
+    Ok(())
+}
+
+fn keeps_settings<W: Wait + Drop>(rt: &impl Abort, cache: &ByNumber<W>) {
+    let (live, idle) = (Duration::from_secs(2700), Duration::from_secs(900));
+    let policy = Policy::new(Some(400), 32, Some(live), Some(idle));
+    assert_eq!(rt; cache.policy(), policy);
+    assert_eq!(rt; cache.name(), Some("tracked_sessions"));
+}
+
+#[test]
+fn no_segments_and_too_many_are_refused(rt: HostRuntime) -> Result<(), Fail> {
+    for (count, refused) in [
+        (0, Some(BuildError::NoSegments)),
+        (1, None),
+        (9_223_372_036_854_775_808, None),
+        (9_223_372_036_854_775_809, Some(BuildError::TooManySegments)),
+    ] {
+        assert_eq!(rt; Builder::new(100).segments(count).err(), refused);
+        let told = ByNumber::<HostRuntime>::builder(count);
+        assert_eq!(rt; told.err(), refused);
+    }
+    Ok(())
+}
+
+/// A thousand years of 365 days, in seconds.
+const LONGEST: u64 = 31_536_000_000;
+
+const LONGER: u64 = LONGEST + 1;
+
+#[test]
+fn lives_above_a_thousand_years_are_refused(rt: HostRuntime) {
+    for (live, idle, refused) in [
+        (LONGEST, LONGEST, None),
+        (LONGER, LONGEST, Some(BuildError::TimeToLiveTooLong)),
+        (LONGEST, LONGER, Some(BuildError::TimeToIdleTooLong)),
+        (LONGER, LONGER, Some(BuildError::TimeToLiveTooLong)),
+    ] {
+        let single = single_refused(rt, rt.alloc(), lives(live, idle));
+        assert_eq!(rt; single, refused);
+        let several = several_refused(rt, rt.alloc(), lives(live, idle));
+        assert_eq!(rt; several, refused);
+    }
+}
+
+/// A builder of caches whose values live for so many seconds.
+fn lives(live: u64, idle: u64) -> Builder {
+    Builder::new(100)
+        .time_to_live(Duration::from_secs(live))
+        .time_to_idle(Duration::from_secs(idle))
+}
+
+/// Why no cache of one lock is built.
+fn single_refused<W: Wait + Drop>(rt: W, alloc: Global, told: Builder) -> Option<BuildError> {
+    let built = told.build_with_hasher(alloc, Hasher::default(), ManualClock::new(0), rt);
+    built.err()
+}
+
+/// Why no cache of several segments is built.
+fn several_refused<W: Wait + Clone + Drop>(
+    rt: W,
+    alloc: Global,
+    told: Builder,
+) -> Option<BuildError> {
+    let told = match told.segments(4) {
+        Ok(told) => told,
+        Err(cause) => return Some(cause),
+    };
+    let built = told.build_with_hasher(alloc, Hasher::default(), ManualClock::new(0), rt);
+    built.err()
+}
+
+/// Names by numbers, in one segment.
+type Names<W> = Cache<u64, String, Plain, W>;
+
+#[test]
+fn a_cache_of_a_hundred_keys_is_one_segment(rt: HostRuntime) -> Result<(), Fail> {
+    let name = String::from_str(rt.alloc(), "Alice")?;
+    let cache = CacheBuilder::new(100).build_with_hasher(
+        rt.alloc(),
+        FoldState::default(),
+        ManualClock::new(0),
+        rt,
+    )?;
+    stores_a_name(&rt, &cache, name)
+}
+
+fn stores_a_name<W: Wait + Drop>(
+    rt: &impl Abort,
+    cache: &Names<W>,
+    name: String,
+) -> Result<(), Fail> {
+    assert_eq!(rt; cache.policy(), Policy::new(Some(100), 1, None, None));
+    assert_eq!(rt; cache.name(), None);
+    cache.insert(97, name)?;
+    let found = cache.get(&97)?;
+    assert_eq!(rt; found.as_deref(), Some("Alice"));
+    Ok(())
+}

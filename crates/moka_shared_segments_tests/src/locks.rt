@@ -1,0 +1,122 @@
+//! Which lock is held while a caller's closure runs: none where it works a value out, and where it says whether to replace
+//! a value that of its segment alone.
+
+use crate::caches::{FOURTH, Numbers, SECOND, THIRD, cache, gets_once_one_is_inside};
+use crate::marks::{Marks, inside_until_done, new_marks};
+use moka::ops::compute::Op;
+use std::alloc::Global;
+use std::process::Abort;
+use std::rt::Clock;
+use std::sync::{Arc, Wait};
+use std::test::Fail;
+use std::thread;
+use std::thread::Threads;
+
+/// A call that asks a closure.
+#[derive(Clone, Copy, Debug)]
+enum Form {
+    With,
+    Optionally,
+    Try,
+    Compute,
+    Upsert,
+    /// The closure that says whether to replace a value: it runs under the lock of its segment.
+    ReplaceIf,
+}
+
+/// Those whose closures work a value out, with no lock held.
+const OUTSIDE: [Form; 5] = [
+    Form::With,
+    Form::Optionally,
+    Form::Try,
+    Form::Compute,
+    Form::Upsert,
+];
+
+/// A call of key 1, whose closure waits until another thread is done. The value behind it is 1 where that was in time.
+fn made_by<W: Wait + Clock + Drop>(rt: &W, cache: &Numbers<W>, marks: &Marks, form: Form) -> bool {
+    match form {
+        Form::With => cache.get_with(1, || inside_until_done(rt, marks)).is_ok(),
+        Form::Optionally => cache
+            .optionally_get_with(1, || Some(inside_until_done(rt, marks)))
+            .is_ok(),
+        Form::Try => cache
+            .try_get_with(1, || Ok(inside_until_done(rt, marks)))
+            .is_ok(),
+        Form::Compute => computes(rt, cache, marks),
+        Form::Upsert => cache
+            .entry(1)
+            .and_upsert_with(|_| inside_until_done(rt, marks))
+            .is_ok(),
+        Form::ReplaceIf => replaces(rt, cache, marks),
+    }
+}
+
+fn computes<W: Wait + Clock + Drop>(rt: &W, cache: &Numbers<W>, marks: &Marks) -> bool {
+    cache
+        .entry(1)
+        .and_compute_with(|_| Op::Put(inside_until_done(rt, marks)))
+        .is_ok()
+}
+
+/// Puts 1 in the place of the live value where the other is done in time.
+fn replaces<W: Wait + Clock + Drop>(rt: &W, cache: &Numbers<W>, marks: &Marks) -> bool {
+    cache
+        .get_with_if(1, || 1, |_| inside_until_done(rt, marks) == 1)
+        .is_ok()
+}
+
+#[test]
+fn a_get_in_the_same_segment_answers_while_a_closure_runs(rt: HostRuntime) -> Result<(), Fail> {
+    for form in OUTSIDE {
+        answers_within(rt, rt.alloc(), form, 2)?;
+    }
+    Ok(())
+}
+
+#[test]
+fn a_get_in_another_segment_answers_while_a_segment_is_locked(rt: HostRuntime) -> Result<(), Fail> {
+    for key in [SECOND, THIRD, FOURTH] {
+        answers_within(rt, rt.alloc(), Form::ReplaceIf, key)?;
+    }
+    Ok(())
+}
+
+fn answers_within<W>(rt: W, alloc: Global, form: Form, key: u64) -> Result<(), Fail>
+where
+    W: Wait + Clock + Threads + Abort + Copy + Drop + Send + Sync + 'static,
+{
+    let marks = new_marks(alloc)?;
+    let cache = cache(rt, alloc)?;
+    if matches!(form, Form::ReplaceIf) {
+        cache.insert(1, 10)?;
+    }
+    a_get_answers(&rt, &cache, &marks, form, key)
+}
+
+fn a_get_answers<W>(
+    rt: &W,
+    cache: &Numbers<W>,
+    marks: &Arc<Marks>,
+    form: Form,
+    key: u64,
+) -> Result<(), Fail>
+where
+    W: Wait + Clock + Threads + Abort + Copy + Drop + Send + Sync + 'static,
+{
+    cache.insert(key, 20)?;
+    let (theirs, others, handle) = (cache.clone()?, marks.clone()?, *rt);
+    let child = thread::spawn(
+        rt,
+        move || gets_once_one_is_inside(&handle, &theirs, &others, key),
+    )?;
+    assert!(rt; made_by(rt, cache, marks, form), "{form:?}");
+    let found = child.join(rt);
+    assert_eq!(rt;
+        cache.get(&1),
+        Ok(Some(1)),
+        "the other has answered by then: {form:?}, {key}"
+    );
+    assert_eq!(rt; found, Ok(Some(20)));
+    Ok(())
+}

@@ -1,0 +1,94 @@
+//! The listener is told with no lock held.
+
+use crate::caches::{Builder, Numbers, Slow, builder, gets_once_one_is_inside, opened};
+use crate::marks::{Marks, new_marks, so_far};
+use std::alloc::Global;
+use std::process::Abort;
+use std::rt::Clock;
+use std::sync::{Arc, Wait};
+use std::test::Fail;
+use std::thread;
+use std::thread::Threads;
+
+/// A call in which a hidden value of key 1 leaves.
+#[derive(Clone, Copy, Debug)]
+enum Leaves {
+    Insert,
+    Invalidate,
+    Remove,
+    Maintenance,
+    PartOfOne,
+    Finish,
+}
+
+const LEAVES: [Leaves; 6] = [
+    Leaves::Insert,
+    Leaves::Invalidate,
+    Leaves::Remove,
+    Leaves::Maintenance,
+    Leaves::PartOfOne,
+    Leaves::Finish,
+];
+
+fn lets_one_leave<W: Wait + Clock + Drop>(cache: &Numbers<W>, call: Leaves) -> bool {
+    match call {
+        Leaves::Insert => cache.insert(1, 11).is_ok(),
+        Leaves::Invalidate => {
+            cache.invalidate(&1);
+            true
+        }
+        Leaves::Remove => cache.remove(&1).is_ok(),
+        Leaves::Maintenance => {
+            cache.run_pending_tasks();
+            true
+        }
+        Leaves::PartOfOne => !cache.run_pending_tasks_up_to(1),
+        Leaves::Finish => cache.get_with(1, || 11).is_ok(),
+    }
+}
+
+#[test]
+fn a_get_in_the_same_segment_answers_while_the_listener_runs(rt: HostRuntime) -> Result<(), Fail> {
+    for call in LEAVES {
+        heard_slowly(rt, rt.alloc(), call)?;
+    }
+    Ok(())
+}
+
+fn heard_slowly<W>(rt: W, alloc: Global, call: Leaves) -> Result<(), Fail>
+where
+    W: Wait + Clock + Threads + Abort + Copy + Drop + Send + Sync + 'static,
+{
+    let marks = new_marks(alloc)?;
+    let listener = Slow::new(marks.clone()?, rt);
+    let told: Builder<W> = builder().eviction_listener(listener);
+    let cache = opened(rt, alloc, told)?;
+    a_get_answers_in_between(&rt, &cache, &marks, call)
+}
+
+fn a_get_answers_in_between<W>(
+    rt: &W,
+    cache: &Numbers<W>,
+    marks: &Arc<Marks>,
+    call: Leaves,
+) -> Result<(), Fail>
+where
+    W: Wait + Clock + Threads + Abort + Copy + Drop + Send + Sync + 'static,
+{
+    cache.insert(1, 10)?;
+    cache.invalidate_all();
+    cache.insert(2, 20)?;
+    let (theirs, others, handle) = (cache.clone()?, marks.clone()?, *rt);
+    let child = thread::spawn(
+        rt,
+        move || gets_once_one_is_inside(&handle, &theirs, &others, 2),
+    )?;
+    assert!(rt; lets_one_leave(cache, call), "{call:?}");
+    assert_eq!(rt; child.join(rt), Ok(Some(20)));
+    assert_eq!(rt;
+        so_far(&marks.in_time),
+        1,
+        "it was answered while the listener ran: {call:?}"
+    );
+    Ok(())
+}

@@ -1,0 +1,206 @@
+//! Callers of one key wait for its turn, in the key's segment.
+ghost use Rattle.std.specs.Prelude.{◌≡◌, ◌≢◌};
+ghost use Rattle.moka_model.specs.declared.turns.Kind.{Kind};
+
+use crate::caches::{FOURTH, Numbers, SECOND, THIRD, cache, shared};
+use crate::marks::{Marks, come, mark, new_marks, pause, so_far};
+use moka::policy::Refused;
+use moka::sync::value_initializer::{Begun, FinishRefused, Kind, Outcome, Turn};
+use std::alloc::Global;
+use std::process::Abort;
+use std::rt::Clock;
+use std::sync::{Arc, Wait};
+use std::test::Fail;
+use std::thread;
+use std::thread::{JoinHandle, Threads};
+
+/// What a caller is given.
+type Given = Result<u64, Refused>;
+
+/// A key of each segment.
+const KEYS: [u64; 4] = [0, SECOND, THIRD, FOURTH];
+
+/// How many threads.
+const THREADS: u64 = 4;
+
+/// The initializer: it gives its value once all have come and had time to wait.
+fn works_it_out(rt: &impl Clock, marks: &Marks) -> u64 {
+    mark(&marks.asks);
+    come(rt, &marks.arrived, THREADS);
+    pause(rt);
+    7
+}
+
+fn asks_with_others<W: Wait + Clock + Drop>(
+    rt: &W,
+    cache: &Numbers<W>,
+    marks: &Marks,
+    key: u64,
+) -> Given {
+    mark(&marks.arrived);
+    let given = cache.get_with(key, || works_it_out(rt, marks));
+    mark(&marks.done);
+    given
+}
+
+#[test]
+fn of_four_initializers_one_runs(rt: HostRuntime) -> Result<(), Fail> {
+    for key in KEYS {
+        four_ask(rt, rt.alloc(), key)?;
+    }
+    Ok(())
+}
+
+fn four_ask<W>(rt: W, alloc: Global, key: u64) -> Result<(), Fail>
+where
+    W: Wait + Clock + Threads + Abort + Copy + Drop + Send + Sync + 'static,
+{
+    let marks = new_marks(alloc)?;
+    let children = Vec::with_capacity(alloc, 4)?;
+    let cache = cache(rt, alloc)?;
+    one_runs(&rt, &cache, &marks, children, key)
+}
+
+fn one_runs<W>(
+    rt: &W,
+    cache: &Numbers<W>,
+    marks: &Arc<Marks>,
+    children: Vec<JoinHandle<Given>>,
+    key: u64,
+) -> Result<(), Fail>
+where
+    W: Wait + Clock + Threads + Abort + Copy + Drop + Send + Sync + 'static,
+{
+    let mut children = children;
+    for _ in 0..THREADS {
+        let (theirs, others, handle) = (cache.clone()?, marks.clone()?, *rt);
+        let child = thread::spawn(rt, move || asks_with_others(&handle, &theirs, &others, key))?;
+        children.push(child)?;
+    }
+    assert!(rt; come(rt, &marks.done, THREADS), "all are answered");
+    for child in children {
+        assert_eq!(rt; child.join(rt), Ok(7));
+    }
+    assert_eq!(rt; so_far(&marks.asks), 1, "one initializer ran");
+    Ok(())
+}
+
+/// One more was asked, and gives this value.
+fn own(marks: &Marks) -> u64 {
+    mark(&marks.asks);
+    12
+}
+
+fn asks<W: Wait + Clock + Drop>(cache: &Numbers<W>, marks: &Marks, key: u64) -> Given {
+    mark(&marks.arrived);
+    let given = cache.get_with(key, || own(marks));
+    mark(&marks.done);
+    given
+}
+
+/// The turn to work out a value of a kind, whatever is live.
+fn ran<W: Wait + Clock + Drop>(
+    rt: &impl Abort,
+    cache: &Numbers<W>,
+    key: &Arc<u64>,
+    kind: Kind,
+) -> Turn<u64>
+    requires { kind ≢ Kind.Compute }
+    ensures { result.key.kind ≡ kind }
+{
+    match cache.begin(key, kind, Some(|_: &u64| true)) {
+        Ok(Begun::Run(turn)) => turn,
+        Ok(Begun::Wait(ticket)) => {
+            let _ = cache.leave(ticket);
+            panic!(rt; "another has the turn")
+        }
+        Ok(Begun::Found(_)) => panic!(rt; "a value is live"),
+        Err(cause) => panic!(rt; "{cause}"),
+    }
+}
+
+/// Ends a turn with 7.
+fn finishes<W: Wait + Clock + Drop>(rt: &impl Abort, cache: &Numbers<W>, turn: Turn<u64>)
+    requires { turn.key.kind ≡ Kind.With }
+{
+    if let Err(
+        FinishRefused {
+            turn,
+            outcome: _,
+            cause,
+        },
+    ) = cache.finish(turn, Outcome::Value(7))
+    {
+        let _ = cache.abandon(turn);
+        panic!(rt; "{cause}");
+    }
+}
+
+/// How the turn ends that another waits for.
+#[derive(Clone, Copy, Debug, PartialEq)]
+enum End {
+    /// With 7.
+    Finished,
+    Abandoned,
+}
+
+fn ends<W: Wait + Clock + Drop>(rt: &impl Abort, cache: &Numbers<W>, turn: Turn<u64>, end: End)
+    requires { turn.key.kind ≡ Kind.With }
+{
+    match end {
+        End::Finished => finishes(rt, cache, turn),
+        End::Abandoned => assert!(rt; cache.abandon(turn).is_ok()),
+    }
+}
+
+#[test]
+fn a_finished_turn_answers_who_waits_in_its_segment(rt: HostRuntime) -> Result<(), Fail> {
+    for key in KEYS {
+        waits_for_a_turn(rt, rt.alloc(), key, End::Finished)?;
+    }
+    Ok(())
+}
+
+#[test]
+fn an_abandoned_turn_goes_to_who_waits_in_its_segment(rt: HostRuntime) -> Result<(), Fail> {
+    for key in KEYS {
+        waits_for_a_turn(rt, rt.alloc(), key, End::Abandoned)?;
+    }
+    Ok(())
+}
+
+fn waits_for_a_turn<W>(rt: W, alloc: Global, key: u64, end: End) -> Result<(), Fail>
+where
+    W: Wait + Clock + Threads + Abort + Copy + Drop + Send + Sync + 'static,
+{
+    let key = shared(alloc, key)?;
+    let marks = new_marks(alloc)?;
+    let cache = cache(rt, alloc)?;
+    is_answered(&rt, &cache, (&key, &marks), end)
+}
+
+fn is_answered<W>(
+    rt: &W,
+    cache: &Numbers<W>,
+    shared: (&Arc<u64>, &Arc<Marks>),
+    end: End,
+) -> Result<(), Fail>
+where
+    W: Wait + Clock + Threads + Abort + Copy + Drop + Send + Sync + 'static,
+{
+    let (key, marks) = shared;
+    let (theirs, others, number) = (cache.clone()?, marks.clone()?, **key);
+    let turn = ran(rt, cache, key, Kind::With);
+    let child = thread::spawn(rt, move || asks(&theirs, &others, number));
+    assert!(rt; come(rt, &marks.arrived, 1), "the other waits");
+    pause(rt);
+    assert_eq!(rt; so_far(&marks.done), 0, "the other waits");
+    ends(rt, cache, turn, end);
+    assert!(rt; come(rt, &marks.done, 1), "the other is answered");
+    let wanted = match end {
+        End::Finished => (Ok(7), 0),
+        End::Abandoned => (Ok(12), 1),
+    };
+    assert_eq!(rt; (child?.join(rt), so_far(&marks.asks)), wanted);
+    Ok(())
+}

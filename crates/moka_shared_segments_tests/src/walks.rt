@@ -1,0 +1,158 @@
+//! A walk holds no lock between two of its steps, and goes on over what is written meanwhile.
+
+use crate::caches::{FOURTH, Hasher, Numbers, SECOND, THIRD, Types, builder, cache};
+use crate::marks::{Marks, come, mark, new_marks, so_far};
+use moka::policy::ManualClock;
+use moka::sync::{Cache, Iter};
+use std::alloc::Global;
+use std::process::Abort;
+use std::rt::Clock;
+use std::sync::{Arc, Wait};
+use std::test::Fail;
+use std::thread;
+use std::thread::{JoinHandle, Threads};
+
+/// A cache of one lock.
+type OneLock<W> = Cache<u64, u64, Types<W>, W>;
+
+/// A walk over a cache of either kind.
+type Walk<'c, W> = Iter<'c, u64, u64, OneLock<W>>;
+
+/// Two keys of each of four segments. The last segment, to which a walk comes last, is written first.
+const KEYS: [u64; 8] = [
+    FOURTH,
+    FOURTH | 1,
+    THIRD,
+    THIRD | 1,
+    SECOND,
+    SECOND | 1,
+    0,
+    1,
+];
+
+/// A key of the first segment, which is written once a walk has taken the keys of that.
+const LATE: u64 = 2;
+
+/// Walks to the end, and behind each step waits for a write of another thread. The keys that came, none twice.
+fn walked<W: Wait + Clock + Abort + Drop>(
+    rt: &W,
+    alloc: Global,
+    walk: Walk<'_, W>,
+    marks: &Marks,
+) -> Result<Vec<u64>, Fail> {
+    let mut came = Vec::new(alloc);
+    for pair in walk {
+        let (key, _) = pair?;
+        assert!(rt; !came.contains(&*key), "no key comes twice");
+        came.push(*key)?;
+        mark(&marks.arrived);
+        let is_written = come(rt, &marks.done, so_far(&marks.arrived));
+        assert!(rt; is_written, "a write answers between two steps");
+    }
+    Ok(came)
+}
+
+/// Waits for the next step of the walk.
+fn waits_for_a_step(rt: &impl Clock, marks: &Marks) {
+    come(rt, &marks.arrived, so_far(&marks.done).wrapping_add(1));
+}
+
+/// Writes a key that stands at each step, and one that did not. Whether none was refused.
+fn writes_to_several<W: Wait + Clock + Drop>(rt: &W, cache: &Numbers<W>, marks: &Marks) -> bool {
+    let mut is_done = true;
+    for key in KEYS {
+        waits_for_a_step(rt, marks);
+        is_done &= cache.insert(key, 20).is_ok();
+        is_done &= cache.insert(LATE, 20).is_ok();
+        mark(&marks.done);
+    }
+    is_done
+}
+
+/// As `writes_to_several`.
+fn writes_to_one<W: Wait + Clock + Drop>(rt: &W, cache: &OneLock<W>, marks: &Marks) -> bool {
+    let mut is_done = true;
+    for key in KEYS {
+        waits_for_a_step(rt, marks);
+        is_done &= cache.insert(key, 20).is_ok();
+        is_done &= cache.insert(LATE, 20).is_ok();
+        mark(&marks.done);
+    }
+    is_done
+}
+
+/// Each key that stood comes once, while another thread writes.
+fn all_come<W>(
+    rt: &W,
+    alloc: Global,
+    walk: Walk<'_, W>,
+    marks: &Marks,
+    child: JoinHandle<bool>,
+) -> Result<(), Fail>
+where
+    W: Wait + Clock + Threads + Abort + Copy + Drop + Send + Sync + 'static,
+{
+    let came = walked(rt, alloc, walk, marks)?;
+    assert!(rt; child.join(rt), "no write is refused");
+    for key in KEYS {
+        assert!(rt; came.contains(&key), "a key that stood comes: {key}");
+    }
+    assert!(rt;
+        !came.contains(&LATE),
+        "a key that is written meanwhile does not come"
+    );
+    Ok(())
+}
+
+#[test]
+fn an_insert_answers_between_two_steps_over_several_segments(rt: HostRuntime) -> Result<(), Fail> {
+    let marks = new_marks(rt.alloc())?;
+    let cache = cache(rt, rt.alloc())?;
+    walks_over_several(&rt, rt.alloc(), &cache, &marks)
+}
+
+fn walks_over_several<W>(
+    rt: &W,
+    alloc: Global,
+    cache: &Numbers<W>,
+    marks: &Arc<Marks>,
+) -> Result<(), Fail>
+where
+    W: Wait + Clock + Threads + Abort + Copy + Drop + Send + Sync + 'static,
+{
+    for key in KEYS {
+        cache.insert(key, 10)?;
+    }
+    let (theirs, others, handle) = (cache.clone()?, marks.clone()?, *rt);
+    let child = thread::spawn(rt, move || writes_to_several(&handle, &theirs, &others))?;
+    all_come(rt, alloc, cache.iter(), marks, child)
+}
+
+#[test]
+fn an_insert_answers_between_two_steps_over_one_lock(rt: HostRuntime) -> Result<(), Fail> {
+    let marks = new_marks(rt.alloc())?;
+    let cache = builder().build_with_hasher(
+        rt.alloc(),
+        Hasher::default(),
+        ManualClock::new(0),
+        rt,
+    )?;
+    walks_over_one(&rt, rt.alloc(), &cache, &marks)
+}
+
+fn walks_over_one<W>(
+    rt: &W,
+    alloc: Global,
+    cache: &OneLock<W>,
+    marks: &Arc<Marks>,
+) -> Result<(), Fail>
+where
+    W: Wait + Clock + Threads + Abort + Copy + Drop + Send + Sync + 'static,
+{
+    for key in KEYS {
+        cache.insert(key, 10)?;
+    }
+    let (theirs, others, handle) = (cache.clone()?, marks.clone()?, *rt);
+    let child = thread::spawn(rt, move || writes_to_one(&handle, &theirs, &others))?;
+    all_come(rt, alloc, cache.iter(), marks, child)
+}
