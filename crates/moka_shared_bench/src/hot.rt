@@ -38,7 +38,7 @@ pub(crate) fn print_times<R: Runtime + Wait + Threads + Copy + Send + Sync>(
     rounds: usize,
 ) -> io::Result<()> {
     println!(rt;
-        "\n| 16 threads, one key | initializers | worked out | there |\n|---|---|---|---|"
+        "\n| 16 threads, one key | initializers | worked out, µs | there, µs |\n|---|---|---|---|"
     )?;
     print_row::<OneLock<R>, R>(rt, alloc, "one lock", rounds)?;
     print_row::<Segments<R>, R>(rt, alloc, "16 segments", rounds)
