@@ -94,7 +94,7 @@ pub(crate) const ALL: [Timed; 38] = [
 ];
 
 /// The forms with a closure, each of an absent key and of a live one.
-pub(crate) const FORMS: [Timed; 24] = [
+pub(crate) const FORMS: [Timed; 26] = [
     (0, Call::Form(Form::With(10), 1)),
     (0, Call::Form(Form::With(11), 1)),
     (0, Call::Form(Form::WithIf(20, 0), THIRD)),
@@ -107,9 +107,11 @@ pub(crate) const FORMS: [Timed; 24] = [
     (1, Call::Form(Form::Optionally(None), LAST)),
     (2, Call::Form(Form::Try(Err(9)), SECOND)),
     (2, Call::Form(Form::Try(Ok(40)), SECOND)),
+    (2, Call::Look(Look::Get, SECOND)),
     (2, Call::Form(Form::Try(Ok(41)), SECOND)),
     (2, Call::Form(Form::Try(Err(9)), SECOND)),
     (3, Call::Form(Form::OlderWith(50), LAST + 1)),
+    (3, Call::Look(Look::Get, LAST + 1)),
     (3, Call::Form(Form::OlderWith(51), LAST + 1)),
     (4, Call::Form(Form::OlderTry(Err(9)), THIRD + 1)),
     (4, Call::Form(Form::OlderTry(Ok(60)), THIRD + 1)),
@@ -122,13 +124,15 @@ pub(crate) const FORMS: [Timed; 24] = [
 ];
 
 /// The calls of selectors, each of an absent key and of a live one.
-pub(crate) const SELECTORS: [Timed; 32] = [
+pub(crate) const SELECTORS: [Timed; 35] = [
     (0, Call::Selected(Selected::OrDefault, 1)),
     (0, Call::Selected(Selected::OrInsert(10), 1)),
     (0, Call::Selected(Selected::OrInsert(11), LAST)),
+    (0, Call::Look(Look::Get, LAST)),
     (0, Call::Selected(Selected::OrDefault, LAST)),
     (0, Call::Selected(Selected::OrInsertWith(20), SECOND)),
     (0, Call::Selected(Selected::OrInsertWith(21), SECOND)),
+    (0, Call::Look(Look::Get, SECOND)),
     (1, Call::Selected(Selected::OrInsertWithIf(30, 0), THIRD)),
     (1, Call::Selected(Selected::OrInsertWithIf(31, 0), THIRD)),
     (1, Call::Selected(Selected::OrInsertWithIf(32, 30), THIRD)),
@@ -150,6 +154,7 @@ pub(crate) const SELECTORS: [Timed; 32] = [
     (5, Call::Selected(Selected::AndTryComputeWith(Ok(Doing::Remove)), SECOND + 1)),
     (6, Call::Selected(Selected::AndUpsertWith, LAST + 2)),
     (6, Call::Selected(Selected::AndUpsertWith, LAST + 2)),
+    (6, Call::Look(Look::Get, LAST + 2)),
     (6, Call::Walk),
     (10, Call::Selected(Selected::OrInsertWith(22), SECOND)),
     (11, Call::Selected(Selected::AndUpsertWith, THIRD)),

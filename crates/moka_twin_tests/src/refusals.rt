@@ -1,1 +1,99 @@
-//! x
+//! What a call leaves that is refused memory: it has changed nothing, and hands back what it was given. Each test passes where
+//! one request for memory is refused, whichever: `scripts/refused_memory` tries each.
+
+use crate::caches::{cache, segmented_cache, segmented_state, state};
+use crate::lists::{ALL, FORMS, KEYS, SELECTORS, TURNS, Timed};
+use crate::side_by_side::{Causes, Pass, answer_alike};
+use crate::subject::Subject;
+use std::alloc::Global;
+use std::process::Abort;
+use std::sync::Wait;
+use std::test::Fail;
+
+/// Gives both a list, by keys of the caller's own and by lent ones.
+fn are_twins<S: Subject, T: Subject>(
+    rt: &impl Abort,
+    alloc: Global,
+    shared: &mut S,
+    twin: &mut T,
+    calls: &[Timed],
+) -> Result<(), Fail> {
+    let mut causes = Causes::NONE;
+    for (from, is_lent) in [(0, false), (30, true)] {
+        let pass = Pass { from, is_lent };
+        answer_alike(rt, alloc, shared, twin, calls, pass, &mut causes)?;
+    }
+    Ok(())
+}
+
+/// A cache and its twin, by a list.
+fn by_cache<W: Wait + Abort + Copy + Drop>(
+    rt: W,
+    alloc: Global,
+    calls: &[Timed],
+) -> Result<(), Fail> {
+    let mut twin = state(alloc)?;
+    let mut shared = cache(rt, alloc)?;
+    are_twins(&rt, alloc, &mut shared, &mut twin, calls)
+}
+
+/// A cache of segments and its twin, by a list.
+fn by_segments<W: Wait + Abort + Copy + Drop>(
+    rt: W,
+    alloc: Global,
+    calls: &[Timed],
+) -> Result<(), Fail> {
+    let mut twin = segmented_state(alloc)?;
+    let mut shared = segmented_cache(rt, alloc)?;
+    are_twins(&rt, alloc, &mut shared, &mut twin, calls)
+}
+
+#[test]
+fn a_refused_call_of_a_key_changes_nothing(rt: HostRuntime) -> Result<(), Fail> {
+    by_cache(rt, rt.alloc(), &KEYS)
+}
+
+#[test]
+fn a_refused_call_of_all_changes_nothing(rt: HostRuntime) -> Result<(), Fail> {
+    by_cache(rt, rt.alloc(), &ALL)
+}
+
+#[test]
+fn a_refused_form_changes_nothing(rt: HostRuntime) -> Result<(), Fail> {
+    by_cache(rt, rt.alloc(), &FORMS)
+}
+
+#[test]
+fn a_refused_call_of_a_selector_changes_nothing(rt: HostRuntime) -> Result<(), Fail> {
+    by_cache(rt, rt.alloc(), &SELECTORS)
+}
+
+#[test]
+fn a_refused_call_of_a_turn_changes_nothing(rt: HostRuntime) -> Result<(), Fail> {
+    by_cache(rt, rt.alloc(), &TURNS)
+}
+
+#[test]
+fn a_refused_call_of_a_key_changes_no_segment(rt: HostRuntime) -> Result<(), Fail> {
+    by_segments(rt, rt.alloc(), &KEYS)
+}
+
+#[test]
+fn a_refused_call_of_all_changes_no_segment(rt: HostRuntime) -> Result<(), Fail> {
+    by_segments(rt, rt.alloc(), &ALL)
+}
+
+#[test]
+fn a_refused_form_changes_no_segment(rt: HostRuntime) -> Result<(), Fail> {
+    by_segments(rt, rt.alloc(), &FORMS)
+}
+
+#[test]
+fn a_refused_call_of_a_selector_changes_no_segment(rt: HostRuntime) -> Result<(), Fail> {
+    by_segments(rt, rt.alloc(), &SELECTORS)
+}
+
+#[test]
+fn a_refused_call_of_a_turn_changes_no_segment(rt: HostRuntime) -> Result<(), Fail> {
+    by_segments(rt, rt.alloc(), &TURNS)
+}

@@ -1,11 +1,13 @@
 //! Each shared cache answers all its calls as its twin does.
 
-use crate::caches::{cache, segmented_cache, segmented_state, state};
+use crate::caches::{NAME, cache, segmented_cache, segmented_state, state};
 use crate::lists::{ALL, FORMS, KEYS, SELECTORS, TURNS, Timed};
 use crate::side_by_side::{Causes, Pass, answer_alike};
 use crate::subject::Subject;
 use crate::words::{WORDS, word};
+use moka::policy::Policy;
 use std::alloc::Global;
+use std::fmt::Debug;
 use std::process::Abort;
 use std::test::Fail;
 
@@ -70,4 +72,32 @@ fn no_call_is_forgotten(rt: HostRuntime) {
     for name in WORDS {
         assert!(rt; is_called(name), "{name}");
     }
+}
+
+/// What a cache shows of itself.
+fn shows(
+    rt: &impl Abort,
+    alloc: Global,
+    cache: &impl Debug,
+    word: &str,
+    policy: Policy,
+) -> Result<(), Fail> {
+    let shown = format!(in alloc; "{cache:?}")?;
+    let wanted = format!(in alloc; "{word} {{ name: Some(\"{NAME}\"), policy: {policy:?} }}")?;
+    assert_eq!(rt; shown.as_str(), wanted.as_str());
+    Ok(())
+}
+
+#[test]
+fn a_cache_shows_its_name_and_its_policy(rt: HostRuntime) -> Result<(), Fail> {
+    let alloc = rt.alloc();
+    let shared = cache(rt, alloc)?;
+    shows(&rt, alloc, shared.cache(), "Cache", shared.cache().policy())
+}
+
+#[test]
+fn a_cache_of_segments_shows_its_name_and_its_policy(rt: HostRuntime) -> Result<(), Fail> {
+    let alloc = rt.alloc();
+    let shared = segmented_cache(rt, alloc)?;
+    shows(&rt, alloc, shared.cache(), "SegmentedCache", shared.cache().policy())
 }
