@@ -12,7 +12,7 @@ use std::alloc::Global;
 use std::sync::Arc;
 
 /// What a call answers.
-pub(crate) fn selected<S: Subject>(
+pub(crate) fn told_by_turns<S: Subject>(
     subject: &mut S,
     alloc: Global,
     key: &Arc<u64>,

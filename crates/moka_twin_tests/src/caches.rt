@@ -75,13 +75,13 @@ pub(crate) type Numbers<W> = Cache<u64, u64, Types<W>, W>;
 
 pub(crate) type SegmentedNumbers<W> = SegmentedCache<u64, u64, Types<W>, W>;
 
-pub(crate) type State = CacheState<u64, u64, PlainTypes>;
+pub(crate) type PlainState = CacheState<u64, u64, PlainTypes>;
 
-pub(crate) type Segments = SegmentedState<u64, u64, PlainTypes>;
+pub(crate) type PlainSegments = SegmentedState<u64, u64, PlainTypes>;
 
 /// A cache that threads share, by two handles in turn, at the moment of its clock, and what its listener heard.
 #[derive(Drop)]
-pub(crate) struct Shared<C, W> {
+pub(crate) struct Handles<C, W> {
     first: C,
     second: C,
     is_second: bool,
@@ -148,14 +148,14 @@ impl<W: Wait + Copy + Drop> Heard<W> {
     }
 }
 
-impl<C: Clone + Drop, W: Drop> Shared<C, W> {
+impl<C: Clone + Drop, W: Drop> Handles<C, W> {
     /// A cache and its clone. Where memory is refused, it asks once more.
     fn new(cache: C, heard: Heard<W>) -> Result<Self, AllocError> {
         let clone = match cache.clone() {
             Ok(clone) => clone,
             Err(_) => cache.clone()?,
         };
-        Ok(Shared {
+        Ok(Handles {
             first: cache,
             second: clone,
             is_second: false,
@@ -164,10 +164,14 @@ impl<C: Clone + Drop, W: Drop> Shared<C, W> {
     }
 }
 
-impl<C, W: Wait> Shared<C, W> {
+impl<C, W: Wait> Handles<C, W> {
     /// The handle whose turn it is.
     pub(crate) fn cache(&self) -> &C {
-        if self.is_second { &self.second } else { &self.first }
+        if self.is_second {
+            &self.second
+        } else {
+            &self.first
+        }
     }
 
     /// What memory is taken from.
@@ -218,13 +222,13 @@ fn cache_by<W: Wait + Copy + Drop>(heard: &Heard<W>) -> Result<Numbers<W>, Build
 pub(crate) fn cache<W: Wait + Copy + Drop>(
     rt: W,
     alloc: Global,
-) -> Result<Shared<Numbers<W>, W>, Fail> {
+) -> Result<Handles<Numbers<W>, W>, Fail> {
     let heard = Heard::new(rt, alloc)?;
     let cache = match cache_by(&heard) {
         Err(BuildError::OutOfMemory) => cache_by(&heard)?,
         built => built?,
     };
-    Ok(Shared::new(cache, heard)?)
+    Ok(Handles::new(cache, heard)?)
 }
 
 fn segmented_cache_by<W: Wait + Copy + Drop>(
@@ -243,21 +247,21 @@ fn segmented_cache_by<W: Wait + Copy + Drop>(
 pub(crate) fn segmented_cache<W: Wait + Copy + Drop>(
     rt: W,
     alloc: Global,
-) -> Result<Shared<SegmentedNumbers<W>, W>, Fail> {
+) -> Result<Handles<SegmentedNumbers<W>, W>, Fail> {
     let heard = Heard::new(rt, alloc)?;
     let cache = match segmented_cache_by(&heard) {
         Err(BuildError::OutOfMemory) => segmented_cache_by(&heard)?,
         built => built?,
     };
-    Ok(Shared::new(cache, heard)?)
+    Ok(Handles::new(cache, heard)?)
 }
 
-fn state_by(alloc: Global) -> Result<State, BuildError> {
+fn state_by(alloc: Global) -> Result<PlainState, BuildError> {
     told(alloc, CAPACITY)?.build_state(alloc, Hasher::default())
 }
 
 /// The twin of a shared cache. Where memory is refused, it is built anew.
-pub(crate) fn state(alloc: Global) -> Result<Twin<State>, Fail> {
+pub(crate) fn state(alloc: Global) -> Result<Twin<PlainState>, Fail> {
     let state = match state_by(alloc) {
         Err(BuildError::OutOfMemory) => state_by(alloc)?,
         built => built?,
@@ -269,14 +273,14 @@ pub(crate) fn state(alloc: Global) -> Result<Twin<State>, Fail> {
     })
 }
 
-fn segments_by(alloc: Global) -> Result<Segments, BuildError> {
+fn segments_by(alloc: Global) -> Result<PlainSegments, BuildError> {
     told(alloc, 4 * CAPACITY)?
         .segments(4)?
         .build_segmented_state(alloc, Hasher::default())
 }
 
 /// The twin of a shared cache of four segments. Where memory is refused, it is built anew.
-pub(crate) fn segmented_state(alloc: Global) -> Result<Twin<Segments>, Fail> {
+pub(crate) fn segmented_state(alloc: Global) -> Result<Twin<PlainSegments>, Fail> {
     let state = match segments_by(alloc) {
         Err(BuildError::OutOfMemory) => segments_by(alloc)?,
         built => built?,

@@ -8,7 +8,9 @@ pub(crate) type Timed = (u64, Call);
 
 /// The first keys of the second, the third and the last of four segments.
 const SECOND: u64 = 1 << 62;
+
 const THIRD: u64 = 1 << 63;
+
 const LAST: u64 = 3 << 62;
 
 /// Looks, writes and removals of single keys.
@@ -52,7 +54,7 @@ pub(crate) const KEYS: [Timed; 36] = [
 ];
 
 /// Calls of all keys, where each segment has some that are to leave.
-pub(crate) const ALL: [Timed; 38] = [
+pub(crate) const OF_ALL: [Timed; 38] = [
     (0, Call::Write(Write::Insert(10), 1)),
     (0, Call::Write(Write::Insert(11), 2)),
     (0, Call::Write(Write::Insert(20), SECOND)),
@@ -137,21 +139,63 @@ pub(crate) const SELECTORS: [Timed; 35] = [
     (1, Call::Selected(Selected::OrInsertWithIf(31, 0), THIRD)),
     (1, Call::Selected(Selected::OrInsertWithIf(32, 30), THIRD)),
     (2, Call::Selected(Selected::OrOptionallyInsertWith(None), 2)),
-    (2, Call::Selected(Selected::OrOptionallyInsertWith(Some(40)), 2)),
+    (
+        2,
+        Call::Selected(Selected::OrOptionallyInsertWith(Some(40)), 2),
+    ),
     (2, Call::Selected(Selected::OrOptionallyInsertWith(None), 2)),
-    (3, Call::Selected(Selected::OrTryInsertWith(Err(9)), LAST + 1)),
-    (3, Call::Selected(Selected::OrTryInsertWith(Ok(50)), LAST + 1)),
-    (3, Call::Selected(Selected::OrTryInsertWith(Err(9)), LAST + 1)),
-    (4, Call::Selected(Selected::AndComputeWith(Doing::Nop), THIRD + 1)),
-    (4, Call::Selected(Selected::AndComputeWith(Doing::Remove), THIRD + 1)),
-    (4, Call::Selected(Selected::AndComputeWith(Doing::Count), THIRD + 1)),
-    (4, Call::Selected(Selected::AndComputeWith(Doing::Count), THIRD + 1)),
-    (4, Call::Selected(Selected::AndComputeWith(Doing::Nop), THIRD + 1)),
-    (4, Call::Selected(Selected::AndComputeWith(Doing::Remove), THIRD + 1)),
-    (5, Call::Selected(Selected::AndTryComputeWith(Err(9)), SECOND + 1)),
-    (5, Call::Selected(Selected::AndTryComputeWith(Ok(Doing::Count)), SECOND + 1)),
-    (5, Call::Selected(Selected::AndTryComputeWith(Err(9)), SECOND + 1)),
-    (5, Call::Selected(Selected::AndTryComputeWith(Ok(Doing::Remove)), SECOND + 1)),
+    (
+        3,
+        Call::Selected(Selected::OrTryInsertWith(Err(9)), LAST + 1),
+    ),
+    (
+        3,
+        Call::Selected(Selected::OrTryInsertWith(Ok(50)), LAST + 1),
+    ),
+    (
+        3,
+        Call::Selected(Selected::OrTryInsertWith(Err(9)), LAST + 1),
+    ),
+    (
+        4,
+        Call::Selected(Selected::AndComputeWith(Doing::Nop), THIRD + 1),
+    ),
+    (
+        4,
+        Call::Selected(Selected::AndComputeWith(Doing::Remove), THIRD + 1),
+    ),
+    (
+        4,
+        Call::Selected(Selected::AndComputeWith(Doing::Count), THIRD + 1),
+    ),
+    (
+        4,
+        Call::Selected(Selected::AndComputeWith(Doing::Count), THIRD + 1),
+    ),
+    (
+        4,
+        Call::Selected(Selected::AndComputeWith(Doing::Nop), THIRD + 1),
+    ),
+    (
+        4,
+        Call::Selected(Selected::AndComputeWith(Doing::Remove), THIRD + 1),
+    ),
+    (
+        5,
+        Call::Selected(Selected::AndTryComputeWith(Err(9)), SECOND + 1),
+    ),
+    (
+        5,
+        Call::Selected(Selected::AndTryComputeWith(Ok(Doing::Count)), SECOND + 1),
+    ),
+    (
+        5,
+        Call::Selected(Selected::AndTryComputeWith(Err(9)), SECOND + 1),
+    ),
+    (
+        5,
+        Call::Selected(Selected::AndTryComputeWith(Ok(Doing::Remove)), SECOND + 1),
+    ),
     (6, Call::Selected(Selected::AndUpsertWith, LAST + 2)),
     (6, Call::Selected(Selected::AndUpsertWith, LAST + 2)),
     (6, Call::Look(Look::Get, LAST + 2)),

@@ -1,9 +1,9 @@
 //! The calls of a shared cache.
 ghost use Rattle.std.specs.Prelude.{◌≡◌, ◌≢◌, ℕ, IfOk};
 
-use crate::caches::{Left, NAME, Numbers, Odd, Shared};
+use crate::caches::{Handles, Left, NAME, Numbers, Odd};
 use crate::calls::{All, Form, Key, Look, Selected, Write};
-use crate::selectors::{Selector, selected};
+use crate::selectors::{Selector, told_by_selector};
 use crate::subject::{Pairs, Subject};
 use crate::told::{
     NO_MEMORY, Told, entry_of, hidden_of, insert_of, option_of, or_insert_of, tried_of, value_of,
@@ -17,7 +17,7 @@ use rand_xoshiro::SplitMix64;
 use std::alloc::Global;
 use std::sync::{Arc, Wait};
 
-impl<W: Wait + Drop> Subject for Shared<Numbers<W>, W> {
+impl<W: Wait + Drop> Subject for Handles<Numbers<W>, W> {
     fn at(&mut self, now: u64) {
         self.set(now);
     }
@@ -82,8 +82,11 @@ impl<W: Wait + Drop> Subject for Shared<Numbers<W>, W> {
 
     fn selected(&mut self, call: Selected, key: Key) -> Told {
         match key {
-            Key::Owned(key) => selected(Selector::Owned(self.cache().entry(key)), call),
-            Key::Lent(key) => selected(Selector::Lent(self.cache().entry_by_ref(&key)), call),
+            Key::Owned(key) => told_by_selector(Selector::Owned(self.cache().entry(key)), call),
+            Key::Lent(key) => told_by_selector(
+                Selector::Lent(self.cache().entry_by_ref(&key)),
+                call,
+            ),
         }
     }
 
@@ -99,7 +102,7 @@ impl<W: Wait + Drop> Subject for Shared<Numbers<W>, W> {
     }
 }
 
-impl<W: Wait + Drop> Turns for Shared<Numbers<W>, W> {
+impl<W: Wait + Drop> Turns for Handles<Numbers<W>, W> {
     ghost use Rattle.std.specs.Prelude.{◌≡◌, ◌≢◌, ℕ, IfOk};
     ghost use Rattle.std.specs.Arc.{arc_value};
     ghost use Rattle.moka_model.specs.declared.turns.Kind.{Kind};

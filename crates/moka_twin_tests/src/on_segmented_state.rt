@@ -1,7 +1,7 @@
 //! The calls of a state of several segments, the twin of such a cache.
 
-use crate::by_turns::selected;
-use crate::caches::{Left, NAME, Odd, ROOM, Segments, Twin};
+use crate::by_turns::told_by_turns;
+use crate::caches::{Left, NAME, Odd, PlainSegments, ROOM, Twin};
 use crate::calls::{All, Form, Key, Look, Selected, Write};
 use crate::subject::{Pairs, Subject};
 use crate::told::{
@@ -14,7 +14,7 @@ use moka::sync::value_initializer::{Kind, Ticket, Turn};
 use std::alloc::Global;
 use std::sync::Arc;
 
-impl Subject for Twin<Segments> {
+impl Subject for Twin<PlainSegments> {
     fn at(&mut self, now: u64) {
         self.now = now;
     }
@@ -81,7 +81,7 @@ impl Subject for Twin<Segments> {
     fn selected(&mut self, call: Selected, key: Key) -> Told {
         let alloc = self.alloc;
         match Arc::new(alloc, key.number()) {
-            Ok(key) => selected(self, alloc, &key, call),
+            Ok(key) => told_by_turns(self, alloc, &key, call),
             Err(_) => NO_MEMORY,
         }
     }
@@ -102,7 +102,7 @@ impl Subject for Twin<Segments> {
     }
 }
 
-impl Turns for Twin<Segments> {
+impl Turns for Twin<PlainSegments> {
     ghost use Rattle.std.specs.Prelude.{◌≡◌, ◌≢◌, ℕ, IfOk};
     ghost use Rattle.std.specs.Arc.{arc_value};
     ghost use Rattle.moka_model.specs.declared.turns.Kind.{Kind};
@@ -122,7 +122,8 @@ impl Turns for Twin<Segments> {
         requires { kind ≢ Kind.Compute }
     {
         let turns_down = move |live: &u64| *live == unwanted;
-        self.state.begin_by_ref(&key, kind, Some(turns_down), self.now)
+        self.state
+            .begin_by_ref(&key, kind, Some(turns_down), self.now)
     }
 
     fn begin_compute(&mut self, key: &Arc<u64>) -> BeginsCompute
@@ -150,32 +151,32 @@ impl Turns for Twin<Segments> {
     }
 }
 
-fn hide_odd_shared(state: &mut Segments, alloc: Global) -> Told {
+fn hide_odd_shared(state: &mut PlainSegments, alloc: Global) -> Told {
     match Arc::new(alloc, Odd) {
         Ok(odd) => hidden_of(state.invalidate_entries_with_arc_fun(odd)),
         Err(_) => NO_MEMORY,
     }
 }
 
-fn with(state: &mut Segments, key: Key, value: u64, now: u64) -> Told {
+fn with(state: &mut PlainSegments, key: Key, value: u64, now: u64) -> Told {
     value_of(match key {
         Key::Owned(key) => state.get_with(key, move || value, now),
         Key::Lent(key) => state.get_with_by_ref(&key, move || value, now),
     })
 }
 
-fn with_if(state: &mut Segments, key: u64, value: u64, unwanted: u64, now: u64) -> Told {
+fn with_if(state: &mut PlainSegments, key: u64, value: u64, unwanted: u64, now: u64) -> Told {
     value_of(state.get_with_if(key, move || value, move |live| *live == unwanted, now))
 }
 
-fn optionally(state: &mut Segments, key: Key, value: Option<u64>, now: u64) -> Told {
+fn optionally(state: &mut PlainSegments, key: Key, value: Option<u64>, now: u64) -> Told {
     option_of(match key {
         Key::Owned(key) => state.optionally_get_with(key, move || value, now),
         Key::Lent(key) => state.optionally_get_with_by_ref(&key, move || value, now),
     })
 }
 
-fn tries(state: &mut Segments, key: Key, value: Result<u64, u64>, now: u64) -> Told {
+fn tries(state: &mut PlainSegments, key: Key, value: Result<u64, u64>, now: u64) -> Told {
     tried_of(match key {
         Key::Owned(key) => state.try_get_with(key, move || value, now),
         Key::Lent(key) => state.try_get_with_by_ref(&key, move || value, now),

@@ -1,6 +1,6 @@
 //! The calls of a state, the twin of a shared cache.
 
-use crate::caches::{Left, NAME, Odd, PlainTypes, ROOM, State, Twin};
+use crate::caches::{Left, NAME, Odd, PlainState, PlainTypes, ROOM, Twin};
 use crate::calls::{All, Doing, Form, Key, Look, Selected, Write, next_of, op_of, try_op_of};
 use crate::subject::{Pairs, Subject};
 use crate::told::{
@@ -20,7 +20,7 @@ use std::sync::Arc;
 
 type Selector<'a> = StateEntrySelector<'a, u64, u64, PlainTypes, DueRows<u64, u64>>;
 
-impl Subject for Twin<State> {
+impl Subject for Twin<PlainState> {
     fn at(&mut self, now: u64) {
         self.now = now;
     }
@@ -85,9 +85,9 @@ impl Subject for Twin<State> {
 
     fn selected(&mut self, call: Selected, key: Key) -> Told {
         match key {
-            Key::Owned(key) => selected(self.state.entry(key, self.now), call),
+            Key::Owned(key) => told_by_selector(self.state.entry(key, self.now), call),
             Key::Lent(key) => match self.state.entry_by_ref(&key, self.now) {
-                Ok(selector) => selected(selector, call),
+                Ok(selector) => told_by_selector(selector, call),
                 Err(cause) => Told::Refused(cause),
             },
         }
@@ -109,7 +109,7 @@ impl Subject for Twin<State> {
     }
 }
 
-impl Turns for Twin<State> {
+impl Turns for Twin<PlainState> {
     ghost use Rattle.std.specs.Prelude.{◌≡◌, ◌≢◌, ℕ, IfOk};
     ghost use Rattle.std.specs.Arc.{arc_value};
     ghost use Rattle.moka_model.specs.declared.turns.Kind.{Kind};
@@ -129,7 +129,8 @@ impl Turns for Twin<State> {
         requires { kind ≢ Kind.Compute }
     {
         let turns_down = move |live: &u64| *live == unwanted;
-        self.state.begin_by_ref(&key, kind, Some(turns_down), self.now)
+        self.state
+            .begin_by_ref(&key, kind, Some(turns_down), self.now)
     }
 
     fn begin_compute(&mut self, key: &Arc<u64>) -> BeginsCompute
@@ -158,37 +159,37 @@ impl Turns for Twin<State> {
 }
 
 /// The id is not shown: each is new.
-fn hide_odd(state: &mut State) -> Told {
+fn hide_odd(state: &mut PlainState) -> Told {
     let mut generator = SplitMix64::seed_from_u64(7);
     hidden_of(state.invalidate_entries_if(Odd, &mut generator))
 }
 
-fn hide_odd_shared(state: &mut State, alloc: Global) -> Told {
+fn hide_odd_shared(state: &mut PlainState, alloc: Global) -> Told {
     match Arc::new(alloc, Odd) {
         Ok(odd) => hidden_of(state.invalidate_entries_with_arc_fun(odd)),
         Err(_) => NO_MEMORY,
     }
 }
 
-fn with(state: &mut State, key: Key, value: u64, now: u64) -> Told {
+fn with(state: &mut PlainState, key: Key, value: u64, now: u64) -> Told {
     value_of(match key {
         Key::Owned(key) => state.get_with(key, move || value, now),
         Key::Lent(key) => state.get_with_by_ref(&key, move || value, now),
     })
 }
 
-fn with_if(state: &mut State, key: u64, value: u64, unwanted: u64, now: u64) -> Told {
+fn with_if(state: &mut PlainState, key: u64, value: u64, unwanted: u64, now: u64) -> Told {
     value_of(state.get_with_if(key, move || value, move |live| *live == unwanted, now))
 }
 
-fn optionally(state: &mut State, key: Key, value: Option<u64>, now: u64) -> Told {
+fn optionally(state: &mut PlainState, key: Key, value: Option<u64>, now: u64) -> Told {
     option_of(match key {
         Key::Owned(key) => state.optionally_get_with(key, move || value, now),
         Key::Lent(key) => state.optionally_get_with_by_ref(&key, move || value, now),
     })
 }
 
-fn tries(state: &mut State, key: Key, value: Result<u64, u64>, now: u64) -> Told {
+fn tries(state: &mut PlainState, key: Key, value: Result<u64, u64>, now: u64) -> Told {
     tried_of(match key {
         Key::Owned(key) => state.try_get_with(key, move || value, now),
         Key::Lent(key) => state.try_get_with_by_ref(&key, move || value, now),
@@ -196,7 +197,7 @@ fn tries(state: &mut State, key: Key, value: Result<u64, u64>, now: u64) -> Told
 }
 
 /// What a selector's call answers.
-fn selected(selector: Selector<'_>, call: Selected) -> Told {
+fn told_by_selector(selector: Selector<'_>, call: Selected) -> Told {
     match call {
         Selected::OrDefault => entry_of(selector.or_default()),
         Selected::OrInsert(value) => entry_of(selector.or_insert(value)),

@@ -2,7 +2,7 @@
 //! one request for memory is refused, whichever: `scripts/refused_memory` tries each.
 
 use crate::caches::{cache, segmented_cache, segmented_state, state};
-use crate::lists::{ALL, FORMS, KEYS, SELECTORS, TURNS, Timed};
+use crate::lists::{FORMS, KEYS, OF_ALL, SELECTORS, TURNS, Timed};
 use crate::side_by_side::{Causes, Pass, answer_alike};
 use crate::subject::Subject;
 use std::alloc::Global;
@@ -55,7 +55,7 @@ fn a_refused_call_of_a_key_changes_nothing(rt: HostRuntime) -> Result<(), Fail> 
 
 #[test]
 fn a_refused_call_of_all_changes_nothing(rt: HostRuntime) -> Result<(), Fail> {
-    by_cache(rt, rt.alloc(), &ALL)
+    by_cache(rt, rt.alloc(), &OF_ALL)
 }
 
 #[test]
@@ -80,7 +80,7 @@ fn a_refused_call_of_a_key_changes_no_segment(rt: HostRuntime) -> Result<(), Fai
 
 #[test]
 fn a_refused_call_of_all_changes_no_segment(rt: HostRuntime) -> Result<(), Fail> {
-    by_segments(rt, rt.alloc(), &ALL)
+    by_segments(rt, rt.alloc(), &OF_ALL)
 }
 
 #[test]

@@ -15,7 +15,7 @@ pub(crate) enum Selector<'a, W: Wait + Drop> {
 }
 
 /// What a call answers.
-pub(crate) fn selected<W: Wait + Drop>(selector: Selector<'_, W>, call: Selected) -> Told {
+pub(crate) fn told_by_selector<W: Wait + Drop>(selector: Selector<'_, W>, call: Selected) -> Told {
     match call {
         Selected::OrDefault => or_default(selector),
         Selected::OrInsert(value) => or_insert(selector, value),
@@ -50,11 +50,7 @@ fn or_insert_with<W: Wait + Drop>(selector: Selector<'_, W>, value: u64) -> Told
     })
 }
 
-fn or_insert_with_if<W: Wait + Drop>(
-    selector: Selector<'_, W>,
-    value: u64,
-    unwanted: u64,
-) -> Told {
+fn or_insert_with_if<W: Wait + Drop>(selector: Selector<'_, W>, value: u64, unwanted: u64) -> Told {
     entry_of(match selector {
         Selector::Owned(selector) => {
             selector.or_insert_with_if(move || value, move |live| *live == unwanted)
@@ -75,10 +71,7 @@ fn or_optionally_insert_with<W: Wait + Drop>(
     })
 }
 
-fn or_try_insert_with<W: Wait + Drop>(
-    selector: Selector<'_, W>,
-    value: Result<u64, u64>,
-) -> Told {
+fn or_try_insert_with<W: Wait + Drop>(selector: Selector<'_, W>, value: Result<u64, u64>) -> Told {
     tried_entry_of(match selector {
         Selector::Owned(selector) => selector.or_try_insert_with(move || value),
         Selector::Lent(selector) => selector.or_try_insert_with(move || value),

@@ -3,7 +3,7 @@
 use crate::caches::Left;
 use crate::calls::{All, Call, Form, Key, Look, Selected, Write};
 use crate::told::Told;
-use crate::turns::{Turns, turned};
+use crate::turns::{Turns, turn_reply};
 use moka::policy::Refused;
 use std::alloc::{AllocError, Global};
 use std::process::Abort;
@@ -49,7 +49,7 @@ pub(crate) fn reply<S: Subject>(
         Call::All(call) => subject.all(call),
         Call::Form(form, key) => subject.form(form, Key::new(key, is_lent)),
         Call::Selected(call, key) => subject.selected(call, Key::new(key, is_lent)),
-        Call::Turned(call, key) => return turned(rt, alloc, subject, call, key),
+        Call::Turned(call, key) => return turn_reply(rt, alloc, subject, call, key),
         Call::Walk => Told::Done,
     };
     Ok((told, Told::Done))

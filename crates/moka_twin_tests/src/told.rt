@@ -61,10 +61,7 @@ fn refused(back: (u64, u64), given: (u64, u64), cause: Refused) -> Told {
     }
 }
 
-pub(crate) fn insert_of(
-    told: Result<(), InsertRefused<u64, u64>>,
-    given: (u64, u64),
-) -> Told {
+pub(crate) fn insert_of(told: Result<(), InsertRefused<u64, u64>>, given: (u64, u64)) -> Told {
     match told {
         Ok(()) => Told::Done,
         Err(InsertRefused { key, value, cause }) => refused((key, value), given, cause),

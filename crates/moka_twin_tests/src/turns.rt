@@ -64,7 +64,7 @@ pub(crate) trait Turns {
 pub(crate) const NONE: u64 = u64::MAX;
 
 /// What the calls of turns answer that one call of the list stands for.
-pub(crate) fn turned<S: Turns>(
+pub(crate) fn turn_reply<S: Turns>(
     rt: &impl Abort,
     alloc: Global,
     subject: &mut S,
@@ -201,11 +201,7 @@ fn spent_told<S: Turns>(subject: &mut S, told: Collected<u64, u64, u64>) -> Told
 }
 
 /// The ticket of a turn that is open still.
-fn open_still<S: Turns>(
-    rt: &impl Abort,
-    subject: &mut S,
-    ticket: Ticket<u64>,
-) -> Ticket<u64> {
+fn open_still<S: Turns>(rt: &impl Abort, subject: &mut S, ticket: Ticket<u64>) -> Ticket<u64> {
     match collected(rt, subject, ticket) {
         Collected::NotYet(ticket) => ticket,
         told => panic!(rt; "it is not open: {:?}", spent_told(subject, told)),
@@ -305,11 +301,7 @@ fn computes<S: Turns>(rt: &impl Abort, subject: &mut S, key: &Arc<u64>, doing: D
 }
 
 /// The ticket of one that waits for a compute. Where memory is refused, it begins once more.
-fn waits_to_compute<S: Turns>(
-    rt: &impl Abort,
-    subject: &mut S,
-    key: &Arc<u64>,
-) -> Ticket<u64> {
+fn waits_to_compute<S: Turns>(rt: &impl Abort, subject: &mut S, key: &Arc<u64>) -> Ticket<u64> {
     let begun = match subject.begin_compute(key) {
         Err(Refused::OutOfMemory) => subject.begin_compute(key),
         begun => begun,

@@ -1,7 +1,7 @@
 //! Each shared cache answers all its calls as its twin does.
 
 use crate::caches::{NAME, cache, segmented_cache, segmented_state, state};
-use crate::lists::{ALL, FORMS, KEYS, SELECTORS, TURNS, Timed};
+use crate::lists::{FORMS, KEYS, OF_ALL, SELECTORS, TURNS, Timed};
 use crate::side_by_side::{Causes, Pass, answer_alike};
 use crate::subject::Subject;
 use crate::words::{WORDS, word};
@@ -11,7 +11,7 @@ use std::fmt::Debug;
 use std::process::Abort;
 use std::test::Fail;
 
-const LISTS: [&[Timed]; 5] = [&KEYS, &ALL, &FORMS, &SELECTORS, &TURNS];
+const LISTS: [&[Timed]; 5] = [&KEYS, &OF_ALL, &FORMS, &SELECTORS, &TURNS];
 
 /// Gives both all lists, by keys of the caller's own and by lent ones.
 fn are_twins<S: Subject, T: Subject>(
@@ -99,5 +99,11 @@ fn a_cache_shows_its_name_and_its_policy(rt: HostRuntime) -> Result<(), Fail> {
 fn a_cache_of_segments_shows_its_name_and_its_policy(rt: HostRuntime) -> Result<(), Fail> {
     let alloc = rt.alloc();
     let shared = segmented_cache(rt, alloc)?;
-    shows(&rt, alloc, shared.cache(), "SegmentedCache", shared.cache().policy())
+    shows(
+        &rt,
+        alloc,
+        shared.cache(),
+        "SegmentedCache",
+        shared.cache().policy(),
+    )
 }

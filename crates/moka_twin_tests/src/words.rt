@@ -5,17 +5,17 @@ use crate::calls::{All, Call, Form, Look, Selected, Turned, Write};
 /// What a call is called.
 pub(crate) fn word(call: Call) -> &'static str {
     match call {
-        Call::Look(call, _) => look(call),
-        Call::Write(call, _) => write(call),
-        Call::All(call) => all(call),
+        Call::Look(call, _) => look_word(call),
+        Call::Write(call, _) => write_word(call),
+        Call::All(call) => all_word(call),
         Call::Form(form, _) => form_word(form),
-        Call::Selected(call, _) => selected(call),
-        Call::Turned(call, _) => turned(call),
+        Call::Selected(call, _) => selected_word(call),
+        Call::Turned(call, _) => turned_word(call),
         Call::Walk => "iter",
     }
 }
 
-fn look(call: Look) -> &'static str {
+fn look_word(call: Look) -> &'static str {
     match call {
         Look::Get => "get",
         Look::ContainsKey => "contains_key",
@@ -24,7 +24,7 @@ fn look(call: Look) -> &'static str {
     }
 }
 
-fn write(call: Write) -> &'static str {
+fn write_word(call: Write) -> &'static str {
     match call {
         Write::Insert(_) => "insert",
         Write::OrInsert(_) => "or_insert",
@@ -32,7 +32,7 @@ fn write(call: Write) -> &'static str {
     }
 }
 
-fn all(call: All) -> &'static str {
+fn all_word(call: All) -> &'static str {
     match call {
         All::InvalidateAll => "invalidate_all",
         All::HideOdd => "invalidate_entries_if",
@@ -58,7 +58,7 @@ fn form_word(form: Form) -> &'static str {
     }
 }
 
-fn selected(call: Selected) -> &'static str {
+fn selected_word(call: Selected) -> &'static str {
     match call {
         Selected::OrDefault => "entry.or_default",
         Selected::OrInsert(_) => "entry.or_insert",
@@ -72,7 +72,7 @@ fn selected(call: Selected) -> &'static str {
     }
 }
 
-fn turned(call: Turned) -> &'static str {
+fn turned_word(call: Turned) -> &'static str {
     match call {
         Turned::Begin(_) => "begin",
         Turned::BeginByRef(_) => "begin_by_ref",
