@@ -64,7 +64,7 @@ pub(crate) fn answer_alike<S: Subject, T: Subject>(
         } else {
             call_alike(rt, alloc, shared, twin, *call, pass.is_lent)?;
         }
-        hear_alike(rt, shared, twin, causes);
+        hear_alike(rt, shared, twin, *call, causes);
     }
     Ok(())
 }
@@ -126,11 +126,12 @@ fn hear_alike<S: Subject, T: Subject>(
     rt: &impl Abort,
     shared: &mut S,
     twin: &mut T,
+    call: Call,
     causes: &mut Causes,
 ) {
     for _ in 0..ROOM {
         let (heard, left) = (shared.left(), twin.left());
-        assert_eq!(rt; heard, left);
+        assert_eq!(rt; heard, left, "what left at {call:?}");
         match left {
             Some((_, _, cause)) => causes.note(cause),
             None => return,
