@@ -4,29 +4,12 @@
 use crate::caches::{cache, segmented_cache, segmented_state, state};
 use crate::lists::{FORMS, KEYS, OF_ALL, SELECTORS, TURNS, Timed};
 use crate::side_by_side::{Causes, Pass, answer_alike};
-use crate::subject::Subject;
 use std::alloc::Global;
 use std::process::Abort;
 use std::sync::Wait;
 use std::test::Fail;
 
-/// Gives both a list, by keys of the caller's own and by lent ones.
-fn are_twins<S: Subject, T: Subject>(
-    rt: &impl Abort,
-    alloc: Global,
-    shared: &mut S,
-    twin: &mut T,
-    calls: &[Timed],
-) -> Result<(), Fail> {
-    let mut causes = Causes::NONE;
-    for (from, is_lent) in [(0, false), (30, true)] {
-        let pass = Pass { from, is_lent };
-        answer_alike(rt, alloc, shared, twin, calls, pass, &mut causes)?;
-    }
-    Ok(())
-}
-
-/// A cache and its twin, by a list.
+/// A cache and its twin, by a list whose keys are the caller's own.
 fn by_cache<W: Wait + Abort + Copy + Drop>(
     rt: W,
     alloc: Global,
@@ -34,10 +17,15 @@ fn by_cache<W: Wait + Abort + Copy + Drop>(
 ) -> Result<(), Fail> {
     let mut twin = state(alloc)?;
     let mut shared = cache(rt, alloc)?;
-    are_twins(&rt, alloc, &mut shared, &mut twin, calls)
+    let pass = Pass {
+        from: 0,
+        is_lent: false,
+    };
+    let mut causes = Causes::NONE;
+    answer_alike(&rt, alloc, &mut shared, &mut twin, calls, pass, &mut causes)
 }
 
-/// A cache of segments and its twin, by a list.
+/// A cache of segments and its twin, by a list whose keys are lent.
 fn by_segments<W: Wait + Abort + Copy + Drop>(
     rt: W,
     alloc: Global,
@@ -45,7 +33,12 @@ fn by_segments<W: Wait + Abort + Copy + Drop>(
 ) -> Result<(), Fail> {
     let mut twin = segmented_state(alloc)?;
     let mut shared = segmented_cache(rt, alloc)?;
-    are_twins(&rt, alloc, &mut shared, &mut twin, calls)
+    let pass = Pass {
+        from: 0,
+        is_lent: true,
+    };
+    let mut causes = Causes::NONE;
+    answer_alike(&rt, alloc, &mut shared, &mut twin, calls, pass, &mut causes)
 }
 
 #[test]
