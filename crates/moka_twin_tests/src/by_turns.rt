@@ -38,7 +38,8 @@ pub(crate) fn told_by_turns<S: Subject>(
     }
 }
 
-/// The entry of a live value that is not this one, or what comes of a turn that ends with this outcome.
+/// The entry of a live value that is not this one, or what comes of a turn that ends with this
+/// outcome.
 fn entered<S: Turns>(
     subject: &mut S,
     key: &Arc<u64>,
@@ -77,7 +78,8 @@ fn tries_to_enter<S: Turns>(
     }
 }
 
-/// What became of the value of a key, or the error where there is one in place of what is to be done.
+/// What became of the value of a key, or the error where there is one in place of what is to be
+/// done.
 fn computed<S: Turns>(subject: &mut S, key: &Arc<u64>, doing: Result<Doing, u64>) -> Told {
     match subject.begin_compute(key) {
         Ok(BegunCompute::Run(turn, shown)) => match doing {

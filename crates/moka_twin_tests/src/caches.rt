@@ -79,7 +79,8 @@ pub(crate) type PlainState = CacheState<u64, u64, PlainTypes>;
 
 pub(crate) type PlainSegments = SegmentedState<u64, u64, PlainTypes>;
 
-/// A cache that threads share, by two handles in turn, at the moment of its clock, and what its listener heard.
+/// A cache that threads share, by two handles in turn, at the moment of its clock, and what its
+/// listener heard.
 #[derive(Drop)]
 pub(crate) struct Handles<C, W> {
     first: C,

@@ -1,4 +1,5 @@
-//! The twin test of the caches that threads share: every call of theirs beside the same call of a plain state.
+//! The twin test of the caches that threads share: every call of theirs beside the same call of a
+//! plain state.
 #![tactic(auto)]
 
 #[cfg(test)]

@@ -1,5 +1,5 @@
-//! The calls that a cache and its twin are given, each at so many seconds from the beginning of its list. The keys are
-//! of all four segments, and odd and even values are among them.
+//! The calls that a cache and its twin are given, each at so many seconds from the beginning of its
+//! list. The keys are of all four segments, and odd and even values are among them.
 
 use crate::calls::{All, Call, Doing, Form, Look, Selected, Turned, Write};
 

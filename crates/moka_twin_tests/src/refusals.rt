@@ -1,5 +1,5 @@
-//! What a call leaves that is refused memory: it has changed nothing, and hands back what it was given. Each test passes where
-//! one request for memory is refused, whichever: `scripts/refused_memory` tries each.
+//! What a call leaves that is refused memory: it has changed nothing, and hands back what it was
+//! given. Each test passes where one request for memory is refused, whichever.
 
 use crate::caches::{cache, segmented_cache, segmented_state, state};
 use crate::lists::{FORMS, KEYS, OF_ALL, SELECTORS, TURNS, Timed};
