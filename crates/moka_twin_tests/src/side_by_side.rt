@@ -1,5 +1,5 @@
-//! A cache and its twin side by side: after each call of a list both have answered the same, and the
-//! same has left.
+//! A cache and its twin side by side: after each call of a list both have answered the same, and
+//! the same has left.
 
 use crate::caches::ROOM;
 use crate::calls::{All, Call};

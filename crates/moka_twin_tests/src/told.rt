@@ -8,7 +8,7 @@ use moka::state::{InsertRefused, OrInsertRefused};
 use moka::sync::value_initializer::{Answer, Finished};
 use std::sync::Arc;
 
-/// The parts of an entry: its key and its value, whether it is fresh, and whether it replaced another.
+/// The parts of an entry: its key, its value, whether it is fresh, whether it replaced another.
 pub(crate) type Parts = (u64, u64, bool, bool);
 
 /// What a call answers.
