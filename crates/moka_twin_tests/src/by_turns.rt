@@ -1,0 +1,94 @@
+//! The calls of a selector as what they are made of: a begin, and a finish of what it hands out.
+ghost use Rattle.std.specs.Prelude.{◌≡◌, ◌≢◌, ℕ};
+ghost use Rattle.moka_model.specs.declared.turns.Kind.{Kind};
+ghost use Rattle.moka_state.specs.Finish.{Fits, outcome_of};
+
+use crate::calls::{Doing, Selected, Write, op_of};
+use crate::subject::Subject;
+use crate::told::{NO_MEMORY, Told};
+use crate::turns::{Given, NONE, Turns, finished, spent, spent_compute};
+use moka::sync::value_initializer::{Begun, BegunCompute, Kind, Outcome};
+use std::alloc::Global;
+use std::sync::Arc;
+
+/// What a call answers.
+pub(crate) fn told_by_turns<S: Subject>(
+    subject: &mut S,
+    alloc: Global,
+    key: &Arc<u64>,
+    call: Selected,
+) -> Told {
+    match call {
+        Selected::OrDefault => subject.write(Write::OrDefault, **key),
+        Selected::OrInsert(value) => subject.write(Write::OrInsert(value), **key),
+        Selected::OrInsertWith(value) => {
+            entered(subject, key, Kind::With, NONE, Outcome::Value(value))
+        }
+        Selected::OrInsertWithIf(value, unwanted) => {
+            entered(subject, key, Kind::With, unwanted, Outcome::Value(value))
+        }
+        Selected::OrOptionallyInsertWith(value) => may_enter(subject, key, value),
+        Selected::OrTryInsertWith(value) => tries_to_enter(subject, alloc, key, value),
+        Selected::AndComputeWith(doing) => computed(subject, key, Ok(doing)),
+        Selected::AndTryComputeWith(doing) => computed(subject, key, doing),
+        Selected::AndUpsertWith => match computed(subject, key, Ok(Doing::Count)) {
+            Told::Became(_, Some(parts)) => Told::Entry(parts),
+            told => told,
+        },
+    }
+}
+
+/// The entry of a live value that is not this one, or what comes of a turn that ends with this
+/// outcome.
+fn entered<S: Turns>(
+    subject: &mut S,
+    key: &Arc<u64>,
+    kind: Kind,
+    unwanted: u64,
+    outcome: Given,
+) -> Told
+    requires initializer { kind ≢ Kind.Compute }
+    requires fits { Fits ℕ kind (outcome_of outcome) }
+{
+    match subject.begin(key, kind, unwanted) {
+        Ok(Begun::Run(turn)) => finished(subject, turn, outcome),
+        begun => spent(subject, begun),
+    }
+}
+
+fn may_enter<S: Turns>(subject: &mut S, key: &Arc<u64>, value: Option<u64>) -> Told {
+    match value {
+        Some(value) => entered(subject, key, Kind::Optionally, NONE, Outcome::Value(value)),
+        None => entered(subject, key, Kind::Optionally, NONE, Outcome::Nothing),
+    }
+}
+
+fn tries_to_enter<S: Turns>(
+    subject: &mut S,
+    alloc: Global,
+    key: &Arc<u64>,
+    value: Result<u64, u64>,
+) -> Told {
+    match value {
+        Ok(value) => entered(subject, key, Kind::Try, NONE, Outcome::Value(value)),
+        Err(error) => match Arc::new(alloc, error) {
+            Ok(error) => entered(subject, key, Kind::Try, NONE, Outcome::Failed(error)),
+            Err(_) => NO_MEMORY,
+        },
+    }
+}
+
+/// What became of the value of a key, or the error where there is one in place of what is to be
+/// done.
+fn computed<S: Turns>(subject: &mut S, key: &Arc<u64>, doing: Result<Doing, u64>) -> Told {
+    match subject.begin_compute(key) {
+        Ok(BegunCompute::Run(turn, shown)) => match doing {
+            Ok(doing) => finished(subject, turn, Outcome::Op(op_of(doing, shown))),
+            Err(error) => {
+                let _ = subject.abandon(turn);
+                Told::Failed(error)
+            }
+        },
+        begun => spent_compute(subject, begun),
+    }
+}

@@ -1,0 +1,294 @@
+//! The caches under test and their twins, and who hears what leaves them.
+ghost use Rattle.std.specs.Prelude.{◌≡◌, ◌%◌, nat_eq};
+
+use moka::common::builder_utils::BuildError;
+use moka::notification::RemovalCause;
+use moka::policy::{
+    CacheTypes, EvictionPolicy, Listener, ManualClock, NoExpiry, NoWeigher, NumberHash, Predicate,
+};
+use moka::ready::{ReadyTypes, SteadyPredicate};
+use moka::state::CacheState;
+use moka::sync::builder::Single;
+use moka::sync::segment::SegmentedState;
+use moka::sync::{Cache, CacheBuilder, SegmentedCache};
+use std::alloc::{AllocError, Global};
+use std::collections::VecDeque;
+use std::hash::BuildHasherDefault;
+use std::sync::{Arc, Mutex, Wait};
+use std::test::Fail;
+use std::time::Duration;
+
+/// Holds of odd values.
+#[derive(Drop)]
+pub(crate) struct Odd;
+
+impl Predicate<u64, u64> for Odd {
+    ghost tests = { λ _ test. test ≡ (λ _ value. nat_eq (value % 2) 1) };
+
+    fn holds(&self, _key: &u64, value: &u64) -> bool {
+        *value % 2 == 1
+    }
+}
+
+impl SteadyPredicate<u64, u64> for Odd {
+    ghost test = { λ _ _ value. nat_eq (value % 2) 1 };
+}
+
+/// What left: its key, its value, and why.
+pub(crate) type Left = (u64, u64, RemovalCause);
+
+/// What was heard and not yet asked for, in its order.
+pub(crate) type Queue = Mutex<VecDeque<Left>>;
+
+/// Notes what it hears.
+#[derive(Drop)]
+pub(crate) struct Notes<W> {
+    queue: Arc<Queue>,
+    waits: W,
+}
+
+impl<W: Wait> Listener<u64, u64> for Notes<W> {
+    ghost use Rattle.std.specs.Prelude.{⊤};
+
+    ghost hears = { λ _ _ _. ⊤ };
+
+    /// What finds no room is not noted, so whoever asks for it misses it.
+    fn removed(&self, key: Arc<u64>, value: u64, cause: RemovalCause)
+        requires { ⊤ }
+    {
+        let _ = self.queue.lock(&self.waits).push_back((*key, value, cause));
+    }
+}
+
+pub(crate) type Clock = Arc<ManualClock>;
+
+/// A number is its own hash, so its highest bits name its segment.
+type Hasher = BuildHasherDefault<NumberHash>;
+
+/// The types of the caches. Initializers may fail with a number.
+pub(crate) type Types<W> = ReadyTypes<Hasher, NoWeigher, NoExpiry, Clock, Odd, u64, Notes<W>>;
+
+/// The types of their twins.
+pub(crate) type PlainTypes = ReadyTypes<Hasher, NoWeigher, NoExpiry, ManualClock, Odd, u64>;
+
+pub(crate) type Numbers<W> = Cache<u64, u64, Types<W>, W>;
+
+pub(crate) type SegmentedNumbers<W> = SegmentedCache<u64, u64, Types<W>, W>;
+
+pub(crate) type PlainState = CacheState<u64, u64, PlainTypes>;
+
+pub(crate) type PlainSegments = SegmentedState<u64, u64, PlainTypes>;
+
+/// A cache that threads share, by two handles in turn, at the moment of its clock, and what its
+/// listener heard.
+#[derive(Drop)]
+pub(crate) struct Handles<C, W> {
+    first: C,
+    second: C,
+    is_second: bool,
+    heard: Heard<W>,
+}
+
+/// What a shared cache is built with.
+#[derive(Drop)]
+pub(crate) struct Heard<W> {
+    clock: Clock,
+    queue: Arc<Queue>,
+    waits: W,
+    pub alloc: Global,
+}
+
+/// The plain twin of a shared cache, which is told the moment.
+#[derive(Drop)]
+pub(crate) struct Twin<S> {
+    pub state: S,
+    pub now: u64,
+    pub alloc: Global,
+}
+
+/// Shares a value. Where memory is refused, it asks once more.
+pub(crate) fn shared<T: Drop>(alloc: Global, value: T) -> Result<Arc<T>, AllocError> {
+    match Arc::new(alloc, value) {
+        Ok(value) => Ok(value),
+        Err(failed) => Ok(Arc::new(alloc, failed.value)?),
+    }
+}
+
+/// More than may leave in one call.
+pub(crate) const ROOM: usize = 64;
+
+/// Room for what is heard. Where memory is refused, it asks once more.
+fn room(alloc: Global) -> Result<VecDeque<Left>, AllocError> {
+    match VecDeque::with_capacity(alloc, ROOM) {
+        Ok(room) => Ok(room),
+        Err(_) => Ok(VecDeque::with_capacity(alloc, ROOM)?),
+    }
+}
+
+impl<W: Wait + Copy + Drop> Heard<W> {
+    /// Nothing is heard yet, at moment 0.
+    fn new(waits: W, alloc: Global) -> Result<Self, AllocError> {
+        Ok(Heard {
+            clock: shared(alloc, ManualClock::new(0))?,
+            queue: shared(alloc, Mutex::new(room(alloc)?))?,
+            waits,
+            alloc,
+        })
+    }
+
+    fn clock(&self) -> Result<Clock, AllocError> {
+        Ok(self.clock.clone()?)
+    }
+
+    /// The listener that is heard here.
+    fn notes(&self) -> Result<Notes<W>, AllocError> {
+        Ok(Notes {
+            queue: self.queue.clone()?,
+            waits: self.waits,
+        })
+    }
+}
+
+impl<C: Clone + Drop, W: Drop> Handles<C, W> {
+    /// A cache and its clone. Where memory is refused, it asks once more.
+    fn new(cache: C, heard: Heard<W>) -> Result<Self, AllocError> {
+        let clone = match cache.clone() {
+            Ok(clone) => clone,
+            Err(_) => cache.clone()?,
+        };
+        Ok(Handles {
+            first: cache,
+            second: clone,
+            is_second: false,
+            heard,
+        })
+    }
+}
+
+impl<C, W: Wait> Handles<C, W> {
+    /// The handle whose turn it is.
+    pub(crate) fn cache(&self) -> &C {
+        if self.is_second {
+            &self.second
+        } else {
+            &self.first
+        }
+    }
+
+    /// What memory is taken from.
+    pub(crate) fn alloc(&self) -> Global {
+        self.heard.alloc
+    }
+
+    /// Sets the clock, and goes on by the other handle.
+    pub(crate) fn set(&mut self, now: u64) {
+        self.is_second = !self.is_second;
+        self.heard.clock.set(now);
+    }
+
+    /// What was heard first, if anything was.
+    pub(crate) fn take_heard(&self) -> Option<Left> {
+        self.heard.queue.lock(&self.heard.waits).pop_front()
+    }
+}
+
+/// What the caches and their twins are called.
+pub(crate) const NAME: &str = "twins";
+
+/// How many keys one cache may store, and each of four segments.
+pub(crate) const CAPACITY: u64 = 4;
+
+/// A builder of caches whose values live ten seconds, and may be hidden.
+fn told<C: CacheTypes<u64, u64>>(
+    alloc: Global,
+    capacity: u64,
+) -> Result<CacheBuilder<u64, u64, C, Single>, BuildError> {
+    CacheBuilder::new(capacity)
+        .eviction_policy(EvictionPolicy::lru())
+        .time_to_live(Duration::from_secs(10))
+        .support_invalidation_closures()
+        .name(alloc, NAME)
+}
+
+fn cache_by<W: Wait + Copy + Drop>(heard: &Heard<W>) -> Result<Numbers<W>, BuildError> {
+    let (Ok(notes), Ok(clock)) = (heard.notes(), heard.clock()) else {
+        return Err(BuildError::OutOfMemory);
+    };
+    told(heard.alloc, CAPACITY)?
+        .eviction_listener(notes)
+        .build_with_hasher(heard.alloc, Hasher::default(), clock, heard.waits)
+}
+
+/// A shared cache. Where memory is refused, it is built anew.
+pub(crate) fn cache<W: Wait + Copy + Drop>(
+    rt: W,
+    alloc: Global,
+) -> Result<Handles<Numbers<W>, W>, Fail> {
+    let heard = Heard::new(rt, alloc)?;
+    let cache = match cache_by(&heard) {
+        Err(BuildError::OutOfMemory) => cache_by(&heard)?,
+        built => built?,
+    };
+    Ok(Handles::new(cache, heard)?)
+}
+
+fn segmented_cache_by<W: Wait + Copy + Drop>(
+    heard: &Heard<W>,
+) -> Result<SegmentedNumbers<W>, BuildError> {
+    let (Ok(notes), Ok(clock)) = (heard.notes(), heard.clock()) else {
+        return Err(BuildError::OutOfMemory);
+    };
+    told(heard.alloc, 4 * CAPACITY)?
+        .eviction_listener(notes)
+        .segments(4)?
+        .build_with_hasher(heard.alloc, Hasher::default(), clock, heard.waits)
+}
+
+/// A shared cache of four segments. Where memory is refused, it is built anew.
+pub(crate) fn segmented_cache<W: Wait + Copy + Drop>(
+    rt: W,
+    alloc: Global,
+) -> Result<Handles<SegmentedNumbers<W>, W>, Fail> {
+    let heard = Heard::new(rt, alloc)?;
+    let cache = match segmented_cache_by(&heard) {
+        Err(BuildError::OutOfMemory) => segmented_cache_by(&heard)?,
+        built => built?,
+    };
+    Ok(Handles::new(cache, heard)?)
+}
+
+fn state_by(alloc: Global) -> Result<PlainState, BuildError> {
+    told(alloc, CAPACITY)?.build_state(alloc, Hasher::default())
+}
+
+/// The twin of a shared cache. Where memory is refused, it is built anew.
+pub(crate) fn state(alloc: Global) -> Result<Twin<PlainState>, Fail> {
+    let state = match state_by(alloc) {
+        Err(BuildError::OutOfMemory) => state_by(alloc)?,
+        built => built?,
+    };
+    Ok(Twin {
+        state,
+        now: 0,
+        alloc,
+    })
+}
+
+fn segments_by(alloc: Global) -> Result<PlainSegments, BuildError> {
+    told(alloc, 4 * CAPACITY)?
+        .segments(4)?
+        .build_segmented_state(alloc, Hasher::default())
+}
+
+/// The twin of a shared cache of four segments. Where memory is refused, it is built anew.
+pub(crate) fn segmented_state(alloc: Global) -> Result<Twin<PlainSegments>, Fail> {
+    let state = match segments_by(alloc) {
+        Err(BuildError::OutOfMemory) => segments_by(alloc)?,
+        built => built?,
+    };
+    Ok(Twin {
+        state,
+        now: 0,
+        alloc,
+    })
+}

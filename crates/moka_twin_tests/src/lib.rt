@@ -1,0 +1,36 @@
+//! The twin test of the caches that threads share: every call of theirs beside the same call of a
+//! plain state.
+#![tactic(auto)]
+
+#[cfg(test)]
+mod by_turns;
+#[cfg(test)]
+mod caches;
+#[cfg(test)]
+mod calls;
+#[cfg(test)]
+mod lists;
+#[cfg(test)]
+mod on_cache;
+#[cfg(test)]
+mod on_segmented_cache;
+#[cfg(test)]
+mod on_segmented_state;
+#[cfg(test)]
+mod on_state;
+#[cfg(test)]
+mod refusals;
+#[cfg(test)]
+mod selectors;
+#[cfg(test)]
+mod side_by_side;
+#[cfg(test)]
+mod subject;
+#[cfg(test)]
+mod told;
+#[cfg(test)]
+mod turns;
+#[cfg(test)]
+mod twins;
+#[cfg(test)]
+mod words;

@@ -1,0 +1,180 @@
+//! What calls answer, as plain data.
+
+use moka::PredicateError;
+use moka::common::entry::Entry;
+use moka::ops::compute::CompResult;
+use moka::policy::{Policy, Refused};
+use moka::state::{InsertRefused, OrInsertRefused};
+use moka::sync::value_initializer::{Answer, Finished};
+use std::sync::Arc;
+
+/// The parts of an entry: its key, its value, whether it is fresh, whether it replaced another.
+pub(crate) type Parts = (u64, u64, bool, bool);
+
+/// What a call answers.
+#[derive(Clone, Copy, Debug, PartialEq)]
+pub(crate) enum Told {
+    Done,
+    Is(bool),
+    Counts(u64),
+    Policy(Policy),
+    Nothing,
+    Value(u64),
+    Entry(Parts),
+    /// The error that an initializer gave.
+    Failed(u64),
+    /// A word for what became of a value, and its entry.
+    Became(&'static str, Option<Parts>),
+    /// A turn is handed out.
+    Runs,
+    /// The turn of a compute is handed out, with the entry of the live value.
+    Shows(Option<Parts>),
+    /// A ticket is handed out.
+    Waits,
+    NotYet,
+    Abandoned,
+    Ended,
+    Disabled,
+    /// What a refused call handed back is not what it was given.
+    Lost,
+    Refused(Refused),
+}
+
+/// What a call answers that finds no memory.
+pub(crate) const NO_MEMORY: Told = Told::Refused(Refused::OutOfMemory);
+
+pub(crate) fn parts(entry: &Entry<u64, u64>) -> Parts {
+    (
+        *entry.key(),
+        *entry.value(),
+        entry.is_fresh(),
+        entry.is_old_value_replaced(),
+    )
+}
+
+/// What a refused call is told, which handed back these two for those.
+fn refused(back: (u64, u64), given: (u64, u64), cause: Refused) -> Told {
+    if back == given {
+        Told::Refused(cause)
+    } else {
+        Told::Lost
+    }
+}
+
+pub(crate) fn insert_of(told: Result<(), InsertRefused<u64, u64>>, given: (u64, u64)) -> Told {
+    match told {
+        Ok(()) => Told::Done,
+        Err(InsertRefused { key, value, cause }) => refused((key, value), given, cause),
+    }
+}
+
+pub(crate) fn or_insert_of(
+    told: Result<Entry<u64, u64>, OrInsertRefused<u64>>,
+    value: u64,
+) -> Told {
+    match told {
+        Ok(entry) => Told::Entry(parts(&entry)),
+        Err(back) => refused((0, back.value), (0, value), back.cause),
+    }
+}
+
+pub(crate) fn done_of(given: Result<(), Refused>) -> Told {
+    match given {
+        Ok(()) => Told::Done,
+        Err(cause) => Told::Refused(cause),
+    }
+}
+
+pub(crate) fn hidden_of<T: Drop>(given: Result<T, PredicateError>) -> Told {
+    match given {
+        Ok(_) => Told::Done,
+        Err(PredicateError::InvalidationClosuresDisabled) => Told::Disabled,
+        Err(PredicateError::OutOfMemory) => NO_MEMORY,
+    }
+}
+
+pub(crate) fn value_of(given: Result<u64, Refused>) -> Told {
+    match given {
+        Ok(value) => Told::Value(value),
+        Err(cause) => Told::Refused(cause),
+    }
+}
+
+pub(crate) fn option_of(given: Result<Option<u64>, Refused>) -> Told {
+    match given {
+        Ok(Some(value)) => Told::Value(value),
+        Ok(None) => Told::Nothing,
+        Err(cause) => Told::Refused(cause),
+    }
+}
+
+pub(crate) fn tried_of(given: Result<Result<u64, Arc<u64>>, Refused>) -> Told {
+    match given {
+        Ok(Ok(value)) => Told::Value(value),
+        Ok(Err(error)) => Told::Failed(*error),
+        Err(cause) => Told::Refused(cause),
+    }
+}
+
+pub(crate) fn entry_of(given: Result<Entry<u64, u64>, Refused>) -> Told {
+    match given {
+        Ok(entry) => Told::Entry(parts(&entry)),
+        Err(cause) => Told::Refused(cause),
+    }
+}
+
+pub(crate) fn optional_entry_of(given: Result<Option<Entry<u64, u64>>, Refused>) -> Told {
+    match given {
+        Ok(Some(entry)) => Told::Entry(parts(&entry)),
+        Ok(None) => Told::Nothing,
+        Err(cause) => Told::Refused(cause),
+    }
+}
+
+pub(crate) fn tried_entry_of(given: Result<Result<Entry<u64, u64>, Arc<u64>>, Refused>) -> Told {
+    match given {
+        Ok(Ok(entry)) => Told::Entry(parts(&entry)),
+        Ok(Err(error)) => Told::Failed(*error),
+        Err(cause) => Told::Refused(cause),
+    }
+}
+
+pub(crate) fn answer_of(answer: Answer<u64, u64, u64>) -> Told {
+    match answer {
+        Answer::Entry(entry) => Told::Entry(parts(&entry)),
+        Answer::Nothing => Told::Nothing,
+        Answer::Failed(error) => Told::Failed(*error),
+    }
+}
+
+fn became(computed: CompResult<u64, u64>) -> Told {
+    match computed {
+        CompResult::StillNone(_) => Told::Became("still none", None),
+        CompResult::Unchanged(entry) => Told::Became("unchanged", Some(parts(&entry))),
+        CompResult::Inserted(entry) => Told::Became("inserted", Some(parts(&entry))),
+        CompResult::ReplacedWith(entry) => Told::Became("replaced", Some(parts(&entry))),
+        CompResult::Removed(entry) => Told::Became("removed", Some(parts(&entry))),
+    }
+}
+
+pub(crate) fn finished_of(finished: Finished<u64, u64, u64>) -> Told {
+    match finished {
+        Finished::Answer(answer) => answer_of(answer),
+        Finished::Computed(computed) => became(computed),
+    }
+}
+
+pub(crate) fn computed_of(given: Result<CompResult<u64, u64>, Refused>) -> Told {
+    match given {
+        Ok(computed) => became(computed),
+        Err(cause) => Told::Refused(cause),
+    }
+}
+
+pub(crate) fn tried_compute_of(given: Result<Result<CompResult<u64, u64>, u64>, Refused>) -> Told {
+    match given {
+        Ok(Ok(computed)) => became(computed),
+        Ok(Err(error)) => Told::Failed(error),
+        Err(cause) => Told::Refused(cause),
+    }
+}

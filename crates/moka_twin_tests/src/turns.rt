@@ -1,0 +1,313 @@
+//! The calls of turns, in an order in which each turn and each ticket is spent.
+ghost use Rattle.std.specs.Prelude.{◌≡◌, ◌≢◌, ℕ};
+ghost use Rattle.moka_model.specs.declared.turns.Kind.{Kind};
+ghost use Rattle.moka_state.specs.Finish.{Fits, outcome_of};
+
+use crate::caches::shared;
+use crate::calls::{Doing, Turned, op_of};
+use crate::subject::Reply;
+use crate::told::{Told, answer_of, done_of, finished_of, parts};
+use moka::common::entry::Entry;
+use moka::ops::compute::Op;
+use moka::policy::Refused;
+use moka::sync::value_initializer::{
+    Begun, BegunCompute, CollectRefused, Collected, FinishRefused, Finished, Kind, Outcome, Ticket,
+    Turn,
+};
+use std::alloc::{AllocError, Global};
+use std::process::Abort;
+use std::sync::Arc;
+
+pub(crate) type Begins = Result<Begun<u64, u64>, Refused>;
+
+pub(crate) type BeginsCompute = Result<BegunCompute<u64, u64>, Refused>;
+
+pub(crate) type Given = Outcome<u64, Arc<u64>>;
+
+pub(crate) type Finishes = Result<Finished<u64, u64, u64>, FinishRefused<u64, u64, u64>>;
+
+pub(crate) type Collects = Result<Collected<u64, u64, u64>, CollectRefused<u64>>;
+
+/// What answers the calls of turns.
+pub(crate) trait Turns {
+    ghost use Rattle.std.specs.Prelude.{◌≡◌, ◌≢◌, ℕ, IfOk};
+    ghost use Rattle.std.specs.Arc.{arc_value};
+    ghost use Rattle.moka_model.specs.declared.turns.Kind.{Kind};
+    ghost use Rattle.moka_state.specs.Begin.{IsNamed};
+    ghost use Rattle.moka_state.specs.Compute.{IsCompute};
+    ghost use Rattle.moka_state.specs.Finish.{Fits, outcome_of};
+
+    /// Begins, where a live value of this number is turned down.
+    fn begin(&mut self, key: &Arc<u64>, kind: Kind, unwanted: u64) -> Begins
+        requires { kind ≢ Kind.Compute }
+        ensures { IfOk result (IsNamed kind (arc_value key.now)) };
+
+    /// As `begin`, by a key that is lent.
+    fn begin_by_ref(&mut self, key: u64, kind: Kind, unwanted: u64) -> Begins
+        requires { kind ≢ Kind.Compute };
+
+    /// Begins a compute that may keep the live value.
+    fn begin_compute(&mut self, key: &Arc<u64>) -> BeginsCompute
+        ensures { IfOk result (IsCompute (arc_value key.now)) };
+
+    fn finish(&mut self, turn: Turn<u64>, outcome: Given) -> Finishes
+        requires { Fits ℕ turn.key.kind (outcome_of outcome) };
+
+    fn abandon(&mut self, turn: Turn<u64>) -> Result<(), Refused>;
+
+    fn collect(&mut self, ticket: Ticket<u64>) -> Collects;
+
+    fn leave(&mut self, ticket: Ticket<u64>) -> Result<(), Refused>;
+}
+
+/// No value of a turn's key.
+pub(crate) const NONE: u64 = u64::MAX;
+
+/// What the calls of turns answer that one call of the list stands for.
+pub(crate) fn turn_reply<S: Turns>(
+    rt: &impl Abort,
+    alloc: Global,
+    subject: &mut S,
+    call: Turned,
+    number: u64,
+) -> Result<Reply, AllocError> {
+    let key = shared(alloc, number)?;
+    Ok(match call {
+        Turned::Begin(unwanted) => begin_spent(subject, &key, unwanted),
+        Turned::BeginByRef(unwanted) => begin_by_ref_spent(subject, number, unwanted),
+        Turned::BeginCompute => begin_compute_spent(subject, &key),
+        Turned::Value(value) => gives(rt, subject, &key, Kind::With, Outcome::Value(value)),
+        Turned::Nothing => gives(rt, subject, &key, Kind::Optionally, Outcome::Nothing),
+        Turned::Failed(error) => {
+            let error = shared(alloc, error)?;
+            gives(rt, subject, &key, Kind::Try, Outcome::Failed(error))
+        }
+        Turned::Computed(doing) => computes(rt, subject, &key, doing),
+        Turned::Abandoned => abandons(rt, subject, &key),
+        Turned::Left(value) => leaves(rt, subject, &key, value),
+    })
+}
+
+/// Spends what a begin handed out, and says what it was.
+pub(crate) fn spent<S: Turns>(subject: &mut S, begun: Begins) -> Told {
+    match begun {
+        Ok(Begun::Found(entry)) => Told::Entry(parts(&entry)),
+        Ok(Begun::Run(turn)) => {
+            let _ = subject.abandon(turn);
+            Told::Runs
+        }
+        Ok(Begun::Wait(ticket)) => {
+            let _ = subject.leave(ticket);
+            Told::Waits
+        }
+        Err(cause) => Told::Refused(cause),
+    }
+}
+
+/// Spends what the begin of a compute handed out, and says what it was.
+pub(crate) fn spent_compute<S: Turns>(subject: &mut S, begun: BeginsCompute) -> Told {
+    match begun {
+        Ok(BegunCompute::Run(turn, shown)) => {
+            let _ = subject.abandon(turn);
+            Told::Shows(shown.map(|entry: Entry<u64, u64>| parts(&entry)))
+        }
+        Ok(BegunCompute::Wait(ticket)) => {
+            let _ = subject.leave(ticket);
+            Told::Waits
+        }
+        Err(cause) => Told::Refused(cause),
+    }
+}
+
+fn begin_spent<S: Turns>(subject: &mut S, key: &Arc<u64>, unwanted: u64) -> Reply {
+    let begun = subject.begin(key, Kind::With, unwanted);
+    (spent(subject, begun), Told::Done)
+}
+
+fn begin_by_ref_spent<S: Turns>(subject: &mut S, key: u64, unwanted: u64) -> Reply {
+    let begun = subject.begin_by_ref(key, Kind::With, unwanted);
+    (spent(subject, begun), Told::Done)
+}
+
+fn begin_compute_spent<S: Turns>(subject: &mut S, key: &Arc<u64>) -> Reply {
+    let begun = subject.begin_compute(key);
+    (spent_compute(subject, begun), Told::Done)
+}
+
+/// The turn of a begin that runs. Where memory is refused, it begins once more.
+fn ran<S: Turns>(rt: &impl Abort, subject: &mut S, key: &Arc<u64>, kind: Kind) -> Turn<u64>
+    requires { kind ≢ Kind.Compute }
+    ensures { result.key.kind ≡ kind }
+{
+    let begun = match subject.begin(key, kind, NONE) {
+        Err(Refused::OutOfMemory) => subject.begin(key, kind, NONE),
+        begun => begun,
+    };
+    match begun {
+        Ok(Begun::Run(turn)) => turn,
+        begun => panic!(rt; "it does not run: {:?}", spent(subject, begun)),
+    }
+}
+
+/// The ticket of a begin that waits. Where memory is refused, it begins once more.
+fn waited<S: Turns>(rt: &impl Abort, subject: &mut S, key: u64, kind: Kind) -> Ticket<u64>
+    requires { kind ≢ Kind.Compute }
+{
+    let begun = match subject.begin_by_ref(key, kind, NONE) {
+        Err(Refused::OutOfMemory) => subject.begin_by_ref(key, kind, NONE),
+        begun => begun,
+    };
+    match begun {
+        Ok(Begun::Wait(ticket)) => open_still(rt, subject, ticket),
+        begun => panic!(rt; "it does not wait: {:?}", spent(subject, begun)),
+    }
+}
+
+/// What a ticket is told. Where memory is refused, it asks once more.
+fn collected<S: Turns>(
+    rt: &impl Abort,
+    subject: &mut S,
+    ticket: Ticket<u64>,
+) -> Collected<u64, u64, u64> {
+    let collected = match subject.collect(ticket) {
+        Err(
+            CollectRefused {
+                ticket,
+                cause: Refused::OutOfMemory,
+            },
+        ) => subject.collect(ticket),
+        collected => collected,
+    };
+    match collected {
+        Ok(told) => told,
+        Err(CollectRefused { ticket, cause }) => {
+            let _ = subject.leave(ticket);
+            panic!(rt; "a collect is refused: {cause}")
+        }
+    }
+}
+
+/// Spends what a ticket was told, and says what it was.
+fn spent_told<S: Turns>(subject: &mut S, told: Collected<u64, u64, u64>) -> Told {
+    match told {
+        Collected::Ready(answer) => answer_of(answer),
+        Collected::NotYet(ticket) => {
+            let _ = subject.leave(ticket);
+            Told::NotYet
+        }
+        Collected::Abandoned => Told::Abandoned,
+        Collected::Ended => Told::Ended,
+    }
+}
+
+/// The ticket of a turn that is open still.
+fn open_still<S: Turns>(rt: &impl Abort, subject: &mut S, ticket: Ticket<u64>) -> Ticket<u64> {
+    match collected(rt, subject, ticket) {
+        Collected::NotYet(ticket) => ticket,
+        told => panic!(rt; "it is not open: {:?}", spent_told(subject, told)),
+    }
+}
+
+/// What came of a turn that has ended, as its ticket is told.
+fn ready<S: Turns>(rt: &impl Abort, subject: &mut S, ticket: Ticket<u64>) -> Told {
+    let told = collected(rt, subject, ticket);
+    spent_told(subject, told)
+}
+
+/// An outcome as plain data: a turn that ends with it is told so, but for a compute.
+fn told_of(outcome: &Given) -> Told {
+    match outcome {
+        Outcome::Value(value) => Told::Value(*value),
+        Outcome::Nothing => Told::Nothing,
+        Outcome::Failed(error) => Told::Failed(**error),
+        Outcome::Op(Op::Put(value)) => Told::Counts(*value),
+        Outcome::Op(Op::Remove) => Told::Is(true),
+        Outcome::Op(Op::Nop) => Told::Is(false),
+    }
+}
+
+/// Ends a turn. Where that is refused both are handed back as they were, and the turn is abandoned.
+pub(crate) fn finished<S: Turns>(subject: &mut S, turn: Turn<u64>, outcome: Given) -> Told
+    requires { Fits ℕ turn.key.kind (outcome_of outcome) }
+{
+    let given = (turn.number(), *turn.key(), turn.kind(), told_of(&outcome));
+    match subject.finish(turn, outcome) {
+        Ok(finished) => finished_of(finished),
+        Err(
+            FinishRefused {
+                turn,
+                outcome,
+                cause,
+            },
+        ) => {
+            let back = (turn.number(), *turn.key(), turn.kind(), told_of(&outcome));
+            let is_open = subject.abandon(turn).is_ok();
+            if is_open && back == given {
+                Told::Refused(cause)
+            } else {
+                Told::Lost
+            }
+        }
+    }
+}
+
+/// One begins, another waits, and is told what the turn gave.
+fn gives<S: Turns>(
+    rt: &impl Abort,
+    subject: &mut S,
+    key: &Arc<u64>,
+    kind: Kind,
+    outcome: Given,
+) -> Reply
+    requires initializer { kind ≢ Kind.Compute }
+    requires fits { Fits ℕ kind (outcome_of outcome) }
+{
+    let turn = ran(rt, subject, key, kind);
+    let ticket = waited(rt, subject, **key, kind);
+    let told = finished(subject, turn, outcome);
+    (told, ready(rt, subject, ticket))
+}
+
+/// One begins, another waits, and is told that it was abandoned.
+fn abandons<S: Turns>(rt: &impl Abort, subject: &mut S, key: &Arc<u64>) -> Reply {
+    let turn = ran(rt, subject, key, Kind::With);
+    let ticket = waited(rt, subject, **key, Kind::With);
+    let told = done_of(subject.abandon(turn));
+    (told, ready(rt, subject, ticket))
+}
+
+/// One begins, another waits, and leaves before it ends.
+fn leaves<S: Turns>(rt: &impl Abort, subject: &mut S, key: &Arc<u64>, value: u64) -> Reply {
+    let turn = ran(rt, subject, key, Kind::With);
+    let ticket = waited(rt, subject, **key, Kind::With);
+    let left = done_of(subject.leave(ticket));
+    (finished(subject, turn, Outcome::Value(value)), left)
+}
+
+/// One computes, and another waits until it has.
+fn computes<S: Turns>(rt: &impl Abort, subject: &mut S, key: &Arc<u64>, doing: Doing) -> Reply {
+    let begun = match subject.begin_compute(key) {
+        Err(Refused::OutOfMemory) => subject.begin_compute(key),
+        begun => begun,
+    };
+    match begun {
+        Ok(BegunCompute::Run(turn, shown)) => {
+            let ticket = waits_to_compute(rt, subject, key);
+            let told = finished(subject, turn, Outcome::Op(op_of(doing, shown)));
+            (told, ready(rt, subject, ticket))
+        }
+        begun => panic!(rt; "it does not run: {:?}", spent_compute(subject, begun)),
+    }
+}
+
+/// The ticket of one that waits for a compute. Where memory is refused, it begins once more.
+fn waits_to_compute<S: Turns>(rt: &impl Abort, subject: &mut S, key: &Arc<u64>) -> Ticket<u64> {
+    let begun = match subject.begin_compute(key) {
+        Err(Refused::OutOfMemory) => subject.begin_compute(key),
+        begun => begun,
+    };
+    match begun {
+        Ok(BegunCompute::Wait(ticket)) => open_still(rt, subject, ticket),
+        begun => panic!(rt; "it does not wait: {:?}", spent_compute(subject, begun)),
+    }
+}
