@@ -1,12 +1,14 @@
 //! The caches under test and their twins, and who hears what leaves them.
-ghost use Rattle.std.specs.Prelude.{◌≡◌, ◌%◌, nat_eq};
+ghost use Rattle.std.specs.Prelude.{◌≡◌, ◌%◌, nat_eq, refl};
+ghost use Rattle.std.proofs.Math.Path.{◌∙◌};
+ghost use Rattle.moka_model.specs.Lives.{no_lifetimes};
 
 use moka::common::builder_utils::BuildError;
 use moka::notification::RemovalCause;
 use moka::policy::{
-    CacheTypes, EvictionPolicy, Listener, ManualClock, NoExpiry, NoWeigher, NumberHash, Predicate,
+    CacheTypes, CountTable, EvictionPolicy, Listener, ManualClock, NoExpiry, NoListener, NoWeigher,
+    NumberHash, Predicate,
 };
-use moka::ready::{ReadyTypes, SteadyPredicate};
 use moka::state::CacheState;
 use moka::sync::builder::Single;
 use moka::sync::segment::SegmentedState;
@@ -14,6 +16,7 @@ use moka::sync::{Cache, CacheBuilder, SegmentedCache};
 use std::alloc::{AllocError, Global};
 use std::collections::VecDeque;
 use std::hash::BuildHasherDefault;
+use std::marker::PhantomData;
 use std::sync::{Arc, Mutex, Wait};
 use std::test::Fail;
 use std::time::Duration;
@@ -28,10 +31,6 @@ impl Predicate<u64, u64> for Odd {
     fn holds(&self, _key: &u64, value: &u64) -> bool {
         *value % 2 == 1
     }
-}
-
-impl SteadyPredicate<u64, u64> for Odd {
-    ghost test = { λ _ _ value. nat_eq (value % 2) 1 };
 }
 
 /// What left: its key, its value, and why.
@@ -65,11 +64,51 @@ pub(crate) type Clock = Arc<ManualClock>;
 /// A number is its own hash, so its highest bits name its segment.
 type Hasher = BuildHasherDefault<NumberHash>;
 
-/// The types of the caches. Initializers may fail with a number.
-pub(crate) type Types<W> = ReadyTypes<Hasher, NoWeigher, NoExpiry, Clock, Odd, u64, Notes<W>>;
+/// The types of a cache with a listener. Initializers may fail with a number. A source of few frequencies is quickly made, and
+/// many caches are, where each request for memory is refused in turn.
+pub(crate) struct NumberTypes<L> {
+    types: PhantomData<L>,
+}
+
+impl<L: Listener<u64, u64> + Drop> CacheTypes<u64, u64> for NumberTypes<L> {
+    type Hasher = Hasher;
+
+    type Weigher = NoWeigher;
+
+    type Expiry = NoExpiry;
+
+    type Predicate = Odd;
+
+    type Frequency = CountTable<6>;
+
+    type Listener = L;
+
+    type Clock = Clock;
+
+    type Error = u64;
+
+    ghost weight = { λ _ _ _. 1 };
+
+    ghost equal_keys_weigh = { λ _ _ _ _ _. refl };
+
+    ghost lifetimes = { λ _. no_lifetimes };
+
+    ghost test = { λ _ _ value. nat_eq (value % 2) 1 };
+
+    ghost keeps = { λ _ _. Unit {0} };
+
+    ghost equal_keys_keep = { λ _ _ _ _ _. tt };
+
+    ghost copies_keep = { λ _ _ _ _ _. tt };
+
+    ghost copies_compose = { λ _ _ _ a b. b ∙ a };
+}
+
+/// The types of the caches.
+pub(crate) type Types<W> = NumberTypes<Notes<W>>;
 
 /// The types of their twins.
-pub(crate) type PlainTypes = ReadyTypes<Hasher, NoWeigher, NoExpiry, ManualClock, Odd, u64>;
+pub(crate) type PlainTypes = NumberTypes<NoListener>;
 
 pub(crate) type Numbers<W> = Cache<u64, u64, Types<W>, W>;
 
