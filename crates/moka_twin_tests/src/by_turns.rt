@@ -4,7 +4,6 @@ ghost use Rattle.moka_model.specs.declared.turns.Kind.{Kind};
 ghost use Rattle.moka_state.specs.Finish.{Fits, outcome_of};
 
 use crate::calls::{Doing, Selected, Write, op_of};
-use crate::subject::Subject;
 use crate::told::{NO_MEMORY, Told};
 use crate::turns::{Given, NONE, Turns, finished, spent, spent_compute};
 use moka::sync::value_initializer::{Begun, BegunCompute, Kind, Outcome};
@@ -12,7 +11,7 @@ use std::alloc::Global;
 use std::sync::Arc;
 
 /// What a call answers.
-pub(crate) fn told_by_turns<S: Subject>(
+pub(crate) fn told_by_turns<S: Turns>(
     subject: &mut S,
     alloc: Global,
     key: &Arc<u64>,

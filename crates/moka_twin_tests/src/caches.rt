@@ -118,29 +118,45 @@ pub(crate) type PlainState = CacheState<u64, u64, PlainTypes>;
 
 pub(crate) type PlainSegments = SegmentedState<u64, u64, PlainTypes>;
 
-/// A cache that threads share, by two handles in turn, at the moment of its clock, and what its
-/// listener heard.
-#[derive(Drop)]
-pub(crate) struct Handles<C, W> {
-    first: C,
-    second: C,
-    is_second: bool,
-    heard: Heard<W>,
-}
-
-/// What a shared cache is built with.
+/// What tells a shared cache the moment and hears what leaves it, and which of its two handles the
+/// next call goes through.
 #[derive(Drop)]
 pub(crate) struct Heard<W> {
     clock: Clock,
     queue: Arc<Queue>,
     waits: W,
+    is_second: bool,
     pub alloc: Global,
+}
+
+/// A cache that threads share, by two handles in turn, and what its listener heard.
+#[derive(Drop)]
+pub(crate) struct SharedNumbers<W: Wait + Drop> {
+    first: Numbers<W>,
+    second: Numbers<W>,
+    pub heard: Heard<W>,
+}
+
+/// A cache of four segments that threads share, by two handles in turn.
+#[derive(Drop)]
+pub(crate) struct SharedSegments<W: Wait + Drop> {
+    first: SegmentedNumbers<W>,
+    second: SegmentedNumbers<W>,
+    pub heard: Heard<W>,
 }
 
 /// The plain twin of a shared cache, which is told the moment.
 #[derive(Drop)]
-pub(crate) struct Twin<S> {
-    pub state: S,
+pub(crate) struct Twin {
+    pub state: PlainState,
+    pub now: u64,
+    pub alloc: Global,
+}
+
+/// The plain twin of a shared cache of four segments.
+#[derive(Drop)]
+pub(crate) struct SegmentedTwin {
+    pub state: PlainSegments,
     pub now: u64,
     pub alloc: Global,
 }
@@ -171,6 +187,7 @@ impl<W: Wait + Copy + Drop> Heard<W> {
             clock: shared(alloc, ManualClock::new(0))?,
             queue: shared(alloc, Mutex::new(room(alloc)?))?,
             waits,
+            is_second: false,
             alloc,
         })
     }
@@ -188,46 +205,46 @@ impl<W: Wait + Copy + Drop> Heard<W> {
     }
 }
 
-impl<C: Clone + Drop, W: Drop> Handles<C, W> {
-    /// A cache and its clone. Where memory is refused, it asks once more.
-    fn new(cache: C, heard: Heard<W>) -> Result<Self, AllocError> {
-        let clone = match cache.clone() {
-            Ok(clone) => clone,
-            Err(_) => cache.clone()?,
-        };
-        Ok(Handles {
-            first: cache,
-            second: clone,
-            is_second: false,
-            heard,
-        })
+impl<W: Wait> Heard<W> {
+    /// Sets the clock, and goes on by the other handle.
+    pub(crate) fn set(&mut self, now: u64) {
+        self.is_second = !self.is_second;
+        self.clock.set(now);
+    }
+
+    /// What was heard first, if anything was.
+    pub(crate) fn take(&self) -> Option<Left> {
+        self.queue.lock(&self.waits).pop_front()
     }
 }
 
-impl<C, W: Wait> Handles<C, W> {
+impl<W: Wait + Drop> SharedNumbers<W> {
     /// The handle whose turn it is.
-    pub(crate) fn cache(&self) -> &C {
-        if self.is_second {
+    pub(crate) fn cache(&self) -> &Numbers<W> {
+        if self.heard.is_second {
             &self.second
         } else {
             &self.first
         }
     }
+}
 
-    /// What memory is taken from.
-    pub(crate) fn alloc(&self) -> Global {
-        self.heard.alloc
+impl<W: Wait + Drop> SharedSegments<W> {
+    /// The handle whose turn it is.
+    pub(crate) fn cache(&self) -> &SegmentedNumbers<W> {
+        if self.heard.is_second {
+            &self.second
+        } else {
+            &self.first
+        }
     }
+}
 
-    /// Sets the clock, and goes on by the other handle.
-    pub(crate) fn set(&mut self, now: u64) {
-        self.is_second = !self.is_second;
-        self.heard.clock.set(now);
-    }
-
-    /// What was heard first, if anything was.
-    pub(crate) fn take_heard(&self) -> Option<Left> {
-        self.heard.queue.lock(&self.heard.waits).pop_front()
+/// A clone. Where memory is refused, it asks once more.
+fn cloned<C: Clone>(cache: &C) -> Result<C, AllocError> {
+    match cache.clone() {
+        Ok(clone) => Ok(clone),
+        Err(_) => Ok(cache.clone()?),
     }
 }
 
@@ -259,16 +276,17 @@ fn cache_by<W: Wait + Copy + Drop>(heard: &Heard<W>) -> Result<Numbers<W>, Build
 }
 
 /// A shared cache. Where memory is refused, it is built anew.
-pub(crate) fn cache<W: Wait + Copy + Drop>(
-    rt: W,
-    alloc: Global,
-) -> Result<Handles<Numbers<W>, W>, Fail> {
+pub(crate) fn cache<W: Wait + Copy + Drop>(rt: W, alloc: Global) -> Result<SharedNumbers<W>, Fail> {
     let heard = Heard::new(rt, alloc)?;
     let cache = match cache_by(&heard) {
         Err(BuildError::OutOfMemory) => cache_by(&heard)?,
         built => built?,
     };
-    Ok(Handles::new(cache, heard)?)
+    Ok(SharedNumbers {
+        second: cloned(&cache)?,
+        first: cache,
+        heard,
+    })
 }
 
 fn segmented_cache_by<W: Wait + Copy + Drop>(
@@ -287,13 +305,17 @@ fn segmented_cache_by<W: Wait + Copy + Drop>(
 pub(crate) fn segmented_cache<W: Wait + Copy + Drop>(
     rt: W,
     alloc: Global,
-) -> Result<Handles<SegmentedNumbers<W>, W>, Fail> {
+) -> Result<SharedSegments<W>, Fail> {
     let heard = Heard::new(rt, alloc)?;
     let cache = match segmented_cache_by(&heard) {
         Err(BuildError::OutOfMemory) => segmented_cache_by(&heard)?,
         built => built?,
     };
-    Ok(Handles::new(cache, heard)?)
+    Ok(SharedSegments {
+        second: cloned(&cache)?,
+        first: cache,
+        heard,
+    })
 }
 
 fn state_by(alloc: Global) -> Result<PlainState, BuildError> {
@@ -301,7 +323,7 @@ fn state_by(alloc: Global) -> Result<PlainState, BuildError> {
 }
 
 /// The twin of a shared cache. Where memory is refused, it is built anew.
-pub(crate) fn state(alloc: Global) -> Result<Twin<PlainState>, Fail> {
+pub(crate) fn state(alloc: Global) -> Result<Twin, Fail> {
     let state = match state_by(alloc) {
         Err(BuildError::OutOfMemory) => state_by(alloc)?,
         built => built?,
@@ -320,12 +342,12 @@ fn segments_by(alloc: Global) -> Result<PlainSegments, BuildError> {
 }
 
 /// The twin of a shared cache of four segments. Where memory is refused, it is built anew.
-pub(crate) fn segmented_state(alloc: Global) -> Result<Twin<PlainSegments>, Fail> {
+pub(crate) fn segmented_state(alloc: Global) -> Result<SegmentedTwin, Fail> {
     let state = match segments_by(alloc) {
         Err(BuildError::OutOfMemory) => segments_by(alloc)?,
         built => built?,
     };
-    Ok(Twin {
+    Ok(SegmentedTwin {
         state,
         now: 0,
         alloc,

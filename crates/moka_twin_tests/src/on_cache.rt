@@ -1,7 +1,7 @@
 //! The calls of a shared cache.
 ghost use Rattle.std.specs.Prelude.{◌≡◌, ◌≢◌, ℕ, IfOk};
 
-use crate::caches::{Handles, Left, NAME, Numbers, Odd};
+use crate::caches::{Left, NAME, Numbers, Odd, SharedNumbers};
 use crate::calls::{All, Form, Key, Look, Selected, Write};
 use crate::selectors::{Selector, told_by_selector};
 use crate::subject::{Pairs, Subject};
@@ -17,13 +17,13 @@ use rand_xoshiro::SplitMix64;
 use std::alloc::Global;
 use std::sync::{Arc, Wait};
 
-impl<W: Wait + Drop> Subject for Handles<Numbers<W>, W> {
+impl<W: Wait + Drop> Subject for SharedNumbers<W> {
     fn at(&mut self, now: u64) {
-        self.set(now);
+        self.heard.set(now);
     }
 
     fn left(&mut self) -> Option<Left> {
-        self.take_heard()
+        self.heard.take()
     }
 
     fn look(&mut self, call: Look, key: u64) -> Told {
@@ -39,24 +39,12 @@ impl<W: Wait + Drop> Subject for Handles<Numbers<W>, W> {
         }
     }
 
-    fn write(&mut self, call: Write, key: u64) -> Told {
-        let cache = self.cache();
-        match call {
-            Write::Insert(value) => insert_of(cache.insert(key, value), (key, value)),
-            Write::OrInsert(value) => match Arc::new(self.alloc(), key) {
-                Ok(key) => or_insert_of(cache.or_insert(&key, value), value),
-                Err(_) => NO_MEMORY,
-            },
-            Write::OrDefault => entry_of(cache.or_default(key)),
-        }
-    }
-
     fn all(&mut self, call: All) -> Told {
         let cache = self.cache();
         match call {
             All::InvalidateAll => cache.invalidate_all(),
             All::HideOdd => return hide_odd(cache),
-            All::HideOddShared => return hide_odd_shared(cache, self.alloc()),
+            All::HideOddShared => return hide_odd_shared(cache, self.heard.alloc),
             All::RunPendingTasks => cache.run_pending_tasks(),
             All::RunPendingTasksUpTo(limit) => {
                 return Told::Is(cache.run_pending_tasks_up_to(limit));
@@ -91,7 +79,7 @@ impl<W: Wait + Drop> Subject for Handles<Numbers<W>, W> {
     }
 
     fn walk(&mut self) -> Result<Pairs, Refused> {
-        let mut pairs = Vec::new(self.alloc());
+        let mut pairs = Vec::new(self.heard.alloc);
         for pair in self.cache().iter() {
             let (key, value) = pair?;
             if pairs.push((*key, value)).is_err() {
@@ -102,13 +90,25 @@ impl<W: Wait + Drop> Subject for Handles<Numbers<W>, W> {
     }
 }
 
-impl<W: Wait + Drop> Turns for Handles<Numbers<W>, W> {
+impl<W: Wait + Drop> Turns for SharedNumbers<W> {
     ghost use Rattle.std.specs.Prelude.{◌≡◌, ◌≢◌, ℕ, IfOk};
     ghost use Rattle.std.specs.Arc.{arc_value};
     ghost use Rattle.moka_model.specs.declared.turns.Kind.{Kind};
     ghost use Rattle.moka_state.specs.Begin.{IsNamed};
     ghost use Rattle.moka_state.specs.Compute.{IsCompute};
     ghost use Rattle.moka_state.specs.Finish.{Fits, outcome_of};
+
+    fn write(&mut self, call: Write, key: u64) -> Told {
+        let cache = self.cache();
+        match call {
+            Write::Insert(value) => insert_of(cache.insert(key, value), (key, value)),
+            Write::OrInsert(value) => match Arc::new(self.heard.alloc, key) {
+                Ok(key) => or_insert_of(cache.or_insert(&key, value), value),
+                Err(_) => NO_MEMORY,
+            },
+            Write::OrDefault => entry_of(cache.or_default(key)),
+        }
+    }
 
     fn begin(&mut self, key: &Arc<u64>, kind: Kind, unwanted: u64) -> Begins
         requires { kind ≢ Kind.Compute }

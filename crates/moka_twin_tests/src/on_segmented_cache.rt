@@ -1,7 +1,7 @@
 //! The calls of a shared cache of several segments.
 ghost use Rattle.std.specs.Prelude.{◌≡◌, ◌≢◌, ℕ, IfOk};
 
-use crate::caches::{Handles, Left, NAME, Odd, SegmentedNumbers};
+use crate::caches::{Left, NAME, Odd, SegmentedNumbers, SharedSegments};
 use crate::calls::{All, Form, Key, Look, Selected, Write};
 use crate::selectors::{Selector, told_by_selector};
 use crate::subject::{Pairs, Subject};
@@ -15,13 +15,13 @@ use moka::sync::value_initializer::{Kind, Ticket, Turn};
 use std::alloc::Global;
 use std::sync::{Arc, Wait};
 
-impl<W: Wait + Drop> Subject for Handles<SegmentedNumbers<W>, W> {
+impl<W: Wait + Drop> Subject for SharedSegments<W> {
     fn at(&mut self, now: u64) {
-        self.set(now);
+        self.heard.set(now);
     }
 
     fn left(&mut self) -> Option<Left> {
-        self.take_heard()
+        self.heard.take()
     }
 
     fn look(&mut self, call: Look, key: u64) -> Told {
@@ -37,24 +37,12 @@ impl<W: Wait + Drop> Subject for Handles<SegmentedNumbers<W>, W> {
         }
     }
 
-    fn write(&mut self, call: Write, key: u64) -> Told {
-        let cache = self.cache();
-        match call {
-            Write::Insert(value) => insert_of(cache.insert(key, value), (key, value)),
-            Write::OrInsert(value) => match Arc::new(self.alloc(), key) {
-                Ok(key) => or_insert_of(cache.or_insert(&key, value), value),
-                Err(_) => NO_MEMORY,
-            },
-            Write::OrDefault => entry_of(cache.or_default(key)),
-        }
-    }
-
     fn all(&mut self, call: All) -> Told {
         let cache = self.cache();
         match call {
             All::InvalidateAll => cache.invalidate_all(),
             All::HideOdd => return hidden_of(cache.invalidate_entries_if(Odd)),
-            All::HideOddShared => return hide_odd_shared(cache, self.alloc()),
+            All::HideOddShared => return hide_odd_shared(cache, self.heard.alloc),
             All::RunPendingTasks => cache.run_pending_tasks(),
             All::RunPendingTasksUpTo(limit) => {
                 return Told::Is(cache.run_pending_tasks_up_to(limit));
@@ -91,7 +79,7 @@ impl<W: Wait + Drop> Subject for Handles<SegmentedNumbers<W>, W> {
     }
 
     fn walk(&mut self) -> Result<Pairs, Refused> {
-        let mut pairs = Vec::new(self.alloc());
+        let mut pairs = Vec::new(self.heard.alloc);
         for pair in self.cache().iter() {
             let (key, value) = pair?;
             if pairs.push((*key, value)).is_err() {
@@ -102,13 +90,25 @@ impl<W: Wait + Drop> Subject for Handles<SegmentedNumbers<W>, W> {
     }
 }
 
-impl<W: Wait + Drop> Turns for Handles<SegmentedNumbers<W>, W> {
+impl<W: Wait + Drop> Turns for SharedSegments<W> {
     ghost use Rattle.std.specs.Prelude.{◌≡◌, ◌≢◌, ℕ, IfOk};
     ghost use Rattle.std.specs.Arc.{arc_value};
     ghost use Rattle.moka_model.specs.declared.turns.Kind.{Kind};
     ghost use Rattle.moka_state.specs.Begin.{IsNamed};
     ghost use Rattle.moka_state.specs.Compute.{IsCompute};
     ghost use Rattle.moka_state.specs.Finish.{Fits, outcome_of};
+
+    fn write(&mut self, call: Write, key: u64) -> Told {
+        let cache = self.cache();
+        match call {
+            Write::Insert(value) => insert_of(cache.insert(key, value), (key, value)),
+            Write::OrInsert(value) => match Arc::new(self.heard.alloc, key) {
+                Ok(key) => or_insert_of(cache.or_insert(&key, value), value),
+                Err(_) => NO_MEMORY,
+            },
+            Write::OrDefault => entry_of(cache.or_default(key)),
+        }
+    }
 
     fn begin(&mut self, key: &Arc<u64>, kind: Kind, unwanted: u64) -> Begins
         requires { kind ≢ Kind.Compute }

@@ -1,7 +1,7 @@
 //! The calls of a state of several segments, the twin of such a cache.
 
 use crate::by_turns::told_by_turns;
-use crate::caches::{Left, NAME, Odd, PlainSegments, ROOM, Twin};
+use crate::caches::{Left, NAME, Odd, PlainSegments, ROOM, SegmentedTwin};
 use crate::calls::{All, Form, Key, Look, Selected, Write};
 use crate::subject::{Pairs, Subject};
 use crate::told::{
@@ -14,7 +14,7 @@ use moka::sync::value_initializer::{Kind, Ticket, Turn};
 use std::alloc::Global;
 use std::sync::Arc;
 
-impl Subject for Twin<PlainSegments> {
+impl Subject for SegmentedTwin {
     fn at(&mut self, now: u64) {
         self.now = now;
     }
@@ -34,18 +34,6 @@ impl Subject for Twin<PlainSegments> {
                 Told::Done
             }
             Look::Remove => option_of(self.state.remove(&key, now)),
-        }
-    }
-
-    fn write(&mut self, call: Write, key: u64) -> Told {
-        let now = self.now;
-        match call {
-            Write::Insert(value) => insert_of(self.state.insert(key, value, now), (key, value)),
-            Write::OrInsert(value) => match Arc::new(self.alloc, key) {
-                Ok(key) => or_insert_of(self.state.or_insert(&key, value, now), value),
-                Err(_) => NO_MEMORY,
-            },
-            Write::OrDefault => entry_of(self.state.or_default(key, now)),
         }
     }
 
@@ -102,13 +90,25 @@ impl Subject for Twin<PlainSegments> {
     }
 }
 
-impl Turns for Twin<PlainSegments> {
+impl Turns for SegmentedTwin {
     ghost use Rattle.std.specs.Prelude.{◌≡◌, ◌≢◌, ℕ, IfOk};
     ghost use Rattle.std.specs.Arc.{arc_value};
     ghost use Rattle.moka_model.specs.declared.turns.Kind.{Kind};
     ghost use Rattle.moka_state.specs.Begin.{IsNamed};
     ghost use Rattle.moka_state.specs.Compute.{IsCompute};
     ghost use Rattle.moka_state.specs.Finish.{Fits, outcome_of};
+
+    fn write(&mut self, call: Write, key: u64) -> Told {
+        let now = self.now;
+        match call {
+            Write::Insert(value) => insert_of(self.state.insert(key, value, now), (key, value)),
+            Write::OrInsert(value) => match Arc::new(self.alloc, key) {
+                Ok(key) => or_insert_of(self.state.or_insert(&key, value, now), value),
+                Err(_) => NO_MEMORY,
+            },
+            Write::OrDefault => entry_of(self.state.or_default(key, now)),
+        }
+    }
 
     fn begin(&mut self, key: &Arc<u64>, kind: Kind, unwanted: u64) -> Begins
         requires { kind ≢ Kind.Compute }

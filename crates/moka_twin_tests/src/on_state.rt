@@ -20,7 +20,7 @@ use std::sync::Arc;
 
 type Selector<'a> = StateEntrySelector<'a, u64, u64, PlainTypes, DueRows<u64, u64>>;
 
-impl Subject for Twin<PlainState> {
+impl Subject for Twin {
     fn at(&mut self, now: u64) {
         self.now = now;
     }
@@ -40,18 +40,6 @@ impl Subject for Twin<PlainState> {
                 Told::Done
             }
             Look::Remove => option_of(self.state.remove(&key, now)),
-        }
-    }
-
-    fn write(&mut self, call: Write, key: u64) -> Told {
-        let now = self.now;
-        match call {
-            Write::Insert(value) => insert_of(self.state.insert(key, value, now), (key, value)),
-            Write::OrInsert(value) => match Arc::new(self.alloc, key) {
-                Ok(key) => or_insert_of(self.state.or_insert(&key, value, now), value),
-                Err(_) => NO_MEMORY,
-            },
-            Write::OrDefault => entry_of(self.state.or_default(key, now)),
         }
     }
 
@@ -109,13 +97,25 @@ impl Subject for Twin<PlainState> {
     }
 }
 
-impl Turns for Twin<PlainState> {
+impl Turns for Twin {
     ghost use Rattle.std.specs.Prelude.{◌≡◌, ◌≢◌, ℕ, IfOk};
     ghost use Rattle.std.specs.Arc.{arc_value};
     ghost use Rattle.moka_model.specs.declared.turns.Kind.{Kind};
     ghost use Rattle.moka_state.specs.Begin.{IsNamed};
     ghost use Rattle.moka_state.specs.Compute.{IsCompute};
     ghost use Rattle.moka_state.specs.Finish.{Fits, outcome_of};
+
+    fn write(&mut self, call: Write, key: u64) -> Told {
+        let now = self.now;
+        match call {
+            Write::Insert(value) => insert_of(self.state.insert(key, value, now), (key, value)),
+            Write::OrInsert(value) => match Arc::new(self.alloc, key) {
+                Ok(key) => or_insert_of(self.state.or_insert(&key, value, now), value),
+                Err(_) => NO_MEMORY,
+            },
+            Write::OrDefault => entry_of(self.state.or_default(key, now)),
+        }
+    }
 
     fn begin(&mut self, key: &Arc<u64>, kind: Kind, unwanted: u64) -> Begins
         requires { kind ≢ Kind.Compute }

@@ -1,7 +1,7 @@
 //! What a cache and its twin have in common: each answers the same calls.
 
 use crate::caches::Left;
-use crate::calls::{All, Call, Form, Key, Look, Selected, Write};
+use crate::calls::{All, Call, Form, Key, Look, Selected};
 use crate::told::Told;
 use crate::turns::{Turns, turn_reply};
 use moka::policy::Refused;
@@ -20,8 +20,6 @@ pub(crate) trait Subject: Turns {
     fn left(&mut self) -> Option<Left>;
 
     fn look(&mut self, call: Look, key: u64) -> Told;
-
-    fn write(&mut self, call: Write, key: u64) -> Told;
 
     fn all(&mut self, call: All) -> Told;
 

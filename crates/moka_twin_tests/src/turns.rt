@@ -4,7 +4,7 @@ ghost use Rattle.moka_model.specs.declared.turns.Kind.{Kind};
 ghost use Rattle.moka_state.specs.Finish.{Fits, outcome_of};
 
 use crate::caches::shared;
-use crate::calls::{Doing, Turned, op_of};
+use crate::calls::{Doing, Turned, Write, op_of};
 use crate::subject::Reply;
 use crate::told::{Told, answer_of, done_of, finished_of, parts};
 use moka::common::entry::Entry;
@@ -28,7 +28,7 @@ pub(crate) type Finishes = Result<Finished<u64, u64, u64>, FinishRefused<u64, u6
 
 pub(crate) type Collects = Result<Collected<u64, u64, u64>, CollectRefused<u64>>;
 
-/// What answers the calls of turns.
+/// What answers the calls of turns, and those that write and open none.
 pub(crate) trait Turns {
     ghost use Rattle.std.specs.Prelude.{◌≡◌, ◌≢◌, ℕ, IfOk};
     ghost use Rattle.std.specs.Arc.{arc_value};
@@ -36,6 +36,8 @@ pub(crate) trait Turns {
     ghost use Rattle.moka_state.specs.Begin.{IsNamed};
     ghost use Rattle.moka_state.specs.Compute.{IsCompute};
     ghost use Rattle.moka_state.specs.Finish.{Fits, outcome_of};
+
+    fn write(&mut self, call: Write, key: u64) -> Told;
 
     /// Begins, where a live value of this number is turned down.
     fn begin(&mut self, key: &Arc<u64>, kind: Kind, unwanted: u64) -> Begins
