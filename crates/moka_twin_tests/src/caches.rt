@@ -118,30 +118,27 @@ pub(crate) type PlainState = CacheState<u64, u64, PlainTypes>;
 
 pub(crate) type PlainSegments = SegmentedState<u64, u64, PlainTypes>;
 
-/// What tells a shared cache the moment and hears what leaves it, and which of its two handles the
-/// next call goes through.
+/// What tells a shared cache the moment, and hears what leaves it.
 #[derive(Drop)]
 pub(crate) struct Heard<W> {
     clock: Clock,
     queue: Arc<Queue>,
     waits: W,
-    is_second: bool,
     pub alloc: Global,
 }
 
-/// A cache that threads share, by two handles in turn, and what its listener heard.
+/// A cache that threads share, each of whose calls goes through a clone of the cache of the call
+/// before, and what its listener heard.
 #[derive(Drop)]
 pub(crate) struct SharedNumbers<W: Wait + Drop> {
-    first: Numbers<W>,
-    second: Numbers<W>,
+    pub cache: Numbers<W>,
     pub heard: Heard<W>,
 }
 
-/// A cache of four segments that threads share, by two handles in turn.
+/// The same of four segments.
 #[derive(Drop)]
 pub(crate) struct SharedSegments<W: Wait + Drop> {
-    first: SegmentedNumbers<W>,
-    second: SegmentedNumbers<W>,
+    pub cache: SegmentedNumbers<W>,
     pub heard: Heard<W>,
 }
 
@@ -187,7 +184,6 @@ impl<W: Wait + Copy + Drop> Heard<W> {
             clock: shared(alloc, ManualClock::new(0))?,
             queue: shared(alloc, Mutex::new(room(alloc)?))?,
             waits,
-            is_second: false,
             alloc,
         })
     }
@@ -206,45 +202,14 @@ impl<W: Wait + Copy + Drop> Heard<W> {
 }
 
 impl<W: Wait> Heard<W> {
-    /// Sets the clock, and goes on by the other handle.
-    pub(crate) fn set(&mut self, now: u64) {
-        self.is_second = !self.is_second;
+    /// Sets the clock.
+    pub(crate) fn set(&self, now: u64) {
         self.clock.set(now);
     }
 
     /// What was heard first, if anything was.
     pub(crate) fn take(&self) -> Option<Left> {
         self.queue.lock(&self.waits).pop_front()
-    }
-}
-
-impl<W: Wait + Drop> SharedNumbers<W> {
-    /// The handle whose turn it is.
-    pub(crate) fn cache(&self) -> &Numbers<W> {
-        if self.heard.is_second {
-            &self.second
-        } else {
-            &self.first
-        }
-    }
-}
-
-impl<W: Wait + Drop> SharedSegments<W> {
-    /// The handle whose turn it is.
-    pub(crate) fn cache(&self) -> &SegmentedNumbers<W> {
-        if self.heard.is_second {
-            &self.second
-        } else {
-            &self.first
-        }
-    }
-}
-
-/// A clone. Where memory is refused, it asks once more.
-fn cloned<C: Clone>(cache: &C) -> Result<C, AllocError> {
-    match cache.clone() {
-        Ok(clone) => Ok(clone),
-        Err(_) => Ok(cache.clone()?),
     }
 }
 
@@ -282,11 +247,7 @@ pub(crate) fn cache<W: Wait + Copy + Drop>(rt: W, alloc: Global) -> Result<Share
         Err(BuildError::OutOfMemory) => cache_by(&heard)?,
         built => built?,
     };
-    Ok(SharedNumbers {
-        second: cloned(&cache)?,
-        first: cache,
-        heard,
-    })
+    Ok(SharedNumbers { cache, heard })
 }
 
 fn segmented_cache_by<W: Wait + Copy + Drop>(
@@ -311,11 +272,7 @@ pub(crate) fn segmented_cache<W: Wait + Copy + Drop>(
         Err(BuildError::OutOfMemory) => segmented_cache_by(&heard)?,
         built => built?,
     };
-    Ok(SharedSegments {
-        second: cloned(&cache)?,
-        first: cache,
-        heard,
-    })
+    Ok(SharedSegments { cache, heard })
 }
 
 fn state_by(alloc: Global) -> Result<PlainState, BuildError> {

@@ -18,6 +18,9 @@ use std::sync::{Arc, Wait};
 impl<W: Wait + Drop> Subject for SharedSegments<W> {
     fn at(&mut self, now: u64) {
         self.heard.set(now);
+        if let Ok(clone) = self.cache.clone() {
+            self.cache = clone;
+        }
     }
 
     fn left(&mut self) -> Option<Left> {
@@ -25,7 +28,7 @@ impl<W: Wait + Drop> Subject for SharedSegments<W> {
     }
 
     fn look(&mut self, call: Look, key: u64) -> Told {
-        let cache = self.cache();
+        let cache = &self.cache;
         match call {
             Look::Get => option_of(cache.get(&key)),
             Look::ContainsKey => Told::Is(cache.contains_key(&key)),
@@ -38,7 +41,7 @@ impl<W: Wait + Drop> Subject for SharedSegments<W> {
     }
 
     fn all(&mut self, call: All) -> Told {
-        let cache = self.cache();
+        let cache = &self.cache;
         match call {
             All::InvalidateAll => cache.invalidate_all(),
             All::HideOdd => return hidden_of(cache.invalidate_entries_if(Odd)),
@@ -57,7 +60,7 @@ impl<W: Wait + Drop> Subject for SharedSegments<W> {
     }
 
     fn form(&mut self, form: Form, key: Key) -> Told {
-        let cache = self.cache();
+        let cache = &self.cache;
         match form {
             Form::With(value) => with(cache, key, value),
             Form::WithIf(value, unwanted) => with_if(cache, key.number(), value, unwanted),
@@ -70,17 +73,14 @@ impl<W: Wait + Drop> Subject for SharedSegments<W> {
 
     fn selected(&mut self, call: Selected, key: Key) -> Told {
         match key {
-            Key::Owned(key) => told_by_selector(Selector::Owned(self.cache().entry(key)), call),
-            Key::Lent(key) => told_by_selector(
-                Selector::Lent(self.cache().entry_by_ref(&key)),
-                call,
-            ),
+            Key::Owned(key) => told_by_selector(Selector::Owned(self.cache.entry(key)), call),
+            Key::Lent(key) => told_by_selector(Selector::Lent(self.cache.entry_by_ref(&key)), call),
         }
     }
 
     fn walk(&mut self) -> Result<Pairs, Refused> {
         let mut pairs = Vec::new(self.heard.alloc);
-        for pair in self.cache().iter() {
+        for pair in self.cache.iter() {
             let (key, value) = pair?;
             if pairs.push((*key, value)).is_err() {
                 return Err(Refused::OutOfMemory);
@@ -99,7 +99,7 @@ impl<W: Wait + Drop> Turns for SharedSegments<W> {
     ghost use Rattle.moka_state.specs.Finish.{Fits, outcome_of};
 
     fn write(&mut self, call: Write, key: u64) -> Told {
-        let cache = self.cache();
+        let cache = &self.cache;
         match call {
             Write::Insert(value) => insert_of(cache.insert(key, value), (key, value)),
             Write::OrInsert(value) => match Arc::new(self.heard.alloc, key) {
@@ -115,38 +115,38 @@ impl<W: Wait + Drop> Turns for SharedSegments<W> {
         ensures { IfOk result (IsNamed kind (arc_value key.now)) }
     {
         let turns_down = move |live: &u64| *live == unwanted;
-        self.cache().begin(key, kind, Some(turns_down))
+        self.cache.begin(key, kind, Some(turns_down))
     }
 
     fn begin_by_ref(&mut self, key: u64, kind: Kind, unwanted: u64) -> Begins
         requires { kind ≢ Kind.Compute }
     {
         let turns_down = move |live: &u64| *live == unwanted;
-        self.cache().begin_by_ref(&key, kind, Some(turns_down))
+        self.cache.begin_by_ref(&key, kind, Some(turns_down))
     }
 
     fn begin_compute(&mut self, key: &Arc<u64>) -> BeginsCompute
         ensures { IfOk result (IsCompute (arc_value key.now)) }
     {
-        self.cache().begin_compute(key, true)
+        self.cache.begin_compute(key, true)
     }
 
     fn finish(&mut self, turn: Turn<u64>, outcome: Given) -> Finishes
         requires { Fits ℕ turn.key.kind (outcome_of outcome) }
     {
-        self.cache().finish(turn, outcome)
+        self.cache.finish(turn, outcome)
     }
 
     fn abandon(&mut self, turn: Turn<u64>) -> Result<(), Refused> {
-        self.cache().abandon(turn)
+        self.cache.abandon(turn)
     }
 
     fn collect(&mut self, ticket: Ticket<u64>) -> Collects {
-        self.cache().collect(ticket)
+        self.cache.collect(ticket)
     }
 
     fn leave(&mut self, ticket: Ticket<u64>) -> Result<(), Refused> {
-        self.cache().leave(ticket)
+        self.cache.leave(ticket)
     }
 }
 

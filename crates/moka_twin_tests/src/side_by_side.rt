@@ -6,6 +6,7 @@ use crate::calls::{All, Call};
 use crate::lists::Timed;
 use crate::subject::{Reply, Subject, reply, walked};
 use crate::told::NO_MEMORY;
+use crate::turns::Turns;
 use moka::notification::RemovalCause;
 use std::alloc::Global;
 use std::process::Abort;
@@ -47,7 +48,7 @@ pub(crate) struct Pass {
 }
 
 /// Gives both each call of a list.
-pub(crate) fn answer_alike<S: Subject, T: Subject>(
+pub(crate) fn answer_alike<S: Subject + Turns, T: Subject + Turns>(
     rt: &impl Abort,
     alloc: Global,
     shared: &mut S,
@@ -70,7 +71,7 @@ pub(crate) fn answer_alike<S: Subject, T: Subject>(
     Ok(())
 }
 
-fn call_alike<S: Subject, T: Subject>(
+fn call_alike<S: Subject + Turns, T: Subject + Turns>(
     rt: &impl Abort,
     alloc: Global,
     shared: &mut S,
@@ -91,7 +92,7 @@ fn call_alike<S: Subject, T: Subject>(
 }
 
 /// What the twin answers. Where memory is refused, it is asked once more.
-fn told_by_twin<T: Subject>(
+fn told_by_twin<T: Subject + Turns>(
     rt: &impl Abort,
     alloc: Global,
     twin: &mut T,

@@ -12,7 +12,7 @@ use std::process::Abort;
 pub(crate) type Pairs = Vec<(u64, u64)>;
 
 /// A cache under test, or its twin.
-pub(crate) trait Subject: Turns {
+pub(crate) trait Subject {
     /// The calls from here on are at this moment.
     fn at(&mut self, now: u64);
 
@@ -34,7 +34,7 @@ pub(crate) trait Subject: Turns {
 pub(crate) type Reply = (Told, Told);
 
 /// What a call answers that is no walk. Its key is lent, where it may be, or the caller's own.
-pub(crate) fn reply<S: Subject>(
+pub(crate) fn reply<S: Subject + Turns>(
     rt: &impl Abort,
     alloc: Global,
     subject: &mut S,

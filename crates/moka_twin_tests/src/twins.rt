@@ -4,6 +4,7 @@ use crate::caches::{NAME, cache, segmented_cache, segmented_state, state};
 use crate::lists::{FORMS, KEYS, OF_ALL, SELECTORS, TURNS, Timed};
 use crate::side_by_side::{Causes, Pass, answer_alike};
 use crate::subject::Subject;
+use crate::turns::Turns;
 use crate::words::{WORDS, word};
 use moka::policy::Policy;
 use std::alloc::Global;
@@ -14,7 +15,7 @@ use std::test::Fail;
 const LISTS: [&[Timed]; 5] = [&KEYS, &OF_ALL, &FORMS, &SELECTORS, &TURNS];
 
 /// Gives both all lists, by keys of the caller's own and by lent ones.
-fn are_twins<S: Subject, T: Subject>(
+fn are_twins<S: Subject + Turns, T: Subject + Turns>(
     rt: &impl Abort,
     alloc: Global,
     shared: &mut S,
@@ -92,7 +93,7 @@ fn shows(
 fn a_cache_shows_its_name_and_its_policy(rt: HostRuntime) -> Result<(), Fail> {
     let alloc = rt.alloc();
     let shared = cache(rt, alloc)?;
-    shows(&rt, alloc, shared.cache(), "Cache", shared.cache().policy())
+    shows(&rt, alloc, &shared.cache, "Cache", shared.cache.policy())
 }
 
 #[test]
@@ -102,8 +103,8 @@ fn a_cache_of_segments_shows_its_name_and_its_policy(rt: HostRuntime) -> Result<
     shows(
         &rt,
         alloc,
-        shared.cache(),
+        &shared.cache,
         "SegmentedCache",
-        shared.cache().policy(),
+        shared.cache.policy(),
     )
 }
