@@ -104,11 +104,20 @@ pub(crate) fn timed<S: Made<R>, R: Clock + Copy>(
     load: &Load,
     keys: &[u64],
 ) -> io::Result<Outcome> {
-    let (before, measured) = keys.split_at(keys.len() / 2);
     let mut subject = S::made(alloc, load, policy, *rt)?;
-    prepare(&mut subject, load, before)?;
+    timed_on(rt, &mut subject, load, keys)
+}
+
+fn timed_on<S: Subject>(
+    rt: &impl Clock,
+    subject: &mut S,
+    load: &Load,
+    keys: &[u64],
+) -> io::Result<Outcome> {
+    let (before, measured) = keys.split_at(keys.len() / 2);
+    prepare(subject, load, before)?;
     let begun = Instant::now(rt)?;
-    let hits = hits_of(&mut subject, load.kind, measured, before.len())?;
+    let hits = hits_of(subject, load.kind, measured, before.len())?;
     let nanos = nanos_since(rt, begun)?;
     Ok(Outcome { nanos, hits })
 }
@@ -121,16 +130,38 @@ fn slowest<S: Made<R>, R: Clock + Copy>(
     load: &Load,
     keys: &[u64],
 ) -> io::Result<Outcome> {
-    let (before, measured) = keys.split_at(keys.len() / 2);
     let mut subject = S::made(alloc, load, policy, *rt)?;
-    prepare(&mut subject, load, before)?;
+    slowest_on(rt, &mut subject, load, keys)
+}
+
+fn slowest_on<S: Subject>(
+    rt: &impl Clock,
+    subject: &mut S,
+    load: &Load,
+    keys: &[u64],
+) -> io::Result<Outcome> {
+    let (before, measured) = keys.split_at(keys.len() / 2);
+    prepare(subject, load, before)?;
     let (mut nanos, mut hits) = (0, 0_u64);
     for (place, key) in measured.iter().enumerate() {
         let now = before.len().wrapping_add(place);
-        let begun = Instant::now(rt)?;
-        hits = hits.wrapping_add(hits_of(&mut subject, load.kind, &[*key], now)?);
-        nanos = nanos_since(rt, begun)?.max(nanos);
+        let one = timed_call(rt, subject, load.kind, *key, now)?;
+        hits = hits.wrapping_add(one.hits);
+        nanos = one.nanos.max(nanos);
     }
+    Ok(Outcome { nanos, hits })
+}
+
+fn timed_call<S: Subject>(
+    rt: &impl Clock,
+    subject: &mut S,
+    kind: Kind,
+    key: u64,
+    now: usize,
+) -> io::Result<Outcome> {
+    let begun = Instant::now(rt)?;
+    let hits = hits_of(subject, kind, &[key], now)?;
+    let nanos = nanos_since(rt, begun)?;
     Ok(Outcome { nanos, hits })
 }
 
@@ -172,14 +203,24 @@ fn hits_of<S: Subject>(
     }
     let mut hits = 0_u64;
     for (place, key) in keys.iter().enumerate() {
-        let now = first.wrapping_add(place) as u64;
-        if let Kind::Known(call) | Kind::New(call) = kind {
-            subject.call(call, *key, now)?;
-        } else if matches!(kind, Kind::Look | Kind::Hit | Kind::Miss) && subject.look(*key, now)? {
+        if is_hit(subject, kind, *key, first.wrapping_add(place) as u64)? {
             hits = hits.wrapping_add(1);
-        } else if kind != Kind::Hit {
-            subject.insert(*key, now)?;
         }
     }
     Ok(hits)
+}
+
+/// Runs a key of a load, and answers whether it was looked for and found.
+fn is_hit<S: Subject>(subject: &mut S, kind: Kind, key: u64, now: u64) -> Result<bool, AllocError> {
+    if let Kind::Known(call) | Kind::New(call) = kind {
+        subject.call(call, key, now)?;
+        return Ok(false);
+    }
+    if matches!(kind, Kind::Look | Kind::Hit | Kind::Miss) && subject.look(key, now)? {
+        return Ok(true);
+    }
+    if kind != Kind::Hit {
+        subject.insert(key, now)?;
+    }
+    Ok(false)
 }

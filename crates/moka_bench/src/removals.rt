@@ -105,13 +105,23 @@ fn timed<S: Emptied + Made<R>, R: Clock + Copy>(
         ..SMALL
     };
     let mut filled = S::made(alloc, &load, EvictionPolicy::lru(), *rt)?;
-    prepare(&mut filled, &load, &[])?;
+    timed_on(rt, alloc, &mut filled, removal, &load)
+}
+
+fn timed_on<S: Emptied>(
+    rt: &impl Clock,
+    alloc: Global,
+    filled: &mut S,
+    removal: Removal,
+    load: &Load,
+) -> io::Result<u64> {
+    prepare(filled, load, &[])?;
     if matches!(removal, Removal::Sweep) {
         filled.invalidate_all();
     }
     let predicate = Arc::new(alloc, Everything)?;
     let begun = Instant::now(rt)?;
-    remove_all(&mut filled, removal, rows, predicate)?;
+    remove_all(filled, removal, load.capacity, predicate)?;
     nanos_since(rt, begun)
 }
 

@@ -2,16 +2,20 @@
 use crate::load::Load;
 use crate::subject::{Made, NoFrequencies, Subject, Types};
 use moka::policy::EvictionPolicy;
+use moka::state::{DueRows, RowStore};
 use moka::sync::CacheBuilder;
-use moka::sync::segment::SegmentedState;
+use moka::sync::segment::Segmented;
 use std::alloc::{AllocError, Global};
 use std::hash::BuildHasher;
 
-/// One of so many segments, least recently used.
+/// One of so many segments, least recently used, over any store of rows.
 #[derive(Drop)]
-pub(crate) struct InSegments<H: BuildHasher + Drop, const N: usize> {
-    cache: SegmentedState<u64, u64, Types<H, NoFrequencies>>,
+pub(crate) struct SegmentsOf<H: BuildHasher + Drop, R: RowStore<u64, u64>, const N: usize> {
+    cache: Segmented<u64, u64, Types<H, NoFrequencies>, R>,
 }
+
+/// The same over the store that each `SegmentedState` has.
+pub(crate) type InSegments<H, const N: usize> = SegmentsOf<H, DueRows<u64, u64>, N>;
 
 impl<H: BuildHasher + Default + Drop, const N: usize, W: Drop> Made<W> for InSegments<H, N> {
     fn made(
@@ -25,13 +29,14 @@ impl<H: BuildHasher + Default + Drop, const N: usize, W: Drop> Made<W> for InSeg
             return Err(AllocError);
         };
         match builder.build_segmented_state(alloc, H::default()) {
-            Ok(cache) => Ok(InSegments { cache }),
+            Ok(cache) => Ok(SegmentsOf { cache }),
             Err(_) => Err(AllocError),
         }
     }
 }
 
-impl<H: BuildHasher + Default + Drop, const N: usize> Subject for InSegments<H, N> {
+impl<H: BuildHasher + Default + Drop, R: RowStore<u64, u64>, const N: usize> Subject
+    for SegmentsOf<H, R, N> {
     fn look(&mut self, key: u64, now: u64) -> Result<bool, AllocError> {
         match self.cache.get(&key, now) {
             Ok(found) => Ok(found.is_some()),

@@ -11,7 +11,7 @@ use moka::policy::{
     CacheTypes, CountTable, EvictionPolicy, FrequencySource, ManualClock, NoListener, NoWeigher,
     Predicate,
 };
-use moka::state::{CacheState, Reply, Settings, Step};
+use moka::state::{DueRows, Reply, RowStore, Settings, State, Step};
 use moka::sync::value_initializer::Kind as Turning;
 use std::alloc::{AllocError, Global};
 use std::collections::HashMap;
@@ -135,14 +135,18 @@ impl<H: BuildHasher + Drop, F: FrequencySource> CacheTypes<u64, u64> for Types<H
     ghost copies_compose = { λ _ _ _ a b. b ∙ a };
 }
 
-/// A cache of this library.
+/// A cache of this library. It is called over any store of rows, since a call over the store
+/// itself is dear to prove.
 #[derive(Drop)]
-pub(crate) struct Ours<H: BuildHasher + Drop, F: FrequencySource> {
+pub(crate) struct OurRows<H: BuildHasher + Drop, F: FrequencySource, R: RowStore<u64, u64>> {
     alloc: Global,
-    cache: CacheState<u64, u64, Types<H, F>>,
+    cache: State<u64, u64, Types<H, F>, R>,
 }
 
-impl<H: BuildHasher + Drop, F: FrequencySource> Ours<H, F> {
+/// The same over the store that each `CacheState` has.
+pub(crate) type Ours<H, F> = OurRows<H, F, DueRows<u64, u64>>;
+
+impl<H: BuildHasher + Drop, F: FrequencySource, R: RowStore<u64, u64>> OurRows<H, F, R> {
     fn drop_notices(&mut self) {
         for _ in 0..self.cache.notice_count() {
             self.cache.take_notice();
@@ -186,7 +190,8 @@ impl<H: BuildHasher + Drop, F: FrequencySource> Ours<H, F> {
     }
 }
 
-impl<H: BuildHasher + Default + Drop, F: FrequencySource, W: Drop> Made<W> for Ours<H, F> {
+impl<H: BuildHasher + Default + Drop, F: FrequencySource, R: RowStore<u64, u64>, W: Drop> Made<W>
+    for OurRows<H, F, R> {
     fn made(
         alloc: Global,
         load: &Load,
@@ -214,14 +219,15 @@ impl<H: BuildHasher + Default + Drop, F: FrequencySource, W: Drop> Made<W> for O
             first_number: 0,
             hasher: Arc::new(alloc, H::default())?,
         };
-        match CacheState::new(alloc, settings) {
-            Ok(cache) => Ok(Ours { alloc, cache }),
+        match State::new(alloc, settings) {
+            Ok(cache) => Ok(OurRows { alloc, cache }),
             Err(_) => Err(AllocError),
         }
     }
 }
 
-impl<H: BuildHasher + Default + Drop, F: FrequencySource> Subject for Ours<H, F> {
+impl<H: BuildHasher + Default + Drop, F: FrequencySource, R: RowStore<u64, u64>> Subject
+    for OurRows<H, F, R> {
     fn look(&mut self, key: u64, now: u64) -> Result<bool, AllocError> {
         match self.cache.get(&key, now) {
             Ok(found) => Ok(found.is_some()),
@@ -276,7 +282,8 @@ impl<H: BuildHasher + Default + Drop, F: FrequencySource> Subject for Ours<H, F>
     }
 }
 
-impl<H: BuildHasher + Default + Drop, F: FrequencySource> Emptied for Ours<H, F> {
+impl<H: BuildHasher + Default + Drop, F: FrequencySource, R: RowStore<u64, u64>> Emptied
+    for OurRows<H, F, R> {
     fn invalidate(&mut self, key: u64) {
         self.cache.invalidate(&key, 0);
         self.cache.take_notice();

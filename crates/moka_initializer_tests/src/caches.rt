@@ -5,12 +5,16 @@ ghost use Rattle.moka_model.specs.declared.turns.Kind.{Kind};
 ghost use Rattle.moka_state.specs.Begin.{IsNamed};
 ghost use Rattle.moka_state.specs.Finish.{Fits, outcome_of};
 
+use moka_model::entry::Entry;
+use moka_model::notification::{Notice, RemovalCause};
 use moka_model::turns::{Kind, Outcome};
 use moka_policy::policy::{
     EvictionPolicy, ManualClock, NoExpiry, NoWeigher, NumberHash, Predicate, Refused,
 };
 use moka_ready::ready::{ReadyTypes, SteadyPredicate};
 use moka_state::answers::{Answer, Begun, Collected, FinishRefused, Finished};
+use moka_state::due_rows::DueRows;
+use moka_state::entry_selector::StateEntrySelector;
 use moka_state::handles::{CollectRefused, Ticket, Turn};
 use moka_state::rows::RowStore;
 use moka_state::state::{CacheState, Settings, State};
@@ -43,6 +47,9 @@ type Hasher = BuildHasherDefault<NumberHash>;
 pub(crate) type Types = ReadyTypes<Hasher, NoWeigher, NoExpiry, ManualClock, Odd, u64>;
 
 pub(crate) type Numbers = CacheState<u64, u64, Types>;
+
+/// A key of a lent cache, for one call.
+pub(crate) type Selector<'a> = StateEntrySelector<'a, u64, u64, Types, DueRows<u64, u64>>;
 
 /// How a cache is built: its capacity and its policy, its lives in seconds, and its first number.
 #[derive(Clone, Copy)]
@@ -123,12 +130,99 @@ pub(crate) fn opened(alloc: Global, first_number: u64, capacity: u64) -> Result<
     )
 }
 
+// A call of a cache is dear to prove wherever it stands, so each stands once, in one of these.
+
+/// What a look finds that uses the value.
+pub(crate) fn look(cache: &mut Numbers, key: u64) -> Result<Option<u64>, Refused> {
+    cache.get(&key, 0)
+}
+
+/// Whether a key is stored.
+pub(crate) fn is_stored(cache: &Numbers, key: u64) -> bool {
+    cache.contains_key(&key, 0)
+}
+
+pub(crate) fn entry_count(cache: &Numbers) -> u64 {
+    cache.entry_count()
+}
+
+pub(crate) fn notice_count(cache: &Numbers) -> usize {
+    cache.notice_count()
+}
+
+/// The number of stored keys and of notices, and whether one of the keys is stored.
+pub(crate) fn counts(cache: &Numbers, key: u64) -> (u64, usize, bool) {
+    (
+        entry_count(cache),
+        notice_count(cache),
+        is_stored(cache, key),
+    )
+}
+
+pub(crate) fn invalidate(cache: &mut Numbers, key: u64) {
+    cache.invalidate(&key, 0);
+}
+
+/// The first notice is taken.
+fn take_notice(cache: &mut Numbers) -> Option<Notice<u64, u64>> {
+    cache.take_notice()
+}
+
+/// The first notice is of this value, which left for this cause.
+pub(crate) fn left_by(rt: &impl Abort, cache: &mut Numbers, value: u64, cause: RemovalCause) {
+    match take_notice(cache) {
+        Some(notice) => assert_eq!(rt; (notice.value, notice.cause), (value, cause)),
+        None => panic!(rt; "there is no notice"),
+    }
+}
+
+/// Gives a turn up.
+pub(crate) fn abandon(cache: &mut Numbers, turn: Turn<u64>) -> Result<(), Refused> {
+    cache.abandon(turn)
+}
+
+/// Spends a ticket.
+pub(crate) fn leave(cache: &mut Numbers, ticket: Ticket<u64>) -> Result<(), Refused> {
+    cache.leave(ticket)
+}
+
+/// Ends a turn.
+pub(crate) fn finish(
+    cache: &mut Numbers,
+    turn: Turn<u64>,
+    outcome: Outcome<u64, Arc<u64>>,
+) -> Result<Finished<u64, u64, u64>, FinishRefused<u64, u64, u64>>
+    requires fits { Fits ℕ turn.key.kind (outcome_of outcome) }
+{
+    cache.finish(turn, outcome, 0)
+}
+
+/// A ticket asks what came of its turn.
+fn collect(cache: &mut Numbers, ticket: Ticket<u64>) -> Result<Told, CollectRefused<u64>> {
+    cache.collect(ticket)
+}
+
+pub(crate) fn entry(cache: &mut Numbers, key: u64) -> Selector<'_> {
+    cache.entry(key, 0)
+}
+
+pub(crate) fn entry_by_ref<'a>(cache: &'a mut Numbers, key: &u64) -> Result<Selector<'a>, Refused> {
+    cache.entry_by_ref(key, 0)
+}
+
+pub(crate) fn or_insert(selector: Selector<'_>, value: u64) -> Result<Entry<u64, u64>, Refused> {
+    selector.or_insert(value)
+}
+
 /// Writes a value. Where memory is refused, it asks once more.
 pub(crate) fn insert(rt: &impl Abort, cache: &mut Numbers, key: u64, value: u64) {
     if cache.insert(key, value, 0).is_err() {
         assert!(rt; cache.insert(key, value, 0).is_ok(), "it is refused");
     }
 }
+
+/// Lets a cache go. In a body that does it itself, the end of all that it owns is proved again.
+pub(crate) fn let_go(_cache: Numbers) {}
 
 /// A key, as the calls of turns take it. Where memory is refused, it asks once more.
 pub(crate) fn shared(alloc: Global, key: u64) -> Result<Arc<u64>, AllocError> {
@@ -167,11 +261,11 @@ pub(crate) fn begin_by_ref(cache: &mut Numbers, key: u64) -> Begins {
 pub(crate) fn spent(cache: &mut Numbers, begun: Begins) -> &'static str {
     match begun {
         Ok(Begun::Run(turn)) => {
-            let _ = cache.abandon(turn);
+            let _ = abandon(cache, turn);
             "it runs"
         }
         Ok(Begun::Wait(ticket)) => {
-            let _ = cache.leave(ticket);
+            let _ = leave(cache, ticket);
             "it waits"
         }
         Ok(Begun::Found(_)) => "it is found",
@@ -214,11 +308,11 @@ pub(crate) fn finished(
 ) -> Answer<u64, u64, u64>
     requires fits { Fits ℕ turn.key.kind (outcome_of outcome) }
 {
-    match cache.finish(turn, outcome, 0) {
+    match finish(cache, turn, outcome) {
         Ok(Finished::Answer(answer)) => answer,
         Ok(Finished::Computed(_)) => panic!(rt; "it is a compute"),
         Err(FinishRefused { turn, .. }) => {
-            let _ = cache.abandon(turn);
+            let _ = abandon(cache, turn);
             panic!(rt; "it is refused")
         }
     }
@@ -233,7 +327,7 @@ pub(crate) fn refused_to_finish(
 ) -> Turn<u64>
     requires { turn.key.kind ≡ Kind.With }
 {
-    match cache.finish(turn, Outcome::Value(7), 0) {
+    match finish(cache, turn, Outcome::Value(7)) {
         Err(
             FinishRefused {
                 turn,
@@ -249,24 +343,24 @@ pub(crate) fn refused_to_finish(
     }
 }
 
-/// Gives a turn up.
+/// Gives a turn up, which is known.
 pub(crate) fn abandoned(rt: &impl Abort, cache: &mut Numbers, turn: Turn<u64>) {
-    assert!(rt; cache.abandon(turn).is_ok(), "it is refused");
+    assert!(rt; abandon(cache, turn).is_ok(), "it is refused");
 }
 
-/// Spends a ticket.
+/// Spends a ticket, which is known.
 pub(crate) fn left(rt: &impl Abort, cache: &mut Numbers, ticket: Ticket<u64>) {
-    assert!(rt; cache.leave(ticket).is_ok(), "it is refused");
+    assert!(rt; leave(cache, ticket).is_ok(), "it is refused");
 }
 
 type Told = Collected<u64, u64, u64>;
 
 /// What a ticket is told.
 fn collected(rt: &impl Abort, cache: &mut Numbers, ticket: Ticket<u64>) -> Told {
-    match cache.collect(ticket) {
+    match collect(cache, ticket) {
         Ok(told) => told,
         Err(CollectRefused { ticket, .. }) => {
-            let _ = cache.leave(ticket);
+            let _ = leave(cache, ticket);
             panic!(rt; "it is refused")
         }
     }
@@ -277,7 +371,7 @@ fn spent_told(cache: &mut Numbers, told: Told) -> &'static str {
     match told {
         Collected::Ready(_) => "it gave something",
         Collected::NotYet(ticket) => {
-            let _ = cache.leave(ticket);
+            let _ = leave(cache, ticket);
             "it is open still"
         }
         Collected::Abandoned => "it was abandoned",
@@ -321,7 +415,7 @@ pub(crate) fn gave_nothing(rt: &impl Abort, cache: &mut Numbers, ticket: Ticket<
 
 /// A ticket that a cache does not know, and hands back.
 pub(crate) fn unknown(rt: &impl Abort, cache: &mut Numbers, ticket: Ticket<u64>) -> Ticket<u64> {
-    match cache.collect(ticket) {
+    match collect(cache, ticket) {
         Err(CollectRefused { ticket, cause }) => {
             assert_eq!(rt; cause, Refused::UnknownTicket);
             ticket

@@ -1,16 +1,27 @@
 //! What computes are shown, and what becomes of their values.
-ghost use Rattle.std.specs.Prelude.{◌≡◌};
+ghost use Rattle.std.specs.Prelude.{◌≡◌, IfOk};
+ghost use Rattle.std.specs.Arc.{arc_value};
 ghost use Rattle.moka_model.specs.declared.turns.Kind.{Kind};
+ghost use Rattle.moka_state.specs.Compute.{IsCompute};
 
-use crate::caches::{Numbers, has_ended, insert, opened, shared};
+use crate::caches::{
+    Numbers, abandon, finish, has_ended, insert, invalidate, leave, let_go, opened, shared,
+};
 use moka_model::comp_result::CompResult;
 use moka_model::entry::Entry;
 use moka_model::turns::{Kind, Op, Outcome};
+use moka_policy::policy::Refused;
 use moka_state::answers::{BegunCompute, FinishRefused, Finished};
 use moka_state::handles::{Ticket, Turn};
 use std::process::Abort;
 use std::sync::Arc;
 use std::test::Fail;
+
+fn begin(cache: &mut Numbers, key: &Arc<u64>, keep: bool) -> Result<BegunCompute<u64, u64>, Refused>
+    ensures { IfOk result (IsCompute (arc_value key.now)) }
+{
+    cache.begin_compute(key, keep, 0)
+}
 
 /// The turn of a compute that runs, and what it is shown.
 pub(crate) fn ran(
@@ -21,10 +32,10 @@ pub(crate) fn ran(
 ) -> (Turn<u64>, Option<Entry<u64, u64>>)
     ensures { result.0.key.kind ≡ Kind.Compute }
 {
-    match cache.begin_compute(key, keep, 0) {
+    match begin(cache, key, keep) {
         Ok(BegunCompute::Run(turn, entry)) => (turn, entry),
         Ok(BegunCompute::Wait(ticket)) => {
-            let _ = cache.leave(ticket);
+            let _ = leave(cache, ticket);
             panic!(rt; "it waits")
         }
         Err(_) => panic!(rt; "it is refused"),
@@ -33,10 +44,10 @@ pub(crate) fn ran(
 
 /// The ticket of one that waits.
 fn waited(rt: &impl Abort, cache: &mut Numbers, key: &Arc<u64>) -> Ticket<u64> {
-    match cache.begin_compute(key, true, 0) {
+    match begin(cache, key, true) {
         Ok(BegunCompute::Wait(ticket)) => ticket,
         Ok(BegunCompute::Run(turn, _)) => {
-            let _ = cache.abandon(turn);
+            let _ = abandon(cache, turn);
             panic!(rt; "it runs")
         }
         Err(_) => panic!(rt; "it is refused"),
@@ -52,11 +63,11 @@ pub(crate) fn computed(
 ) -> CompResult<u64, u64>
     requires { turn.key.kind ≡ Kind.Compute }
 {
-    match cache.finish(turn, Outcome::Op(op), 0) {
+    match finish(cache, turn, Outcome::Op(op)) {
         Ok(Finished::Computed(result)) => result,
         Ok(Finished::Answer(_)) => panic!(rt; "it is no compute"),
         Err(FinishRefused { turn, .. }) => {
-            let _ = cache.abandon(turn);
+            let _ = abandon(cache, turn);
             panic!(rt; "it is refused")
         }
     }
@@ -112,20 +123,30 @@ pub(crate) fn says(
 fn a_value_is_put_and_replaced(rt: HostRuntime) -> Result<(), Fail> {
     let key = shared(rt.alloc(), 5)?;
     let mut cache = opened(rt.alloc(), 0, 100)?;
-    let (turn, shown) = ran(&rt, &mut cache, &key, false);
-    let ticket = waited(&rt, &mut cache, &key);
-    let result = computed(&rt, &mut cache, turn, Op::Put(7));
-    has_ended(&rt, &mut cache, ticket);
-    shows(&rt, &shown, None);
-    says(&rt, result, "inserted", Some((5, 7, true, false)));
-    is_replaced(&rt, &mut cache, &key);
+    is_put_and_replaced(&rt, &mut cache, &key);
+    let_go(cache);
     Ok(())
+}
+
+fn is_put_and_replaced(rt: &impl Abort, cache: &mut Numbers, key: &Arc<u64>) {
+    is_put(rt, cache, key);
+    is_replaced(rt, cache, key);
+}
+
+/// A put of a key that is absent; one who waited for it is told that it has ended.
+fn is_put(rt: &impl Abort, cache: &mut Numbers, key: &Arc<u64>) {
+    let (turn, shown) = ran(rt, cache, key, false);
+    let ticket = waited(rt, cache, key);
+    let result = computed(rt, cache, turn, Op::Put(7));
+    has_ended(rt, cache, ticket);
+    shows(rt, &shown, None);
+    says(rt, result, "inserted", Some((5, 7, true, false)));
 }
 
 /// A put replaces what its begin was shown, although that is gone since.
 fn is_replaced(rt: &impl Abort, cache: &mut Numbers, key: &Arc<u64>) {
     let (turn, shown) = ran(rt, cache, key, false);
-    cache.invalidate(&5, 0);
+    invalidate(cache, 5);
     let result = computed(rt, cache, turn, Op::Put(8));
     shows(rt, &shown, Some(7));
     says(rt, result, "replaced", Some((5, 8, true, true)));
@@ -135,10 +156,15 @@ fn is_replaced(rt: &impl Abort, cache: &mut Numbers, key: &Arc<u64>) {
 fn a_value_is_left_or_removed(rt: HostRuntime) -> Result<(), Fail> {
     let key = shared(rt.alloc(), 5)?;
     let mut cache = opened(rt.alloc(), 0, 100)?;
-    insert(&rt, &mut cache, 5, 7);
-    is_left(&rt, &mut cache, &key);
-    is_removed(&rt, &mut cache, &key);
+    is_left_or_removed(&rt, &mut cache, &key);
+    let_go(cache);
     Ok(())
+}
+
+fn is_left_or_removed(rt: &impl Abort, cache: &mut Numbers, key: &Arc<u64>) {
+    insert(rt, cache, 5, 7);
+    is_left(rt, cache, key);
+    is_removed(rt, cache, key);
 }
 
 /// What was kept aside is answered, whatever became of the key; and nothing where none was.

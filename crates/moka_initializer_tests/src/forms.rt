@@ -1,6 +1,7 @@
 //! What the forms of initializers answer: begin, closure and finish at one moment.
 use crate::caches::{
-    Numbers, abandoned, begin_by_ref, gave_nothing, insert, opened, ran, shared, spent, waited,
+    Numbers, abandoned, begin_by_ref, counts, gave_nothing, insert, is_stored, let_go, look,
+    opened, ran, shared, spent, waited,
 };
 use crate::closures::{
     Asked, Told, get_with, get_with_by_ref, get_with_if, optionally_by_ref, optionally_get_with,
@@ -17,6 +18,7 @@ use std::test::Fail;
 fn a_live_value_is_answered_unasked(rt: HostRuntime) -> Result<(), Fail> {
     let mut cache = opened(rt.alloc(), 0, 100)?;
     is_answered_unasked(&rt, &mut cache);
+    let_go(cache);
     Ok(())
 }
 
@@ -37,12 +39,18 @@ fn is_answered_unasked(rt: &impl Abort, cache: &mut Numbers) {
 fn an_absent_one_is_asked_for_and_written(rt: HostRuntime) -> Result<(), Fail> {
     let mut cache = opened(rt.alloc(), 0, 100)?;
     is_asked_for_and_written(&rt, &mut cache);
+    let_go(cache);
     Ok(())
 }
 
 fn is_asked_for_and_written(rt: &impl Abort, cache: &mut Numbers) {
     says(rt, get_with(cache, 1, 10), 1, Told::Value(10));
     is_written(rt, cache, 1, Some(10));
+    is_written_if_any(rt, cache);
+    is_written_if_none_fails(rt, cache);
+}
+
+fn is_written_if_any(rt: &impl Abort, cache: &mut Numbers) {
     says(rt, optionally_get_with(cache, 2, None), 1, Told::Nothing);
     is_written(rt, cache, 2, None);
     says(
@@ -52,6 +60,9 @@ fn is_asked_for_and_written(rt: &impl Abort, cache: &mut Numbers) {
         Told::Value(20),
     );
     is_written(rt, cache, 2, Some(20));
+}
+
+fn is_written_if_none_fails(rt: &impl Abort, cache: &mut Numbers) {
     says(rt, try_get_with(cache, 3, Err(9)), 1, Told::Failed(9));
     is_written(rt, cache, 3, None);
     says(rt, try_get_with(cache, 3, Ok(30)), 1, Told::Value(30));
@@ -60,14 +71,15 @@ fn is_asked_for_and_written(rt: &impl Abort, cache: &mut Numbers) {
 
 /// A look at a key finds this.
 fn is_written(rt: &impl Abort, cache: &mut Numbers, key: u64, value: Option<u64>) {
-    assert_eq!(rt; cache.contains_key(&key, 0), value.is_some());
-    assert_eq!(rt; cache.get(&key, 0), Ok(value));
+    assert_eq!(rt; is_stored(cache, key), value.is_some());
+    assert_eq!(rt; look(cache, key), Ok(value));
 }
 
 #[test]
 fn a_value_that_is_turned_down_is_replaced(rt: HostRuntime) -> Result<(), Fail> {
     let mut cache = opened(rt.alloc(), 0, 100)?;
     is_replaced(&rt, &mut cache);
+    let_go(cache);
     Ok(())
 }
 
@@ -84,6 +96,7 @@ fn an_open_turn_is_not_waited_for(rt: HostRuntime) -> Result<(), Fail> {
     let another = shared(rt.alloc(), 6)?;
     let mut cache = opened(rt.alloc(), 0, 100)?;
     is_not_waited_for(&rt, &mut cache, &key, &another);
+    let_go(cache);
     Ok(())
 }
 
@@ -105,6 +118,7 @@ fn a_refused_finish_abandons_the_turn(rt: HostRuntime) -> Result<(), Fail> {
     let key = shared(rt.alloc(), 5)?;
     let mut cache = opened(rt.alloc(), u64::MAX - 2, 100)?;
     abandons_the_turn(&rt, &mut cache, &key);
+    let_go(cache);
     Ok(())
 }
 
@@ -123,6 +137,7 @@ fn abandons_the_turn(rt: &impl Abort, cache: &mut Numbers, key: &Arc<u64>) {
 fn keys_may_be_lent(rt: HostRuntime) -> Result<(), Fail> {
     let mut cache = opened(rt.alloc(), 0, 100)?;
     may_be_lent(&rt, &mut cache);
+    let_go(cache);
     Ok(())
 }
 
@@ -184,15 +199,6 @@ fn asked(cache: &mut Numbers, form: Form, key: u64) -> Asked {
     }
 }
 
-/// The number of stored keys and of notices, and whether one of the keys is stored.
-fn counts(cache: &Numbers, key: u64) -> (u64, usize, bool) {
-    (
-        cache.entry_count(),
-        cache.notice_count(),
-        cache.contains_key(&key, 0),
-    )
-}
-
 /// A form answers this. Where memory is refused it says so, it has written nothing, and it is asked once more. The answer is
 /// whether its closure was asked then: a turn was opened for that, and abandoned.
 fn answers(rt: &impl Abort, cache: &mut Numbers, form: Form, key: u64, expected: Told) -> bool {
@@ -201,10 +207,27 @@ fn answers(rt: &impl Abort, cache: &mut Numbers, form: Form, key: u64, expected:
     if told == expected {
         return false;
     }
-    assert_eq!(rt; told, Told::Refused(Refused::OutOfMemory), "{form:?}");
-    assert_eq!(rt; counts(cache, key), before, "{form:?}");
-    assert_eq!(rt; asked(cache, form, key), (1, expected), "{form:?}");
+    is_told(rt, told, Told::Refused(Refused::OutOfMemory), form);
+    is_counted(rt, counts(cache, key), before, form);
+    let (again, told) = asked(cache, form, key);
+    is_told(rt, told, expected, form);
+    is_number(rt, again, 1, form);
     times > 0
+}
+
+// What is seen is what was expected of a form.
+fn is_told(rt: &impl Abort, told: Told, expected: Told, form: Form) {
+    assert_eq!(rt; told, expected, "{form:?}");
+}
+
+fn is_number(rt: &impl Abort, number: u64, expected: u64, form: Form) {
+    assert_eq!(rt; number, expected, "{form:?}");
+}
+
+type Counts = (u64, usize, bool);
+
+fn is_counted(rt: &impl Abort, counts: Counts, expected: Counts, form: Form) {
+    assert_eq!(rt; counts, expected, "{form:?}");
 }
 
 /// The number of a turn, which is abandoned.
@@ -213,6 +236,13 @@ fn drawn(rt: &impl Abort, cache: &mut Numbers, key: &Arc<u64>) -> u64 {
     let number = turn.number();
     abandoned(rt, cache, turn);
     number
+}
+
+/// Before a form that turns the live value down there is one.
+fn insert_unwanted(rt: &impl Abort, cache: &mut Numbers, form: Form, key: u64) {
+    if matches!(form, Form::GetWithIf) {
+        insert(rt, cache, key, UNWANTED);
+    }
 }
 
 /// Two caches, of which one may be refused a request for memory, go on alike: the refused form was as no call, or as a
@@ -225,18 +255,16 @@ fn answer_alike(
     row: (u64, Form, Told),
 ) {
     let (key, form, expected) = row;
-    if matches!(form, Form::GetWithIf) {
-        insert(rt, cache, key, UNWANTED);
-        insert(rt, twin, key, UNWANTED);
-    }
+    insert_unwanted(rt, cache, form, key);
+    insert_unwanted(rt, twin, form, key);
     if answers(rt, cache, form, key, expected) {
         let _ = drawn(rt, twin, free);
     }
     if answers(rt, twin, form, key, expected) {
         let _ = drawn(rt, cache, free);
     }
-    assert_eq!(rt; drawn(rt, cache, free), drawn(rt, twin, free), "{form:?}");
-    assert_eq!(rt; counts(cache, key), counts(twin, key), "{form:?}");
+    is_number(rt, drawn(rt, cache, free), drawn(rt, twin, free), form);
+    is_counted(rt, counts(cache, key), counts(twin, key), form);
 }
 
 /// It passes also where one request for memory is refused, whichever: `scripts/refused_memory` tries each.
@@ -244,7 +272,9 @@ fn answer_alike(
 fn forms_answer_where_a_request_is_refused(rt: HostRuntime) -> Result<(), Fail> {
     let free = shared(rt.alloc(), 1000)?;
     let mut cache = opened(rt.alloc(), 0, 100)?;
-    answer_as_a_twin(&rt, rt.alloc(), &mut cache, &free)
+    let passed = answer_as_a_twin(&rt, rt.alloc(), &mut cache, &free);
+    let_go(cache);
+    passed
 }
 
 fn answer_as_a_twin(
@@ -255,6 +285,7 @@ fn answer_as_a_twin(
 ) -> Result<(), Fail> {
     let mut twin = opened(alloc, 0, 100)?;
     all_answer_alike(rt, cache, &mut twin, free);
+    let_go(twin);
     Ok(())
 }
 

@@ -1,5 +1,7 @@
 //! What the calls answer that find a live value, or write one.
-use crate::caches::{Numbers, insert, opened, shared};
+use crate::caches::{
+    Numbers, entry_count, insert, left_by, let_go, look, notice_count, opened, shared,
+};
 use moka_model::notification::RemovalCause;
 use moka_policy::policy::Refused;
 use moka_state::or_insert::OrInsertRefused;
@@ -60,67 +62,85 @@ fn gives_default(rt: &impl Abort, cache: &mut Numbers, key: u64, wanted: Result<
 
 /// So many notices wait, and so many keys are stored.
 fn holds(rt: &impl Abort, cache: &Numbers, notices: usize, keys: u64) {
-    assert_eq!(rt;
-        (cache.notice_count(), cache.entry_count()),
-        (notices, keys)
-    );
+    assert_eq!(rt; notice_count(cache), notices);
+    assert_eq!(rt; entry_count(cache), keys);
 }
 
 /// A look finds this value.
 fn finds(rt: &impl Abort, cache: &mut Numbers, key: u64, wanted: u64) {
-    assert_eq!(rt; cache.get(&key, 0), Ok(Some(wanted)));
-}
-
-/// The first notice is of this value, which was removed.
-fn was_removed(rt: &impl Abort, cache: &mut Numbers, value: u64) {
-    let notice = cache.take_notice();
-    assert!(rt;
-        matches!(&notice, Some(left) if left.value == value && left.cause == RemovalCause::Explicit)
-    );
+    assert_eq!(rt; look(cache, key), Ok(Some(wanted)));
 }
 
 #[test]
 fn a_live_value_is_found(rt: HostRuntime) -> Result<(), Fail> {
     let key = shared(rt.alloc(), 5)?;
     let mut cache = opened(rt.alloc(), 0, 100)?;
-    insert(&rt, &mut cache, 5, 7);
-    gives(&rt, &mut cache, &key, 8, Ok((5, 7, false, false)));
-    gives_default(&rt, &mut cache, 5, Ok((5, 7, false, false)));
-    holds(&rt, &cache, 0, 1);
+    is_found(&rt, &mut cache, &key);
+    let_go(cache);
     Ok(())
+}
+
+fn is_found(rt: &impl Abort, cache: &mut Numbers, key: &Arc<u64>) {
+    insert(rt, cache, 5, 7);
+    gives(rt, cache, key, 8, Ok((5, 7, false, false)));
+    gives_default(rt, cache, 5, Ok((5, 7, false, false)));
+    holds(rt, cache, 0, 1);
 }
 
 #[test]
 fn an_absent_one_is_written(rt: HostRuntime) -> Result<(), Fail> {
     let key = shared(rt.alloc(), 5)?;
     let mut cache = opened(rt.alloc(), 0, 100)?;
-    gives(&rt, &mut cache, &key, 3, Ok((5, 3, true, false)));
-    gives(&rt, &mut cache, &key, 6, Ok((5, 3, false, false)));
-    finds(&rt, &mut cache, 5, 3);
-    gives_default(&rt, &mut cache, 6, Ok((6, 0, true, false)));
-    finds(&rt, &mut cache, 6, 0);
+    are_written(&rt, &mut cache, &key);
+    let_go(cache);
     Ok(())
+}
+
+fn are_written(rt: &impl Abort, cache: &mut Numbers, key: &Arc<u64>) {
+    is_written(rt, cache, key);
+    a_default_is_written(rt, cache);
+}
+
+fn is_written(rt: &impl Abort, cache: &mut Numbers, key: &Arc<u64>) {
+    gives(rt, cache, key, 3, Ok((5, 3, true, false)));
+    gives(rt, cache, key, 6, Ok((5, 3, false, false)));
+    finds(rt, cache, 5, 3);
+}
+
+fn a_default_is_written(rt: &impl Abort, cache: &mut Numbers) {
+    gives_default(rt, cache, 6, Ok((6, 0, true, false)));
+    finds(rt, cache, 6, 0);
 }
 
 #[test]
 fn a_removed_one_is_written_anew(rt: HostRuntime) -> Result<(), Fail> {
     let key = shared(rt.alloc(), 5)?;
     let mut cache = opened(rt.alloc(), 0, 100)?;
-    insert(&rt, &mut cache, 5, 7);
-    cache.invalidate_all();
-    gives(&rt, &mut cache, &key, 8, Ok((5, 8, true, false)));
-    was_removed(&rt, &mut cache, 7);
+    is_written_anew(&rt, &mut cache, &key);
+    let_go(cache);
     Ok(())
+}
+
+fn is_written_anew(rt: &impl Abort, cache: &mut Numbers, key: &Arc<u64>) {
+    insert(rt, cache, 5, 7);
+    cache.invalidate_all();
+    gives(rt, cache, key, 8, Ok((5, 8, true, false)));
+    left_by(rt, cache, 7, RemovalCause::Explicit);
 }
 
 #[test]
 fn nothing_is_stored_at_a_capacity_of_0(rt: HostRuntime) -> Result<(), Fail> {
     let key = shared(rt.alloc(), 5)?;
     let mut cache = opened(rt.alloc(), u64::MAX, 0)?;
-    gives(&rt, &mut cache, &key, 7, Ok((5, 7, true, false)));
-    gives_default(&rt, &mut cache, 5, Ok((5, 0, true, false)));
-    holds(&rt, &cache, 0, 0);
+    is_not_stored(&rt, &mut cache, &key);
+    let_go(cache);
     Ok(())
+}
+
+fn is_not_stored(rt: &impl Abort, cache: &mut Numbers, key: &Arc<u64>) {
+    gives(rt, cache, key, 7, Ok((5, 7, true, false)));
+    gives_default(rt, cache, 5, Ok((5, 0, true, false)));
+    holds(rt, cache, 0, 0);
 }
 
 #[test]
@@ -128,12 +148,17 @@ fn numbers_are_used_up(rt: HostRuntime) -> Result<(), Fail> {
     let key = shared(rt.alloc(), 5)?;
     let other = shared(rt.alloc(), 6)?;
     let mut cache = opened(rt.alloc(), u64::MAX - 1, 100)?;
-    gives(&rt, &mut cache, &key, 7, Ok((5, 7, true, false)));
-    gives(&rt, &mut cache, &other, 8, Err((8, Refused::NumbersUsedUp)));
-    gives_default(&rt, &mut cache, 6, Err(Refused::NumbersUsedUp));
-    gives(&rt, &mut cache, &key, 9, Ok((5, 7, false, false)));
-    holds(&rt, &cache, 0, 1);
+    are_used_up(&rt, &mut cache, &key, &other);
+    let_go(cache);
     Ok(())
+}
+
+fn are_used_up(rt: &impl Abort, cache: &mut Numbers, key: &Arc<u64>, other: &Arc<u64>) {
+    gives(rt, cache, key, 7, Ok((5, 7, true, false)));
+    gives(rt, cache, other, 8, Err((8, Refused::NumbersUsedUp)));
+    gives_default(rt, cache, 6, Err(Refused::NumbersUsedUp));
+    gives(rt, cache, key, 9, Ok((5, 7, false, false)));
+    holds(rt, cache, 0, 1);
 }
 
 /// What a step answers: a value and whether it is fresh, or none where no number is left.
@@ -162,8 +187,19 @@ fn a_step_is_the_call(rt: HostRuntime) -> Result<(), Fail> {
     let same = shared(rt.alloc(), 5)?;
     let other = shared(rt.alloc(), 6)?;
     let mut cache = opened(rt.alloc(), u64::MAX - 1, 100)?;
-    steps(&rt, &mut cache, key, 7, Some((7, true)));
-    steps(&rt, &mut cache, same, 8, Some((7, false)));
-    steps(&rt, &mut cache, other, 9, None);
+    is_the_call(&rt, &mut cache, key, same, other);
+    let_go(cache);
     Ok(())
+}
+
+fn is_the_call(
+    rt: &impl Abort,
+    cache: &mut Numbers,
+    key: Arc<u64>,
+    same: Arc<u64>,
+    other: Arc<u64>,
+) {
+    steps(rt, cache, key, 7, Some((7, true)));
+    steps(rt, cache, same, 8, Some((7, false)));
+    steps(rt, cache, other, 9, None);
 }

@@ -4,7 +4,7 @@ ghost use Rattle.moka_model.specs.declared.turns.Kind.{Kind};
 ghost use Rattle.moka_state.specs.Finish.{OutcomeKeeps};
 ghost use Rattle.moka_state.specs.Step.{StepKeeps};
 
-use crate::caches::{Numbers, Odd, Rules, Types, opened_over};
+use crate::caches::{Numbers, Odd, Rules, Types, let_go, notice_count, opened_over};
 use moka_model::turns::{Kind, Outcome};
 use moka_policy::policy::{CacheTypes, Predicate};
 use moka_state::list_rows::ListRows;
@@ -196,6 +196,14 @@ fn place_of(drawn: Drawn) -> usize {
 }
 
 impl Source {
+    fn new(seed: u64) -> Source {
+        Source {
+            generator: SplitMix64::seed_from_u64(seed),
+            told: [0; 9],
+            now: 0,
+        }
+    }
+
     /// One of so many numbers, from 0 on.
     fn below(&mut self, bound: u64) -> u64 {
         self.generator.next_u64().checked_rem(bound).unwrap_or(0)
@@ -240,13 +248,30 @@ fn answer_alike(
 ) -> Result<(), Fail> {
     for place in 0..STEPS {
         let drawn = source.next();
-        let (number, text) = replied(alloc, one, drawn)?;
-        let (_, expected) = replied(alloc, other, drawn)?;
-        assert_eq!(rt; text.as_str(), expected.as_str(), "step {place}");
+        let number = reply_alike(rt, alloc, one, other, drawn, place)?;
         source.learn(drawn, number);
     }
-    assert_eq!(rt; one.notice_count(), other.notice_count());
+    assert_eq!(rt; notice_count(one), other.notice_count());
     Ok(())
+}
+
+/// Both reply to a step alike. The answer is the number of the turn that it names.
+fn reply_alike(
+    rt: &impl Abort,
+    alloc: Global,
+    one: &mut Numbers,
+    other: &mut InLists,
+    drawn: Drawn,
+    place: u64,
+) -> Result<Option<u64>, Fail> {
+    let (number, text) = replied(alloc, one, drawn)?;
+    let (_, expected) = replied(alloc, other, drawn)?;
+    is_text(rt, text.as_str(), expected.as_str(), place);
+    Ok(number)
+}
+
+fn is_text(rt: &impl Abort, text: &str, expected: &str, place: u64) {
+    assert_eq!(rt; text, expected, "step {place}");
 }
 
 /// How many steps a list has.
@@ -291,7 +316,9 @@ const LISTS: u64 = 4;
 
 fn answers_alike(rt: &impl Abort, alloc: Global, rules: Rules, seed: u64) -> Result<(), Fail> {
     let mut one = opened_over(alloc, rules)?;
-    answers_as_lists(rt, alloc, rules, seed, &mut one)
+    let passed = answers_as_lists(rt, alloc, rules, seed, &mut one);
+    let_go(one);
+    passed
 }
 
 /// A cache over plain lists answers as this one, which is as new.
@@ -302,11 +329,6 @@ fn answers_as_lists(
     seed: u64,
     one: &mut Numbers,
 ) -> Result<(), Fail> {
-    let mut source = Source {
-        generator: SplitMix64::seed_from_u64(seed),
-        told: [0; 9],
-        now: 0,
-    };
     let mut other = opened_over(alloc, rules)?;
-    answer_alike(rt, alloc, one, &mut other, &mut source)
+    answer_alike(rt, alloc, one, &mut other, &mut Source::new(seed))
 }

@@ -1,5 +1,7 @@
 //! What the calls of a selector answer whose closure may fail, or says what becomes of the value.
-use crate::caches::{Numbers, insert, opened, shared};
+use crate::caches::{
+    Numbers, Selector, counts, entry, entry_by_ref, insert, let_go, look, opened, or_insert, shared,
+};
 use crate::computes::{computed, parts, ran, said, says};
 use moka_model::comp_result::CompResult;
 use moka_model::entry::Entry;
@@ -116,7 +118,7 @@ fn next(live: Option<u64>) -> u64 {
 }
 
 fn inserted(cache: &mut Numbers, asked: Rc<Asked>, given: Result<u64, u64>) -> Told {
-    let selector = cache.entry(5, 0);
+    let selector = entry(cache, 5);
     tried_of(selector.or_try_insert_with(move || {
         asked.note(None);
         given
@@ -124,15 +126,14 @@ fn inserted(cache: &mut Numbers, asked: Rc<Asked>, given: Result<u64, u64>) -> T
 }
 
 fn compute(cache: &mut Numbers, asked: Rc<Asked>, op: Op<u64>) -> Told {
-    let selector = cache.entry(5, 0);
+    let selector = entry(cache, 5);
     computed_of(selector.and_compute_with(move |shown| {
         asked.note(live(shown));
         op
     }))
 }
 
-fn upsert(cache: &mut Numbers, asked: Rc<Asked>) -> Told {
-    let selector = cache.entry(5, 0);
+fn upsert(selector: Selector<'_>, asked: Rc<Asked>) -> Told {
     entry_of(selector.and_upsert_with(move |shown| {
         let live = live(shown);
         asked.note(live);
@@ -141,7 +142,7 @@ fn upsert(cache: &mut Numbers, asked: Rc<Asked>) -> Told {
 }
 
 fn try_compute(cache: &mut Numbers, asked: Rc<Asked>, given: Result<Op<u64>, u64>) -> Told {
-    let selector = cache.entry(5, 0);
+    let selector = entry(cache, 5);
     tried_compute_of(selector.and_try_compute_with(move |shown| {
         asked.note(live(shown));
         given
@@ -149,19 +150,15 @@ fn try_compute(cache: &mut Numbers, asked: Rc<Asked>, given: Result<Op<u64>, u64
 }
 
 fn insert_by_ref(cache: &mut Numbers, key: &u64, value: u64) -> Told {
-    match cache.entry_by_ref(key, 0) {
-        Ok(selector) => entry_of(selector.or_insert(value)),
+    match entry_by_ref(cache, key) {
+        Ok(selector) => entry_of(or_insert(selector, value)),
         Err(cause) => Told::Refused(cause),
     }
 }
 
 fn upsert_by_ref(cache: &mut Numbers, asked: Rc<Asked>, key: &u64) -> Told {
-    match cache.entry_by_ref(key, 0) {
-        Ok(selector) => entry_of(selector.and_upsert_with(move |shown| {
-            let live = live(shown);
-            asked.note(live);
-            next(live)
-        })),
+    match entry_by_ref(cache, key) {
+        Ok(selector) => upsert(selector, asked),
         Err(cause) => Told::Refused(cause),
     }
 }
@@ -187,7 +184,7 @@ fn answer_by(cache: &mut Numbers, asked: Rc<Asked>, call: Call) -> Told {
         Call::Nop => compute(cache, asked, Op::Nop),
         Call::Put(value) => compute(cache, asked, Op::Put(value)),
         Call::Remove => compute(cache, asked, Op::Remove),
-        Call::Upsert => upsert(cache, asked),
+        Call::Upsert => upsert(entry(cache, 5), asked),
         Call::TryPut(value) => try_compute(cache, asked, Ok(Op::Put(value))),
         Call::TryFail(error) => try_compute(cache, asked, Err(error)),
         Call::InsertByRef(value) => insert_by_ref(cache, &5, value),
@@ -235,7 +232,7 @@ fn is_said(rt: &impl Abort, told: Told, wanted: Told) {
 
 /// A look at the key finds this.
 fn finds(rt: &impl Abort, cache: &mut Numbers, wanted: Option<u64>) {
-    assert_eq!(rt; cache.get(&5, 0), Ok(wanted));
+    assert_eq!(rt; look(cache, 5), Ok(wanted));
 }
 
 const STILL_NONE: Told = Told::Became("still none", None);
@@ -257,6 +254,7 @@ fn a_value_is_computed(rt: HostRuntime) -> Result<(), Fail> {
     let asked = unasked(rt.alloc())?;
     let mut cache = opened(rt.alloc(), 0, 100)?;
     is_computed(&rt, &mut cache, &asked);
+    let_go(cache);
     Ok(())
 }
 
@@ -264,6 +262,10 @@ fn is_computed(rt: &impl Abort, cache: &mut Numbers, asked: &Rc<Asked>) {
     asks(rt, cache, asked, Call::Nop, None, STILL_NONE);
     asks(rt, cache, asked, Call::Put(1), None, INSERTED);
     asks(rt, cache, asked, Call::Put(2), Some(1), REPLACED);
+    is_left_and_removed(rt, cache, asked);
+}
+
+fn is_left_and_removed(rt: &impl Abort, cache: &mut Numbers, asked: &Rc<Asked>) {
     asks(rt, cache, asked, Call::Nop, Some(2), UNCHANGED);
     finds(rt, cache, Some(2));
     asks(rt, cache, asked, Call::Remove, Some(2), REMOVED);
@@ -276,6 +278,7 @@ fn a_count_goes_up(rt: HostRuntime) -> Result<(), Fail> {
     let asked = unasked(rt.alloc())?;
     let mut cache = opened(rt.alloc(), 0, 100)?;
     goes_up(&rt, &mut cache, &asked);
+    let_go(cache);
     Ok(())
 }
 
@@ -293,9 +296,14 @@ fn goes_up(rt: &impl Abort, cache: &mut Numbers, asked: &Rc<Asked>) {
 fn a_closure_may_fail(rt: HostRuntime) -> Result<(), Fail> {
     let asked = unasked(rt.alloc())?;
     let mut cache = opened(rt.alloc(), 0, 100)?;
-    an_initializer_may_fail(&rt, &mut cache, &asked);
-    a_compute_may_fail(&rt, &mut cache, &asked);
+    may_fail(&rt, &mut cache, &asked);
+    let_go(cache);
     Ok(())
+}
+
+fn may_fail(rt: &impl Abort, cache: &mut Numbers, asked: &Rc<Asked>) {
+    an_initializer_may_fail(rt, cache, asked);
+    a_compute_may_fail(rt, cache, asked);
 }
 
 fn an_initializer_may_fail(rt: &impl Abort, cache: &mut Numbers, asked: &Rc<Asked>) {
@@ -321,6 +329,7 @@ fn a_key_may_be_lent(rt: HostRuntime) -> Result<(), Fail> {
     let asked = unasked(rt.alloc())?;
     let mut cache = opened(rt.alloc(), 0, 100)?;
     may_be_lent(&rt, &mut cache, &asked);
+    let_go(cache);
     Ok(())
 }
 
@@ -336,12 +345,13 @@ fn an_open_compute_refuses(rt: HostRuntime) -> Result<(), Fail> {
     let key = shared(rt.alloc(), 5)?;
     let asked = unasked(rt.alloc())?;
     let mut cache = opened(rt.alloc(), 0, 100)?;
-    insert(&rt, &mut cache, 5, 7);
     refuses(&rt, &mut cache, &asked, &key);
+    let_go(cache);
     Ok(())
 }
 
 fn refuses(rt: &impl Abort, cache: &mut Numbers, asked: &Rc<Asked>, key: &Arc<u64>) {
+    insert(rt, cache, 5, 7);
     let (turn, _) = ran(rt, cache, key, true);
     all_are_refused(rt, cache, asked);
     let result = computed(rt, cache, turn, Op::Put(8));
@@ -350,7 +360,7 @@ fn refuses(rt: &impl Abort, cache: &mut Numbers, asked: &Rc<Asked>, key: &Arc<u6
 }
 
 fn all_are_refused(rt: &impl Abort, cache: &mut Numbers, asked: &Rc<Asked>) {
-    let before = counts(cache);
+    let before = counts(cache, 5);
     asks_nothing(rt, cache, asked, Call::Put(9), IS_OPEN);
     asks_nothing(rt, cache, asked, Call::Upsert, IS_OPEN);
     asks_nothing(rt, cache, asked, Call::TryPut(9), IS_OPEN);
@@ -358,17 +368,8 @@ fn all_are_refused(rt: &impl Abort, cache: &mut Numbers, asked: &Rc<Asked>) {
     finds(rt, cache, Some(7));
 }
 
-/// The number of stored keys and of notices, and whether the key is stored.
-fn counts(cache: &Numbers) -> (u64, usize, bool) {
-    (
-        cache.entry_count(),
-        cache.notice_count(),
-        cache.contains_key(&5, 0),
-    )
-}
-
 fn counts_so(rt: &impl Abort, cache: &Numbers, wanted: (u64, usize, bool)) {
-    assert_eq!(rt; counts(cache), wanted);
+    assert_eq!(rt; counts(cache, 5), wanted);
 }
 
 /// Calls of one key, one behind the other, and what they answer.
@@ -388,7 +389,7 @@ const CALLS: [(Call, Told); 10] = [
 /// A call answers this. Where memory is refused it says so, nothing has changed, and it is asked once more.
 fn answers_again(rt: &impl Abort, cache: &mut Numbers, asked: &Rc<Asked>, row: (Call, Told)) {
     let (call, wanted) = row;
-    let before = counts(cache);
+    let before = counts(cache, 5);
     let first = answer_of(cache, asked, call);
     if first == wanted {
         return;
@@ -404,6 +405,7 @@ fn computes_answer_where_a_request_is_refused(rt: HostRuntime) -> Result<(), Fai
     let asked = unasked(rt.alloc())?;
     let mut cache = opened(rt.alloc(), 0, 100)?;
     all_answer(&rt, &mut cache, &asked);
+    let_go(cache);
     Ok(())
 }
 

@@ -1,9 +1,10 @@
 //! What the calls of a selector answer.
-use crate::caches::{Numbers, abandoned, opened, ran, shared};
+use crate::caches::{Numbers, abandoned, entry, let_go, opened, or_insert, ran, shared};
 use moka_model::entry::Entry;
 use moka_model::turns::Kind;
 use moka_policy::policy::Refused;
 use std::process::Abort;
+use std::sync::Arc;
 use std::test::Fail;
 
 /// What a call answers: a value and whether it is fresh, or why there is none.
@@ -30,24 +31,24 @@ fn optional_of(given: Result<Option<Entry<u64, u64>>, Refused>) -> Told {
 }
 
 fn inserted(cache: &mut Numbers, key: u64, value: u64) -> Told {
-    entry_of(cache.entry(key, 0).or_insert(value))
+    entry_of(or_insert(entry(cache, key), value))
 }
 
 fn defaulted(cache: &mut Numbers, key: u64) -> Told {
-    entry_of(cache.entry(key, 0).or_default())
+    entry_of(entry(cache, key).or_default())
 }
 
 fn inserted_with(cache: &mut Numbers, key: u64, value: u64) -> Told {
-    entry_of(cache.entry(key, 0).or_insert_with(move || value))
+    entry_of(entry(cache, key).or_insert_with(move || value))
 }
 
 fn inserted_if(cache: &mut Numbers, value: u64, unwanted: u64) -> Told {
-    let selector = cache.entry(1, 0);
+    let selector = entry(cache, 1);
     entry_of(selector.or_insert_with_if(move || value, move |live| *live == unwanted))
 }
 
 fn perhaps_inserted(cache: &mut Numbers, value: Option<u64>) -> Told {
-    optional_of(cache.entry(1, 0).or_optionally_insert_with(move || value))
+    optional_of(entry(cache, 1).or_optionally_insert_with(move || value))
 }
 
 fn says(rt: &impl Abort, told: Told, wanted: Told) {
@@ -57,52 +58,65 @@ fn says(rt: &impl Abort, told: Told, wanted: Told) {
 #[test]
 fn a_value_is_inserted_once(rt: HostRuntime) -> Result<(), Fail> {
     let mut cache = opened(rt.alloc(), 0, 100)?;
-    says(&rt, inserted(&mut cache, 1, 3), Told::Value(3, true));
-    says(&rt, inserted(&mut cache, 1, 6), Told::Value(3, false));
-    says(&rt, defaulted(&mut cache, 2), Told::Value(0, true));
-    says(&rt, defaulted(&mut cache, 1), Told::Value(3, false));
-    says(&rt, inserted_with(&mut cache, 3, 4), Told::Value(4, true));
-    says(&rt, inserted_with(&mut cache, 3, 5), Told::Value(4, false));
+    is_inserted_once(&rt, &mut cache);
+    let_go(cache);
     Ok(())
+}
+
+fn is_inserted_once(rt: &impl Abort, cache: &mut Numbers) {
+    says(rt, inserted(cache, 1, 3), Told::Value(3, true));
+    says(rt, inserted(cache, 1, 6), Told::Value(3, false));
+    says(rt, defaulted(cache, 2), Told::Value(0, true));
+    says(rt, defaulted(cache, 1), Told::Value(3, false));
+    says(rt, inserted_with(cache, 3, 4), Told::Value(4, true));
+    says(rt, inserted_with(cache, 3, 5), Told::Value(4, false));
 }
 
 #[test]
 fn a_value_that_is_turned_down_is_replaced(rt: HostRuntime) -> Result<(), Fail> {
     let mut cache = opened(rt.alloc(), 0, 100)?;
-    says(&rt, inserted_if(&mut cache, 3, 3), Told::Value(3, true));
-    says(&rt, inserted_if(&mut cache, 6, 4), Told::Value(3, false));
-    says(&rt, inserted_if(&mut cache, 6, 3), Told::Value(6, true));
+    is_replaced(&rt, &mut cache);
+    let_go(cache);
     Ok(())
+}
+
+fn is_replaced(rt: &impl Abort, cache: &mut Numbers) {
+    says(rt, inserted_if(cache, 3, 3), Told::Value(3, true));
+    says(rt, inserted_if(cache, 6, 4), Told::Value(3, false));
+    says(rt, inserted_if(cache, 6, 3), Told::Value(6, true));
 }
 
 #[test]
 fn a_value_may_be_missing(rt: HostRuntime) -> Result<(), Fail> {
     let mut cache = opened(rt.alloc(), 0, 100)?;
-    says(&rt, perhaps_inserted(&mut cache, None), Told::Nothing);
-    says(
-        &rt,
-        perhaps_inserted(&mut cache, Some(3)),
-        Told::Value(3, true),
-    );
-    says(
-        &rt,
-        perhaps_inserted(&mut cache, Some(6)),
-        Told::Value(3, false),
-    );
+    may_be_missing(&rt, &mut cache);
+    let_go(cache);
     Ok(())
+}
+
+fn may_be_missing(rt: &impl Abort, cache: &mut Numbers) {
+    says(rt, perhaps_inserted(cache, None), Told::Nothing);
+    says(rt, perhaps_inserted(cache, Some(3)), Told::Value(3, true));
+    says(rt, perhaps_inserted(cache, Some(6)), Told::Value(3, false));
 }
 
 #[test]
 fn an_open_turn_refuses(rt: HostRuntime) -> Result<(), Fail> {
     let key = shared(rt.alloc(), 5)?;
     let mut cache = opened(rt.alloc(), 0, 100)?;
-    let turn = ran(&rt, &mut cache, &key, Kind::With);
-    let refused = inserted_with(&mut cache, 5, 8);
-    let written = inserted(&mut cache, 5, 9);
-    let found = inserted_with(&mut cache, 5, 8);
-    abandoned(&rt, &mut cache, turn);
-    says(&rt, refused, Told::Refused(Refused::TurnIsOpen));
-    says(&rt, written, Told::Value(9, true));
-    says(&rt, found, Told::Value(9, false));
+    refuses(&rt, &mut cache, &key);
+    let_go(cache);
     Ok(())
+}
+
+fn refuses(rt: &impl Abort, cache: &mut Numbers, key: &Arc<u64>) {
+    let turn = ran(rt, cache, key, Kind::With);
+    says(
+        rt,
+        inserted_with(cache, 5, 8),
+        Told::Refused(Refused::TurnIsOpen),
+    );
+    says(rt, inserted(cache, 5, 9), Told::Value(9, true));
+    says(rt, inserted_with(cache, 5, 8), Told::Value(9, false));
+    abandoned(rt, cache, turn);
 }

@@ -3,8 +3,9 @@ ghost use Rattle.std.specs.Prelude.{◌≡◌};
 ghost use Rattle.moka_model.specs.declared.turns.Kind.{Kind};
 
 use crate::caches::{
-    Numbers, abandoned, begin, begin_if, error_of, finished, gave, gave_nothing, insert, left,
-    not_yet, opened, ran, ready, refused_to_finish, shared, spent, unknown, waited,
+    Numbers, abandon, abandoned, begin, begin_if, error_of, finished, gave, gave_nothing, insert,
+    invalidate, is_stored, leave, left, left_by, let_go, not_yet, opened, ran, ready,
+    refused_to_finish, shared, spent, unknown, waited,
 };
 use moka_model::notification::RemovalCause;
 use moka_model::turns::{Kind, Outcome};
@@ -21,23 +22,43 @@ fn one_caller_runs_and_the_others_wait(rt: HostRuntime) -> Result<(), Fail> {
     let key = shared(rt.alloc(), 5)?;
     let mut cache = opened(rt.alloc(), 0, 100)?;
     one_runs_and_one_waits(&rt, &mut cache, &key);
+    let_go(cache);
     Ok(())
 }
 
 fn one_runs_and_one_waits(rt: &impl Abort, cache: &mut Numbers, key: &Arc<u64>) {
-    let turn = ran(rt, cache, key, Kind::With);
-    assert!(rt; turn.number() == 0 && *turn.key() == 5);
-    let ticket = waited(rt, cache, key, Kind::With);
-    assert!(rt; ticket.number() == 0 && *ticket.key() == 5);
-    assert!(rt; !cache.contains_key(&5, 0));
-    let given = finished(rt, cache, turn, Outcome::Value(7));
-    gave(rt, &given, (5, 7, true, false));
-    cache.invalidate(&5, 0);
-    let told = ready(rt, cache, ticket);
-    gave(rt, &told, (5, 7, false, false));
+    let turn = first_turn(rt, cache, key);
+    let ticket = first_ticket(rt, cache, key);
+    assert!(rt; !is_stored(cache, 5));
+    is_given_and_told(rt, cache, turn, ticket);
     let next = ran(rt, cache, key, Kind::With);
     assert_eq!(rt; next.number(), 2);
     abandoned(rt, cache, next);
+}
+
+fn first_turn(rt: &impl Abort, cache: &mut Numbers, key: &Arc<u64>) -> Turn<u64>
+    ensures { result.key.kind ≡ Kind.With }
+{
+    let turn = ran(rt, cache, key, Kind::With);
+    assert!(rt; turn.number() == 0 && *turn.key() == 5);
+    turn
+}
+
+fn first_ticket(rt: &impl Abort, cache: &mut Numbers, key: &Arc<u64>) -> Ticket<u64> {
+    let ticket = waited(rt, cache, key, Kind::With);
+    assert!(rt; ticket.number() == 0 && *ticket.key() == 5);
+    ticket
+}
+
+/// A turn gives a value, and its ticket is told that value although it is gone since.
+fn is_given_and_told(rt: &impl Abort, cache: &mut Numbers, turn: Turn<u64>, ticket: Ticket<u64>)
+    requires { turn.key.kind ≡ Kind.With }
+{
+    let given = finished(rt, cache, turn, Outcome::Value(7));
+    gave(rt, &given, (5, 7, true, false));
+    invalidate(cache, 5);
+    let told = ready(rt, cache, ticket);
+    gave(rt, &told, (5, 7, false, false));
 }
 
 #[test]
@@ -46,6 +67,7 @@ fn kinds_do_not_meet(rt: HostRuntime) -> Result<(), Fail> {
     let error = shared(rt.alloc(), 9)?;
     let mut cache = opened(rt.alloc(), 0, 100)?;
     do_not_meet(&rt, &mut cache, &key, error);
+    let_go(cache);
     Ok(())
 }
 
@@ -75,6 +97,7 @@ fn an_abandoned_turn_gives_nothing(rt: HostRuntime) -> Result<(), Fail> {
     let key = shared(rt.alloc(), 5)?;
     let mut cache = opened(rt.alloc(), 0, 100)?;
     one_abandons(&rt, &mut cache, &key);
+    let_go(cache);
     Ok(())
 }
 
@@ -95,6 +118,7 @@ fn a_value_that_is_turned_down_is_replaced(rt: HostRuntime) -> Result<(), Fail> 
     let key = shared(rt.alloc(), 1)?;
     let mut cache = opened(rt.alloc(), 0, 100)?;
     is_replaced(&rt, &mut cache, &key);
+    let_go(cache);
     Ok(())
 }
 
@@ -104,10 +128,7 @@ fn is_replaced(rt: &impl Abort, cache: &mut Numbers, key: &Arc<u64>) {
     let told = finished(rt, cache, turn, Outcome::Value(31));
     gave(rt, &told, (1, 31, true, true));
     is_found(rt, cache, key, 31);
-    let notice = cache.take_notice();
-    assert!(rt;
-        matches!(&notice, Some(it) if it.value == 30 && it.cause == RemovalCause::Replaced)
-    );
+    left_by(rt, cache, 30, RemovalCause::Replaced);
 }
 
 /// The turn of a begin that turns this live value down.
@@ -134,7 +155,9 @@ fn is_found(rt: &impl Abort, cache: &mut Numbers, key: &Arc<u64>, value: u64) {
 fn what_another_cache_handed_out_is_not_known(rt: HostRuntime) -> Result<(), Fail> {
     let key = shared(rt.alloc(), 5)?;
     let mut other = opened(rt.alloc(), 0, 100)?;
-    is_not_known_to(&rt, rt.alloc(), &mut other, &key)
+    let passed = is_not_known_to(&rt, rt.alloc(), &mut other, &key);
+    let_go(other);
+    passed
 }
 
 fn is_not_known_to(
@@ -145,6 +168,7 @@ fn is_not_known_to(
 ) -> Result<(), Fail> {
     let mut cache = opened(alloc, 0, 100)?;
     hands_out(rt, &mut cache, other, key);
+    let_go(cache);
     Ok(())
 }
 
@@ -159,8 +183,8 @@ fn are_not_known(rt: &impl Abort, other: &mut Numbers, turn: Turn<u64>, ticket: 
 {
     let turn = refused_to_finish(rt, other, turn, Refused::UnknownTurn);
     let ticket = unknown(rt, other, ticket);
-    assert!(rt; other.leave(ticket) == Err(Refused::UnknownTicket));
-    assert!(rt; other.abandon(turn) == Err(Refused::UnknownTurn));
+    assert!(rt; leave(other, ticket) == Err(Refused::UnknownTicket));
+    assert!(rt; abandon(other, turn) == Err(Refused::UnknownTurn));
 }
 
 #[test]
@@ -168,6 +192,7 @@ fn numbers_are_used_up(rt: HostRuntime) -> Result<(), Fail> {
     let key = shared(rt.alloc(), 5)?;
     let mut cache = opened(rt.alloc(), u64::MAX - 1, 100)?;
     are_used_up(&rt, &mut cache, &key);
+    let_go(cache);
     Ok(())
 }
 

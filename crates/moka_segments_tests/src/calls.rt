@@ -1,7 +1,11 @@
 //! What the calls answer: each of a key as its segment does, and each of all as all of them do.
-use crate::caches::{Odd, SECOND, Texts, UPPER, builder, insert, opened, text};
+use crate::caches::{
+    Odd, SECOND, Texts, UPPER, builder, entry_count, hide_odd, holds, insert, invalidate,
+    invalidate_all, is_live, look, notice_count, opened, remove, run_pending_tasks, run_up_to,
+    take_notice, text, weighted_size, write,
+};
 use moka::PredicateError;
-use moka::notification::RemovalCause;
+use moka::notification::{Notice, RemovalCause};
 use moka::policy::Refused;
 use moka::state::InsertRefused;
 use std::alloc::Global;
@@ -18,16 +22,40 @@ fn found(
     now: u64,
     text: Option<&str>,
 ) -> Result<(), Fail> {
-    assert_eq!(rt; cache.contains_key(&key, now), text.is_some());
-    assert_eq!(rt; cache.get(&key, now)?.as_deref(), text);
+    assert_eq!(rt; is_live(cache, key, now), text.is_some());
+    assert_eq!(rt; look(cache, key, now)?.as_deref(), text);
+    Ok(())
+}
+
+/// What a removal answers.
+fn removed(rt: &impl Abort, cache: &mut Texts, key: u64, text: Option<&str>) -> Result<(), Fail> {
+    assert_eq!(rt; remove(cache, key)?.as_deref(), text);
     Ok(())
 }
 
 /// The next notice.
-fn left(rt: &impl Abort, cache: &mut Texts, expected: Option<(u64, &str, RemovalCause)>) {
-    let notice = cache.take_notice();
-    let seen = notice.as_ref().map(|notice| (*notice.key, notice.value.as_str(), notice.cause));
-    assert_eq!(rt; seen, expected);
+fn left(rt: &impl Abort, cache: &mut Texts, key: u64, value: &str, cause: RemovalCause) {
+    match take_notice(cache) {
+        Some(notice) => is_of(rt, &notice, key, value, cause),
+        None => panic!(rt; "there is no notice"),
+    }
+}
+
+/// A notice is of this value, which left for this cause.
+fn is_of(
+    rt: &impl Abort,
+    notice: &Notice<u64, String>,
+    key: u64,
+    value: &str,
+    cause: RemovalCause,
+) {
+    assert_eq!(rt; *notice.key, key);
+    assert_eq!(rt; notice.value.as_str(), value);
+    assert_eq!(rt; notice.cause, cause);
+}
+
+fn no_more_left(rt: &impl Abort, cache: &mut Texts) {
+    assert!(rt; take_notice(cache).is_none());
 }
 
 #[test]
@@ -45,12 +73,17 @@ fn has_its_share_and_its_moment(
     insert(cache, alloc, 1, "a", 0)?;
     insert(cache, alloc, UPPER, "b", 0)?;
     insert(cache, alloc, 2, "c", 0)?;
-    cache.run_pending_tasks(0);
-    left(rt, cache, Some((1, "a", RemovalCause::Size)));
-    left(rt, cache, None);
-    assert_eq!(rt; cache.entry_count(), 2);
+    loses_the_first(rt, cache);
     found(rt, cache, UPPER, 10 * SECOND, None)?;
     found(rt, cache, 2, 9 * SECOND, Some("c"))
+}
+
+/// Of two keys of a segment the first one leaves.
+fn loses_the_first(rt: &impl Abort, cache: &mut Texts) {
+    run_pending_tasks(cache, 0);
+    left(rt, cache, 1, "a", RemovalCause::Size);
+    no_more_left(rt, cache);
+    assert_eq!(rt; entry_count(cache), 2);
 }
 
 #[test]
@@ -60,20 +93,29 @@ fn notices_come_segment_by_segment(rt: HostRuntime) -> Result<(), Fail> {
 }
 
 fn come_segment_by_segment(rt: &impl Abort, alloc: Global, cache: &mut Texts) -> Result<(), Fail> {
+    one_of_each_leaves(rt, alloc, cache)?;
+    come_in_order(rt, cache);
+    removed(rt, cache, 1, None)?;
+    found(rt, cache, u64::MAX, 0, Some("e"))
+}
+
+/// In three segments, the last one first, a value is replaced, one is hidden, and one removed.
+fn one_of_each_leaves(rt: &impl Abort, alloc: Global, cache: &mut Texts) -> Result<(), Fail> {
     insert(cache, alloc, u64::MAX, "d", 0)?;
     insert(cache, alloc, u64::MAX, "e", 0)?;
     insert(cache, alloc, UPPER, "c", 0)?;
-    cache.invalidate(&UPPER, 0);
+    invalidate(cache, UPPER);
     insert(cache, alloc, 1, "a", 0)?;
-    assert_eq!(rt; cache.remove(&1, 0)?.as_deref(), Some("a"));
-    assert_eq!(rt; cache.notice_count(), 3);
-    left(rt, cache, Some((1, "a", RemovalCause::Explicit)));
-    left(rt, cache, Some((UPPER, "c", RemovalCause::Explicit)));
-    left(rt, cache, Some((u64::MAX, "d", RemovalCause::Replaced)));
-    left(rt, cache, None);
-    assert_eq!(rt; cache.notice_count(), 0);
-    assert_eq!(rt; cache.remove(&1, 0)?, None);
-    found(rt, cache, u64::MAX, 0, Some("e"))
+    removed(rt, cache, 1, Some("a"))
+}
+
+fn come_in_order(rt: &impl Abort, cache: &mut Texts) {
+    assert_eq!(rt; notice_count(cache), 3);
+    left(rt, cache, 1, "a", RemovalCause::Explicit);
+    left(rt, cache, UPPER, "c", RemovalCause::Explicit);
+    left(rt, cache, u64::MAX, "d", RemovalCause::Replaced);
+    no_more_left(rt, cache);
+    assert_eq!(rt; notice_count(cache), 0);
 }
 
 /// Two keys of each of four segments, the even one before the odd one.
@@ -104,26 +146,50 @@ fn what_goes_to_all_goes_to_the_last_too(rt: HostRuntime) -> Result<(), Fail> {
 
 fn goes_to_all(rt: &impl Abort, alloc: Global, cache: &mut Texts) -> Result<(), Fail> {
     fill(cache, alloc)?;
-    assert_eq!(rt; cache.invalidate_entries_if(Odd), Ok(()));
-    for key in KEYS {
-        assert_eq!(rt; cache.contains_key(&key, 0), key % 2 == 0);
-    }
-    assert_eq!(rt; (cache.entry_count(), cache.weighted_size()), (8, 8));
-    cache.run_pending_tasks(0);
-    assert_eq!(rt; (cache.entry_count(), cache.weighted_size()), (4, 4));
-    assert_eq!(rt; cache.notice_count(), 4);
-    cache.invalidate_all();
-    for key in KEYS {
-        assert!(rt; !cache.contains_key(&key, 0));
-    }
-    cache.run_pending_tasks(0);
-    assert_eq!(rt; (cache.entry_count(), cache.notice_count()), (0, 8));
+    a_predicate_goes_to_all(rt, cache);
+    a_removal_goes_to_all(rt, cache);
     insert(cache, alloc, 1, "b", 0)?;
-    assert_eq!(rt;
-        cache.invalidate_entries_with_arc_fun(Arc::new(alloc, Odd)?),
-        Ok(())
-    );
+    shared_accepted(rt, cache, Arc::new(alloc, Odd)?, Ok(()));
     found(rt, cache, 1, 0, None)
+}
+
+/// A predicate hides the odd keys, and a maintenance takes them away.
+fn a_predicate_goes_to_all(rt: &impl Abort, cache: &mut Texts) {
+    accepted(rt, cache, Ok(()));
+    for key in KEYS {
+        assert_eq!(rt; is_live(cache, key, 0), key % 2 == 0);
+    }
+    weighs(rt, cache, 8);
+    run_pending_tasks(cache, 0);
+    weighs(rt, cache, 4);
+    holds(rt, cache, 4, 4);
+}
+
+fn a_removal_goes_to_all(rt: &impl Abort, cache: &mut Texts) {
+    invalidate_all(cache);
+    for key in KEYS {
+        assert!(rt; !is_live(cache, key, 0));
+    }
+    run_pending_tasks(cache, 0);
+    holds(rt, cache, 0, 8);
+}
+
+/// So many keys are stored, and each of them weighs one.
+fn weighs(rt: &impl Abort, cache: &Texts, entries: u64) {
+    assert_eq!(rt; entry_count(cache), entries);
+    assert_eq!(rt; weighted_size(cache), entries);
+}
+
+type Accepted = Result<(), PredicateError>;
+
+/// A predicate is accepted, or it is refused for this cause.
+fn accepted(rt: &impl Abort, cache: &mut Texts, expected: Accepted) {
+    assert_eq!(rt; cache.invalidate_entries_if(Odd), expected);
+}
+
+/// One that is shared.
+fn shared_accepted(rt: &impl Abort, cache: &mut Texts, shared: Arc<Odd>, expected: Accepted) {
+    assert_eq!(rt; hide_odd(cache, shared), expected);
 }
 
 #[test]
@@ -135,14 +201,10 @@ fn a_predicate_is_accepted_by_all_or_by_none(rt: HostRuntime) -> Result<(), Fail
 fn is_accepted_by_none(rt: &impl Abort, alloc: Global, cache: &mut Texts) -> Result<(), Fail> {
     fill(cache, alloc)?;
     let disabled = PredicateError::InvalidationClosuresDisabled;
-    assert_eq!(rt; cache.invalidate_entries_if(Odd), Err(disabled));
-    let shared = Arc::new(alloc, Odd)?;
-    assert_eq!(rt;
-        cache.invalidate_entries_with_arc_fun(shared),
-        Err(disabled)
-    );
+    accepted(rt, cache, Err(disabled));
+    shared_accepted(rt, cache, Arc::new(alloc, Odd)?, Err(disabled));
     for key in KEYS {
-        assert!(rt; cache.contains_key(&key, 0));
+        assert!(rt; is_live(cache, key, 0));
     }
     Ok(())
 }
@@ -156,14 +218,18 @@ fn each_segment_is_given_the_whole_limit(rt: HostRuntime) -> Result<(), Fail> {
 fn is_given_the_whole_limit(rt: &impl Abort, alloc: Global, cache: &mut Texts) -> Result<(), Fail> {
     fill(cache, alloc)?;
     insert(cache, alloc, 2, "a", 0)?;
-    cache.invalidate_all();
-    assert!(rt; cache.run_pending_tasks_up_to(0, 0));
-    assert_eq!(rt; cache.entry_count(), 9);
-    assert!(rt; cache.run_pending_tasks_up_to(2, 0));
-    assert_eq!(rt; cache.entry_count(), 1);
-    assert!(rt; !cache.run_pending_tasks_up_to(1, 0));
-    assert_eq!(rt; (cache.entry_count(), cache.notice_count()), (0, 9));
+    invalidate_all(cache);
+    leaves_undone(rt, cache, 0, true, 9);
+    leaves_undone(rt, cache, 2, true, 1);
+    leaves_undone(rt, cache, 1, false, 0);
+    assert_eq!(rt; notice_count(cache), 9);
     Ok(())
+}
+
+/// A maintenance up to a limit leaves a part undone or none, and so many keys stored.
+fn leaves_undone(rt: &impl Abort, cache: &mut Texts, limit: u64, undone: bool, entries: u64) {
+    assert_eq!(rt; run_up_to(cache, limit), undone);
+    assert_eq!(rt; entry_count(cache), entries);
 }
 
 #[test]
@@ -175,15 +241,18 @@ fn each_segment_has_numbers_of_its_own(rt: HostRuntime) -> Result<(), Fail> {
 
 fn has_numbers_of_its_own(rt: &impl Abort, alloc: Global, cache: &mut Texts) -> Result<(), Fail> {
     insert(cache, alloc, 1, "a", 0)?;
-    let refused = cache
-        .insert(2, text(alloc, "b")?, 0)
-        .err()
-        .ok_or("a refusal")?;
-    let InsertRefused { key, value, cause } = refused;
-    assert_eq!(rt;
-        (key, value.as_str(), cause),
-        (2, "b", Refused::NumbersUsedUp)
-    );
+    is_refused(rt, cache, text(alloc, "b")?);
     insert(cache, alloc, UPPER, "c", 0)?;
     found(rt, cache, UPPER, 0, Some("c"))
+}
+
+/// A write of key 2 is refused, since no number is left, and handed back.
+fn is_refused(rt: &impl Abort, cache: &mut Texts, value: String) {
+    match write(cache, 2, value, 0) {
+        Err(InsertRefused { key, value, cause }) => {
+            assert_eq!(rt; (key, cause), (2, Refused::NumbersUsedUp));
+            assert_eq!(rt; value.as_str(), "b");
+        }
+        Ok(()) => panic!(rt; "it is not refused"),
+    }
 }

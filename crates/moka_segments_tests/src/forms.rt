@@ -40,29 +40,71 @@ fn one(alloc: Global) -> Result<One, Fail> {
 /// A key of each of four segments.
 const KEYS: [u64; 4] = [1, 1 << 62, UPPER, u64::MAX];
 
+// A call of a cache is dear to prove wherever it is written: so each is written once, and all tests ask by these functions.
+
+/// Whether a state has this key.
+fn has(state: &One, key: u64) -> bool {
+    state.contains_key(&key, 0)
+}
+
+fn segments(cache: &Numbers) -> &[One] {
+    cache.segments()
+}
+
+/// What is answered at a moment where the closure would give this value.
+fn got_with(cache: &mut Numbers, key: u64, given: u64, now: u64) -> Result<u64, Refused> {
+    cache.get_with(key, move || given, now)
+}
+
+fn got_with_by_ref(cache: &mut Numbers, key: u64, given: u64) -> Result<u64, Refused> {
+    cache.get_with_by_ref(&key, move || given, 0)
+}
+
+/// A live value that is this one is to be replaced.
+fn got_with_if(
+    cache: &mut Numbers,
+    key: u64,
+    given: u64,
+    unwanted: u64,
+    now: u64,
+) -> Result<u64, Refused> {
+    cache.get_with_if(key, move || given, move |value| *value == unwanted, now)
+}
+
+type Maybe = Option<u64>;
+
+fn maybe_got(cache: &mut Numbers, key: u64, given: Maybe) -> Result<Maybe, Refused> {
+    cache.optionally_get_with(key, move || given, 0)
+}
+
+fn maybe_got_by_ref(
+    cache: &mut Numbers,
+    key: u64,
+    given: Maybe,
+    now: u64,
+) -> Result<Maybe, Refused> {
+    cache.optionally_get_with_by_ref(&key, move || given, now)
+}
+
 /// Of the four segments this one alone has this key.
 fn stands_in(rt: &impl Abort, cache: &Numbers, key: u64, index: usize) {
-    for place in 0..cache.segments().len() {
-        assert_eq!(rt;
-            cache.segments()[place].contains_key(&key, 0),
-            place == index
-        );
+    for (place, segment) in segments(cache).iter().enumerate() {
+        assert_eq!(rt; has(segment, key), place == index);
     }
 }
 
 /// No segment has this key.
 fn stands_nowhere(rt: &impl Abort, cache: &Numbers, key: u64) {
-    stands_in(rt, cache, key, cache.segments().len());
+    stands_in(rt, cache, key, segments(cache).len());
 }
 
-/// Each form stands in a function of its own, since a call of one is dear to prove. What its closure would give, and what is
-/// answered.
+/// What the closure of a form would give, and what is answered.
 fn gets_with(rt: &impl Abort, cache: &mut Numbers, key: u64, given: u64, answered: u64) {
-    assert_eq!(rt; cache.get_with(key, move || given, 0), Ok(answered));
+    assert_eq!(rt; got_with(cache, key, given, 0), Ok(answered));
 }
 
 fn gets_with_by_ref(rt: &impl Abort, cache: &mut Numbers, key: u64, given: u64, answered: u64) {
-    assert_eq!(rt; cache.get_with_by_ref(&key, move || given, 0), Ok(answered));
+    assert_eq!(rt; got_with_by_ref(cache, key, given), Ok(answered));
 }
 
 /// A live value that is this one is to be replaced.
@@ -74,26 +116,15 @@ fn gets_with_if(
     unwanted: u64,
     answered: u64,
 ) {
-    assert_eq!(rt;
-        cache.get_with_if(key, move || given, move |value| *value == unwanted, 0),
-        Ok(answered)
-    );
+    assert_eq!(rt; got_with_if(cache, key, given, unwanted, 0), Ok(answered));
 }
 
-type Maybe = Option<u64>;
-
 fn may_get(rt: &impl Abort, cache: &mut Numbers, key: u64, given: Maybe, answered: Maybe) {
-    assert_eq!(rt;
-        cache.optionally_get_with(key, move || given, 0),
-        Ok(answered)
-    );
+    assert_eq!(rt; maybe_got(cache, key, given), Ok(answered));
 }
 
 fn may_get_by_ref(rt: &impl Abort, cache: &mut Numbers, key: u64, given: Maybe, answered: Maybe) {
-    assert_eq!(rt;
-        cache.optionally_get_with_by_ref(&key, move || given, 0),
-        Ok(answered)
-    );
+    assert_eq!(rt; maybe_got_by_ref(cache, key, given, 0), Ok(answered));
 }
 
 type Tried = Result<u64, u64>;
@@ -221,9 +252,8 @@ fn opens(rt: &impl Abort, cache: &mut Numbers, key: u64, number: u64) {
     match cache.begin_by_ref(&key, Kind::With, None::<fn(&u64) -> bool>, 0) {
         Ok(Begun::Run(turn)) => {
             assert_eq!(rt; (turn.number(), *turn.key()), (number, key));
-            let refused = cache.get_with_by_ref(&key, || 7, 0);
+            assert_eq!(rt; got_with_by_ref(cache, key, 7), Err(Refused::TurnIsOpen));
             assert!(rt; cache.abandon(turn).is_ok());
-            assert_eq!(rt; refused, Err(Refused::TurnIsOpen));
         }
         Ok(Begun::Wait(ticket)) => {
             let _ = cache.leave(ticket);
@@ -250,20 +280,17 @@ fn is_not_waited_for(rt: &impl Abort, cache: &mut Numbers) {
 /// A form of a key is answered by the cache and by a state of its own alike.
 fn works_out_alike(rt: &impl Abort, cache: &mut Numbers, own: &mut One, key: u64, now: u64) {
     let said = own.get_with(key, || now, now);
-    assert_eq!(rt; cache.get_with(key, || now, now), said);
+    assert_eq!(rt; got_with(cache, key, now, now), said);
 }
 
 fn replaces_alike(rt: &impl Abort, cache: &mut Numbers, own: &mut One, key: u64, now: u64) {
     let said = own.get_with_if(key, || key, |value| *value == now, now);
-    assert_eq!(rt;
-        cache.get_with_if(key, || key, |value| *value == now, now),
-        said
-    );
+    assert_eq!(rt; got_with_if(cache, key, key, now, now), said);
 }
 
 fn gives_none_alike(rt: &impl Abort, cache: &mut Numbers, own: &mut One, key: u64, now: u64) {
     let said = own.optionally_get_with_by_ref(&key, || None, now);
-    assert_eq!(rt; cache.optionally_get_with_by_ref(&key, || None, now), said);
+    assert_eq!(rt; maybe_got_by_ref(cache, key, None, now), said);
 }
 
 fn finds_alike(rt: &impl Abort, cache: &mut Numbers, own: &mut One, key: u64) {
@@ -271,10 +298,14 @@ fn finds_alike(rt: &impl Abort, cache: &mut Numbers, own: &mut One, key: u64) {
     assert_eq!(rt; cache.get(&key, 30), said);
 }
 
+fn count(state: &One) -> u64 {
+    state.entry_count()
+}
+
 /// The segment of these keys has as many as a state of its own.
 fn has_as_many(rt: &impl Abort, cache: &Numbers, own: &One) {
-    match cache.segments().get(2) {
-        Some(segment) => assert_eq!(rt; segment.entry_count(), own.entry_count()),
+    match segments(cache).get(2) {
+        Some(segment) => assert_eq!(rt; count(segment), count(own)),
         None => panic!(rt; "there are fewer segments"),
     }
 }
@@ -294,12 +325,16 @@ fn are_answered_alike(rt: &impl Abort, cache: &mut Numbers, own: &mut One) {
         replaces_alike(rt, cache, own, key, step);
         gives_none_alike(rt, cache, own, other, step);
     }
-    own.run_pending_tasks(30);
-    cache.run_pending_tasks(30);
+    run_pending_tasks(cache, own);
     has_as_many(rt, cache, own);
     for key in UPPER..UPPER + 12 {
         finds_alike(rt, cache, own, key);
     }
+}
+
+fn run_pending_tasks(cache: &mut Numbers, own: &mut One) {
+    own.run_pending_tasks(30);
+    cache.run_pending_tasks(30);
 }
 
 #[test]

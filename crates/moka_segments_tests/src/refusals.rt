@@ -1,6 +1,10 @@
 //! What memory is taken, and what a refused call leaves. Each test passes, or says where it was refused, also where one
 //! request for memory is refused, whichever: `scripts/refused_memory` tries each.
-use crate::caches::{Builder, Hasher, Odd, SECOND, Texts, UPPER, builder, opened, text};
+use crate::caches::{
+    Builder, Hasher, Odd, SECOND, Texts, UPPER, builder, entry_count, hide_odd, holds, invalidate,
+    invalidate_all, is_live, look, name, notice_count, opened, remove, run_pending_tasks,
+    run_up_to, segments, take_notice, text, weighted_size, write,
+};
 use moka::common::builder_utils::BuildError;
 use moka::policy::{EvictionPolicy, Refused};
 use moka::state::InsertRefused;
@@ -18,16 +22,25 @@ fn built(alloc: Global) -> Result<Texts, BuildError> {
         .build_segmented_state(alloc, Hasher::default())
 }
 
+/// A cache. Where memory is refused, it asks once more.
+fn built_anew(alloc: Global) -> Result<Texts, BuildError> {
+    match built(alloc) {
+        Err(BuildError::OutOfMemory) => built(alloc),
+        built => built,
+    }
+}
+
 #[test]
 fn a_cache_is_built_anew_where_memory_was_refused(rt: HostRuntime) -> Result<(), Fail> {
-    let alloc = rt.alloc();
-    let cache = match built(alloc) {
-        Err(BuildError::OutOfMemory) => built(alloc)?,
-        built => built?,
-    };
-    assert_eq!(rt; cache.name(), Some("tracked_sessions"));
-    assert_eq!(rt; (cache.segments().len(), cache.entry_count()), (4, 0));
+    let cache = built_anew(rt.alloc())?;
+    is_built_anew(&rt, &cache);
     Ok(())
+}
+
+fn is_built_anew(rt: &impl Abort, cache: &Texts) {
+    assert_eq!(rt; name(cache), Some("tracked_sessions"));
+    assert_eq!(rt; segments(cache).len(), 4);
+    assert_eq!(rt; entry_count(cache), 0);
 }
 
 /// A text. Where memory is refused, it asks once more.
@@ -38,6 +51,13 @@ fn given(alloc: Global, it: &str) -> Result<String, Fail> {
     }
 }
 
+/// The text that a write hands back which is refused for want of memory, with its key.
+fn handed_back(rt: &impl Abort, refused: InsertRefused<u64, String>, key: u64, it: &str) -> String {
+    assert_eq!(rt; (refused.key, refused.cause), (key, Refused::OutOfMemory));
+    assert_eq!(rt; refused.value.as_str(), it);
+    refused.value
+}
+
 /// Writes a text. A refused write hands it back with its key and changes nothing, and is tried again.
 fn insert(
     rt: &impl Abort,
@@ -46,24 +66,13 @@ fn insert(
     key: u64,
     it: &str,
 ) -> Result<(), Fail> {
-    let (entries, notices) = (cache.entry_count(), cache.notice_count());
-    let Err(refused) = cache.insert(key, given(alloc, it)?, 0) else {
-        return Ok(());
-    };
-    let InsertRefused {
-        key: back,
-        value,
-        cause,
-    } = refused;
-    assert_eq!(rt;
-        (back, value.as_str(), cause),
-        (key, it, Refused::OutOfMemory)
-    );
-    assert_eq!(rt;
-        (cache.entry_count(), cache.notice_count()),
-        (entries, notices)
-    );
-    Ok(cache.insert(key, value, 0)?)
+    let (entries, notices) = (entry_count(cache), notice_count(cache));
+    if let Err(refused) = write(cache, key, given(alloc, it)?, 0) {
+        let value = handed_back(rt, refused, key, it);
+        holds(rt, cache, entries, notices);
+        write(cache, key, value, 0)?;
+    }
+    Ok(())
 }
 
 /// A key of each of four segments.
@@ -71,12 +80,8 @@ const KEYS: [u64; 4] = [1, 1 << 62, UPPER, u64::MAX];
 
 #[test]
 fn answers_where_a_call_is_refused(rt: HostRuntime) -> Result<(), Fail> {
-    let alloc = rt.alloc();
-    let mut cache = match built(alloc) {
-        Err(BuildError::OutOfMemory) => built(alloc)?,
-        built => built?,
-    };
-    answers(&rt, alloc, &mut cache)
+    let mut cache = built_anew(rt.alloc())?;
+    answers(&rt, rt.alloc(), &mut cache)
 }
 
 fn answers(rt: &impl Abort, alloc: Global, cache: &mut Texts) -> Result<(), Fail> {
@@ -85,42 +90,74 @@ fn answers(rt: &impl Abort, alloc: Global, cache: &mut Texts) -> Result<(), Fail
         insert(rt, cache, alloc, key, "b")?;
     }
     for key in KEYS {
-        let found = match cache.get(&key, 0) {
-            Err(Refused::OutOfMemory) => cache.get(&key, 0)?,
-            found => found?,
-        };
-        assert_eq!(rt; found.as_deref(), Some("b"));
-        let removed = match cache.remove(&key, 0) {
-            Err(Refused::OutOfMemory) => cache.remove(&key, 0)?,
-            removed => removed?,
-        };
-        assert_eq!(rt; removed.as_deref(), Some("b"));
+        is_text(rt, looked_up(cache, key)?, "b");
+        is_text(rt, removed(cache, key)?, "b");
     }
-    assert_eq!(rt; (cache.entry_count(), cache.notice_count()), (0, 8));
+    holds(rt, cache, 0, 8);
     Ok(())
+}
+
+type Maybe = Option<String>;
+
+fn is_text(rt: &impl Abort, given: Maybe, expected: &str) {
+    assert_eq!(rt; given.as_deref(), Some(expected));
+}
+
+/// What a look at a key finds. Where memory is refused, it asks once more.
+fn looked_up(cache: &mut Texts, key: u64) -> Result<Maybe, Refused> {
+    match look(cache, key, 0) {
+        Err(Refused::OutOfMemory) => look(cache, key, 0),
+        found => found,
+    }
+}
+
+/// What a removal answers. Where memory is refused, it asks once more.
+fn removed(cache: &mut Texts, key: u64) -> Result<Maybe, Refused> {
+    match remove(cache, key) {
+        Err(Refused::OutOfMemory) => remove(cache, key),
+        removed => removed,
+    }
 }
 
 #[test]
 fn takes_no_memory_but_for_writes(rt: HostRuntime) -> Result<(), Fail> {
     let told = builder(100).support_invalidation_closures();
     let mut cache = opened(rt.alloc(), told, 2)?;
-    cache.insert(1, text(rt.alloc(), "a")?, 0)?;
-    takes_none(&rt, rt.alloc(), &mut cache)
+    takes_none_but_for_a_write(&rt, rt.alloc(), &mut cache)
 }
 
-fn takes_none(rt: &impl Abort, alloc: Global, cache: &mut Texts) -> Result<(), Fail> {
+fn takes_none_but_for_a_write(
+    rt: &impl Abort,
+    alloc: Global,
+    cache: &mut Texts,
+) -> Result<(), Fail> {
+    write(cache, 1, text(alloc, "a")?, 0)?;
     let shared = Arc::new(alloc, Odd).map_err(|_| "refused before the calls")?;
-    assert!(rt; cache.contains_key(&1, 0));
-    assert_eq!(rt; cache.get(&UPPER, 0)?, None);
-    assert_eq!(rt; cache.remove(&UPPER, 0)?, None);
-    cache.invalidate(&UPPER, 0);
-    assert!(rt; !cache.run_pending_tasks_up_to(1, 0));
-    assert_eq!(rt; cache.invalidate_entries_with_arc_fun(shared), Ok(()));
-    cache.run_pending_tasks(SECOND);
-    assert_eq!(rt; (cache.entry_count(), cache.weighted_size()), (0, 0));
-    cache.invalidate_all();
-    assert!(rt; cache.take_notice().is_some());
-    assert!(rt; cache.take_notice().is_none());
+    looks_take_none(rt, cache)?;
+    calls_of_all_take_none(rt, cache, shared);
+    notices_take_none(rt, cache);
     Arc::new(alloc, 0_u64).map_err(|_| "refused behind the calls")?;
     Ok(())
+}
+
+fn looks_take_none(rt: &impl Abort, cache: &mut Texts) -> Result<(), Refused> {
+    assert!(rt; is_live(cache, 1, 0));
+    assert_eq!(rt; look(cache, UPPER, 0)?, None);
+    assert_eq!(rt; remove(cache, UPPER)?, None);
+    invalidate(cache, UPPER);
+    Ok(())
+}
+
+fn calls_of_all_take_none(rt: &impl Abort, cache: &mut Texts, shared: Arc<Odd>) {
+    assert!(rt; !run_up_to(cache, 1));
+    assert_eq!(rt; hide_odd(cache, shared), Ok(()));
+    run_pending_tasks(cache, SECOND);
+    assert_eq!(rt; entry_count(cache), 0);
+    assert_eq!(rt; weighted_size(cache), 0);
+}
+
+fn notices_take_none(rt: &impl Abort, cache: &mut Texts) {
+    invalidate_all(cache);
+    assert!(rt; take_notice(cache).is_some());
+    assert!(rt; take_notice(cache).is_none());
 }

@@ -1,6 +1,6 @@
 //! Runs of steps, and steps of turns.
-ghost use Rattle.std.specs.Prelude.{◌≡◌, IfOk};
-ghost use Rattle.std.specs.List.{AllByRecursion};
+ghost use Rattle.std.specs.Prelude.{◌≡◌, IfOk, OnOk};
+ghost use Rattle.std.specs.List.{All, AllByRecursion};
 ghost use Rattle.moka.specs.Step.{StepKeeps};
 
 use crate::caches::{Odd, SECOND, Texts, Types, UPPER, builder, opened, text};
@@ -13,55 +13,120 @@ use std::sync::Arc;
 use std::test::Fail;
 use std::time::Duration;
 
-type Steps = Vec<Step<u64, String, Types>>;
+type OneStep = Step<u64, String, Types>;
+
+type Steps = Vec<OneStep>;
+
+/// Adds a step.
+fn add(steps: &mut Steps, step: OneStep) -> Result<(), AllocError>
+    requires one { StepKeeps ⟦<Types as CacheTypes<u64, String>>⟧.keeps
+        ⟦<Odd as Predicate<u64, String>>⟧.tests ⟦<Types as CacheTypes<u64, String>>⟧.test step }
+    requires all { All (StepKeeps ⟦<Types as CacheTypes<u64, String>>⟧.keeps
+        ⟦<Odd as Predicate<u64, String>>⟧.tests ⟦<Types as CacheTypes<u64, String>>⟧.test) steps.old.items }
+    ensures { OnOk result (All (StepKeeps ⟦<Types as CacheTypes<u64, String>>⟧.keeps
+        ⟦<Odd as Predicate<u64, String>>⟧.tests ⟦<Types as CacheTypes<u64, String>>⟧.test) steps.new.items) }
+{
+    Ok(steps.push(step)?)
+}
+
+// The steps of all_steps in five parts: a body that owns them all is dear to prove.
+fn add_writes(alloc: Global, steps: &mut Steps) -> Result<(), AllocError>
+    requires { All (StepKeeps ⟦<Types as CacheTypes<u64, String>>⟧.keeps
+        ⟦<Odd as Predicate<u64, String>>⟧.tests ⟦<Types as CacheTypes<u64, String>>⟧.test) steps.old.items }
+    ensures { OnOk result (All (StepKeeps ⟦<Types as CacheTypes<u64, String>>⟧.keeps
+        ⟦<Odd as Predicate<u64, String>>⟧.tests ⟦<Types as CacheTypes<u64, String>>⟧.test) steps.new.items) }
+{
+    add(steps, write(alloc, 1, "a")?)?;
+    add(steps, write(alloc, UPPER, "b")?)
+}
+
+fn write(alloc: Global, key: u64, value: &str) -> Result<OneStep, AllocError>
+    ensures { IfOk result (StepKeeps ⟦<Types as CacheTypes<u64, String>>⟧.keeps
+        ⟦<Odd as Predicate<u64, String>>⟧.tests ⟦<Types as CacheTypes<u64, String>>⟧.test) }
+{
+    Ok(Step::Insert {
+        key: Arc::new(alloc, key)?,
+        value: text(alloc, value)?,
+        now: 0,
+    })
+}
+
+fn add_looks(alloc: Global, steps: &mut Steps) -> Result<(), AllocError>
+    requires { All (StepKeeps ⟦<Types as CacheTypes<u64, String>>⟧.keeps
+        ⟦<Odd as Predicate<u64, String>>⟧.tests ⟦<Types as CacheTypes<u64, String>>⟧.test) steps.old.items }
+    ensures { OnOk result (All (StepKeeps ⟦<Types as CacheTypes<u64, String>>⟧.keeps
+        ⟦<Odd as Predicate<u64, String>>⟧.tests ⟦<Types as CacheTypes<u64, String>>⟧.test) steps.new.items) }
+{
+    let key = Arc::new(alloc, 1)?;
+    add(
+        steps,
+        Step::Get {
+            key,
+            now: 10 * SECOND,
+        },
+    )?;
+    let key = Arc::new(alloc, UPPER)?;
+    add(
+        steps,
+        Step::ContainsKey {
+            key,
+            now: 9 * SECOND,
+        },
+    )
+}
+
+fn add_counts(steps: &mut Steps) -> Result<(), AllocError>
+    requires { All (StepKeeps ⟦<Types as CacheTypes<u64, String>>⟧.keeps
+        ⟦<Odd as Predicate<u64, String>>⟧.tests ⟦<Types as CacheTypes<u64, String>>⟧.test) steps.old.items }
+    ensures { OnOk result (All (StepKeeps ⟦<Types as CacheTypes<u64, String>>⟧.keeps
+        ⟦<Odd as Predicate<u64, String>>⟧.tests ⟦<Types as CacheTypes<u64, String>>⟧.test) steps.new.items) }
+{
+    add(steps, Step::EntryCount)?;
+    add(steps, Step::WeightedSize)?;
+    add(steps, Step::RunPendingTasksUpTo { limit: 0, now: 0 })?;
+    add(steps, Step::RunPendingTasks { now: 0 })?;
+    add(steps, Step::TakeNotice)
+}
+
+fn add_removals(alloc: Global, steps: &mut Steps) -> Result<(), AllocError>
+    requires { All (StepKeeps ⟦<Types as CacheTypes<u64, String>>⟧.keeps
+        ⟦<Odd as Predicate<u64, String>>⟧.tests ⟦<Types as CacheTypes<u64, String>>⟧.test) steps.old.items }
+    ensures { OnOk result (All (StepKeeps ⟦<Types as CacheTypes<u64, String>>⟧.keeps
+        ⟦<Odd as Predicate<u64, String>>⟧.tests ⟦<Types as CacheTypes<u64, String>>⟧.test) steps.new.items) }
+{
+    let key = Arc::new(alloc, UPPER)?;
+    add(steps, Step::Remove { key, now: 0 })?;
+    add(steps, Step::TakeNotice)?;
+    add(steps, Step::TakeNotice)?;
+    let key = Arc::new(alloc, UPPER)?;
+    add(steps, Step::Invalidate { key, now: 0 })
+}
+
+fn add_removals_of_all(alloc: Global, steps: &mut Steps) -> Result<(), AllocError>
+    requires { All (StepKeeps ⟦<Types as CacheTypes<u64, String>>⟧.keeps
+        ⟦<Odd as Predicate<u64, String>>⟧.tests ⟦<Types as CacheTypes<u64, String>>⟧.test) steps.old.items }
+    ensures { OnOk result (All (StepKeeps ⟦<Types as CacheTypes<u64, String>>⟧.keeps
+        ⟦<Odd as Predicate<u64, String>>⟧.tests ⟦<Types as CacheTypes<u64, String>>⟧.test) steps.new.items) }
+{
+    let predicate = Arc::new(alloc, Odd)?;
+    add(steps, Step::InvalidateIf { predicate })?;
+    add(steps, Step::InvalidateAll)
+}
 
 /// A step of each kind, over two segments.
+#[tactic(auto, using(std::proofs::lemmas::List::Elements::recursion_from_All))]
 fn all_steps(alloc: Global) -> Result<Steps, AllocError>
     ensures { IfOk result (λ steps. AllByRecursion
         (StepKeeps ⟦<Types as CacheTypes<u64, String>>⟧.keeps
         ⟦<Odd as Predicate<u64, String>>⟧.tests ⟦<Types as CacheTypes<u64, String>>⟧.test)
         steps.items) }
 {
-    let key = |number: u64| Arc::new(alloc, number);
     let mut steps = Vec::with_capacity(alloc, 16)?;
-    let now = 0;
-    steps.push(Step::Insert {
-        key: key(1)?,
-        value: text(alloc, "a")?,
-        now,
-    })?;
-    steps.push(Step::Insert {
-        key: key(UPPER)?,
-        value: text(alloc, "b")?,
-        now,
-    })?;
-    steps.push(Step::Get {
-        key: key(1)?,
-        now: 10 * SECOND,
-    })?;
-    steps.push(Step::ContainsKey {
-        key: key(UPPER)?,
-        now: 9 * SECOND,
-    })?;
-    steps.push(Step::EntryCount)?;
-    steps.push(Step::WeightedSize)?;
-    steps.push(Step::RunPendingTasksUpTo { limit: 0, now })?;
-    steps.push(Step::RunPendingTasks { now })?;
-    steps.push(Step::TakeNotice)?;
-    steps.push(Step::Remove {
-        key: key(UPPER)?,
-        now,
-    })?;
-    steps.push(Step::TakeNotice)?;
-    steps.push(Step::TakeNotice)?;
-    steps.push(Step::Invalidate {
-        key: key(UPPER)?,
-        now,
-    })?;
-    steps.push(Step::InvalidateIf {
-        predicate: Arc::new(alloc, Odd)?,
-    })?;
-    steps.push(Step::InvalidateAll)?;
+    add_writes(alloc, &mut steps)?;
+    add_looks(alloc, &mut steps)?;
+    add_counts(&mut steps)?;
+    add_removals(alloc, &mut steps)?;
+    add_removals_of_all(alloc, &mut steps)?;
     Ok(steps)
 }
 
@@ -101,7 +166,7 @@ fn replies(
     rt: &impl Abort,
     alloc: Global,
     cache: &mut Texts,
-    step: Step<u64, String, Types>,
+    step: OneStep,
     expected: &str,
 ) -> Result<(), Fail>
     requires { StepKeeps ⟦<Types as CacheTypes<u64, String>>⟧.keeps
@@ -115,18 +180,17 @@ fn replies(
 #[test]
 fn steps_of_turns_name_their_turns(rt: HostRuntime) -> Result<(), Fail> {
     let mut cache = opened(rt.alloc(), builder(100), 2)?;
-    one_runs_and_one_waits(&rt, rt.alloc(), &mut cache)?;
-    a_live_value_is_replaced_or_not(&rt, rt.alloc(), &mut cache)?;
-    one_abandons(&rt, rt.alloc(), &mut cache)
+    name_their_turns(&rt, rt.alloc(), &mut cache)
+}
+
+fn name_their_turns(rt: &impl Abort, alloc: Global, cache: &mut Texts) -> Result<(), Fail> {
+    one_runs_and_one_waits(rt, alloc, cache)?;
+    a_live_value_is_replaced_or_not(rt, alloc, cache)?;
+    one_abandons(rt, alloc, cache)
 }
 
 /// A begin of a key.
-fn begin(
-    alloc: Global,
-    key: u64,
-    kind: Kind,
-    replace: Option<bool>,
-) -> Result<Step<u64, String, Types>, AllocError>
+fn begin(alloc: Global, key: u64, kind: Kind, replace: Option<bool>) -> Result<OneStep, AllocError>
     ensures { IfOk result (StepKeeps ⟦<Types as CacheTypes<u64, String>>⟧.keeps
         ⟦<Odd as Predicate<u64, String>>⟧.tests ⟦<Types as CacheTypes<u64, String>>⟧.test) }
 {

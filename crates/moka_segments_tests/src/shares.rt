@@ -1,5 +1,5 @@
 //! How many segments there are, what the share of each is, and which keys are of it.
-use crate::caches::{Builder, Hasher, Texts, UPPER, builder, insert, opened};
+use crate::caches::{Builder, Hasher, Texts, UPPER, builder, has, insert, name, opened, segments};
 use moka::common::builder_utils::BuildError;
 use moka::policy::{EvictionPolicy, NoListener, Policy};
 use std::alloc::Global;
@@ -42,10 +42,15 @@ fn opens_with_shares(
 }
 
 fn has_shares(rt: &impl Abort, cache: &Texts, policy: Policy, share: u64) {
+    assert_eq!(rt; segments(cache).len(), policy.num_segments());
+    have_policies(rt, cache, policy, Policy::new(Some(share), 1, None, None));
+}
+
+/// The cache has this policy, and each segment that one.
+fn have_policies(rt: &impl Abort, cache: &Texts, policy: Policy, share: Policy) {
     assert_eq!(rt; cache.policy(), policy);
-    assert_eq!(rt; cache.segments().len(), policy.num_segments());
-    for segment in cache.segments() {
-        assert_eq!(rt; segment.policy(), Policy::new(Some(share), 1, None, None));
+    for segment in segments(cache) {
+        assert_eq!(rt; segment.policy(), share);
     }
 }
 
@@ -63,17 +68,10 @@ fn every_setting_is_kept(rt: HostRuntime) -> Result<(), Fail> {
 
 fn keeps_settings(rt: &impl Abort, cache: &Texts) {
     let (live, idle) = (Duration::from_secs(2700), Duration::from_secs(900));
-    assert_eq!(rt;
-        cache.policy(),
-        Policy::new(Some(400), 32, Some(live), Some(idle))
-    );
-    assert_eq!(rt; cache.name(), Some("tracked_sessions"));
-    for segment in cache.segments() {
-        assert_eq!(rt;
-            segment.policy(),
-            Policy::new(Some(13), 1, Some(live), Some(idle))
-        );
-    }
+    let policy = Policy::new(Some(400), 32, Some(live), Some(idle));
+    let share = Policy::new(Some(13), 1, Some(live), Some(idle));
+    have_policies(rt, cache, policy, share);
+    assert_eq!(rt; name(cache), Some("tracked_sessions"));
 }
 
 #[test]
@@ -124,9 +122,13 @@ fn is_of_segment(
     place: usize,
 ) -> Result<(), Fail> {
     insert(cache, alloc, key, "a", 0)?;
-    for (number, segment) in cache.segments().iter().enumerate() {
-        assert_eq!(rt; segment.contains_key(&key, 0), number == place);
+    stands_in(rt, cache, key, place);
+    Ok(())
+}
+
+fn stands_in(rt: &impl Abort, cache: &Texts, key: u64, place: usize) {
+    for (number, segment) in segments(cache).iter().enumerate() {
+        assert_eq!(rt; has(segment, key), number == place);
         assert_eq!(rt; segment.entry_count(), u64::from(number == place));
     }
-    Ok(())
 }

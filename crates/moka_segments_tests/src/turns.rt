@@ -1,7 +1,7 @@
 //! The calls of turns, each in the segment of the turn's key.
 ghost use Rattle.std.specs.Prelude.{◌≡◌};
 
-use crate::caches::{Texts, UPPER, builder, insert, opened, text};
+use crate::caches::{Texts, UPPER, builder, has, insert, look, opened, segments, text};
 use moka::policy::Refused;
 use moka::sync::value_initializer::{
     Answer, Begun, CollectRefused, Collected, FinishRefused, Finished, Kind, Outcome, Ticket, Turn,
@@ -14,15 +14,37 @@ use std::test::Fail;
 
 type Begins = Result<Begun<u64, String>, Refused>;
 
+fn abandon(cache: &mut Texts, turn: Turn<u64>) -> Result<(), Refused> {
+    cache.abandon(turn)
+}
+
+fn leave(cache: &mut Texts, ticket: Ticket<u64>) -> Result<(), Refused> {
+    cache.leave(ticket)
+}
+
+type Ended = Result<Finished<u64, String, Infallible>, FinishRefused<u64, String, Infallible>>;
+
+/// Ends a turn with a text.
+fn finish(cache: &mut Texts, turn: Turn<u64>, value: String) -> Ended
+    requires { turn.key.kind ≡ Kind.With }
+{
+    cache.finish(turn, Outcome::Value(value), 0)
+}
+
+/// A ticket asks what came of its turn.
+fn collect(cache: &mut Texts, ticket: Ticket<u64>) -> Result<Told, CollectRefused<u64>> {
+    cache.collect(ticket)
+}
+
 /// Spends what a begin handed out, and says what it was.
 fn spent(cache: &mut Texts, begun: Begins) -> &'static str {
     match begun {
         Ok(Begun::Run(turn)) => {
-            let _ = cache.abandon(turn);
+            let _ = abandon(cache, turn);
             "it runs"
         }
         Ok(Begun::Wait(ticket)) => {
-            let _ = cache.leave(ticket);
+            let _ = leave(cache, ticket);
             "it waits"
         }
         Ok(Begun::Found(_)) => "it is found",
@@ -52,13 +74,13 @@ fn waited(rt: &impl Abort, cache: &mut Texts, key: &Arc<u64>) -> Ticket<u64> {
 fn finished(rt: &impl Abort, cache: &mut Texts, turn: Turn<u64>, value: String)
     requires { turn.key.kind ≡ Kind.With }
 {
-    match cache.finish(turn, Outcome::Value(value), 0) {
+    match finish(cache, turn, value) {
         Ok(Finished::Answer(answer)) => {
             assert!(rt; matches!(&answer, Answer::Entry(entry) if entry.is_fresh()));
         }
         Ok(Finished::Computed(_)) => panic!(rt; "it is a compute"),
         Err(FinishRefused { turn, .. }) => {
-            let _ = cache.abandon(turn);
+            let _ = abandon(cache, turn);
             panic!(rt; "it is refused")
         }
     }
@@ -71,7 +93,7 @@ fn spent_told(cache: &mut Texts, told: Told) -> &'static str {
     match told {
         Collected::Ready(_) => "it gave something",
         Collected::NotYet(ticket) => {
-            let _ = cache.leave(ticket);
+            let _ = leave(cache, ticket);
             "it is open still"
         }
         Collected::Abandoned => "it was abandoned",
@@ -81,10 +103,10 @@ fn spent_told(cache: &mut Texts, told: Told) -> &'static str {
 
 /// What a ticket is told.
 fn collected(rt: &impl Abort, cache: &mut Texts, ticket: Ticket<u64>) -> Told {
-    match cache.collect(ticket) {
+    match collect(cache, ticket) {
         Ok(told) => told,
         Err(CollectRefused { ticket, .. }) => {
-            let _ = cache.leave(ticket);
+            let _ = leave(cache, ticket);
             panic!(rt; "it is refused")
         }
     }
@@ -115,26 +137,29 @@ const KEYS: [u64; 4] = [1, 1 << 62, UPPER, u64::MAX];
 #[test]
 fn a_turn_is_of_the_segment_of_its_key(rt: HostRuntime) -> Result<(), Fail> {
     let mut cache = opened(rt.alloc(), builder(400), 4)?;
+    each_is_of_its_segment(&rt, rt.alloc(), &mut cache)
+}
+
+fn each_is_of_its_segment(rt: &impl Abort, alloc: Global, cache: &mut Texts) -> Result<(), Fail> {
     for index in 0..KEYS.len() {
-        is_of_segment(&rt, rt.alloc(), &mut cache, KEYS[index], index)?;
+        is_run(rt, alloc, cache, KEYS[index])?;
+        stands_in(rt, cache, KEYS[index], index);
     }
     Ok(())
 }
 
-fn is_of_segment(
-    rt: &impl Abort,
-    alloc: Global,
-    cache: &mut Texts,
-    number: u64,
-    index: usize,
-) -> Result<(), Fail> {
+fn is_run(rt: &impl Abort, alloc: Global, cache: &mut Texts, number: u64) -> Result<(), Fail> {
     let key = Arc::new(alloc, number)?;
     let value = text(alloc, "a")?;
     runs_and_waits(rt, cache, &key, value);
-    for (place, segment) in cache.segments().iter().enumerate() {
-        assert_eq!(rt; segment.contains_key(&number, 0), place == index);
-    }
     Ok(())
+}
+
+/// Of the segments this one alone has this key.
+fn stands_in(rt: &impl Abort, cache: &Texts, key: u64, index: usize) {
+    for (place, segment) in segments(cache).iter().enumerate() {
+        assert_eq!(rt; has(segment, key), place == index);
+    }
 }
 
 /// One runs, another waits, and is told this text.
@@ -181,30 +206,33 @@ fn abandons(rt: &impl Abort, cache: &mut Texts, key: &Arc<u64>) {
     let turn = ran(rt, cache, key);
     let ticket = waited(rt, cache, key);
     assert_eq!(rt; turn.number(), 0);
-    assert!(rt; cache.abandon(turn).is_ok());
-    assert!(rt; cache.leave(ticket).is_ok());
+    assert!(rt; abandon(cache, turn).is_ok());
+    assert!(rt; leave(cache, ticket).is_ok());
 }
 
 #[test]
 fn a_live_value_is_found_or_replaced(rt: HostRuntime) -> Result<(), Fail> {
     let key = Arc::new(rt.alloc(), UPPER)?;
-    let value = text(rt.alloc(), "b")?;
     let mut cache = opened(rt.alloc(), builder(400), 4)?;
-    insert(&mut cache, rt.alloc(), UPPER, "a", 0)?;
-    is_found_or_replaced(&rt, &mut cache, &key, value)
+    is_found_or_replaced(&rt, rt.alloc(), &mut cache, &key)
 }
 
 fn is_found_or_replaced(
     rt: &impl Abort,
+    alloc: Global,
     cache: &mut Texts,
     key: &Arc<u64>,
-    value: String,
 ) -> Result<(), Fail> {
+    insert(cache, alloc, UPPER, "a", 0)?;
     is_found(rt, cache, key);
+    is_replaced(rt, cache, key, text(alloc, "b")?);
+    assert_eq!(rt; look(cache, UPPER, 0)?.as_deref(), Some("b"));
+    Ok(())
+}
+
+fn is_replaced(rt: &impl Abort, cache: &mut Texts, key: &Arc<u64>, value: String) {
     let turn = ran_over(rt, cache, key);
     finished(rt, cache, turn, value);
-    assert_eq!(rt; cache.get(&UPPER, 0)?.as_deref(), Some("b"));
-    Ok(())
 }
 
 /// A begin that turns longer texts down finds this one.
@@ -256,15 +284,15 @@ fn are_not_known(
     let ticket = waited(rt, cache, key);
     let turn = unknown_turn(rt, other, turn, value);
     let ticket = unknown_ticket(rt, other, ticket);
-    assert_eq!(rt; other.leave(ticket), Err(Refused::UnknownTicket));
-    assert_eq!(rt; other.abandon(turn), Err(Refused::UnknownTurn));
+    assert_eq!(rt; leave(other, ticket), Err(Refused::UnknownTicket));
+    assert_eq!(rt; abandon(other, turn), Err(Refused::UnknownTurn));
 }
 
 /// A turn that a cache does not know, and hands back with its text.
 fn unknown_turn(rt: &impl Abort, cache: &mut Texts, turn: Turn<u64>, value: String) -> Turn<u64>
     requires { turn.key.kind ≡ Kind.With }
 {
-    match cache.finish(turn, Outcome::Value(value), 0) {
+    match finish(cache, turn, value) {
         Err(
             FinishRefused {
                 turn,
@@ -282,7 +310,7 @@ fn unknown_turn(rt: &impl Abort, cache: &mut Texts, turn: Turn<u64>, value: Stri
 
 /// A ticket that a cache does not know, and hands back.
 fn unknown_ticket(rt: &impl Abort, cache: &mut Texts, ticket: Ticket<u64>) -> Ticket<u64> {
-    match cache.collect(ticket) {
+    match collect(cache, ticket) {
         Err(CollectRefused { ticket, cause }) => {
             assert_eq!(rt; cause, Refused::UnknownTicket);
             ticket

@@ -3,14 +3,15 @@ use crate::load::Load;
 use crate::measure::{Outcome, nanos_since};
 use moka::policy::EvictionPolicy;
 use moka::ready::{FoldState, Plain};
-use moka::state::CacheState;
+use moka::state::{DueRows, RowStore, State};
 use moka::sync::CacheBuilder;
 use std::alloc::{AllocError, Global};
 use std::io;
 use std::time::{Clock, Instant};
 
-/// A state of the same types as the shared caches.
-type Alone = CacheState<u64, u64, Plain>;
+/// A state of the same types as the shared caches. It is called over any store of rows, since a
+/// call over the store itself is dear to prove.
+type Alone<R> = State<u64, u64, Plain, R>;
 
 /// Makes a state, and runs a load on it.
 pub(crate) fn timed<R: Clock>(
@@ -23,7 +24,7 @@ pub(crate) fn timed<R: Clock>(
     timed_on(rt, &mut state, keys)
 }
 
-fn opened(alloc: Global, capacity: u32) -> Result<Alone, AllocError> {
+fn opened(alloc: Global, capacity: u32) -> Result<Alone<DueRows<u64, u64>>, AllocError> {
     let builder = CacheBuilder::new(u64::from(capacity)).eviction_policy(EvictionPolicy::lru());
     match builder.build_state(alloc, FoldState::default()) {
         Ok(state) => Ok(state),
@@ -32,7 +33,11 @@ fn opened(alloc: Global, capacity: u32) -> Result<Alone, AllocError> {
 }
 
 /// The time of the second half of the keys: the first half brings the state to where it stays.
-fn timed_on<R: Clock>(rt: &R, state: &mut Alone, keys: &[u64]) -> io::Result<Outcome> {
+fn timed_on<R: RowStore<u64, u64>>(
+    rt: &impl Clock,
+    state: &mut Alone<R>,
+    keys: &[u64],
+) -> io::Result<Outcome> {
     let (before, measured) = keys.split_at(keys.len() / 2);
     look_for_all(state, before)?;
     let begun = Instant::now(rt)?;
@@ -41,7 +46,10 @@ fn timed_on<R: Clock>(rt: &R, state: &mut Alone, keys: &[u64]) -> io::Result<Out
     Ok(Outcome { nanos, found })
 }
 
-fn look_for_all(state: &mut Alone, keys: &[u64]) -> Result<u64, AllocError> {
+fn look_for_all<R: RowStore<u64, u64>>(
+    state: &mut Alone<R>,
+    keys: &[u64],
+) -> Result<u64, AllocError> {
     let mut found = 0_u64;
     for key in keys {
         if look(state, *key)? {
@@ -52,7 +60,7 @@ fn look_for_all(state: &mut Alone, keys: &[u64]) -> Result<u64, AllocError> {
 }
 
 /// Looks for a key, and writes it where it is not found. Whether it was found.
-fn look(state: &mut Alone, key: u64) -> Result<bool, AllocError> {
+fn look<R: RowStore<u64, u64>>(state: &mut Alone<R>, key: u64) -> Result<bool, AllocError> {
     let Ok(found) = state.get(&key, 0) else {
         return Err(AllocError);
     };

@@ -69,10 +69,18 @@ fn round<S: Subject<R> + Sync, R: Wait + Clock + Threads + Copy + Send + Sync>(
     alloc: Global,
 ) -> io::Result<(u64, Round)> {
     let subject = S::made(alloc, 100, *rt)?;
+    round_on(rt, alloc, &subject)
+}
+
+fn round_on<S: Subject<R> + Sync, R: Clock + Threads + Copy + Sync>(
+    rt: &R,
+    alloc: Global,
+    subject: &S,
+) -> io::Result<(u64, Round)> {
     let initializer = Initializer::new(Duration::from_millis(1), *rt);
     let mut times = NO_ROUND;
-    times[0] = asked(rt, alloc, &subject, &initializer)?;
-    times[1] = asked(rt, alloc, &subject, &initializer)?;
+    times[0] = asked(rt, alloc, subject, &initializer)?;
+    times[1] = asked(rt, alloc, subject, &initializer)?;
     Ok((initializer.asked(), times))
 }
 

@@ -74,12 +74,22 @@ fn timed<S: Subject<R> + Sync, R: Wait + Clock + Threads + Copy + Send + Sync>(
     load: &Load,
     keys: &[u64],
 ) -> io::Result<Outcome> {
-    let (before, measured) = keys.split_at(keys.len() / 2);
     let subject = S::made(alloc, load.capacity, *rt)?;
+    timed_on(rt, alloc, &subject, way, keys)
+}
+
+fn timed_on<S: Subject<R> + Sync, R: Clock + Threads + Copy + Sync>(
+    rt: &R,
+    alloc: Global,
+    subject: &S,
+    way: Way,
+    keys: &[u64],
+) -> io::Result<Outcome> {
+    let (before, measured) = keys.split_at(keys.len() / 2);
     let initializer = Initializer::new(Duration::ZERO, *rt);
-    found_of(&subject, Call::Look, before, &initializer)?;
+    found_of(subject, Call::Look, before, &initializer)?;
     let begun = Instant::now(rt)?;
-    let found = by_threads(rt, alloc, &subject, way, measured, &initializer)?;
+    let found = by_threads(rt, alloc, subject, way, measured, &initializer)?;
     let nanos = nanos_since(rt, begun)?;
     // What an initializer gave was not found.
     let found = found.saturating_sub(initializer.asked());

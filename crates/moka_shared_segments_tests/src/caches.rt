@@ -13,6 +13,8 @@ use std::hash::BuildHasherDefault;
 use std::rt::Clock;
 use std::sync::{Arc, Wait};
 use std::test::Fail;
+use std::thread;
+use std::thread::{JoinHandle, Threads};
 
 /// Says when it is told, and waits until another is done.
 #[derive(Drop)]
@@ -102,15 +104,57 @@ pub(crate) fn cache<W: Wait + Clock + Clone + Drop>(
     opened(rt, alloc, builder())
 }
 
+// Each call of a cache stands once in these files: each further function that has it is as dear
+// to prove.
+
+pub(crate) fn get<W: Wait + Clock + Drop>(cache: &Numbers<W>, key: u64) -> Found {
+    cache.get(&key)
+}
+
+pub(crate) fn insert<W: Wait + Clock + Drop>(
+    cache: &Numbers<W>,
+    key: u64,
+    value: u64,
+) -> Result<(), Refused> {
+    match cache.insert(key, value) {
+        Ok(()) => Ok(()),
+        Err(refused) => Err(refused.cause),
+    }
+}
+
+pub(crate) fn clone<W: Wait + Clock + Drop>(cache: &Numbers<W>) -> Result<Numbers<W>, AllocError> {
+    Ok(cache.clone()?)
+}
+
+/// What a look finds.
+pub(crate) type Found = Result<Option<u64>, Refused>;
+
 /// Looks for a key once another thread is inside, and is done.
-pub(crate) fn gets_once_one_is_inside<W: Wait + Clock + Drop>(
+fn gets_once_one_is_inside<W: Wait + Clock + Drop>(
     rt: &W,
     cache: &Numbers<W>,
     marks: &Marks,
     key: u64,
-) -> Result<Option<u64>, Refused> {
+) -> Found {
     come(rt, &marks.arrived, 1);
-    let found = cache.get(&key);
+    let found = get(cache, key);
     mark(&marks.done);
     found
+}
+
+/// Looks for a key in a thread of its own, once another is inside.
+pub(crate) fn gets_beside<W>(
+    rt: &W,
+    cache: &Numbers<W>,
+    marks: &Arc<Marks>,
+    key: u64,
+) -> Result<JoinHandle<Found>, Fail>
+where
+    W: Wait + Clock + Threads + Copy + Drop + Send + Sync + 'static,
+{
+    let (theirs, others, handle) = (clone(cache)?, marks.clone()?, *rt);
+    Ok(thread::spawn(
+        rt,
+        move || gets_once_one_is_inside(&handle, &theirs, &others, key),
+    )?)
 }

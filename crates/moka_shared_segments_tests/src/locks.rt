@@ -1,7 +1,7 @@
 //! Which lock is held while a caller's closure runs: none where it works a value out, and where it says whether to replace
 //! a value that of its segment alone.
 
-use crate::caches::{FOURTH, Numbers, SECOND, THIRD, cache, gets_once_one_is_inside};
+use crate::caches::{FOURTH, Found, Numbers, SECOND, THIRD, cache, get, gets_beside, insert};
 use crate::marks::{Marks, inside_until_done, new_marks};
 use moka::ops::compute::Op;
 use std::alloc::Global;
@@ -9,7 +9,6 @@ use std::process::Abort;
 use std::rt::Clock;
 use std::sync::{Arc, Wait};
 use std::test::Fail;
-use std::thread;
 use std::thread::Threads;
 
 /// A call that asks a closure.
@@ -36,20 +35,36 @@ const OUTSIDE: [Form; 5] = [
 /// A call of key 1, whose closure waits until another thread is done. The value behind it is 1 where that was in time.
 fn made_by<W: Wait + Clock + Drop>(rt: &W, cache: &Numbers<W>, marks: &Marks, form: Form) -> bool {
     match form {
-        Form::With => cache.get_with(1, || inside_until_done(rt, marks)).is_ok(),
-        Form::Optionally => cache
-            .optionally_get_with(1, || Some(inside_until_done(rt, marks)))
-            .is_ok(),
-        Form::Try => cache
-            .try_get_with(1, || Ok(inside_until_done(rt, marks)))
-            .is_ok(),
+        Form::With => gives(rt, cache, marks),
+        Form::Optionally => may_give(rt, cache, marks),
+        Form::Try => tries_to_give(rt, cache, marks),
         Form::Compute => computes(rt, cache, marks),
-        Form::Upsert => cache
-            .entry(1)
-            .and_upsert_with(|_| inside_until_done(rt, marks))
-            .is_ok(),
+        Form::Upsert => upserts(rt, cache, marks),
         Form::ReplaceIf => replaces(rt, cache, marks),
     }
+}
+
+fn gives<W: Wait + Clock + Drop>(rt: &W, cache: &Numbers<W>, marks: &Marks) -> bool {
+    cache.get_with(1, || inside_until_done(rt, marks)).is_ok()
+}
+
+fn may_give<W: Wait + Clock + Drop>(rt: &W, cache: &Numbers<W>, marks: &Marks) -> bool {
+    cache
+        .optionally_get_with(1, || Some(inside_until_done(rt, marks)))
+        .is_ok()
+}
+
+fn tries_to_give<W: Wait + Clock + Drop>(rt: &W, cache: &Numbers<W>, marks: &Marks) -> bool {
+    cache
+        .try_get_with(1, || Ok(inside_until_done(rt, marks)))
+        .is_ok()
+}
+
+fn upserts<W: Wait + Clock + Drop>(rt: &W, cache: &Numbers<W>, marks: &Marks) -> bool {
+    cache
+        .entry(1)
+        .and_upsert_with(|_| inside_until_done(rt, marks))
+        .is_ok()
 }
 
 fn computes<W: Wait + Clock + Drop>(rt: &W, cache: &Numbers<W>, marks: &Marks) -> bool {
@@ -88,9 +103,6 @@ where
 {
     let marks = new_marks(alloc)?;
     let cache = cache(rt, alloc)?;
-    if matches!(form, Form::ReplaceIf) {
-        cache.insert(1, 10)?;
-    }
     a_get_answers(&rt, &cache, &marks, form, key)
 }
 
@@ -104,19 +116,23 @@ fn a_get_answers<W>(
 where
     W: Wait + Clock + Threads + Abort + Copy + Drop + Send + Sync + 'static,
 {
-    cache.insert(key, 20)?;
-    let (theirs, others, handle) = (cache.clone()?, marks.clone()?, *rt);
-    let child = thread::spawn(
-        rt,
-        move || gets_once_one_is_inside(&handle, &theirs, &others, key),
-    )?;
+    if matches!(form, Form::ReplaceIf) {
+        insert(cache, 1, 10)?;
+    }
+    insert(cache, key, 20)?;
+    let child = gets_beside(rt, cache, marks, key)?;
     assert!(rt; made_by(rt, cache, marks, form), "{form:?}");
     let found = child.join(rt);
+    have_answered(rt, get(cache, 1), found, form, key);
+    Ok(())
+}
+
+/// The other has found its value, and the closure saw that it had.
+fn have_answered(rt: &impl Abort, made: Found, found: Found, form: Form, key: u64) {
     assert_eq!(rt;
-        cache.get(&1),
+        made,
         Ok(Some(1)),
         "the other has answered by then: {form:?}, {key}"
     );
     assert_eq!(rt; found, Ok(Some(20)));
-    Ok(())
 }

@@ -1,13 +1,12 @@
 //! The listener is told with no lock held.
 
-use crate::caches::{Builder, Numbers, Slow, builder, gets_once_one_is_inside, opened};
+use crate::caches::{Builder, Found, Numbers, Slow, builder, gets_beside, insert, opened};
 use crate::marks::{Marks, new_marks, so_far};
 use std::alloc::Global;
 use std::process::Abort;
 use std::rt::Clock;
 use std::sync::{Arc, Wait};
 use std::test::Fail;
-use std::thread;
 use std::thread::Threads;
 
 /// A call in which a hidden value of key 1 leaves.
@@ -32,7 +31,7 @@ const LEAVES: [Leaves; 6] = [
 
 fn lets_one_leave<W: Wait + Clock + Drop>(cache: &Numbers<W>, call: Leaves) -> bool {
     match call {
-        Leaves::Insert => cache.insert(1, 11).is_ok(),
+        Leaves::Insert => insert(cache, 1, 11).is_ok(),
         Leaves::Invalidate => {
             cache.invalidate(&1);
             true
@@ -60,10 +59,14 @@ where
     W: Wait + Clock + Threads + Abort + Copy + Drop + Send + Sync + 'static,
 {
     let marks = new_marks(alloc)?;
-    let listener = Slow::new(marks.clone()?, rt);
-    let told: Builder<W> = builder().eviction_listener(listener);
-    let cache = opened(rt, alloc, told)?;
+    let cache = opened(rt, alloc, slow_builder(rt, &marks)?)?;
     a_get_answers_in_between(&rt, &cache, &marks, call)
+}
+
+/// The builder of a cache that is heard slowly.
+fn slow_builder<W: Clock + Copy + Drop>(rt: W, marks: &Arc<Marks>) -> Result<Builder<W>, Fail> {
+    let listener = Slow::new(marks.clone()?, rt);
+    Ok(builder().eviction_listener(listener))
 }
 
 fn a_get_answers_in_between<W>(
@@ -75,20 +78,20 @@ fn a_get_answers_in_between<W>(
 where
     W: Wait + Clock + Threads + Abort + Copy + Drop + Send + Sync + 'static,
 {
-    cache.insert(1, 10)?;
+    insert(cache, 1, 10)?;
     cache.invalidate_all();
-    cache.insert(2, 20)?;
-    let (theirs, others, handle) = (cache.clone()?, marks.clone()?, *rt);
-    let child = thread::spawn(
-        rt,
-        move || gets_once_one_is_inside(&handle, &theirs, &others, 2),
-    )?;
+    insert(cache, 2, 20)?;
+    let child = gets_beside(rt, cache, marks, 2)?;
     assert!(rt; lets_one_leave(cache, call), "{call:?}");
-    assert_eq!(rt; child.join(rt), Ok(Some(20)));
+    was_in_time(rt, marks, child.join(rt), call);
+    Ok(())
+}
+
+fn was_in_time(rt: &impl Abort, marks: &Marks, found: Found, call: Leaves) {
+    assert_eq!(rt; found, Ok(Some(20)));
     assert_eq!(rt;
         so_far(&marks.in_time),
         1,
         "it was answered while the listener ran: {call:?}"
     );
-    Ok(())
 }

@@ -2,7 +2,7 @@
 ghost use Rattle.std.specs.Prelude.{◌≡◌, ◌≢◌};
 ghost use Rattle.moka_model.specs.declared.turns.Kind.{Kind};
 
-use crate::caches::{FOURTH, Numbers, SECOND, THIRD, cache, shared};
+use crate::caches::{FOURTH, Numbers, SECOND, THIRD, cache, clone, shared};
 use crate::marks::{Marks, come, mark, new_marks, pause, so_far};
 use moka::policy::Refused;
 use moka::sync::value_initializer::{Begun, FinishRefused, Kind, Outcome, Turn};
@@ -72,17 +72,52 @@ where
     W: Wait + Clock + Threads + Abort + Copy + Drop + Send + Sync + 'static,
 {
     let mut children = children;
+    all_ask(rt, cache, marks, &mut children, key)?;
+    all_are_given(rt, marks, children);
+    Ok(())
+}
+
+/// Each of the threads asks.
+fn all_ask<W>(
+    rt: &W,
+    cache: &Numbers<W>,
+    marks: &Arc<Marks>,
+    children: &mut Vec<JoinHandle<Given>>,
+    key: u64,
+) -> Result<(), Fail>
+where
+    W: Wait + Clock + Threads + Copy + Drop + Send + Sync + 'static,
+{
     for _ in 0..THREADS {
-        let (theirs, others, handle) = (cache.clone()?, marks.clone()?, *rt);
-        let child = thread::spawn(rt, move || asks_with_others(&handle, &theirs, &others, key))?;
+        let child = asks_beside(rt, cache, marks, key)?;
         children.push(child)?;
     }
+    Ok(())
+}
+
+fn asks_beside<W>(
+    rt: &W,
+    cache: &Numbers<W>,
+    marks: &Arc<Marks>,
+    key: u64,
+) -> Result<JoinHandle<Given>, Fail>
+where
+    W: Wait + Clock + Threads + Copy + Drop + Send + Sync + 'static,
+{
+    let (theirs, others, handle) = (clone(cache)?, marks.clone()?, *rt);
+    Ok(thread::spawn(rt, move || asks_with_others(&handle, &theirs, &others, key))?)
+}
+
+/// All are given what one of them worked out.
+fn all_are_given<W>(rt: &W, marks: &Marks, children: Vec<JoinHandle<Given>>)
+where
+    W: Clock + Threads + Abort,
+{
     assert!(rt; come(rt, &marks.done, THREADS), "all are answered");
     for child in children {
         assert_eq!(rt; child.join(rt), Ok(7));
     }
     assert_eq!(rt; so_far(&marks.asks), 1, "one initializer ran");
-    Ok(())
 }
 
 /// One more was asked, and gives this value.
@@ -119,6 +154,11 @@ fn ran<W: Wait + Clock + Drop>(
     }
 }
 
+/// Whether the turn was open.
+fn abandon<W: Wait + Clock + Drop>(cache: &Numbers<W>, turn: Turn<u64>) -> bool {
+    cache.abandon(turn).is_ok()
+}
+
 /// Ends a turn with 7.
 fn finishes<W: Wait + Clock + Drop>(rt: &impl Abort, cache: &Numbers<W>, turn: Turn<u64>)
     requires { turn.key.kind ≡ Kind.With }
@@ -131,7 +171,7 @@ fn finishes<W: Wait + Clock + Drop>(rt: &impl Abort, cache: &Numbers<W>, turn: T
         },
     ) = cache.finish(turn, Outcome::Value(7))
     {
-        let _ = cache.abandon(turn);
+        abandon(cache, turn);
         panic!(rt; "{cause}");
     }
 }
@@ -149,7 +189,7 @@ fn ends<W: Wait + Clock + Drop>(rt: &impl Abort, cache: &Numbers<W>, turn: Turn<
 {
     match end {
         End::Finished => finishes(rt, cache, turn),
-        End::Abandoned => assert!(rt; cache.abandon(turn).is_ok()),
+        End::Abandoned => assert!(rt; abandon(cache, turn)),
     }
 }
 
@@ -189,18 +229,28 @@ where
     W: Wait + Clock + Threads + Abort + Copy + Drop + Send + Sync + 'static,
 {
     let (key, marks) = shared;
-    let (theirs, others, number) = (cache.clone()?, marks.clone()?, **key);
+    let (theirs, others, number) = (clone(cache)?, marks.clone()?, **key);
     let turn = ran(rt, cache, key, Kind::With);
     let child = thread::spawn(rt, move || asks(&theirs, &others, number));
+    waits_still(rt, marks);
+    ends(rt, cache, turn, end);
+    assert!(rt; come(rt, &marks.done, 1), "the other is answered");
+    is_given(rt, child?.join(rt), so_far(&marks.asks), end);
+    Ok(())
+}
+
+/// One has come, and is not answered after a while.
+fn waits_still(rt: &(impl Clock + Abort), marks: &Marks) {
     assert!(rt; come(rt, &marks.arrived, 1), "the other waits");
     pause(rt);
     assert_eq!(rt; so_far(&marks.done), 0, "the other waits");
-    ends(rt, cache, turn, end);
-    assert!(rt; come(rt, &marks.done, 1), "the other is answered");
+}
+
+/// Who waited is given what the turn ended with, or works out its own.
+fn is_given(rt: &impl Abort, given: Given, asks: u64, end: End) {
     let wanted = match end {
         End::Finished => (Ok(7), 0),
         End::Abandoned => (Ok(12), 1),
     };
-    assert_eq!(rt; (child?.join(rt), so_far(&marks.asks)), wanted);
-    Ok(())
+    assert_eq!(rt; (given, asks), wanted);
 }

@@ -1,6 +1,6 @@
 //! A walk holds no lock between two of its steps, and goes on over what is written meanwhile.
 
-use crate::caches::{FOURTH, Hasher, Numbers, SECOND, THIRD, Types, builder, cache};
+use crate::caches::{FOURTH, Hasher, Numbers, SECOND, THIRD, Types, builder, cache, clone, insert};
 use crate::marks::{Marks, come, mark, new_marks, so_far};
 use moka::policy::ManualClock;
 use moka::sync::{Cache, Iter};
@@ -62,8 +62,8 @@ fn writes_to_several<W: Wait + Clock + Drop>(rt: &W, cache: &Numbers<W>, marks: 
     let mut is_done = true;
     for key in KEYS {
         waits_for_a_step(rt, marks);
-        is_done &= cache.insert(key, 20).is_ok();
-        is_done &= cache.insert(LATE, 20).is_ok();
+        is_done &= insert(cache, key, 20).is_ok();
+        is_done &= insert(cache, LATE, 20).is_ok();
         mark(&marks.done);
     }
     is_done
@@ -121,9 +121,9 @@ where
     W: Wait + Clock + Threads + Abort + Copy + Drop + Send + Sync + 'static,
 {
     for key in KEYS {
-        cache.insert(key, 10)?;
+        insert(cache, key, 10)?;
     }
-    let (theirs, others, handle) = (cache.clone()?, marks.clone()?, *rt);
+    let (theirs, others, handle) = (clone(cache)?, marks.clone()?, *rt);
     let child = thread::spawn(rt, move || writes_to_several(&handle, &theirs, &others))?;
     all_come(rt, alloc, cache.iter(), marks, child)
 }

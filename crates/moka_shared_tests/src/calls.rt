@@ -1,19 +1,48 @@
 //! The calls of a shared cache that may take memory, each with what it answers.
 use crate::caches::{Numbers, Odd};
 use crate::told::{
-    Told, computed_of, entry_of, insert_of, option_of, optional_entry_of, or_insert_of, parts,
+    Told, computed_of, entry_of, option_of, optional_entry_of, or_insert_of, parts,
     tried_compute_of, tried_entry_of, tried_of, value_of,
 };
 use moka::common::entry::Entry;
 use moka::ops::compute::Op;
 use moka::policy::Refused;
-use moka::sync::value_initializer::{Begun, BegunCompute, Kind};
+use moka::sync::value_initializer::{Begun, BegunCompute, Kind, Ticket, Turn};
 use rand_core::SeedableRng;
 use rand_xoshiro::SplitMix64;
+use std::alloc::AllocError;
 use std::sync::{Arc, Wait};
 
-pub(crate) fn insert<W: Wait + Drop>(cache: &Numbers<W>, key: u64, value: u64) -> Told {
-    insert_of(cache.insert(key, value))
+// Each call of a cache stands once in these files: each further function that has it is as dear
+// to prove.
+
+pub(crate) fn get<W: Wait + Drop>(cache: &Numbers<W>, key: u64) -> Result<Option<u64>, Refused> {
+    cache.get(&key)
+}
+
+pub(crate) fn insert<W: Wait + Drop>(
+    cache: &Numbers<W>,
+    key: u64,
+    value: u64,
+) -> Result<(), Refused> {
+    match cache.insert(key, value) {
+        Ok(()) => Ok(()),
+        Err(refused) => Err(refused.cause),
+    }
+}
+
+pub(crate) fn clone<W: Wait + Drop>(cache: &Numbers<W>) -> Result<Numbers<W>, AllocError> {
+    Ok(cache.clone()?)
+}
+
+/// Whether the turn was open.
+pub(crate) fn abandon<W: Wait + Drop>(cache: &Numbers<W>, turn: Turn<u64>) -> bool {
+    cache.abandon(turn).is_ok()
+}
+
+/// Whether the ticket was of this cache.
+pub(crate) fn leave<W: Wait + Drop>(cache: &Numbers<W>, ticket: Ticket<u64>) -> bool {
+    cache.leave(ticket).is_ok()
 }
 
 pub(crate) fn or_insert<W: Wait + Drop>(cache: &Numbers<W>, key: &Arc<u64>, value: u64) -> Told {
@@ -252,11 +281,11 @@ pub(crate) fn spent<W: Wait + Drop>(cache: &Numbers<W>, begun: Begins) -> Told {
     match begun {
         Ok(Begun::Found(entry)) => Told::Entry(parts(&entry)),
         Ok(Begun::Run(turn)) => {
-            let _ = cache.abandon(turn);
+            abandon(cache, turn);
             Told::Runs
         }
         Ok(Begun::Wait(ticket)) => {
-            let _ = cache.leave(ticket);
+            leave(cache, ticket);
             Told::Waits
         }
         Err(cause) => Told::Refused(cause),
@@ -267,11 +296,11 @@ pub(crate) fn spent<W: Wait + Drop>(cache: &Numbers<W>, begun: Begins) -> Told {
 pub(crate) fn spent_compute<W: Wait + Drop>(cache: &Numbers<W>, begun: BeginsCompute) -> Told {
     match begun {
         Ok(BegunCompute::Run(turn, _)) => {
-            let _ = cache.abandon(turn);
+            abandon(cache, turn);
             Told::Runs
         }
         Ok(BegunCompute::Wait(ticket)) => {
-            let _ = cache.leave(ticket);
+            leave(cache, ticket);
             Told::Waits
         }
         Err(cause) => Told::Refused(cause),

@@ -3,7 +3,7 @@
 use crate::caches::{Numbers, cache, shared};
 use crate::calls;
 use crate::calls::{Doing, Key};
-use crate::told::{Told, option_of};
+use crate::told::{Told, insert_of, option_of};
 use moka::sync::ConcurrentCacheExt;
 use std::process::Abort;
 use std::sync::{Arc, Wait};
@@ -45,7 +45,7 @@ fn writes<W: Wait + Drop>(rt: &impl Abort, cache: &Numbers<W>, key: &Arc<u64>) {
         calls::or_default(cache, 2),
         entry(2, 0, true),
     );
-    is(rt, "insert", calls::insert(cache, 3, 31), Told::Done);
+    is(rt, "insert", insert(cache, 3, 31), Told::Done);
     is(rt, "get", get(cache, 3), Told::Value(31));
 }
 
@@ -65,8 +65,12 @@ fn removals<W: Wait + Drop>(rt: &impl Abort, cache: &Numbers<W>) {
     assert_eq!(rt; cache.weighted_size(), 0);
 }
 
+fn insert<W: Wait + Drop>(cache: &Numbers<W>, key: u64, value: u64) -> Told {
+    insert_of(calls::insert(cache, key, value))
+}
+
 fn get<W: Wait + Drop>(cache: &Numbers<W>, key: u64) -> Told {
-    option_of(cache.get(&key))
+    option_of(calls::get(cache, key))
 }
 
 fn remove<W: Wait + Drop>(cache: &Numbers<W>, key: u64) -> Told {
@@ -174,12 +178,15 @@ fn by_reference<W: Wait + Drop>(rt: &impl Abort, cache: &Numbers<W>) {
 #[test]
 fn selectors_answer(rt: HostRuntime) -> Result<(), Fail> {
     let cache = cache(rt, rt.alloc())?;
-    for is_lent in [false, true] {
-        cache.invalidate_all();
-        selectors(&rt, &cache, is_lent);
-        computes(&rt, &cache, is_lent);
-    }
+    selectors_of(&rt, &cache, false);
+    selectors_of(&rt, &cache, true);
     Ok(())
+}
+
+fn selectors_of<W: Wait + Drop>(rt: &impl Abort, cache: &Numbers<W>, is_lent: bool) {
+    cache.invalidate_all();
+    selectors(rt, cache, is_lent);
+    computes(rt, cache, is_lent);
 }
 
 fn selectors<W: Wait + Drop>(rt: &impl Abort, cache: &Numbers<W>, is_lent: bool) {
@@ -240,25 +247,29 @@ fn computes<W: Wait + Drop>(rt: &impl Abort, cache: &Numbers<W>, is_lent: bool) 
 fn turns_answer(rt: HostRuntime) -> Result<(), Fail> {
     let key = shared(rt.alloc(), 1)?;
     let cache = cache(rt, rt.alloc())?;
-    is(&rt, "begin", calls::begin(&cache, &key, 0), Told::Runs);
+    turns(&rt, &cache, &key);
+    Ok(())
+}
+
+fn turns<W: Wait + Drop>(rt: &impl Abort, cache: &Numbers<W>, key: &Arc<u64>) {
+    is(rt, "begin", calls::begin(cache, key, 0), Told::Runs);
     is(
-        &rt,
+        rt,
         "begin_by_ref",
-        calls::begin_by_ref(&cache, 1),
+        calls::begin_by_ref(cache, 1),
         Told::Runs,
     );
     is(
-        &rt,
+        rt,
         "begin_compute",
-        calls::begin_compute(&cache, &key),
+        calls::begin_compute(cache, key),
         Told::Runs,
     );
-    is(&rt, "get", get(&cache, 1), Told::Nothing);
+    is(rt, "get", get(cache, 1), Told::Nothing);
     is(
-        &rt,
+        rt,
         "get_with",
-        calls::get_with(&cache, 1, 10),
+        calls::get_with(cache, 1, 10),
         Told::Value(10),
     );
-    Ok(())
 }

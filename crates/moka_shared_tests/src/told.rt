@@ -3,7 +3,7 @@
 use moka::common::entry::Entry;
 use moka::ops::compute::CompResult;
 use moka::policy::Refused;
-use moka::state::{InsertRefused, OrInsertRefused};
+use moka::state::OrInsertRefused;
 use moka::sync::value_initializer::Answer;
 use std::sync::Arc;
 
@@ -42,10 +42,10 @@ pub(crate) fn parts(entry: &Entry<u64, u64>) -> Parts {
     )
 }
 
-pub(crate) fn insert_of(given: Result<(), InsertRefused<u64, u64>>) -> Told {
+pub(crate) fn insert_of(given: Result<(), Refused>) -> Told {
     match given {
         Ok(()) => Told::Done,
-        Err(refused) => Told::Refused(refused.cause),
+        Err(cause) => Told::Refused(cause),
     }
 }
 

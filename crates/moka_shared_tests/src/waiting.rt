@@ -4,7 +4,7 @@ ghost use Rattle.std.specs.Prelude.{◌≡◌, ◌≢◌};
 ghost use Rattle.moka_model.specs.declared.turns.Kind.{Kind};
 
 use crate::caches::{Numbers, cache, shared};
-use crate::calls::next_of;
+use crate::calls::{abandon, clone, get, insert, leave, next_of};
 use crate::marks::{Marks, come, mark, new_marks, pause, so_far};
 use moka::notification::RemovalCause;
 use moka::ops::compute::Op;
@@ -28,15 +28,18 @@ fn inside_until_done(rt: &impl Clock, marks: &Marks) -> u64 {
     so_far(&marks.done)
 }
 
+/// What a look finds.
+type Found = Result<Option<u64>, Refused>;
+
 /// Looks for a key once another thread is inside, and is done.
 fn gets_once_one_is_inside<W: Wait + Clock + Drop>(
     rt: &W,
     cache: &Numbers<W>,
     marks: &Marks,
     key: u64,
-) -> Result<Option<u64>, Refused> {
+) -> Found {
     come(rt, &marks.arrived, 1);
-    let found = cache.get(&key);
+    let found = get(cache, key);
     mark(&marks.done);
     found
 }
@@ -64,20 +67,36 @@ const FORMS: [Form; 6] = [
 /// A call of key 1, whose closure waits until another thread is done.
 fn made_by<W: Wait + Clock + Drop>(rt: &W, cache: &Numbers<W>, marks: &Marks, form: Form) -> bool {
     match form {
-        Form::With => cache.get_with(1, || inside_until_done(rt, marks)).is_ok(),
-        Form::Optionally => cache
-            .optionally_get_with(1, || Some(inside_until_done(rt, marks)))
-            .is_ok(),
-        Form::Try => cache
-            .try_get_with(1, || Ok(inside_until_done(rt, marks)))
-            .is_ok(),
+        Form::With => gives(rt, cache, marks),
+        Form::Optionally => may_give(rt, cache, marks),
+        Form::Try => tries_to_give(rt, cache, marks),
         Form::Compute => computes(rt, cache, marks),
         Form::TryCompute => tries_to_compute(rt, cache, marks),
-        Form::Upsert => cache
-            .entry(1)
-            .and_upsert_with(|_| inside_until_done(rt, marks))
-            .is_ok(),
+        Form::Upsert => upserts(rt, cache, marks),
     }
+}
+
+fn gives<W: Wait + Clock + Drop>(rt: &W, cache: &Numbers<W>, marks: &Marks) -> bool {
+    cache.get_with(1, || inside_until_done(rt, marks)).is_ok()
+}
+
+fn may_give<W: Wait + Clock + Drop>(rt: &W, cache: &Numbers<W>, marks: &Marks) -> bool {
+    cache
+        .optionally_get_with(1, || Some(inside_until_done(rt, marks)))
+        .is_ok()
+}
+
+fn tries_to_give<W: Wait + Clock + Drop>(rt: &W, cache: &Numbers<W>, marks: &Marks) -> bool {
+    cache
+        .try_get_with(1, || Ok(inside_until_done(rt, marks)))
+        .is_ok()
+}
+
+fn upserts<W: Wait + Clock + Drop>(rt: &W, cache: &Numbers<W>, marks: &Marks) -> bool {
+    cache
+        .entry(1)
+        .and_upsert_with(|_| inside_until_done(rt, marks))
+        .is_ok()
 }
 
 fn computes<W: Wait + Clock + Drop>(rt: &W, cache: &Numbers<W>, marks: &Marks) -> bool {
@@ -115,21 +134,33 @@ fn a_get_answers<W>(rt: &W, cache: &Numbers<W>, marks: &Arc<Marks>, form: Form) 
 where
     W: Wait + Clock + Threads + Abort + Copy + Drop + Send + Sync + 'static,
 {
-    cache.insert(2, 20)?;
-    let (theirs, others, handle) = (cache.clone()?, marks.clone()?, *rt);
-    let child = thread::spawn(
+    insert(cache, 2, 20)?;
+    let child = gets_beside(rt, cache, marks)?;
+    assert!(rt; made_by(rt, cache, marks, form), "{form:?}");
+    has_answered(rt, cache, child.join(rt), form);
+    Ok(())
+}
+
+/// Looks for key 2 in a thread of its own, once another is inside.
+fn gets_beside<W>(rt: &W, cache: &Numbers<W>, marks: &Arc<Marks>) -> Result<JoinHandle<Found>, Fail>
+where
+    W: Wait + Clock + Threads + Copy + Drop + Send + Sync + 'static,
+{
+    let (theirs, others, handle) = (clone(cache)?, marks.clone()?, *rt);
+    Ok(thread::spawn(
         rt,
         move || gets_once_one_is_inside(&handle, &theirs, &others, 2),
-    )?;
-    assert!(rt; made_by(rt, cache, marks, form), "{form:?}");
-    let found = child.join(rt);
+    )?)
+}
+
+/// The other has found its value, and the closure saw that it had.
+fn has_answered<W: Wait + Abort + Drop>(rt: &W, cache: &Numbers<W>, found: Found, form: Form) {
     assert_eq!(rt;
-        cache.get(&1),
+        get(cache, 1),
         Ok(Some(1)),
         "the other has answered by then: {form:?}"
     );
     assert_eq!(rt; found, Ok(Some(20)));
-    Ok(())
 }
 
 /// Says when it is told, and waits until another is done.
@@ -225,24 +256,42 @@ where
     let key = shared(alloc, 1)?;
     let marks = new_marks(alloc)?;
     let clock = shared(alloc, ManualClock::new(0))?;
-    let listener = Slow {
-        marks: marks.clone()?,
-        rt,
-    };
+    let cache = slow_cache(rt, alloc, &clock, &marks)?;
+    a_get_answers_in_between(&rt, &cache, &clock, (&key, &marks), call)
+}
+
+/// A cache whose values live a second.
+fn slow_cache<W: Wait + Clock + Copy + Drop>(
+    rt: W,
+    alloc: Global,
+    clock: &Arc<ManualClock>,
+    marks: &Arc<Marks>,
+) -> Result<Heard<W>, Fail> {
+    let (clock, marks) = (clock.clone()?, marks.clone()?);
     let builder: CacheBuilder<u64, u64, SlowTypes<W>, _> = CacheBuilder::new(100);
-    let cache = builder
-        .time_to_live(Duration::from_secs(1))
-        .eviction_listener(listener)
-        .build_with_hasher(alloc, FoldState::default(), clock.clone()?, rt)?;
+    Ok(
+        builder
+            .time_to_live(Duration::from_secs(1))
+            .eviction_listener(Slow { marks, rt })
+            .build_with_hasher(alloc, FoldState::default(), clock, rt)?,
+    )
+}
+
+/// Key 1 has expired, and key 2 is live.
+fn let_one_expire<W: Wait + Clock + Drop>(
+    cache: &Heard<W>,
+    clock: &ManualClock,
+) -> Result<(), Fail> {
     cache.insert(1, 10)?;
     clock.set(1_000_000_000);
     cache.insert(2, 20)?;
-    a_get_answers_in_between(&rt, &cache, (&key, &marks), call)
+    Ok(())
 }
 
 fn a_get_answers_in_between<W>(
     rt: &W,
     cache: &Heard<W>,
+    clock: &ManualClock,
     shared: (&Arc<u64>, &Arc<Marks>),
     call: Leaves,
 ) -> Result<(), Fail>
@@ -250,23 +299,36 @@ where
     W: Wait + Clock + Threads + Abort + Copy + Drop + Send + Sync + 'static,
 {
     let (key, marks) = shared;
-    let (theirs, others, handle) = (cache.clone()?, marks.clone()?, *rt);
-    let child = thread::spawn(rt, move || gets_once_it_hears(&handle, &theirs, &others))?;
+    let_one_expire(cache, clock)?;
+    let child = gets_while_it_hears(rt, cache, marks)?;
     assert!(rt; lets_one_leave(cache, key, call), "{call:?}");
-    assert_eq!(rt; child.join(rt), Ok(Some(20)));
+    was_in_time(rt, marks, child.join(rt), call);
+    Ok(())
+}
+
+/// Looks for key 2 in a thread of its own, once the listener runs.
+fn gets_while_it_hears<W>(
+    rt: &W,
+    cache: &Heard<W>,
+    marks: &Arc<Marks>,
+) -> Result<JoinHandle<Found>, Fail>
+where
+    W: Wait + Clock + Threads + Copy + Drop + Send + Sync + 'static,
+{
+    let (theirs, others, handle) = (cache.clone()?, marks.clone()?, *rt);
+    Ok(thread::spawn(rt, move || gets_once_it_hears(&handle, &theirs, &others))?)
+}
+
+fn was_in_time(rt: &impl Abort, marks: &Marks, found: Found, call: Leaves) {
+    assert_eq!(rt; found, Ok(Some(20)));
     assert_eq!(rt;
         so_far(&marks.in_time),
         1,
         "it was answered while the listener ran: {call:?}"
     );
-    Ok(())
 }
 
-fn gets_once_it_hears<W: Wait + Clock + Drop>(
-    rt: &W,
-    cache: &Heard<W>,
-    marks: &Marks,
-) -> Result<Option<u64>, Refused> {
+fn gets_once_it_hears<W: Wait + Clock + Drop>(rt: &W, cache: &Heard<W>, marks: &Marks) -> Found {
     come(rt, &marks.arrived, 1);
     let found = cache.get(&2);
     mark(&marks.done);
@@ -312,17 +374,46 @@ where
     W: Wait + Clock + Threads + Abort + Copy + Drop + Send + Sync + 'static,
 {
     let mut children = children;
+    all_ask(rt, cache, marks, &mut children)?;
+    all_are_given(rt, marks, children);
+    Ok(())
+}
+
+/// Each of the threads asks.
+fn all_ask<W>(
+    rt: &W,
+    cache: &Numbers<W>,
+    marks: &Arc<Marks>,
+    children: &mut Vec<JoinHandle<Given>>,
+) -> Result<(), Fail>
+where
+    W: Wait + Clock + Threads + Copy + Drop + Send + Sync + 'static,
+{
     for _ in 0..THREADS {
-        let (theirs, others, handle) = (cache.clone()?, marks.clone()?, *rt);
-        let child = thread::spawn(rt, move || asks_with_others(&handle, &theirs, &others))?;
+        let child = asks_beside(rt, cache, marks)?;
         children.push(child)?;
     }
+    Ok(())
+}
+
+fn asks_beside<W>(rt: &W, cache: &Numbers<W>, marks: &Arc<Marks>) -> Result<JoinHandle<Given>, Fail>
+where
+    W: Wait + Clock + Threads + Copy + Drop + Send + Sync + 'static,
+{
+    let (theirs, others, handle) = (clone(cache)?, marks.clone()?, *rt);
+    Ok(thread::spawn(rt, move || asks_with_others(&handle, &theirs, &others))?)
+}
+
+/// All are given what one of them worked out.
+fn all_are_given<W>(rt: &W, marks: &Marks, children: Vec<JoinHandle<Given>>)
+where
+    W: Clock + Threads + Abort,
+{
     assert!(rt; come(rt, &marks.done, THREADS), "all are answered");
     for child in children {
         assert_eq!(rt; child.join(rt), Ok(7));
     }
     assert_eq!(rt; so_far(&marks.asks), 1, "one initializer ran");
-    Ok(())
 }
 
 /// How one asks who is to wait for a turn.
@@ -348,14 +439,20 @@ fn turns_it_down(marks: &Marks) -> bool {
 
 fn asks<W: Wait + Drop>(cache: &Numbers<W>, marks: &Marks, way: Way) -> Given {
     let given = match way {
-        Way::Plain => {
-            mark(&marks.arrived);
-            cache.get_with(1, || own(marks))
-        }
-        Way::If => cache.get_with_if(1, || own(marks), |_| turns_it_down(marks)),
+        Way::Plain => asks_for_any(cache, marks),
+        Way::If => asks_for_another(cache, marks),
     };
     mark(&marks.done);
     given
+}
+
+fn asks_for_any<W: Wait + Drop>(cache: &Numbers<W>, marks: &Marks) -> Given {
+    mark(&marks.arrived);
+    cache.get_with(1, || own(marks))
+}
+
+fn asks_for_another<W: Wait + Drop>(cache: &Numbers<W>, marks: &Marks) -> Given {
+    cache.get_with_if(1, || own(marks), |_| turns_it_down(marks))
 }
 
 /// The turn to work out a value of a kind, whatever is live.
@@ -366,7 +463,7 @@ fn ran<W: Wait + Drop>(rt: &impl Abort, cache: &Numbers<W>, key: &Arc<u64>, kind
     match cache.begin(key, kind, Some(|_: &u64| true)) {
         Ok(Begun::Run(turn)) => turn,
         Ok(Begun::Wait(ticket)) => {
-            let _ = cache.leave(ticket);
+            leave(cache, ticket);
             panic!(rt; "another has the turn")
         }
         Ok(Begun::Found(_)) => panic!(rt; "a value is live"),
@@ -386,7 +483,7 @@ fn finishes<W: Wait + Drop>(rt: &impl Abort, cache: &Numbers<W>, turn: Turn<u64>
         },
     ) = cache.finish(turn, Outcome::Value(7))
     {
-        let _ = cache.abandon(turn);
+        abandon(cache, turn);
         panic!(rt; "{cause}");
     }
 }
@@ -404,7 +501,7 @@ fn ends<W: Wait + Drop>(rt: &impl Abort, cache: &Numbers<W>, turn: Turn<u64>, en
 {
     match end {
         End::Finished => finishes(rt, cache, turn),
-        End::Abandoned => assert!(rt; cache.abandon(turn).is_ok()),
+        End::Abandoned => assert!(rt; abandon(cache, turn)),
     }
 }
 
@@ -427,9 +524,6 @@ where
     let key = shared(alloc, 1)?;
     let marks = new_marks(alloc)?;
     let cache = cache(rt, alloc)?;
-    if matches!(way, Way::If) {
-        cache.insert(1, 10)?;
-    }
     is_answered(&rt, &cache, (&key, &marks), way, end)
 }
 
@@ -444,33 +538,48 @@ where
     W: Wait + Clock + Threads + Abort + Copy + Drop + Send + Sync + 'static,
 {
     let (key, marks) = shared;
-    let (theirs, others) = (cache.clone()?, marks.clone()?);
+    if matches!(way, Way::If) {
+        insert(cache, 1, 10)?;
+    }
+    let (theirs, others) = (clone(cache)?, marks.clone()?);
     let turn = ran(rt, cache, key, Kind::With);
     let child = thread::spawn(rt, move || asks(&theirs, &others, way));
+    waits_still(rt, marks);
+    ends(rt, cache, turn, end);
+    assert!(rt; come(rt, &marks.done, 1), "the other is answered");
+    is_given(rt, child?.join(rt), so_far(&marks.asks), end);
+    Ok(())
+}
+
+/// One has come, and is not answered after a while.
+fn waits_still(rt: &(impl Clock + Abort), marks: &Marks) {
     assert!(rt; come(rt, &marks.arrived, 1), "the other waits");
     pause(rt);
     assert_eq!(rt; so_far(&marks.done), 0, "the other waits");
-    ends(rt, cache, turn, end);
-    assert!(rt; come(rt, &marks.done, 1), "the other is answered");
+}
+
+/// Who waited is given what the turn ended with, or works out its own.
+fn is_given(rt: &impl Abort, given: Given, asks: u64, end: End) {
     let wanted = match end {
         End::Finished => (Ok(7), 0),
         End::Abandoned => (Ok(12), 1),
     };
-    assert_eq!(rt; (child?.join(rt), so_far(&marks.asks)), wanted);
-    Ok(())
+    assert_eq!(rt; (given, asks), wanted);
 }
 
 /// Counts up the value of a key so often. The last value.
 fn counts<W: Wait + Drop>(cache: &Numbers<W>, marks: &Marks) -> Given {
     let mut last = 0;
     for _ in 0..8 {
-        last = cache
-            .entry(1)
-            .and_upsert_with(|shown| next_of(shown))?
-            .into_value();
+        last = count(cache)?;
     }
     mark(&marks.done);
     Ok(last)
+}
+
+fn count<W: Wait + Drop>(cache: &Numbers<W>) -> Given {
+    let counted = cache.entry(1).and_upsert_with(|shown| next_of(shown))?;
+    Ok(counted.into_value())
 }
 
 #[test]
@@ -491,17 +600,49 @@ where
     W: Wait + Clock + Threads + Abort + Copy + Drop + Send + Sync + 'static,
 {
     let mut children = children;
+    all_count(rt, cache, marks, &mut children)?;
+    all_have_counted(rt, marks, children);
+    assert_eq!(rt; get(cache, 1), Ok(Some(32)));
+    Ok(())
+}
+
+/// Each of the threads counts.
+fn all_count<W>(
+    rt: &W,
+    cache: &Numbers<W>,
+    marks: &Arc<Marks>,
+    children: &mut Vec<JoinHandle<Given>>,
+) -> Result<(), Fail>
+where
+    W: Wait + Threads + Drop + Send + Sync + 'static,
+{
     for _ in 0..THREADS {
-        let (theirs, others) = (cache.clone()?, marks.clone()?);
-        let child = thread::spawn(rt, move || counts(&theirs, &others))?;
+        let child = counts_beside(rt, cache, marks)?;
         children.push(child)?;
     }
+    Ok(())
+}
+
+fn counts_beside<W>(
+    rt: &W,
+    cache: &Numbers<W>,
+    marks: &Arc<Marks>,
+) -> Result<JoinHandle<Given>, Fail>
+where
+    W: Wait + Threads + Drop + Send + Sync + 'static,
+{
+    let (theirs, others) = (clone(cache)?, marks.clone()?);
+    Ok(thread::spawn(rt, move || counts(&theirs, &others))?)
+}
+
+fn all_have_counted<W>(rt: &W, marks: &Marks, children: Vec<JoinHandle<Given>>)
+where
+    W: Clock + Threads + Abort,
+{
     assert!(rt; come(rt, &marks.done, THREADS), "all have counted");
     for child in children {
         assert!(rt; child.join(rt).is_ok());
     }
-    assert_eq!(rt; cache.get(&1), Ok(Some(32)));
-    Ok(())
 }
 
 /// The error that a caller is given whose own initializer fails with 5.
@@ -532,7 +673,7 @@ fn finishes_with<W: Wait + Drop>(
         },
     ) = cache.finish(turn, Outcome::Failed(error))
     {
-        let _ = cache.abandon(turn);
+        abandon(cache, turn);
         panic!(rt; "{cause}");
     }
 }
@@ -570,14 +711,24 @@ where
     W: Wait + Clock + Threads + Abort + Copy + Drop + Send + Sync + 'static,
 {
     let (key, error) = numbers;
-    let (theirs, others, outcome) = (cache.clone()?, marks.clone()?, error.clone()?);
+    let (theirs, others, outcome) = (clone(cache)?, marks.clone()?, error.clone()?);
     let turn = ran(rt, cache, key, Kind::Try);
     let child = thread::spawn(rt, move || fails(&theirs, &others));
     come(rt, &marks.arrived, 1);
     pause(rt);
     finishes_with(rt, cache, turn, outcome);
     assert!(rt; come(rt, &marks.done, 1), "the other is answered");
-    let given = child?.join(rt).ok_or("an error")?;
+    is_shared(rt, marks, child?.join(rt), error)
+}
+
+/// Whether the other waited: then it is given the error itself.
+fn is_shared(
+    rt: &impl Abort,
+    marks: &Marks,
+    given: Option<Arc<u64>>,
+    error: &Arc<u64>,
+) -> Result<bool, Fail> {
+    let given = given.ok_or("an error")?;
     if so_far(&marks.asks) > 0 {
         return Ok(false);
     }

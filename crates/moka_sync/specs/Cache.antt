@@ -1,16 +1,11 @@
--- What of a shared cache never changes, and the moment of a call.
-use Rattle.std.specs.Prelude.{◌≡◌, ℕ, Option, option_map, String}
+-- What of a shared cache never changes.
+use Rattle.std.specs.Prelude.{◌≡◌, Option, option_map, String}
 use Rattle.std.specs.Duration.{as_nanos}
 use Rattle.std.specs.String.{string_bytes}
 use Rattle.std.specs.declared.alloc.Global.{Global}
 use Rattle.moka_policy.specs.declared.policy.Policy.{Policy}
 use Rattle.moka_state.specs.StateData.{SettingsData, StateData}
 use Rattle.moka_sync.specs.Builder.{BuilderData, settings_built}
-
--- What stands under the lock of a shared cache, as data: a state and a clock.
-pub record LockedData (K V H W X F E T : Type 0) : Type 0 where
-  pub state : StateData K V H W X F E
-  pub clock : T
 
 -- What is known of a shared cache without its lock: the state that went under its lock, as it was then, and the clock that
 -- went there with it; and its listener. Of that state the settings never change.
@@ -33,7 +28,3 @@ Shows settings name policy =
     (option_map string_bytes name ≡ settings.name) × (policy.max_capacity ≡ settings.max_capacity) × (policy.num_segments ≡ 1)
     × (option_map as_nanos policy.time_to_live ≡ settings.time_to_live)
     × (option_map as_nanos policy.time_to_idle ≡ settings.time_to_idle)
-
--- there is a moment that is told and of which this holds
-abbrev pub AtToldMoment : (ℕ → Type 0) → (ℕ → Type 0) → Type 0
-AtToldMoment tells P = (now : ℕ) × tells now × P now

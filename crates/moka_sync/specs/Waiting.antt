@@ -11,7 +11,7 @@ use Rattle.moka_turns.specs.declared.handles.Ticket.{Ticket}
 use Rattle.moka_turns.specs.Handles.{ticket_name}
 use Rattle.moka_state.specs.Begin.{EntryKeeps}
 use Rattle.moka_state.specs.declared.answers.Answer.{Answer}
-use Rattle.moka_sync.specs.Kept.{GivenKeeps, AnswerFits}
+use Rattle.moka_locked.specs.Kept.{GivenKeeps, AnswerFits}
 use Rattle.moka_sync.specs.declared.value_initializer.Asked.{Asked}
 use Rattle.moka_sync.specs.declared.value_initializer.Asked.TheVariants as asked
 use Rattle.moka_sync.specs.declared.value_initializer.ShownTurn.{ShownTurn}

@@ -10,7 +10,6 @@ ghost use Rattle.moka_segments.specs.Segments.{share, bits_for};
 ghost use Rattle.moka_segmented.specs.SegmentedData.{data_of};
 
 use crate::cache::Cache;
-use crate::hearer::Hearer;
 use crate::opening::cache_of;
 use moka_policy::builder_utils::{BuildError, ensure_expirations, ensure_flush_limit};
 use moka_policy::policy::{CacheTypes, EvictionPolicy, Expiry, Listener, Weigher};
@@ -346,10 +345,15 @@ impl<K: Hash + Drop, V: Clone, C: CacheTypes<K, V>> CacheBuilder<K, V, C, Single
     {
         let told = self.limited()?;
         let name = copied(alloc, told.name.as_deref())?;
-        let clock = share(alloc, clock)?;
-        let (settings, listener) = told.settled(alloc, hasher)?;
-        let listener = Hearer::shared(alloc, listener)?;
-        cache_of(alloc, settings, name, clock, listener, waits)
+        let parts = told.parts(alloc, hasher, clock)?;
+        cache_of(
+            alloc,
+            parts.settings,
+            name,
+            parts.clock,
+            parts.listener,
+            waits,
+        )
     }
 
     // The state, and the listener that is still to be given a place.
@@ -486,7 +490,7 @@ where
 }
 
 // A state of these settings. Refused for want of memory alone.
-pub(crate) fn state_of<K: Hash + Drop, V: Clone, C: CacheTypes<K, V>>(
+fn state_of<K: Hash + Drop, V: Clone, C: CacheTypes<K, V>>(
     alloc: Global,
     settings: Settings<K, V, C>,
 ) -> Result<CacheState<K, V, C>, BuildError>

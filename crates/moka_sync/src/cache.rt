@@ -8,8 +8,8 @@ ghost use Rattle.moka_sync.specs.Cache.{CacheData, IsBuilt, Shows};
 
 use crate::builder::{CacheBuilder, Single};
 use crate::hearer::Hearer;
-use crate::locked::{Gone, Locked};
 use crate::opened::Opened;
+use moka_locked::locked::{Gone, Locked};
 use moka_model::entry::Entry;
 use moka_model::notification::Notice;
 use moka_policy::builder_utils::BuildError;

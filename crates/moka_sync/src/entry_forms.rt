@@ -4,7 +4,7 @@ ghost use Rattle.std.specs.Arc.{arc_value};
 ghost use Rattle.moka_model.specs.Entries.{entry_of};
 ghost use Rattle.moka_state.specs.Begin.{EntryKeeps};
 ghost use Rattle.moka_state.specs.Finish.{Fits, IsGiven, OutcomeKeeps, outcome_of};
-ghost use Rattle.moka_sync.specs.Kept.{AnswerFits, GivenKeeps};
+ghost use Rattle.moka_locked.specs.Kept.{AnswerFits, GivenKeeps};
 
 use crate::cache::Cache;
 use crate::value_initializer::Asked;

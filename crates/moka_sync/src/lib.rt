@@ -9,8 +9,6 @@ mod entry_forms;
 pub mod entry_selector;
 mod get_with;
 mod hearer;
-mod locked;
-mod locked_turns;
 mod opened;
 mod opening;
 pub mod segment;

@@ -9,12 +9,12 @@ ghost use Rattle.moka_sync.specs.Builder.{build_refused, settings_built};
 ghost use Rattle.moka_sync.specs.Cache.{IsMadeOf};
 ghost use Rattle.moka_sync.specs.Segments.{AreMadeOf, IsBuiltInSegments, settings_of_one};
 
-use crate::builder::{CacheBuilder, Segmented, share, state_of};
+use crate::builder::{CacheBuilder, Segmented, share};
 use crate::cache::{Cache, Inside};
 use crate::hearer::Hearer;
-use crate::locked::Locked;
 use crate::opened::Opened;
 use crate::segment::{AllSegments, SegmentedCache};
+use moka_locked::locked::Locked;
 use moka_policy::builder_utils::BuildError;
 use moka_policy::policy::CacheTypes;
 use moka_segmented::opening::{bits_for, count_of, share_of, shared_again};
@@ -48,10 +48,12 @@ pub(crate) fn cache_of<K: Hash + Drop, V: Clone, C: CacheTypes<K, V>, W: Drop>(
         settings.initial_capacity ≤ cache.opening.initial_room) }
     ensures cause { IfErr result (λ cause. cause ≡ BuildError.OutOfMemory) }
 {
-    let state = state_of(alloc, settings)?;
-    let policy = state.policy();
+    let Ok(locked) = Locked::open(alloc, settings, clock) else {
+        return Err(BuildError::OutOfMemory);
+    };
+    let policy = locked.policy();
     let inside = Inside {
-        locked: Opened::new(Locked { state, clock }),
+        locked: Opened::new(locked),
         ended: Condvar::new(),
         name,
         policy,
@@ -62,6 +64,50 @@ pub(crate) fn cache_of<K: Hash + Drop, V: Clone, C: CacheTypes<K, V>, W: Drop>(
     Ok(Cache {
         inside: share(alloc, inside)?,
     })
+}
+
+// What shared caches are made from: their settings, and the clock and the listener that clones and segments share.
+#[derive(Drop)]
+pub(crate) struct CacheParts<K: Hash + Drop, V: Clone, C: CacheTypes<K, V>> {
+    pub(crate) settings: Settings<K, V, C>,
+    pub(crate) clock: Arc<C::Clock>,
+    pub(crate) listener: Option<Arc<Hearer<K, V, C>>>,
+}
+
+impl<K: Hash + Drop, V: Clone, C: CacheTypes<K, V>, T> CacheBuilder<K, V, C, T> {
+    // What a cache with this hasher and this clock is made from. Refused for want of memory alone.
+    pub(crate) fn parts(
+        self,
+        alloc: Global,
+        hasher: C::Hasher,
+        clock: C::Clock,
+    ) -> Result<CacheParts<K, V, C>, BuildError>
+        requires { build_refused self ≡ None }
+        ensures settings { IfOk result (λ parts.
+            data_of parts.settings ≡ settings_built self hasher) }
+        ensures weighs { IfOk result (λ parts. IfSome parts.settings.weigher (λ weigher.
+            C.Weigher.weighs (arc_value weigher) (C.weight (arc_value weigher)))) }
+        ensures gives { IfOk result (λ parts. IfSome parts.settings.expiry (λ expiry.
+            C.Expiry.gives (arc_value expiry) (C.lifetimes (arc_value expiry)))) }
+        ensures limits { IfOk result (λ parts. parts.settings.flush_limit ≢ Some 0) }
+        ensures unweighed { IfOk result (λ parts.
+            IsSome parts.settings.flush_limit → parts.settings.weigher ≡ None) }
+        ensures room { IfOk result (λ parts.
+            parts.settings.initial_capacity ≡ self.initial_capacity) }
+        ensures clock { IfOk result (λ parts. arc_value parts.clock ≡ clock) }
+        ensures listener { IfOk result (λ parts.
+            option_map arc_value parts.listener ≡ self.listener) }
+        ensures cause { IfErr result (λ cause. cause ≡ BuildError.OutOfMemory) }
+    {
+        let clock = share(alloc, clock)?;
+        let (settings, listener) = self.settled(alloc, hasher)?;
+        let listener = Hearer::shared(alloc, listener)?;
+        Ok(CacheParts {
+            settings,
+            clock,
+            listener,
+        })
+    }
 }
 
 impl<K: Hash + Drop, V: Clone, C: CacheTypes<K, V>> CacheBuilder<K, V, C, Segmented> {
@@ -92,12 +138,17 @@ impl<K: Hash + Drop, V: Clone, C: CacheTypes<K, V>> CacheBuilder<K, V, C, Segmen
     {
         let bits = bits_for(self.num_segments);
         let told = self.limited()?;
-        let clock = share(alloc, clock)?;
-        let (settings, listener) = told.settled(alloc, hasher)?;
-        let listener = Hearer::shared(alloc, listener)?;
-        let segments = segments_of(alloc, &settings, bits, &clock, &listener, &waits)?;
+        let parts = told.parts(alloc, hasher, clock)?;
+        let segments = segments_of(
+            alloc,
+            &parts.settings,
+            bits,
+            &parts.clock,
+            &parts.listener,
+            &waits,
+        )?;
         let inside = AllSegments {
-            settings,
+            settings: parts.settings,
             bits,
             segments,
         };

@@ -7,7 +7,7 @@ ghost use Rattle.std.specs.Arc.{arc_value};
 ghost use Rattle.moka_turns.specs.Handles.{ticket_name};
 ghost use Rattle.moka_state.specs.Begin.{FoundKeeps, FoundKeepsFor, IsNamed};
 ghost use Rattle.moka_state.specs.Given.{IfUnspent};
-ghost use Rattle.moka_sync.specs.Kept.{CollectedFits, CollectedKeeps};
+ghost use Rattle.moka_locked.specs.Kept.{CollectedFits, CollectedKeeps};
 ghost use Rattle.moka_sync.specs.Waiting.{AskedKeeps, IsShownTurn};
 
 use crate::cache::Cache;

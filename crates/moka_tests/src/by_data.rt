@@ -1,14 +1,13 @@
 //! A weigher and an expiry that are made from data of the run.
-ghost use Rattle.std.specs.Prelude.{◌≡◌, ◌*◌, min, Some, false, refl};
+ghost use Rattle.std.specs.Prelude.{◌≡◌, ◌*◌, min, Some, None, IfOk, false, refl};
 ghost use Rattle.std.proofs.Math.Path.{◌∙◌};
 
 use crate::keys::ByNumber;
 use moka_base::policy::{
-    CacheTypes, CountTable, EvictionPolicy, Expiry, ManualClock, NoListener, NoPredicate, Refused,
-    Weigher,
+    CacheTypes, CountTable, EvictionPolicy, Expiry, ManualClock, NoListener, NoPredicate, Weigher,
 };
 use moka_state::state::{CacheState, Settings};
-use std::alloc::Global;
+use std::alloc::{AllocError, Global};
 use std::convert::Infallible;
 use std::process::Abort;
 use std::sync::Arc;
@@ -111,33 +110,31 @@ impl CacheTypes<u64, u32> for ByData {
 
 type Cache = CacheState<u64, u32, ByData>;
 
-fn opened(alloc: Global, scale: u32, seconds: u64) -> Result<Cache, Refused> {
-    let Ok(hasher) = Arc::new(alloc, ByNumber::default()) else {
-        return Err(Refused::OutOfMemory);
-    };
-    let Ok(weigher) = Arc::new(alloc, Scaled { scale }) else {
-        return Err(Refused::OutOfMemory);
-    };
-    let Ok(expiry) = Arc::new(alloc, Seconds { seconds }) else {
-        return Err(Refused::OutOfMemory);
-    };
-    CacheState::new(
-        alloc,
-        Settings {
-            name: None,
-            initial_capacity: 0,
-            time_to_live: None,
-            time_to_idle: None,
-            max_capacity: Some(20),
-            eviction_policy: EvictionPolicy::lru(),
-            weigher: Some(weigher),
-            expiry: Some(expiry),
-            closures: false,
-            flush_limit: None,
-            first_number: 0,
-            hasher,
-        },
-    )
+fn settings(
+    alloc: Global,
+    scale: u32,
+    seconds: u64,
+) -> Result<Settings<u64, u32, ByData>, AllocError>
+    ensures { IfOk result (λ settings. settings.flush_limit ≡ None) }
+{
+    Ok(Settings {
+        name: None,
+        initial_capacity: 0,
+        time_to_live: None,
+        time_to_idle: None,
+        max_capacity: Some(20),
+        eviction_policy: EvictionPolicy::lru(),
+        weigher: Some(Arc::new(alloc, Scaled { scale })?),
+        expiry: Some(Arc::new(alloc, Seconds { seconds })?),
+        closures: false,
+        flush_limit: None,
+        first_number: 0,
+        hasher: Arc::new(alloc, ByNumber::default())?,
+    })
+}
+
+fn opened(alloc: Global, scale: u32, seconds: u64) -> Result<Cache, Fail> {
+    Ok(CacheState::new(alloc, settings(alloc, scale, seconds)?)?)
 }
 
 type Case = (u32, u64, u64, u64, u64);
@@ -167,11 +164,19 @@ fn opens_and_weighs(rt: &impl Abort, alloc: Global, case: Case) -> Result<(), Fa
 
 // Writes two values, and looks at the end of their lives what they weigh.
 fn weighs(rt: &impl Abort, cache: &mut Cache, last: u64, written: u64, kept: u64) {
-    assert!(rt; cache.insert(1, 3, 0).is_ok());
-    assert!(rt; cache.insert(2, 4, 0).is_ok());
-    assert!(rt; cache.contains_key(&1, last));
-    assert!(rt; !cache.contains_key(&1, last.wrapping_add(1)));
+    insert(rt, cache, 1, 3);
+    insert(rt, cache, 2, 4);
+    lives_to(rt, cache, last);
     assert_eq!(rt; cache.weighted_size(), written);
     cache.run_pending_tasks(0);
     assert_eq!(rt; cache.weighted_size(), kept);
+}
+
+fn insert(rt: &impl Abort, cache: &mut Cache, key: u64, value: u32) {
+    assert!(rt; cache.insert(key, value, 0).is_ok());
+}
+
+fn lives_to(rt: &impl Abort, cache: &mut Cache, last: u64) {
+    assert!(rt; cache.contains_key(&1, last));
+    assert!(rt; !cache.contains_key(&1, last.wrapping_add(1)));
 }

@@ -5,7 +5,11 @@
 #![tactic(auto)]
 
 #[cfg(test)]
+mod by_call;
+#[cfg(test)]
 mod by_data;
+#[cfg(test)]
+mod by_step;
 #[cfg(test)]
 mod calls;
 #[cfg(test)]
@@ -28,6 +32,8 @@ mod or_inserts;
 mod pieces;
 #[cfg(test)]
 mod subject;
+#[cfg(test)]
+mod tables;
 #[cfg(test)]
 mod values;
 #[cfg(test)]

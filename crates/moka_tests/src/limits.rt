@@ -3,9 +3,11 @@ use crate::subject::{
     Answer, CacheRows, Call, Row, Rules, UNLIMITED, answers, answers_between_requests,
     answers_patiently, room,
 };
+use crate::tables::{add_all, add_writes};
 use crate::values::Value;
 use moka_base::notification::RemovalCause;
 use std::alloc::{AllocError, Global};
+use std::ops::Range;
 use std::test::Fail;
 
 const SECOND: u64 = 1_000_000_000;
@@ -163,7 +165,7 @@ const IN_SLICES: [Row; 6] = [
 
 #[test]
 fn takes_no_memory_within_a_limit(rt: HostRuntime) -> Result<(), Fail> {
-    let before = written(rt.alloc(), 1, 4, 0)?;
+    let before = written(rt.alloc(), 1..5, 0)?;
     answers_between_requests::<CacheRows<u64, Value>>(
         &rt,
         rt.alloc(),
@@ -174,11 +176,9 @@ fn takes_no_memory_within_a_limit(rt: HostRuntime) -> Result<(), Fail> {
 }
 
 /// Writes of these keys at a moment.
-fn written(alloc: Global, first: u64, last: u64, now: u64) -> Result<Vec<Row>, AllocError> {
+fn written(alloc: Global, keys: Range<u64>, now: u64) -> Result<Vec<Row>, AllocError> {
     let mut rows = room(alloc, 90)?;
-    for number in first..=last {
-        rows.push((Call::Insert(number, "value"), now, Answer::Done))?;
-    }
+    add_writes(&mut rows, keys, "value", now)?;
     Ok(rows)
 }
 
@@ -200,21 +200,20 @@ const FLUSHED_BY_ONE: Rules = Rules {
 
 /// Each flush lets one leave. The first admits ten keys, and an eleventh in the place of the oldest.
 fn many_writes(alloc: Global) -> Result<Vec<Row>, AllocError> {
-    let mut rows = written(alloc, 1, 65, 0)?;
-    for row in left(1, RemovalCause::Size, 64) {
-        rows.push(row)?;
-    }
-    for row in written(alloc, 66, 75, 0)?.iter() {
-        rows.push(*row)?;
-    }
-    rows.push((Call::NoticeCount, 0, Answer::Counted(0)))?;
-    rows.push((Call::EntryCount, 0, Answer::Counted(74)))?;
-    rows.push((Call::Insert(76, "value"), 0, Answer::Done))?;
-    for row in left(2, RemovalCause::Size, 74) {
-        rows.push(row)?;
-    }
+    let mut rows = written(alloc, 1..66, 0)?;
+    add_all(&mut rows, &left(1, RemovalCause::Size, 64))?;
+    add_all(&mut rows, written(alloc, 66..76, 0)?.as_slice())?;
+    add_all(&mut rows, &ONE_MORE)?;
+    add_all(&mut rows, &left(2, RemovalCause::Size, 74))?;
     Ok(rows)
 }
+
+/// 64 keys wait and no notice does, and then one more is written.
+const ONE_MORE: [Row; 3] = [
+    (Call::NoticeCount, 0, Answer::Counted(0)),
+    (Call::EntryCount, 0, Answer::Counted(74)),
+    (Call::Insert(76, "value"), 0, Answer::Done),
+];
 
 #[test]
 fn lets_no_more_leave_before_a_write_than_the_flush_limit(rt: HostRuntime) -> Result<(), Fail> {
@@ -229,22 +228,26 @@ fn flushes_within_a_limit_where_memory_is_refused(rt: HostRuntime) -> Result<(),
     answers_patiently::<CacheRows<u64, Value>>(&rt, rt.alloc(), FLUSHED_BY_ONE, rows.as_slice())
 }
 
+/// Two keys are admitted, and expire where two of those are written that wait.
+fn cut_flushes(alloc: Global) -> Result<Vec<Row>, AllocError> {
+    let mut rows = written(alloc, 1..3, 0)?;
+    add_all(&mut rows, &[(Call::RunPendingTasks, 0, Answer::Done)])?;
+    add_all(&mut rows, written(alloc, 3..67, 9 * SECOND)?.as_slice())?;
+    add_expiry(&mut rows, 67, 1)?;
+    add_expiry(&mut rows, 68, 2)?;
+    Ok(rows)
+}
+
+/// Adds the write of one key, before which another one expires.
+fn add_expiry(rows: &mut Vec<Row>, key: u64, expired: u64) -> Result<(), AllocError> {
+    rows.push((Call::Insert(key, "value"), 10 * SECOND, Answer::Done))?;
+    add_all(rows, &left(expired, RemovalCause::Expired, 66))
+}
+
 /// A flush that is cut in its sweep leaves more than 64 keys waiting.
 #[test]
 fn more_wait_where_a_flush_is_cut(rt: HostRuntime) -> Result<(), Fail> {
-    let mut rows = written(rt.alloc(), 1, 2, 0)?;
-    rows.push((Call::RunPendingTasks, 0, Answer::Done))?;
-    for row in written(rt.alloc(), 3, 66, 9 * SECOND)?.iter() {
-        rows.push(*row)?;
-    }
-    rows.push((Call::Insert(67, "value"), 10 * SECOND, Answer::Done))?;
-    for row in left(1, RemovalCause::Expired, 66) {
-        rows.push(row)?;
-    }
-    rows.push((Call::Insert(68, "value"), 10 * SECOND, Answer::Done))?;
-    for row in left(2, RemovalCause::Expired, 66) {
-        rows.push(row)?;
-    }
+    let rows = cut_flushes(rt.alloc())?;
     let rules = Rules {
         flush_limit: Some(1),
         ..TWO

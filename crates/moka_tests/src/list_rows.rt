@@ -39,6 +39,13 @@ const USED: EntryInfo = EntryInfo {
     is_hidden: false,
 };
 
+/// A use at that moment.
+const AT_LATER: Touch = Touch {
+    last_accessed: 8,
+    own_life: None,
+    deadline: None,
+};
+
 /// A call of a store of rows; most are about the row of a key of a hash.
 #[derive(Clone, Copy)]
 enum Call {
@@ -101,6 +108,11 @@ fn row_of(keys: &[(usize, u64)], number: Option<usize>) -> Answer {
     Answer::Absent
 }
 
+/// The value of a row, with its moments.
+fn value_of(row: &Row<u64, &'static str>) -> Answer {
+    Answer::Value(row.value, row.info())
+}
+
 /// Makes a use of the row under a number.
 fn used<R: RowStore<u64, &'static str>>(
     rows: &mut R,
@@ -112,28 +124,40 @@ fn used<R: RowStore<u64, &'static str>>(
 {
     match what {
         Use::Find => row_of(keys, Some(number)),
-        Use::Read => {
-            let row = rows.row(number);
-            Answer::Value(row.value, row.info())
-        }
+        Use::Read => value_of(rows.row(number)),
         Use::IsAdmitted => Answer::Is(rows.is_admitted(number)),
         Use::Next => row_of(keys, rows.next(number, &mut 0)),
         Use::Touch => {
-            rows.touch(
-                number,
-                Touch {
-                    last_accessed: 8,
-                    own_life: None,
-                    deadline: None,
-                },
-            );
+            rows.touch(number, AT_LATER);
             Answer::Done
         }
         Use::Overwrite(value) => Answer::Before(rows.overwrite(number, value, LATER).value),
-        Use::Remove => {
-            let (row, _) = rows.remove(number);
-            Answer::Value(row.value, row.info())
+        Use::Remove => value_of(&rows.remove(number).0),
+    }
+}
+
+/// Makes a use of the row of a key, where there is one.
+fn used_of<R: RowStore<u64, &'static str>>(
+    rows: &mut R,
+    keys: &[(usize, u64)],
+    key: u64,
+    hash: u64,
+    what: Use,
+) -> Answer {
+    match number_of(rows, key, hash) {
+        Some(number) => used(rows, keys, number, what),
+        None => Answer::Absent,
+    }
+}
+
+/// Admits the row that has waited longest.
+fn admit_first<R: RowStore<u64, &'static str>>(rows: &mut R) -> Answer {
+    match first_waiting(rows) {
+        Some(number) => {
+            rows.admit(number);
+            Answer::Done
         }
+        None => Answer::Absent,
     }
 }
 
@@ -167,22 +191,13 @@ fn made<R: RowStore<u64, &'static str>>(
         Call::WaitingLen => Answer::Counted(rows.waiting_len()),
         Call::FirstAdmitted => row_of(keys.as_slice(), rows.first_admitted()),
         Call::FirstWaiting => row_of(keys.as_slice(), rows.first_waiting()),
-        Call::AdmitFirst => match first_waiting(rows) {
-            Some(number) => {
-                rows.admit(number);
-                Answer::Done
-            }
-            None => Answer::Absent,
-        },
+        Call::AdmitFirst => admit_first(rows),
         Call::Add(key, hash, value) => {
             let number = add(alloc, rows, key, hash, value)?;
             keys.push((number, key))?;
             Answer::Done
         }
-        Call::Of(key, hash, what) => match number_of(rows, key, hash) {
-            Some(number) => used(rows, keys.as_slice(), number, what),
-            None => Answer::Absent,
-        },
+        Call::Of(key, hash, what) => used_of(rows, keys.as_slice(), key, hash, what),
     })
 }
 
@@ -194,8 +209,18 @@ fn answers<R: RowStore<u64, &'static str>>(
 ) -> Result<(), Fail> {
     let mut rows: R = R::new(alloc);
     let mut keys = room(alloc, table.len())?;
+    answers_all(rt, alloc, &mut rows, &mut keys, table)
+}
+
+fn answers_all<R: RowStore<u64, &'static str>>(
+    rt: &impl Abort,
+    alloc: Global,
+    rows: &mut R,
+    keys: &mut Vec<(usize, u64)>,
+    table: &[(Call, Answer)],
+) -> Result<(), Fail> {
     for (place, (call, expected)) in table.iter().enumerate() {
-        let found = made(alloc, &mut rows, &mut keys, *call)?;
+        let found = made(alloc, rows, keys, *call)?;
         assert_eq!(rt; found, *expected, "row {place}");
     }
     Ok(())

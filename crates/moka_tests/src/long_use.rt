@@ -4,6 +4,7 @@ use crate::subject::{
     Answer, CacheRows, Call, Row, Rules, UNLIMITED, answered_alike, answers, answers_as_its_twin,
     answers_over, room,
 };
+use crate::tables::add_notices;
 use crate::values::{Given, Value, plain};
 use moka_base::notification::RemovalCause;
 use moka_state::list_rows::ListRows;
@@ -35,8 +36,28 @@ impl Numbers {
         if seconds < 20 { Some(seconds) } else { None }
     }
 
+    fn is_even(&mut self) -> bool {
+        self.below(2) == 0
+    }
+
+    /// Rules of which each number is below this one.
+    fn rules(&mut self, greatest: u64) -> Rules {
+        Rules {
+            max_capacity: Some(self.below(greatest)),
+            initial_capacity: self.below(greatest.min(100)) as usize,
+            is_tiny_lfu: self.is_even(),
+            time_to_live: self.life(),
+            time_to_idle: Some(self.below(greatest)),
+            flush_limit: Some(self.below(greatest)),
+            first_number: self.below(greatest),
+            is_weighed: self.is_even(),
+            may_expire: self.is_even(),
+            closures: self.is_even(),
+        }
+    }
+
     fn given(&mut self) -> Given {
-        let text = if self.below(2) == 0 { "any" } else { "odd" };
+        let text = if self.is_even() { "any" } else { "odd" };
         Given {
             weight: u32::try_from(self.below(5)).unwrap_or(0),
             life: self.life(),
@@ -55,19 +76,27 @@ impl Numbers {
             3 => Call::WeightedSize,
             4 => Call::ContainsKey(key),
             5..=10 => Call::Get(key),
-            11 => {
-                if self.below(20) == 0 {
-                    Call::RunPendingTasks
-                } else {
-                    Call::Get(key)
-                }
-            }
-            12 => match self.below(10) {
-                0 => Call::InvalidateAll,
-                1 | 2 => Call::InvalidateIf("odd", ""),
-                _ => Call::Remove(key),
-            },
+            11 => self.look_or_maintenance(key),
+            12 => self.removal(key),
             _ => Call::InsertGiven(key, self.given()),
+        }
+    }
+
+    /// A maintenance, or more often a look.
+    fn look_or_maintenance(&mut self, key: u64) -> Call {
+        if self.below(20) == 0 {
+            Call::RunPendingTasks
+        } else {
+            Call::Get(key)
+        }
+    }
+
+    /// A removal, of one key or of more.
+    fn removal(&mut self, key: u64) -> Call {
+        match self.below(10) {
+            0 => Call::InvalidateAll,
+            1 | 2 => Call::InvalidateIf("odd", ""),
+            _ => Call::Remove(key),
         }
     }
 }
@@ -189,15 +218,18 @@ fn lists_answer_as_their_twin(rt: HostRuntime) -> Result<(), Fail> {
 /// How many keys are written one after another.
 const MANY: u64 = 3000;
 
-/// Each number of stored keys up to that comes by, and each number of notices.
-#[test]
-fn refuses_no_write_at_any_length(rt: HostRuntime) -> Result<(), Fail> {
-    let mut rows = room(rt.alloc(), 15_010)?;
+/// Adds their writes, each with a look behind it.
+fn add_writes_and_looks(rows: &mut Vec<Row>) -> Result<(), AllocError> {
     for key in 0..MANY {
         rows.push((Call::Insert(key, "any"), key, Answer::Done))?;
         rows.push((Call::Get(key), key, Answer::Found("any")))?;
     }
     rows.push((Call::EntryCount, MANY, Answer::Counted(MANY)))?;
+    Ok(())
+}
+
+/// Adds their removals, with a maintenance between two of them.
+fn add_removals(rows: &mut Vec<Row>) -> Result<(), AllocError> {
     for key in 0..MANY {
         rows.push((Call::Invalidate(key), MANY, Answer::Done))?;
         if key == 1000 {
@@ -205,10 +237,16 @@ fn refuses_no_write_at_any_length(rt: HostRuntime) -> Result<(), Fail> {
         }
     }
     rows.push((Call::EntryCount, 0, Answer::Counted(0)))?;
-    for key in 0..MANY {
-        let noticed = Answer::Noticed(key, "any", RemovalCause::Explicit);
-        rows.push((Call::TakeNotice, 0, noticed))?;
-    }
+    Ok(())
+}
+
+/// Each number of stored keys up to that comes by, and each number of notices.
+#[test]
+fn refuses_no_write_at_any_length(rt: HostRuntime) -> Result<(), Fail> {
+    let mut rows = room(rt.alloc(), 15_010)?;
+    add_writes_and_looks(&mut rows)?;
+    add_removals(&mut rows)?;
+    add_notices(&mut rows, 0..MANY, "any", RemovalCause::Explicit)?;
     rows.push((Call::TakeNotice, 0, Answer::NoNotice))?;
     in_a_slab(&rt, rt.alloc(), UNLIMITED, rows.as_slice())
 }
@@ -226,19 +264,7 @@ fn opens_with_all_settings(rt: HostRuntime) -> Result<(), Fail> {
     let mut numbers = Numbers { last: 0 };
     for greatest in [3, 100, 5_000_000, u64::MAX] {
         for _ in 0..50 {
-            let rules = Rules {
-                max_capacity: Some(numbers.below(greatest)),
-                initial_capacity: numbers.below(greatest.min(100)) as usize,
-                is_tiny_lfu: numbers.below(2) == 0,
-                time_to_live: numbers.life(),
-                time_to_idle: Some(numbers.below(greatest)),
-                flush_limit: Some(numbers.below(greatest)),
-                first_number: numbers.below(greatest),
-                is_weighed: numbers.below(2) == 0,
-                may_expire: numbers.below(2) == 0,
-                closures: numbers.below(2) == 0,
-            };
-            answers(&rt, rt.alloc(), rules, &FEW_CALLS)?;
+            answers(&rt, rt.alloc(), numbers.rules(greatest), &FEW_CALLS)?;
         }
     }
     Ok(())

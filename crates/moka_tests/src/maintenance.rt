@@ -2,6 +2,7 @@
 use crate::subject::{
     Answer, CacheRows, Call, Row, Rules, UNLIMITED, answers, answers_patiently, room,
 };
+use crate::tables::{add_all, add_notices, add_writes};
 use crate::values::Value;
 use moka_base::notification::RemovalCause;
 use moka_base::policy::Refused;
@@ -112,25 +113,29 @@ const TEN: Rules = Rules {
 /// Writes of the keys 1 to 64, all of which wait then, with room for some rows more.
 fn filled(alloc: Global, more: usize) -> Result<Vec<Row>, AllocError> {
     let mut rows = room(alloc, more.saturating_add(66))?;
-    for key in 1..65 {
-        rows.push((Call::Insert(key, "first"), 0, Answer::Done))?;
-    }
-    rows.push((Call::EntryCount, 0, Answer::Counted(64)))?;
-    rows.push((Call::NoticeCount, 0, Answer::Counted(0)))?;
+    add_writes(&mut rows, 1..65, "first", 0)?;
+    add_all(&mut rows, &ALL_WAIT)?;
     Ok(rows)
 }
+
+const ALL_WAIT: [Row; 2] = [
+    (Call::EntryCount, 0, Answer::Counted(64)),
+    (Call::NoticeCount, 0, Answer::Counted(0)),
+];
+
+/// One key more, before which all leave that wait and do not fit.
+const ONE_MORE: [Row; 3] = [
+    (Call::Insert(65, "first"), 0, Answer::Done),
+    (Call::EntryCount, 0, Answer::Counted(11)),
+    (Call::NoticeCount, 0, Answer::Counted(54)),
+];
 
 /// It passes also where one request for memory is refused, whichever.
 #[test]
 fn flushes_before_a_write_that_finds_64_keys_waiting(rt: HostRuntime) -> Result<(), Fail> {
     let mut rows = filled(rt.alloc(), 57)?;
-    rows.push((Call::Insert(65, "first"), 0, Answer::Done))?;
-    rows.push((Call::EntryCount, 0, Answer::Counted(11)))?;
-    rows.push((Call::NoticeCount, 0, Answer::Counted(54)))?;
-    for key in 1..55 {
-        let noticed = Answer::Noticed(key, "first", RemovalCause::Size);
-        rows.push((Call::TakeNotice, 0, noticed))?;
-    }
+    add_all(&mut rows, &ONE_MORE)?;
+    add_notices(&mut rows, 1..55, "first", RemovalCause::Size)?;
     answers_patiently::<CacheRows<u64, Value>>(&rt, rt.alloc(), TEN, rows.as_slice())
 }
 
@@ -150,19 +155,24 @@ const OVER_A_VALUE_THAT_LEAVES: [Row; 4] = [
 #[test]
 fn flushes_before_an_overwrite(rt: HostRuntime) -> Result<(), Fail> {
     let mut rows = filled(rt.alloc(), 4)?;
-    for row in OVER_A_VALUE_THAT_LEAVES {
-        rows.push(row)?;
-    }
+    add_all(&mut rows, &OVER_A_VALUE_THAT_LEAVES)?;
     answers_patiently::<CacheRows<u64, Value>>(&rt, rt.alloc(), TEN, rows.as_slice())
 }
+
+const REFUSED: [Row; 3] = [
+    (
+        Call::Insert(65, "not written"),
+        0,
+        Answer::Refused(Refused::NumbersUsedUp),
+    ),
+    (Call::EntryCount, 0, Answer::Counted(64)),
+    (Call::NoticeCount, 0, Answer::Counted(0)),
+];
 
 #[test]
 fn does_not_flush_before_a_refused_write(rt: HostRuntime) -> Result<(), Fail> {
     let mut rows = filled(rt.alloc(), 3)?;
-    let refused = Answer::Refused(Refused::NumbersUsedUp);
-    rows.push((Call::Insert(65, "not written"), 0, refused))?;
-    rows.push((Call::EntryCount, 0, Answer::Counted(64)))?;
-    rows.push((Call::NoticeCount, 0, Answer::Counted(0)))?;
+    add_all(&mut rows, &REFUSED)?;
     let rules = Rules {
         first_number: u64::MAX - 64,
         ..TEN

@@ -32,9 +32,18 @@ fn hashes_a_number_to_itself(rt: HostRuntime) {
 
 #[test]
 fn says_what_was_lacking_and_why_a_value_left(rt: HostRuntime) -> Result<(), Fail> {
-    let refusals = format!(in rt.alloc(); "{} {}", Refused::OutOfMemory, Refused::NumbersUsedUp)?;
+    says_what_was_lacking(&rt, rt.alloc())?;
+    says_why_a_value_left(&rt, rt.alloc())
+}
+
+fn says_what_was_lacking(rt: &impl Abort, alloc: Global) -> Result<(), Fail> {
+    let refusals = format!(in alloc; "{} {}", Refused::OutOfMemory, Refused::NumbersUsedUp)?;
     assert_eq!(rt; refusals.as_str(), "OutOfMemory NumbersUsedUp");
-    let causes = format!(in rt.alloc();
+    Ok(())
+}
+
+fn says_why_a_value_left(rt: &impl Abort, alloc: Global) -> Result<(), Fail> {
+    let causes = format!(in alloc;
         "{:?} {:?} {:?} {:?}",
         RemovalCause::Expired,
         RemovalCause::Explicit,
@@ -140,11 +149,25 @@ fn estimates<F: FrequencySource>(
     expected: &[(u64, u8)],
 ) -> Result<(), Fail> {
     let mut source: F = opened(rt, alloc)?;
+    note_all(&mut source, notes);
+    estimates_all(rt, &source, notes, expected);
+    Ok(())
+}
+
+fn note_all<F: FrequencySource>(source: &mut F, notes: &[(u64, u64)]) {
     for (hash, times) in notes {
         for _ in 0..*times {
             source.note(*hash);
         }
     }
+}
+
+fn estimates_all<F: FrequencySource>(
+    rt: &impl Abort,
+    source: &F,
+    notes: &[(u64, u64)],
+    expected: &[(u64, u8)],
+) {
     for (hash, count) in expected {
         assert_eq!(rt;
             source.estimate(*hash),
@@ -152,7 +175,6 @@ fn estimates<F: FrequencySource>(
             "hash {hash} after {notes:?}"
         );
     }
-    Ok(())
 }
 
 /// After so many notes of one hash its estimate is this, by a table of one counter and a sketch of one in each row.
@@ -162,10 +184,20 @@ const ESTIMATES: [(u64, u8); 6] = [(9, 9), (10, 5), (19, 14), (20, 7), (29, 15),
 #[test]
 fn estimates_notes(rt: HostRuntime) -> Result<(), Fail> {
     for (times, count) in ESTIMATES {
-        estimates::<CountTable<0>>(&rt, rt.alloc(), &[(3, times)], &[(3, count), (5, count)])?;
-        estimates::<FrequencySketch<0>>(&rt, rt.alloc(), &[(3, times)], &[(3, count), (5, count)])?;
+        estimates_after::<CountTable<0>>(&rt, rt.alloc(), times, count)?;
+        estimates_after::<FrequencySketch<0>>(&rt, rt.alloc(), times, count)?;
     }
     Ok(())
+}
+
+/// Asserts the estimate of two hashes after so many notes of one.
+fn estimates_after<F: FrequencySource>(
+    rt: &impl Abort,
+    alloc: Global,
+    times: u64,
+    count: u8,
+) -> Result<(), Fail> {
+    estimates::<F>(rt, alloc, &[(3, times)], &[(3, count), (5, count)])
 }
 
 #[test]

@@ -9,18 +9,18 @@ ghost use Rattle.std.specs.Prelude.{◌≡◌, ◌≢◌, false, Some, None, IsS
 ghost use Rattle.std.specs.List.{AllByRecursion};
 ghost use Rattle.moka_state.specs.Step.{StepKeeps};
 
+use crate::by_step::{all_said, is_step};
 use crate::keys::{ByNumber, Collides, Key};
-use crate::values::{Counts, EitherText, Given, Types, Value, Watch, heavy, plain};
+use crate::values::{Counts, EitherText, Given, Types, Value, Watch};
 use moka_base::notification::RemovalCause;
 use moka_base::policy::{CacheTypes, EvictionPolicy, Predicate, Refused};
 use moka_state::due_rows::DueRows;
 use moka_state::list_rows::ListRows;
 use moka_state::predicate_error::PredicateError;
-use moka_state::predicate_id::PredicateId;
 use moka_state::rows::RowStore;
-use moka_state::state::{InsertRefused, Settings, State};
-use moka_state::step::{Reply, Step};
-use rand_core::{Rng, SeedableRng};
+use moka_state::state::{Settings, State};
+use moka_state::step::Step;
+use rand_core::SeedableRng;
 use rand_xoshiro::SplitMix64;
 use std::alloc::{AllocError, Global};
 use std::hash::{BuildHasher, BuildHasherDefault};
@@ -147,19 +147,19 @@ pub(crate) enum Way {
 
 /// A cache under test, over a store of rows.
 #[derive(Drop)]
-struct Subject<K: Key, H: BuildHasher + Drop, R: RowStore<K, Value>> {
-    cache: State<K, Value, Types<H>, R>,
+pub(crate) struct Subject<K: Key, H: BuildHasher + Drop, R: RowStore<K, Value>> {
+    pub cache: State<K, Value, Types<H>, R>,
     rules: Rules,
     /// What ids are drawn from.
-    generator: SplitMix64,
-    watch: Arc<Watch>,
+    pub generator: SplitMix64,
+    pub watch: Arc<Watch>,
     /// How many share the watch beside the values.
     watchers: usize,
     /// The keys of the steps.
-    keys: Vec<Arc<K>>,
+    pub keys: Vec<Arc<K>>,
     /// Whether a request for memory may be refused, once; what was refused for that is then done again.
     is_patient: bool,
-    alloc: Global,
+    pub alloc: Global,
 }
 
 /// Shares a value. Where memory is refused, it asks once more, as each helper below does.
@@ -220,23 +220,36 @@ pub(crate) fn settings<K: Key, H: BuildHasher + Default + Drop>(
     })
 }
 
+/// A cache with these rules, built once more where memory is refused that may be.
+pub(crate) fn opened<K: Key, H: BuildHasher + Default + Drop, R: RowStore<K, Value>>(
+    alloc: Global,
+    rules: Rules,
+    is_patient: bool,
+    watch: &Arc<Watch>,
+) -> Result<State<K, Value, Types<H>, R>, Fail> {
+    match State::new(alloc, settings(alloc, rules, watch)?) {
+        Ok(cache) => Ok(cache),
+        Err(Refused::OutOfMemory) if is_patient => {
+            Ok(State::new(alloc, settings(alloc, rules, watch)?)?)
+        }
+        Err(refused) => Err(Fail::from(refused)),
+    }
+}
+
 impl<K: Key, H: BuildHasher + Default + Drop, R: RowStore<K, Value>> Subject<K, H, R> {
     /// A cache for so many rows.
     fn new(alloc: Global, rules: Rules, is_patient: bool, rows: usize) -> Result<Self, Fail> {
         let watch = shared(alloc, Watch::new())?;
-        let cache = match State::new(alloc, settings(alloc, rules, &watch)?) {
-            Err(Refused::OutOfMemory) if is_patient => {
-                State::new(alloc, settings(alloc, rules, &watch)?)?
-            }
-            built => built?,
-        };
+        let cache = opened(alloc, rules, is_patient, &watch)?;
+        let watchers = Arc::strong_count(&watch);
+        let keys = room(alloc, rows.saturating_mul(2))?;
         Ok(Subject {
             cache,
             rules,
             generator: SplitMix64::seed_from_u64(0),
-            watchers: Arc::strong_count(&watch),
+            watchers,
             watch,
-            keys: room(alloc, rows.saturating_mul(2))?,
+            keys,
             is_patient,
             alloc,
         })
@@ -251,186 +264,40 @@ impl<K: Key, H: BuildHasher + Default + Drop, R: RowStore<K, Value>> Subject<K, 
         ]
     }
 
-    fn insert(
-        &mut self,
-        rt: &impl Abort,
-        number: u64,
-        given: Given,
-        now: u64,
-    ) -> Result<Answer, Fail> {
-        let value = Value::new(given, &self.watch)?;
-        match self.cache.insert(K::of(number), value, now) {
-            Ok(()) => Ok(Answer::Done),
-            Err(InsertRefused { key, value, cause }) => {
-                let handed_back = key.number() == number
-                    && value.given.text == given.text
-                    && value.given.weight == given.weight;
-                assert!(rt; handed_back, "what was given");
-                Ok(Answer::Refused(cause))
-            }
-        }
-    }
-
-    fn by_call(&mut self, rt: &impl Abort, call: Call, now: u64) -> Result<Answer, Fail> {
-        Ok(match call {
-            Call::Get(number) => match self.cache.get(&K::of(number), now) {
-                Ok(Some(value)) => Answer::Found(value.given.text),
-                Ok(None) => Answer::Absent,
-                Err(refused) => Answer::Refused(refused),
-            },
-            Call::ContainsKey(number) => {
-                Answer::Contains(self.cache.contains_key(&K::of(number), now))
-            }
-            Call::Insert(number, text) => self.insert(rt, number, plain(text), now)?,
-            Call::InsertHeavy(number, weight) => self.insert(rt, number, heavy(weight), now)?,
-            Call::InsertGiven(number, given) => self.insert(rt, number, given, now)?,
-            Call::Invalidate(number) => {
-                self.cache.invalidate(&K::of(number), now);
-                Answer::Done
-            }
-            Call::Remove(number) => match self.cache.remove(&K::of(number), now) {
-                Ok(Some(value)) => Answer::Found(value.given.text),
-                Ok(None) => Answer::Absent,
-                Err(refused) => Answer::Refused(refused),
-            },
-            Call::InvalidateAll => {
-                self.cache.invalidate_all();
-                Answer::Done
-            }
-            Call::InvalidateIf(one, other) => {
-                let predicate = shared(self.alloc, EitherText::new(one, other, &self.watch)?)?;
-                match self.cache.invalidate_entries_with_arc_fun(predicate) {
-                    Ok(()) => Answer::Done,
-                    Err(refused) => refused_predicate(refused),
-                }
-            }
-            Call::InvalidateById(one, other) => {
-                let predicate = EitherText::new(one, other, &self.watch)?;
-                let generator = &mut self.generator;
-                match self.cache.invalidate_entries_if(predicate, generator) {
-                    Ok(id) => id_of(&id),
-                    Err(refused) => refused_predicate(refused),
-                }
-            }
-            Call::PredicateRoom => match self.cache.predicate_room() {
-                Ok(()) => Answer::Done,
-                Err(refused) => refused_predicate(refused),
-            },
-            Call::RunPendingTasks => {
-                self.cache.run_pending_tasks(now);
-                Answer::Done
-            }
-            Call::RunPendingTasksUpTo(limit) => {
-                Answer::Left(self.cache.run_pending_tasks_up_to(limit, now))
-            }
-            Call::EntryCount => Answer::Counted(self.cache.entry_count()),
-            Call::WeightedSize => Answer::Counted(self.cache.weighted_size()),
-            Call::TakeNotice => match self.cache.take_notice() {
-                Some(notice) => {
-                    Answer::Noticed(notice.key.number(), notice.value.given.text, notice.cause)
-                }
-                None => Answer::NoNotice,
-            },
-            Call::NoticeCount => Answer::Counted(self.cache.notice_count() as u64),
-            Call::Asked => Answer::Asked(self.watch.counts()),
-            Call::Tested => Answer::Counted(self.watch.tested()),
-            Call::Draw => Answer::Counted(self.generator.next_u64()),
-            Call::RefuseCopies(refuses) => {
-                self.watch.refuse_copies(refuses);
-                Answer::Done
-            }
-        })
-    }
-
-    /// A key for a step.
-    fn key(&mut self, number: u64) -> Result<Arc<K>, AllocError> {
-        let key = shared(self.alloc, K::of(number))?;
-        self.keys.push(key.clone()?)?;
-        Ok(key)
-    }
-
-    /// The step that is this call, if there is one.
-    fn step_of(
-        &mut self,
-        call: Call,
-        now: u64,
-    ) -> Result<Option<Step<K, Value, Types<H>>>, AllocError>
-        ensures { IfOk result (λ step. IfSome step
-            (StepKeeps ⟦<Types<H> as CacheTypes<K, Value>>⟧.keeps
-            ⟦<EitherText as Predicate<K, Value>>⟧.tests
-            ⟦<Types<H> as CacheTypes<K, Value>>⟧.test)) }
-    {
-        let given = match call {
-            Call::Insert(_, text) => plain(text),
-            Call::InsertHeavy(_, weight) => heavy(weight),
-            Call::InsertGiven(_, given) => given,
-            _ => plain(""),
-        };
-        Ok(match call {
-            Call::Get(number) => {
-                let key = self.key(number)?;
-                Some(Step::Get { key, now })
-            }
-            Call::ContainsKey(number) => {
-                let key = self.key(number)?;
-                Some(Step::ContainsKey { key, now })
-            }
-            Call::Insert(number, _) | Call::InsertHeavy(number, _) | Call::InsertGiven(number, _) =>
-                {
-                    let key = self.key(number)?;
-                    let value = Value::new(given, &self.watch)?;
-                    Some(Step::Insert { key, value, now })
-                }
-            Call::Invalidate(number) => {
-                let key = self.key(number)?;
-                Some(Step::Invalidate { key, now })
-            }
-            Call::Remove(number) => {
-                let key = self.key(number)?;
-                Some(Step::Remove { key, now })
-            }
-            Call::InvalidateAll => Some(Step::InvalidateAll),
-            Call::InvalidateIf(one, other) => {
-                let predicate = shared(self.alloc, EitherText::new(one, other, &self.watch)?)?;
-                Some(Step::InvalidateIf { predicate })
-            }
-            Call::RunPendingTasks => Some(Step::RunPendingTasks { now }),
-            Call::RunPendingTasksUpTo(limit) => Some(Step::RunPendingTasksUpTo { limit, now }),
-            Call::EntryCount => Some(Step::EntryCount),
-            Call::WeightedSize => Some(Step::WeightedSize),
-            Call::TakeNotice => Some(Step::TakeNotice),
-            Call::InvalidateById(..)
-            | Call::PredicateRoom
-            | Call::NoticeCount
-            | Call::Asked
-            | Call::Tested
-            | Call::Draw
-            | Call::RefuseCopies(_) => None,
-        })
-    }
-
-    fn by_step(&mut self, rt: &impl Abort, call: Call, now: u64) -> Result<Answer, Fail> {
-        match self.step_of(call, now)? {
-            Some(step) => Ok(said(self.cache.step(step))),
-            None => self.by_call(rt, call, now),
-        }
-    }
-
     /// Does a row by a call or a step.
     fn row(&mut self, rt: &impl Abort, way: Way, row: Row, place: usize) -> Result<(), Fail> {
-        let (call, now, expected) = row;
-        let before = (self.sizes(), self.watch.counts());
-        let mut found = self.by(rt, way, call, now)?;
-        if let Answer::Refused(refused) = found {
-            self.is_unchanged(rt, before);
-            if self.is_patient && refused == Refused::OutOfMemory && found != expected {
-                self.watch.set_back(before.1);
-                found = self.by(rt, way, call, now)?;
-            }
-        }
-        fits(rt, found, expected, place);
+        let found = self.answer(rt, way, row)?;
+        fits(rt, found, row.2, place);
         self.holds(rt);
         Ok(())
+    }
+
+    /// What a row answers by a call or a step. Where it is refused for want of memory, and that may be, it is done again.
+    fn answer(&mut self, rt: &impl Abort, way: Way, row: Row) -> Result<Answer, Fail> {
+        let (call, now, expected) = row;
+        let before = (self.sizes(), self.watch.counts());
+        let found = self.by(rt, way, call, now)?;
+        if self.is_done(rt, found, expected, before) {
+            return Ok(found);
+        }
+        self.watch.set_back(before.1);
+        self.by(rt, way, call, now)
+    }
+
+    /// Whether this answer is the last one, and its call is not to be done again. Asserts that a refused call left all as it
+    /// was.
+    fn is_done(
+        &self,
+        rt: &impl Abort,
+        found: Answer,
+        expected: Answer,
+        before: ([u64; 3], Counts),
+    ) -> bool {
+        let Answer::Refused(refused) = found else {
+            return true;
+        };
+        self.is_unchanged(rt, before);
+        !self.is_patient || refused != Refused::OutOfMemory || found == expected
     }
 
     fn by(&mut self, rt: &impl Abort, way: Way, call: Call, now: u64) -> Result<Answer, Fail> {
@@ -442,13 +309,12 @@ impl<K: Key, H: BuildHasher + Default + Drop, R: RowStore<K, Value>> Subject<K, 
 
     /// Asserts that a refused call changed no number and asked no expiry.
     fn is_unchanged(&self, rt: &impl Abort, before: ([u64; 3], Counts)) {
-        let (sizes, [_, created, looked_at, updated, _]) = before;
-        let [_, created_now, looked_at_now, updated_now, _] = self.watch.counts();
+        let (sizes, counts) = before;
         assert!(rt; self.sizes() == sizes, "the sizes after a refusal");
-        let asked_no_more = created_now == created
-            && looked_at_now == looked_at
-            && updated_now == updated;
-        assert!(rt; asked_no_more, "the expiry before a refusal");
+        assert!(rt;
+            asked_no_more(counts, self.watch.counts()),
+            "the expiry before a refusal"
+        );
     }
 
     /// The steps of some rows.
@@ -478,15 +344,23 @@ impl<K: Key, H: BuildHasher + Default + Drop, R: RowStore<K, Value>> Subject<K, 
         }
     }
 
+    /// What one run of rows answers, which is done again where it is refused and that may be.
+    fn answers_patiently(&mut self, rt: &impl Abort, rows: &[Row]) -> Result<Vec<Answer>, Fail> {
+        let before = (self.sizes(), self.watch.counts());
+        match self.answers(rows)? {
+            Ok(answers) => Ok(answers),
+            Err(refused) if !self.is_patient => Err(Fail::from(refused)),
+            Err(_) => {
+                self.is_unchanged(rt, before);
+                Ok(self.answers(rows)??)
+            }
+        }
+    }
+
     /// Does rows, all of them steps, by one run. It answers false where memory for a step was refused that may be.
     fn run(&mut self, rt: &impl Abort, rows: &[Row], place: usize) -> Result<bool, Fail> {
-        let before = (self.sizes(), self.watch.counts());
-        let mut answers = self.answers(rows)?;
-        if self.is_patient && answers.is_err() {
-            self.is_unchanged(rt, before);
-            answers = self.answers(rows)?;
-        }
-        if !fit(rt, &answers?, rows, self.is_patient, place) {
+        let answers = self.answers_patiently(rt, rows)?;
+        if !fit(rt, answers.as_slice(), rows, self.is_patient, place) {
             return Ok(false);
         }
         self.holds(rt);
@@ -499,32 +373,40 @@ impl<K: Key, H: BuildHasher + Default + Drop, R: RowStore<K, Value>> Subject<K, 
         for (place, row) in rows.iter().enumerate() {
             if is_step(row.0) {
                 next.push(*row)?;
-            } else {
-                if !self.run(rt, next.as_slice(), place)? {
-                    return Ok(false);
-                }
-                next.clear();
-                self.row(rt, Way::Calls, *row, place)?;
+            } else if !self.run_and_call(rt, &mut next, *row, place)? {
+                return Ok(false);
             }
         }
         self.run(rt, next.as_slice(), rows.len())
     }
 
+    /// Does the rows so far by one run, and then a row that is no step.
+    fn run_and_call(
+        &mut self,
+        rt: &impl Abort,
+        so_far: &mut Vec<Row>,
+        row: Row,
+        place: usize,
+    ) -> Result<bool, Fail> {
+        if !self.run(rt, so_far.as_slice(), place)? {
+            return Ok(false);
+        }
+        so_far.clear();
+        self.row(rt, Way::Calls, row, place)?;
+        Ok(true)
+    }
+
     /// Does a table. The answer is whether it went through.
     fn table(&mut self, rt: &impl Abort, way: Way, rows: &[Row]) -> Result<bool, Fail> {
         match way {
-            Way::Calls => self.rows(rt, way, rows)?,
-            Way::Steps => {
-                self.rows(rt, way, rows)?;
-                self.keeps_no_more_keys(rt);
-            }
             Way::Runs => {
                 if !self.runs(rt, rows)? {
                     return Ok(false);
                 }
-                self.keeps_no_more_keys(rt);
             }
+            Way::Calls | Way::Steps => self.rows(rt, way, rows)?,
         }
+        self.keeps_no_more_keys(rt, way);
         Ok(true)
     }
 
@@ -536,65 +418,111 @@ impl<K: Key, H: BuildHasher + Default + Drop, R: RowStore<K, Value>> Subject<K, 
         Ok(())
     }
 
-    /// The keys of steps that are kept alive are those of what is stored or waits to be noticed.
-    fn keeps_no_more_keys(&self, rt: &impl Abort) {
-        let mut keys = 0_u64;
-        for key in self.keys.iter() {
-            keys = keys.wrapping_add((Arc::strong_count(key) as u64).wrapping_sub(1));
-        }
-        let [entries, notices, _] = self.sizes();
+    /// The keys of steps that are kept alive are those of what is stored or waits to be noticed. By calls there are none.
+    fn keeps_no_more_keys(&self, rt: &impl Abort, way: Way) {
+        let is_by_calls = matches!(way, Way::Calls);
         assert!(rt;
-            keys == entries.wrapping_add(notices),
+            is_by_calls || self.keys_alive() == self.values_kept(),
             "keys that are kept alive"
         );
     }
 
+    /// How many keys of steps are kept alive.
+    fn keys_alive(&self) -> u64 {
+        let mut keys = 0_u64;
+        for key in self.keys.iter() {
+            keys = keys.wrapping_add((Arc::strong_count(key) as u64).wrapping_sub(1));
+        }
+        keys
+    }
+
+    /// How many values are stored or wait to be noticed.
+    fn values_kept(&self) -> u64 {
+        let [entries, notices, _] = self.sizes();
+        entries.wrapping_add(notices)
+    }
+
     /// What holds after each call.
     fn holds(&self, rt: &impl Abort) {
-        let [entries, notices, _] = self.sizes();
         let values = Arc::strong_count(&self.watch).wrapping_sub(self.watchers) as u64;
-        assert_eq!(rt;
-            values,
-            entries.wrapping_add(notices),
-            "values that are kept alive"
-        );
-        if let (Some(capacity), false) = (self.rules.max_capacity, self.rules.is_weighed) {
-            assert!(rt;
-                entries <= capacity.saturating_add(64),
-                "keys that are stored"
-            );
+        assert_eq!(rt; values, self.values_kept(), "values that are kept alive");
+        assert!(rt; self.is_within_its_capacity(), "keys that are stored");
+    }
+
+    /// Whether no more keys are stored than may be, where each weighs one.
+    fn is_within_its_capacity(&self) -> bool {
+        match self.rules.max_capacity {
+            Some(capacity) if !self.rules.is_weighed => {
+                self.cache.entry_count() <= capacity.saturating_add(64)
+            }
+            _ => true,
         }
     }
-}
 
-/// Whether there is a step for a call.
-fn is_step(call: Call) -> bool {
-    !matches!(
-        call,
-        Call::InvalidateById(..)
-            | Call::PredicateRoom
-            | Call::NoticeCount
-            | Call::Asked
-            | Call::Tested
-            | Call::Draw
-            | Call::RefuseCopies(_)
-    )
-}
+    /// Does rows by calls, as another does over another store, and asserts that both answer alike.
+    fn rows_as<S: RowStore<K, Value>>(
+        &mut self,
+        rt: &impl Abort,
+        other: &mut Subject<K, H, S>,
+        rows: &[Row],
+    ) -> Result<(), Fail> {
+        for (place, row) in rows.iter().enumerate() {
+            self.row_as(rt, other, *row, place)?;
+        }
+        Ok(())
+    }
 
-/// What a refused predicate answers. Want of memory is that of every call.
-fn refused_predicate(refused: PredicateError) -> Answer {
-    match refused {
-        PredicateError::OutOfMemory => Answer::Refused(Refused::OutOfMemory),
-        PredicateError::InvalidationClosuresDisabled => Answer::NotHidden(refused),
+    fn row_as<S: RowStore<K, Value>>(
+        &mut self,
+        rt: &impl Abort,
+        other: &mut Subject<K, H, S>,
+        row: Row,
+        place: usize,
+    ) -> Result<(), Fail> {
+        let expected = other.by_call(rt, row.0, row.1)?;
+        let found = self.by_call(rt, row.0, row.1)?;
+        assert_eq!(rt; found, expected, "row {place}");
+        assert!(rt; self.sizes() == other.sizes(), "row {place}");
+        self.holds(rt);
+        Ok(())
+    }
+
+    /// Does the first rows by calls, and then the others between two requests for memory of its own.
+    fn rows_between_requests(
+        &mut self,
+        rt: &impl Abort,
+        before: &[Row],
+        rows: &[Row],
+    ) -> Result<(), Fail> {
+        self.rows(rt, Way::Calls, before)?;
+        takes_memory(rt, self.alloc, "refused before the calls");
+        self.rows(rt, Way::Calls, rows)?;
+        takes_memory(rt, self.alloc, "refused behind the calls");
+        Ok(())
+    }
+
+    /// What the calls of rows answer.
+    fn all_answers(&mut self, rt: &impl Abort, rows: &[Row]) -> Result<Vec<Answer>, Fail> {
+        let mut answers = room(self.alloc, rows.len())?;
+        for row in rows {
+            let found = self.answer(rt, Way::Calls, *row)?;
+            self.holds(rt);
+            answers.push(found)?;
+        }
+        Ok(answers)
     }
 }
 
-/// An id by its text, or its length where that is another one than an id's.
-fn id_of(id: &PredicateId) -> Answer {
-    match id.as_bytes().first_chunk() {
-        Some(text) if id.len() == 36 => Answer::Id(*text),
-        _ => Answer::Counted(id.len() as u64),
-    }
+/// Asserts that one request for memory is met.
+fn takes_memory(rt: &impl Abort, alloc: Global, otherwise: &str) {
+    assert!(rt; Arc::new(alloc, 0_u64).is_ok(), "{otherwise}");
+}
+
+/// Whether the expiry was not asked between two counts.
+fn asked_no_more(before: Counts, now: Counts) -> bool {
+    let [_, created, looked_at, updated, _] = before;
+    let [_, created_now, looked_at_now, updated_now, _] = now;
+    created_now == created && looked_at_now == looked_at && updated_now == updated
 }
 
 /// Asserts that an answer is the expected one.
@@ -619,36 +547,6 @@ fn fit(rt: &impl Abort, answers: &[Answer], rows: &[Row], is_patient: bool, plac
         fits(rt, *found, *expected, place);
     }
     true
-}
-
-/// What replies say, behind other answers.
-fn all_said<K: Key, C: CacheTypes<K, Value>>(
-    mut answers: Vec<Answer>,
-    replies: Vec<Reply<K, Value, C>>,
-) -> Result<Vec<Answer>, AllocError> {
-    for reply in replies {
-        answers.push(said(reply))?;
-    }
-    Ok(answers)
-}
-
-/// What a reply says.
-fn said<K: Key, C: CacheTypes<K, Value>>(reply: Reply<K, Value, C>) -> Answer {
-    match reply {
-        Reply::Found(Some(value)) => Answer::Found(value.given.text),
-        Reply::Found(None) => Answer::Absent,
-        Reply::Contains(found) => Answer::Contains(found),
-        Reply::Done => Answer::Done,
-        Reply::Counted(count) => Answer::Counted(count),
-        Reply::Left(is_left) => Answer::Left(is_left),
-        Reply::Noticed(Some(notice)) => {
-            Answer::Noticed(notice.key.number(), notice.value.given.text, notice.cause)
-        }
-        Reply::Noticed(None) => Answer::NoNotice,
-        Reply::Refused(refused) => Answer::Refused(refused),
-        Reply::PredicateRefused(refused) => refused_predicate(refused),
-        _ => Answer::OfTurn,
-    }
 }
 
 /// Does a table once, over a store of rows. The answer is whether it went through.
@@ -697,15 +595,24 @@ pub(crate) fn answered_alike<
     S: RowStore<K, Value>,
 >(rt: &impl Abort, alloc: Global, rules: Rules, rows: &[Row]) -> Result<(), Fail> {
     let mut one: Subject<K, H, R> = Subject::new(alloc, rules, false, 0)?;
+    answers_as::<K, H, R, S>(rt, alloc, rules, &mut one, rows)
+}
+
+/// So does another with this one.
+fn answers_as<
+    K: Key,
+    H: BuildHasher + Default + Drop,
+    R: RowStore<K, Value>,
+    S: RowStore<K, Value>,
+>(
+    rt: &impl Abort,
+    alloc: Global,
+    rules: Rules,
+    one: &mut Subject<K, H, R>,
+    rows: &[Row],
+) -> Result<(), Fail> {
     let mut other: Subject<K, H, S> = Subject::new(alloc, rules, false, 0)?;
-    for (place, (call, now, _)) in rows.iter().enumerate() {
-        let expected = other.by_call(rt, *call, *now)?;
-        let found = one.by_call(rt, *call, *now)?;
-        assert_eq!(rt; found, expected, "row {place}");
-        assert!(rt; one.sizes() == other.sizes(), "row {place}");
-        one.holds(rt);
-    }
-    Ok(())
+    one.rows_as(rt, &mut other, rows)
 }
 
 /// Each call of a table answers what the table says, over either store, with number keys, each of which is its own hash.
@@ -750,11 +657,7 @@ pub(crate) fn answers_between_requests<R: RowStore<u64, Value>>(
     rows: &[Row],
 ) -> Result<(), Fail> {
     let mut subject: Subject<u64, ByNumber, R> = Subject::new(alloc, rules, false, 0)?;
-    subject.rows(rt, Way::Calls, before)?;
-    assert!(rt; Arc::new(alloc, 0_u64).is_ok(), "refused before the calls");
-    subject.rows(rt, Way::Calls, rows)?;
-    assert!(rt; Arc::new(alloc, 0_u64).is_ok(), "refused behind the calls");
-    Ok(())
+    subject.rows_between_requests(rt, before, rows)
 }
 
 /// What the calls of a table answer, of which one request for memory may be refused, whichever: what was refused, and has
@@ -766,18 +669,7 @@ fn answers_of<R: RowStore<u64, Value>>(
     rows: &[Row],
 ) -> Result<Vec<Answer>, Fail> {
     let mut subject: Subject<u64, ByNumber, R> = Subject::new(alloc, rules, true, 0)?;
-    let mut answers = room(alloc, rows.len())?;
-    for (call, now, _) in rows {
-        let before = (subject.sizes(), subject.watch.counts());
-        let mut found = subject.by_call(rt, *call, *now)?;
-        if found == Answer::Refused(Refused::OutOfMemory) {
-            subject.is_unchanged(rt, before);
-            found = subject.by_call(rt, *call, *now)?;
-        }
-        subject.holds(rt);
-        answers.push(found)?;
-    }
-    Ok(answers)
+    subject.all_answers(rt, rows)
 }
 
 /// Two caches over this store answer alike, of which at most one is refused a request for memory.

@@ -3,6 +3,7 @@ use crate::subject::{Answer, Call, Row, Rules, UNLIMITED, answers, room};
 use crate::values::Given;
 use moka_base::notification::RemovalCause;
 use moka_base::policy::Refused;
+use std::alloc::AllocError;
 use std::test::Fail;
 
 const WEIGHED: Rules = Rules {
@@ -10,9 +11,11 @@ const WEIGHED: Rules = Rules {
     ..UNLIMITED
 };
 
+type Write = (u64, u32, &'static [(u64, RemovalCause)], u64);
+
 /// Writes, each with a maintenance behind it: the key, its weight, the keys and causes that then left, and the weight of
 /// all.
-const WEIGHTS: [(u64, u32, &[(u64, RemovalCause)], u64); 7] = [
+const WEIGHTS: [Write; 7] = [
     (1, 4, &[], 4),
     (2, 4, &[], 8),
     // It has room beside neither of them.
@@ -31,18 +34,30 @@ const WEIGHTS: [(u64, u32, &[(u64, RemovalCause)], u64); 7] = [
     ),
 ];
 
+fn add_write(rows: &mut Vec<Row>, write: Write) -> Result<(), AllocError> {
+    let (key, weight, left, total) = write;
+    rows.push((Call::InsertHeavy(key, weight), 0, Answer::Done))?;
+    rows.push((Call::RunPendingTasks, 0, Answer::Done))?;
+    add_notices_of(rows, left)?;
+    rows.push((Call::NoticeCount, 0, Answer::Counted(0)))?;
+    rows.push((Call::WeightedSize, 0, Answer::Counted(total)))?;
+    Ok(())
+}
+
+/// Adds that the notices of these keys are taken.
+fn add_notices_of(rows: &mut Vec<Row>, left: &[(u64, RemovalCause)]) -> Result<(), AllocError> {
+    for (key, cause) in left {
+        let noticed = Answer::Noticed(*key, "heavy", *cause);
+        rows.push((Call::TakeNotice, 0, noticed))?;
+    }
+    Ok(())
+}
+
 #[test]
 fn keeps_the_weight_within_the_capacity(rt: HostRuntime) -> Result<(), Fail> {
     let mut rows = room(rt.alloc(), 64)?;
-    for (key, weight, left, total) in WEIGHTS {
-        rows.push((Call::InsertHeavy(key, weight), 0, Answer::Done))?;
-        rows.push((Call::RunPendingTasks, 0, Answer::Done))?;
-        for (key, cause) in left {
-            let noticed = Answer::Noticed(*key, "heavy", *cause);
-            rows.push((Call::TakeNotice, 0, noticed))?;
-        }
-        rows.push((Call::NoticeCount, 0, Answer::Counted(0)))?;
-        rows.push((Call::WeightedSize, 0, Answer::Counted(total)))?;
+    for write in WEIGHTS {
+        add_write(&mut rows, write)?;
     }
     let rules = Rules {
         max_capacity: Some(10),

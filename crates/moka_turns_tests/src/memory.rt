@@ -1,10 +1,11 @@
 //! What memory is taken, and what a refused call leaves. Each test passes, or says where it was refused, also where one
 //! request for memory is refused, whichever: `scripts/refused_memory` tries each.
-use crate::calls::{end, key_of, leave_ended, leave_open, new_turn, open, wait};
+use crate::calls::{end, key_of, leave_ended, leave_open, open, wait};
 use moka_model::turns::Kind;
 use moka_turns::table::{TurnEnd, Turns};
 use moka_turns::turn_key::TurnKey;
 use std::alloc::{AllocError, Global};
+use std::process::Abort;
 use std::sync::Arc;
 use std::test::Fail;
 
@@ -30,27 +31,50 @@ fn opens(alloc: Global, turns: &mut Texts, key: u64, number: u64) -> Result<bool
 /// How many turns are opened: room has to grow some times.
 const TURNS: u64 = 9;
 
-#[test]
-fn every_turn_is_kept_where_memory_is_refused(rt: HostRuntime) -> Result<(), Fail> {
-    let alloc = rt.alloc();
-    let mut turns = Texts::new(alloc);
+// The four parts of the next test: the table is lent to each, since a body that owns it is dear to prove.
+fn open_all(rt: &impl Abort, alloc: Global, turns: &mut Texts) -> Result<(), Fail> {
     for key in 0..TURNS {
-        assert!(rt; opens(alloc, &mut turns, key, key + 100)?);
+        assert!(rt; opens(alloc, turns, key, key + 100)?);
     }
+    Ok(())
+}
+
+fn find_all(rt: &impl Abort, alloc: Global, turns: &Texts) -> Result<(), Fail> {
     for key in 0..TURNS {
         let number = turns.find(&given(alloc, key)?).map(|turn| turn.number);
         assert_eq!(rt; number, Some(key + 100));
     }
+    Ok(())
+}
+
+fn end_all(rt: &impl Abort, alloc: Global, turns: &mut Texts) -> Result<(), Fail> {
     for key in 0..TURNS {
         let key = given(alloc, key)?;
-        let number = wait(&mut turns, &key);
-        let last = end(&mut turns, key, TurnEnd::Nothing).map(|turn| turn.number);
+        let number = wait(turns, &key);
+        let last = end(turns, key, TurnEnd::Nothing).map(|turn| turn.number);
         assert_eq!(rt; number, last);
     }
+    Ok(())
+}
+
+fn each_is_kept(rt: &impl Abort, turns: &Texts) {
     for number in 100..100 + TURNS {
         assert_eq!(rt; turns.ended(number).map(|turn| turn.unspent), Some(1));
     }
+}
+
+fn keeps_all(rt: &impl Abort, alloc: Global, turns: &mut Texts) -> Result<(), Fail> {
+    open_all(rt, alloc, turns)?;
+    find_all(rt, alloc, turns)?;
+    end_all(rt, alloc, turns)?;
+    each_is_kept(rt, turns);
     Ok(())
+}
+
+#[test]
+fn every_turn_is_kept_where_memory_is_refused(rt: HostRuntime) -> Result<(), Fail> {
+    let mut turns = Texts::new(rt.alloc());
+    keeps_all(&rt, rt.alloc(), &mut turns)
 }
 
 /// The text of a copy of an end.
@@ -80,22 +104,35 @@ fn an_end_is_copied_where_memory_is_refused(rt: HostRuntime) -> Result<(), Fail>
     Ok(())
 }
 
-#[test]
-fn takes_no_memory_once_there_is_room(rt: HostRuntime) -> Result<(), Fail> {
-    let alloc = rt.alloc();
-    let mut turns = Texts::new(alloc);
+// A turn that has room is waited for three times, and left once.
+fn wait_in_room(rt: &impl Abort, turns: &mut Texts, key: &TurnKey<u64>) {
+    for _ in 0..3 {
+        assert_eq!(rt; wait(turns, key), Some(10));
+    }
+    assert!(rt; leave_open(turns, key));
+}
+
+// It ends, and the two who still wait leave it.
+fn end_in_room(rt: &impl Abort, turns: &mut Texts, same: TurnKey<u64>) {
+    assert!(rt; end(turns, same, TurnEnd::Computed).is_some());
+    assert!(rt; leave_ended(turns, 10).is_none());
+    assert!(rt; leave_ended(turns, 10).is_some());
+    assert!(rt; turns.ended(10).is_none());
+}
+
+fn takes_none_in_room(rt: &impl Abort, alloc: Global, turns: &mut Texts) -> Result<(), Fail> {
     let (key, same) = (given(alloc, 1)?, given(alloc, 1)?);
     turns.reserve()?;
     Arc::new(alloc, 0_u64).map_err(|_| "refused before the calls")?;
-    turns.add(key, new_turn(10));
-    for _ in 0..3 {
-        assert_eq!(rt; wait(&mut turns, &same), Some(10));
-    }
-    assert!(rt; leave_open(&mut turns, &same));
-    assert!(rt; end(&mut turns, same, TurnEnd::Computed).is_some());
-    assert!(rt; leave_ended(&mut turns, 10).is_none());
-    assert!(rt; leave_ended(&mut turns, 10).is_some());
-    assert!(rt; turns.ended(10).is_none());
+    assert!(rt; open(turns, key, 10)?);
+    wait_in_room(rt, turns, &same);
+    end_in_room(rt, turns, same);
     Arc::new(alloc, 0_u64).map_err(|_| "refused behind the calls")?;
     Ok(())
+}
+
+#[test]
+fn takes_no_memory_once_there_is_room(rt: HostRuntime) -> Result<(), Fail> {
+    let mut turns = Texts::new(rt.alloc());
+    takes_none_in_room(&rt, rt.alloc(), &mut turns)
 }

@@ -10,7 +10,7 @@ use Rattle.mokabox_lines.specs.declared.command.Command.TheVariants.{At, Insert,
 use Rattle.mokabox_lines.specs.declared.turn.TurnOf.{TurnOf}
 use Rattle.moka_model.specs.declared.turns.Kind.{Kind}
 use Rattle.moka_model.specs.declared.turns.Kind.TheVariants.{With, Optionally, Try, Compute}
-use Rattle.mokabox_lines.specs.Command.{PlainCommand, plain_command, command_fields, replace_fields, line_of, IsExpressible, Reader, insert_of, replace_of, replaces_of, IsNoCompute, begin_by, begin_of, finish_of, turn_words, words, command_of, command_by_line}
+use Rattle.mokabox_lines.specs.Command.{PlainCommand, plain_command, command_fields, replace_fields, line_of, IsExpressible, Reader, insert_of, replace_of, replaces_of, IsNoCompute, begin_by, begin_of, finish_of, turn_words, whole_words, words, command_of, command_by_line}
 use Rattle.mokabox_lines.specs.Fields.{fields_of, first_of, number_of, alone, sole_number_of, sole_text_of, none_empty, texts_of, IsText}
 use Rattle.mokabox_lines.specs.Turn.{kind_word, kind_of, turn_fields, IsNamable, turn_of, sole_turn_of, ending_fields, ending_of}
 use Rattle.mokabox_lines.proofs.NumberLaws.{number_takes, number_again}
@@ -167,6 +167,31 @@ turns_take = (
   ),
 )
 
+whole_words_take : AllByRecursion (λ entry. Takes entry.0 entry.1) whole_words
+unfolding whole_words
+whole_words_take = (
+  alone_takes (codes "invalidate-all") InvalidateAll refl tt,
+  (
+    texts_behind,
+    (
+      alone_takes (codes "tasks") Tasks refl tt,
+      (
+        number_behind (codes "tasks-up-to") TasksUpTo (λ n. refl) (λ n small. small),
+        (
+          alone_takes (codes "count") Count refl tt,
+          (
+            alone_takes (codes "weight") Weight refl tt,
+            (
+              alone_takes (codes "notices") Notices refl tt,
+              (alone_takes (codes "policy") Policy refl tt, (alone_takes (codes "walk") Walk refl tt, turns_take)),
+            ),
+          ),
+        ),
+      ),
+    ),
+  ),
+)
+
 words_take : AllByRecursion (λ entry. Takes entry.0 entry.1) words
 words_take = (
   number_behind (codes "at") At (λ n. refl) (λ n small. small),
@@ -180,31 +205,7 @@ words_take = (
           number_behind (codes "has") Has (λ n. refl) (λ n small. small),
           (
             number_behind (codes "invalidate") Invalidate (λ n. refl) (λ n small. small),
-            (
-              number_behind (codes "remove") Remove (λ n. refl) (λ n small. small),
-              (
-                alone_takes (codes "invalidate-all") InvalidateAll refl tt,
-                (
-                  texts_behind,
-                  (
-                    alone_takes (codes "tasks") Tasks refl tt,
-                    (
-                      number_behind (codes "tasks-up-to") TasksUpTo (λ n. refl) (λ n small. small),
-                      (
-                        alone_takes (codes "count") Count refl tt,
-                        (
-                          alone_takes (codes "weight") Weight refl tt,
-                          (
-                            alone_takes (codes "notices") Notices refl tt,
-                            (alone_takes (codes "policy") Policy refl tt, (alone_takes (codes "walk") Walk refl tt, turns_take)),
-                          ),
-                        ),
-                      ),
-                    ),
-                  ),
-                ),
-              ),
-            ),
+            (number_behind (codes "remove") Remove (λ n. refl) (λ n small. small), whole_words_take),
           ),
         ),
       ),
@@ -227,7 +228,7 @@ begin_again kind key replace is small = rw (kind_again kind, number_again key sm
 
 -- the fields that a command is written as are read as that command
 command_again : (command : PlainCommand) → IsExpressible command → command_of (command_fields command) ≡ Some command
-unfolding turn_words
+unfolding turn_words whole_words
 command_again (At moment) small = rw (number_again moment small) refl
 command_again (Insert key value) parts = rw (number_again key parts.0, text_again value parts.1) refl
 command_again (OrInsert key value) parts = rw (number_again key parts.0, text_again value parts.1) refl

@@ -148,16 +148,9 @@ turn_words = (codes "begin", begin_of)
     ∷ (codes "leave", λ rest. option_map Leave (sole_turn_of rest))
     ∷ []
 
--- each command's word, and what reads the fields behind it
-abbrev pub words : List (List ℕ × Reader)
-words = (codes "at", λ rest. option_map At (sole_number_of rest))
-    ∷ (codes "insert", insert_of Insert)
-    ∷ (codes "or-insert", insert_of OrInsert)
-    ∷ (codes "get", λ rest. option_map Get (sole_number_of rest))
-    ∷ (codes "has", λ rest. option_map Has (sole_number_of rest))
-    ∷ (codes "invalidate", λ rest. option_map Invalidate (sole_number_of rest))
-    ∷ (codes "remove", λ rest. option_map Remove (sole_number_of rest))
-    ∷ (codes "invalidate-all", alone InvalidateAll)
+-- the words of the commands of all keys, and of turns
+unfoldable pub whole_words : List (List ℕ × Reader)
+whole_words = (codes "invalidate-all", alone InvalidateAll)
     ∷ (codes "invalidate-if", λ rest. option_map InvalidateIf (texts_of rest))
     ∷ (codes "tasks", alone Tasks)
     ∷ (codes "tasks-up-to", λ rest. option_map TasksUpTo (sole_number_of rest))
@@ -167,6 +160,17 @@ words = (codes "at", λ rest. option_map At (sole_number_of rest))
     ∷ (codes "policy", alone Policy)
     ∷ (codes "walk", alone Walk)
     ∷ turn_words
+
+-- each command's word, and what reads the fields behind it
+abbrev pub words : List (List ℕ × Reader)
+words = (codes "at", λ rest. option_map At (sole_number_of rest))
+    ∷ (codes "insert", insert_of Insert)
+    ∷ (codes "or-insert", insert_of OrInsert)
+    ∷ (codes "get", λ rest. option_map Get (sole_number_of rest))
+    ∷ (codes "has", λ rest. option_map Has (sole_number_of rest))
+    ∷ (codes "invalidate", λ rest. option_map Invalidate (sole_number_of rest))
+    ∷ (codes "remove", λ rest. option_map Remove (sole_number_of rest))
+    ∷ whole_words
 
 -- the command that the fields write
 abbrev pub command_of : List (List ℕ) → Option PlainCommand

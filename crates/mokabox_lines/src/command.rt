@@ -1,6 +1,6 @@
 //! The commands of a script, and the lines that they are written as.
 ghost use Rattle.std.specs.Prelude.{◌≡◌, IfSome, option_map};
-ghost use Rattle.mokabox_lines.specs.Command.{PlainCommand, plain_command, line_of, IsExpressible, begin_by, begin_of, finish_of, replace_of, turn_words, command_of, command_by_line};
+ghost use Rattle.mokabox_lines.specs.Command.{PlainCommand, plain_command, line_of, IsExpressible, begin_by, begin_of, finish_of, replace_of, turn_words, whole_words, command_of, command_by_line};
 ghost use Rattle.mokabox_lines.specs.Fields.{alone, read_by};
 ghost use Rattle.mokabox_lines.specs.FieldsLeft.{fields_left};
 
@@ -85,6 +85,17 @@ fn read(mut fields: Fields<'_>) -> Option<Command<&str>>
         "has" => Command::Has(fields.sole_number()?),
         "invalidate" => Command::Invalidate(fields.sole_number()?),
         "remove" => Command::Remove(fields.sole_number()?),
+        word => return read_whole(word, fields),
+    };
+    Some(command)
+}
+
+/// The command of all keys, or of turns, that the fields behind a word write.
+#[tactic(auto, unfolding(crate::specs::Command::whole_words))]
+fn read_whole<'a>(word: &str, fields: Fields<'a>) -> Option<Command<&'a str>>
+    ensures { option_map plain_command result ≡ read_by whole_words word.now (fields_left fields.entry) }
+{
+    let command = match word {
         "invalidate-all" => alone(fields, Command::InvalidateAll)?,
         "invalidate-if" => Command::InvalidateIf(fields.texts()?),
         "tasks" => alone(fields, Command::Tasks)?,

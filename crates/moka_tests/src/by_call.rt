@@ -1,0 +1,211 @@
+//! The calls of a table, made as calls of the cache, and what they answer.
+use crate::keys::Key;
+use crate::subject::{Answer, Call, Subject, shared};
+use crate::values::{EitherText, Given, Value, heavy, plain};
+use moka_base::notification::Notice;
+use moka_base::policy::Refused;
+use moka_state::predicate_error::PredicateError;
+use moka_state::predicate_id::PredicateId;
+use moka_state::rows::RowStore;
+use moka_state::state::InsertRefused;
+use rand_core::Rng;
+use std::alloc::AllocError;
+use std::hash::BuildHasher;
+use std::process::Abort;
+use std::sync::Arc;
+use std::test::Fail;
+
+impl<K: Key, H: BuildHasher + Default + Drop, R: RowStore<K, Value>> Subject<K, H, R> {
+    /// Makes a call.
+    pub(crate) fn by_call(
+        &mut self,
+        rt: &impl Abort,
+        call: Call,
+        now: u64,
+    ) -> Result<Answer, Fail> {
+        match call {
+            Call::Insert(number, text) => self.insert(rt, number, plain(text), now),
+            Call::InsertHeavy(number, weight) => self.insert(rt, number, heavy(weight), now),
+            Call::InsertGiven(number, given) => self.insert(rt, number, given, now),
+            Call::InvalidateIf(one, other) => Ok(self.hide(one, other)?),
+            Call::InvalidateById(one, other) => Ok(self.hide_by_id(one, other)?),
+            _ => Ok(self.by_call_of_key(call, now)),
+        }
+    }
+
+    fn insert(
+        &mut self,
+        rt: &impl Abort,
+        number: u64,
+        given: Given,
+        now: u64,
+    ) -> Result<Answer, Fail> {
+        let value = Value::new(given, &self.watch)?;
+        Ok(match self.cache.insert(K::of(number), value, now) {
+            Ok(()) => Answer::Done,
+            Err(refused) => handed_back(rt, refused, number, given),
+        })
+    }
+
+    /// A predicate that holds of each value with one of these texts.
+    pub(crate) fn predicate(
+        &self,
+        one: &'static str,
+        other: &'static str,
+    ) -> Result<Arc<EitherText>, AllocError> {
+        shared(self.alloc, EitherText::new(one, other, &self.watch)?)
+    }
+
+    fn hide(&mut self, one: &'static str, other: &'static str) -> Result<Answer, AllocError> {
+        let predicate = self.predicate(one, other)?;
+        Ok(done_or_refused(self.cache.invalidate_entries_with_arc_fun(predicate)))
+    }
+
+    fn hide_by_id(&mut self, one: &'static str, other: &'static str) -> Result<Answer, AllocError> {
+        let predicate = EitherText::new(one, other, &self.watch)?;
+        let generator = &mut self.generator;
+        Ok(
+            match self.cache.invalidate_entries_if(predicate, generator) {
+                Ok(id) => id_of(&id),
+                Err(refused) => refused_predicate(refused),
+            },
+        )
+    }
+
+    /// Makes a call that is about one key and takes no value, or another one that makes no value and no predicate.
+    fn by_call_of_key(&mut self, call: Call, now: u64) -> Answer {
+        match call {
+            Call::Get(number) => self.get(number, now),
+            Call::ContainsKey(number) => self.contains_key(number, now),
+            Call::Invalidate(number) => self.invalidate(number, now),
+            Call::Remove(number) => self.remove(number, now),
+            _ => self.by_call_of_all(call, now),
+        }
+    }
+
+    fn get(&mut self, number: u64, now: u64) -> Answer {
+        found_or_refused(self.cache.get(&K::of(number), now))
+    }
+
+    fn contains_key(&mut self, number: u64, now: u64) -> Answer {
+        Answer::Contains(self.cache.contains_key(&K::of(number), now))
+    }
+
+    fn invalidate(&mut self, number: u64, now: u64) -> Answer {
+        self.cache.invalidate(&K::of(number), now);
+        Answer::Done
+    }
+
+    fn remove(&mut self, number: u64, now: u64) -> Answer {
+        found_or_refused(self.cache.remove(&K::of(number), now))
+    }
+
+    /// Makes a call that is about no key, or does what a table does beside the calls of the cache.
+    fn by_call_of_all(&mut self, call: Call, now: u64) -> Answer {
+        match call {
+            Call::InvalidateAll => self.invalidate_all(),
+            Call::PredicateRoom => done_or_refused(self.cache.predicate_room()),
+            Call::RunPendingTasks => self.run_pending_tasks(now),
+            Call::RunPendingTasksUpTo(limit) => self.run_pending_tasks_up_to(limit, now),
+            Call::TakeNotice => noticed(self.cache.take_notice()),
+            Call::Asked => Answer::Asked(self.watch.counts()),
+            Call::RefuseCopies(refuses) => self.refuse_copies(refuses),
+            _ => Answer::Counted(self.count(call)),
+        }
+    }
+
+    fn invalidate_all(&mut self) -> Answer {
+        self.cache.invalidate_all();
+        Answer::Done
+    }
+
+    fn run_pending_tasks(&mut self, now: u64) -> Answer {
+        self.cache.run_pending_tasks(now);
+        Answer::Done
+    }
+
+    fn run_pending_tasks_up_to(&mut self, limit: u64, now: u64) -> Answer {
+        Answer::Left(self.cache.run_pending_tasks_up_to(limit, now))
+    }
+
+    fn refuse_copies(&mut self, refuses: bool) -> Answer {
+        self.watch.refuse_copies(refuses);
+        Answer::Done
+    }
+
+    /// The number that a call asks for: the last of them is `Tested`.
+    fn count(&mut self, call: Call) -> u64 {
+        match call {
+            Call::EntryCount => self.cache.entry_count(),
+            Call::WeightedSize => self.cache.weighted_size(),
+            Call::NoticeCount => self.cache.notice_count() as u64,
+            Call::Draw => self.generator.next_u64(),
+            _ => self.watch.tested(),
+        }
+    }
+}
+
+/// What a refused write answers. Asserts that it handed back what it was given.
+fn handed_back<K: Key>(
+    rt: &impl Abort,
+    refused: InsertRefused<K, Value>,
+    number: u64,
+    given: Given,
+) -> Answer {
+    let InsertRefused { key, value, cause } = refused;
+    let is_given = key.number() == number
+        && value.given.text == given.text
+        && value.given.weight == given.weight;
+    assert!(rt; is_given, "what was given");
+    Answer::Refused(cause)
+}
+
+/// What a look or a removal answers.
+fn found_or_refused(answer: Result<Option<Value>, Refused>) -> Answer {
+    match answer {
+        Ok(value) => found(value),
+        Err(refused) => Answer::Refused(refused),
+    }
+}
+
+/// What a look or a removal answers that was not refused.
+pub(crate) fn found(value: Option<Value>) -> Answer {
+    match value {
+        Some(value) => Answer::Found(value.given.text),
+        None => Answer::Absent,
+    }
+}
+
+/// What the call answers that takes a notice.
+pub(crate) fn noticed<K: Key>(notice: Option<Notice<K, Value>>) -> Answer {
+    match notice {
+        Some(notice) => {
+            Answer::Noticed(notice.key.number(), notice.value.given.text, notice.cause)
+        }
+        None => Answer::NoNotice,
+    }
+}
+
+/// What a call answers that hides values without an id.
+fn done_or_refused(answer: Result<(), PredicateError>) -> Answer {
+    match answer {
+        Ok(()) => Answer::Done,
+        Err(refused) => refused_predicate(refused),
+    }
+}
+
+/// What a refused predicate answers. Want of memory is that of every call.
+pub(crate) fn refused_predicate(refused: PredicateError) -> Answer {
+    match refused {
+        PredicateError::OutOfMemory => Answer::Refused(Refused::OutOfMemory),
+        PredicateError::InvalidationClosuresDisabled => Answer::NotHidden(refused),
+    }
+}
+
+/// An id by its text, or its length where that is another one than an id's.
+fn id_of(id: &PredicateId) -> Answer {
+    match id.as_bytes().first_chunk() {
+        Some(text) if id.len() == 36 => Answer::Id(*text),
+        _ => Answer::Counted(id.len() as u64),
+    }
+}

@@ -1,0 +1,176 @@
+//! The calls of a table, made as steps of the cache, and what their replies say.
+ghost use Rattle.std.specs.Prelude.{IfSome, IfOk};
+ghost use Rattle.moka_state.specs.Step.{StepKeeps};
+
+use crate::by_call::{found, noticed, refused_predicate};
+use crate::keys::Key;
+use crate::subject::{Answer, Call, Subject, shared};
+use crate::values::{EitherText, Given, Types, Value, heavy, plain};
+use moka_base::policy::{CacheTypes, Predicate};
+use moka_state::rows::RowStore;
+use moka_state::step::{Reply, Step};
+use std::alloc::AllocError;
+use std::hash::BuildHasher;
+use std::process::Abort;
+use std::sync::Arc;
+use std::test::Fail;
+
+impl<K: Key, H: BuildHasher + Default + Drop, R: RowStore<K, Value>> Subject<K, H, R> {
+    /// A key for a step.
+    fn key(&mut self, number: u64) -> Result<Arc<K>, AllocError> {
+        let key = shared(self.alloc, K::of(number))?;
+        self.keys.push(key.clone()?)?;
+        Ok(key)
+    }
+
+    /// The step that is this call, if there is one.
+    pub(crate) fn step_of(
+        &mut self,
+        call: Call,
+        now: u64,
+    ) -> Result<Option<Step<K, Value, Types<H>>>, AllocError>
+        ensures { IfOk result (λ step. IfSome step
+            (StepKeeps ⟦<Types<H> as CacheTypes<K, Value>>⟧.keeps
+            ⟦<EitherText as Predicate<K, Value>>⟧.tests
+            ⟦<Types<H> as CacheTypes<K, Value>>⟧.test)) }
+    {
+        match call {
+            Call::Insert(number, text) => self.write_step(number, plain(text), now),
+            Call::InsertHeavy(number, weight) => self.write_step(number, heavy(weight), now),
+            Call::InsertGiven(number, given) => self.write_step(number, given, now),
+            Call::InvalidateIf(one, other) => self.hide_step(one, other),
+            Call::Get(number)
+            | Call::ContainsKey(number)
+            | Call::Invalidate(number)
+            | Call::Remove(number) => self.key_step(call, number, now),
+            _ => Ok(step_of_all(call, now)),
+        }
+    }
+
+    /// The step that is a write.
+    fn write_step(
+        &mut self,
+        number: u64,
+        given: Given,
+        now: u64,
+    ) -> Result<Option<Step<K, Value, Types<H>>>, AllocError>
+        ensures { IfOk result (λ step. IfSome step
+            (StepKeeps ⟦<Types<H> as CacheTypes<K, Value>>⟧.keeps
+            ⟦<EitherText as Predicate<K, Value>>⟧.tests
+            ⟦<Types<H> as CacheTypes<K, Value>>⟧.test)) }
+    {
+        let key = self.key(number)?;
+        let value = Value::new(given, &self.watch)?;
+        Ok(Some(Step::Insert { key, value, now }))
+    }
+
+    /// The step that hides the values with these texts.
+    fn hide_step(
+        &mut self,
+        one: &'static str,
+        other: &'static str,
+    ) -> Result<Option<Step<K, Value, Types<H>>>, AllocError>
+        ensures { IfOk result (λ step. IfSome step
+            (StepKeeps ⟦<Types<H> as CacheTypes<K, Value>>⟧.keeps
+            ⟦<EitherText as Predicate<K, Value>>⟧.tests
+            ⟦<Types<H> as CacheTypes<K, Value>>⟧.test)) }
+    {
+        let predicate = self.predicate(one, other)?;
+        Ok(Some(Step::InvalidateIf { predicate }))
+    }
+
+    /// The step that is this call of a key, which takes no value: the last of them is `Remove`.
+    fn key_step(
+        &mut self,
+        call: Call,
+        number: u64,
+        now: u64,
+    ) -> Result<Option<Step<K, Value, Types<H>>>, AllocError>
+        ensures { IfOk result (λ step. IfSome step
+            (StepKeeps ⟦<Types<H> as CacheTypes<K, Value>>⟧.keeps
+            ⟦<EitherText as Predicate<K, Value>>⟧.tests
+            ⟦<Types<H> as CacheTypes<K, Value>>⟧.test)) }
+    {
+        let key = self.key(number)?;
+        Ok(Some(match call {
+            Call::Get(_) => Step::Get { key, now },
+            Call::ContainsKey(_) => Step::ContainsKey { key, now },
+            Call::Invalidate(_) => Step::Invalidate { key, now },
+            _ => Step::Remove { key, now },
+        }))
+    }
+
+    /// Makes a call as a step, where it is one.
+    pub(crate) fn by_step(
+        &mut self,
+        rt: &impl Abort,
+        call: Call,
+        now: u64,
+    ) -> Result<Answer, Fail> {
+        match self.step_of(call, now)? {
+            Some(step) => Ok(said(self.cache.step(step))),
+            None => self.by_call(rt, call, now),
+        }
+    }
+}
+
+/// The step that is this call, which is about no key and takes no predicate, if there is one.
+fn step_of_all<K: Key, H: BuildHasher + Drop>(
+    call: Call,
+    now: u64,
+) -> Option<Step<K, Value, Types<H>>>
+    ensures { IfSome result
+        (StepKeeps ⟦<Types<H> as CacheTypes<K, Value>>⟧.keeps
+        ⟦<EitherText as Predicate<K, Value>>⟧.tests
+        ⟦<Types<H> as CacheTypes<K, Value>>⟧.test) }
+{
+    Some(match call {
+        Call::InvalidateAll => Step::InvalidateAll,
+        Call::RunPendingTasks => Step::RunPendingTasks { now },
+        Call::RunPendingTasksUpTo(limit) => Step::RunPendingTasksUpTo { limit, now },
+        Call::EntryCount => Step::EntryCount,
+        Call::WeightedSize => Step::WeightedSize,
+        Call::TakeNotice => Step::TakeNotice,
+        _ => return None,
+    })
+}
+
+/// Whether there is a step for a call.
+pub(crate) fn is_step(call: Call) -> bool {
+    !matches!(
+        call,
+        Call::InvalidateById(..)
+            | Call::PredicateRoom
+            | Call::NoticeCount
+            | Call::Asked
+            | Call::Tested
+            | Call::Draw
+            | Call::RefuseCopies(_)
+    )
+}
+
+/// What replies say, behind other answers.
+pub(crate) fn all_said<K: Key, C: CacheTypes<K, Value>>(
+    mut answers: Vec<Answer>,
+    replies: Vec<Reply<K, Value, C>>,
+) -> Result<Vec<Answer>, AllocError> {
+    for reply in replies {
+        answers.push(said(reply))?;
+    }
+    Ok(answers)
+}
+
+/// What a reply says.
+fn said<K: Key, C: CacheTypes<K, Value>>(reply: Reply<K, Value, C>) -> Answer {
+    match reply {
+        Reply::Found(value) => found(value),
+        Reply::Contains(found) => Answer::Contains(found),
+        Reply::Done => Answer::Done,
+        Reply::Counted(count) => Answer::Counted(count),
+        Reply::Left(is_left) => Answer::Left(is_left),
+        Reply::Noticed(notice) => noticed(notice),
+        Reply::Refused(refused) => Answer::Refused(refused),
+        Reply::PredicateRefused(refused) => refused_predicate(refused),
+        _ => Answer::OfTurn,
+    }
+}

@@ -1,0 +1,39 @@
+//! Tables that are made, row by row.
+use crate::subject::{Answer, Call, Row};
+use moka_base::notification::RemovalCause;
+use std::alloc::AllocError;
+use std::ops::Range;
+
+/// Adds rows to a table.
+pub(crate) fn add_all(table: &mut Vec<Row>, rows: &[Row]) -> Result<(), AllocError> {
+    for row in rows {
+        table.push(*row)?;
+    }
+    Ok(())
+}
+
+/// Adds a write of each of these keys, with this text at this moment.
+pub(crate) fn add_writes(
+    table: &mut Vec<Row>,
+    keys: Range<u64>,
+    text: &'static str,
+    now: u64,
+) -> Result<(), AllocError> {
+    for key in keys {
+        table.push((Call::Insert(key, text), now, Answer::Done))?;
+    }
+    Ok(())
+}
+
+/// Adds that the notice of each of these keys is taken, which had this text and left for this cause.
+pub(crate) fn add_notices(
+    table: &mut Vec<Row>,
+    keys: Range<u64>,
+    text: &'static str,
+    cause: RemovalCause,
+) -> Result<(), AllocError> {
+    for key in keys {
+        table.push((Call::TakeNotice, 0, Answer::Noticed(key, text, cause)))?;
+    }
+    Ok(())
+}
