@@ -1,4 +1,4 @@
-//! Names that weigh as much as they are long and live a minute, by types and by closures, in a cache whose calls are data.
+//! Entries with a weight and a lifetime, given by types and by closures, and calls made as data.
 
 ghost use Rattle.std.specs.Prelude.{◌≡◌, false, refl, IfOk};
 ghost use Rattle.std.specs.List.{AllByRecursion};
@@ -20,7 +20,7 @@ use std::marker::PhantomData;
 use std::sync::Arc;
 use std::time::Duration;
 
-/// Weighs a name by its length.
+/// Weighs a name by its length in bytes, at most `u32::MAX`.
 #[derive(Drop)]
 struct ByLength;
 
@@ -32,7 +32,7 @@ impl Weigher<u64, String> for ByLength {
     }
 }
 
-/// Gives each name a minute after each write.
+/// Gives each name a lifetime of one minute from its last write. An access leaves it unchanged.
 #[derive(Drop)]
 struct OneMinute;
 
@@ -65,7 +65,7 @@ impl Expiry<u64, String> for OneMinute {
     }
 }
 
-/// The types of a cache of names that a weigher of this type weighs, and to which an expiry of this type gives lives.
+/// The types of a cache of names with weigher `W` and expiry `E`.
 struct WeighedNames<W, E> {
     types: PhantomData<(W, E)>,
 }
@@ -108,7 +108,7 @@ where
     ghost copies_compose = { λ _ _ _ a b. b ∙ a };
 }
 
-// A cache of names that weigh eight bytes together.
+// Creates a cache of names with a total weight of at most eight bytes.
 fn opened<W, E>(
     alloc: Global,
     weigher: W,
@@ -124,7 +124,7 @@ where
     Ok(builder.build_state(alloc, FoldState::default())?)
 }
 
-// A write of a name, and a look at it.
+// Returns two steps as data: an insert of `name` under key 97, and a `get` 5 ns later.
 fn steps<C: CacheTypes<u64, String>>(
     alloc: Global,
     name: String,
@@ -145,7 +145,7 @@ fn steps<C: CacheTypes<u64, String>>(
     Ok(steps)
 }
 
-// What a cache weighs after a name was written, and a minute later.
+// Returns the total weight after an insert of `name`, and after maintenance one minute later.
 fn weights_of<W, E>(
     names: &mut CacheState<u64, String, WeighedNames<W, E>>,
     alloc: Global,
@@ -161,7 +161,7 @@ where
     Ok((weight, names.weighted_size()))
 }
 
-// The same of a new cache.
+// Returns the same for a new cache.
 fn weights<W, E>(alloc: Global, weigher: W, expiry: E, name: String) -> Result<(u64, u64)>
 where
     W: Weigher<u64, String> + Drop,
@@ -173,6 +173,7 @@ where
     weights_of(&mut names, alloc, name)
 }
 
+// Returns the same with closures as weigher and expiry.
 fn by_closures(alloc: Global, name: String) -> Result<(u64, u64)> {
     weights(
         alloc,

@@ -1,5 +1,5 @@
-//! How often each page was opened. A page is counted by one call, and each count is proved to be one more than
-//! the one that was live.
+//! Visits counted by page. One call counts a visit; its result is proved to be the live count plus
+//! one.
 
 ghost use Rattle.std.specs.Prelude.{◌≡◌, IfOk, option_map};
 ghost use Rattle.moka_model.specs.Entries.{entry_of};
@@ -13,10 +13,10 @@ use moka::state::{CacheState, StateView};
 use moka::sync::CacheBuilder;
 use std::time::Duration;
 
-/// How often each page was opened, by the pages' numbers.
+/// The number of visits to each page, by page number.
 type Counts = CacheState<u64, u64, Plain>;
 
-// Counts a page once more at this moment, in nanoseconds, and answers how often it was counted.
+// Counts a visit to `page` at moment `now` in nanoseconds, and returns the new count.
 fn count(counts: &mut Counts, page: u64, now: u64) -> Result<u64, Refused>
     ensures { IfOk result (λ count. ⟦<Plain as StateView<u64, u64>>⟧.at_each_history counts.old
         (λ settings steps. count ≡ one_more_than (live_count settings steps page now))) }
@@ -25,7 +25,7 @@ fn count(counts: &mut Counts, page: u64, now: u64) -> Result<u64, Refused>
     Ok(entry.into_value())
 }
 
-// One more than the count that is shown, or 1 where there is none.
+// Returns the entry's count plus one, or 1 if there is no entry. The greatest `u64` stays.
 fn one_more(shown: Option<Entry<u64, u64>>) -> u64
     ensures { result ≡ one_more_than (count_of (option_map (λ entry. (entry_of entry).value) shown)) }
 {
@@ -35,9 +35,10 @@ fn one_more(shown: Option<Entry<u64, u64>>) -> u64
     }
 }
 
+// In nanoseconds.
 const SECOND: u64 = 1_000_000_000;
 
-/// Runs the example: a count is kept for ten seconds after the page was opened last.
+/// Runs the example. The time to live is ten seconds from the last visit, since each one writes.
 pub fn main(rt: HostRuntime) -> Result<()> {
     let mut counts: Counts = CacheBuilder::new(1_000)
         .time_to_live(Duration::from_secs(10))

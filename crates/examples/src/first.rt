@@ -1,6 +1,7 @@
-//! A first cache: a value is found until its ten seconds have passed, and not from then on.
+//! A first cache: a value is found until its time to live of ten seconds has passed, and not after.
 
-// README.md shows this file as a program of its own, whose root file has the next line.
+// README.md copies this file as a program of its own. The root file of a program needs the next
+// line.
 #![tactic(auto)]
 
 use anyhow::Result;
@@ -10,7 +11,7 @@ use moka::sync::CacheBuilder;
 use std::alloc::Global;
 use std::time::Duration;
 
-// Inserts a name at moment 0, and looks for it at this moment, in nanoseconds.
+// Inserts `name` at moment 0 and returns what `get` finds at moment `now`, in nanoseconds.
 fn look_up(alloc: Global, key: u64, name: String, now: u64) -> Result<Option<String>> {
     let mut cache: CacheState<u64, String, Plain> = CacheBuilder::new(100)
         .time_to_live(Duration::from_secs(10))

@@ -1,4 +1,5 @@
-//! A value that was just inserted is found, copy and all, until its ten seconds have passed, and not from then on: proved.
+//! The same as `first`, proved: a clone of the value is found until its ten seconds have passed,
+//! and not after.
 
 ghost use Rattle.std.specs.Prelude.{◌≡◌, IfOk, Some, None, if◌then◌else◌, nat_le, option_map};
 ghost use Rattle.std.specs.String.{string_bytes};
@@ -10,7 +11,7 @@ use moka::sync::CacheBuilder;
 use std::alloc::Global;
 use std::time::Duration;
 
-// Inserts a name at moment 0, and looks for it at this moment, in nanoseconds.
+// Inserts `name` at moment 0 and returns what `get` finds at moment `now`, in nanoseconds.
 fn look_up(alloc: Global, key: u64, name: String, now: u64) -> Result<Option<String>>
     ensures { IfOk result (λ found. option_map string_bytes found
         ≡ (if nat_le 10_000_000_000 now then None else Some (string_bytes name))) }

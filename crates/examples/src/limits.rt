@@ -1,4 +1,5 @@
-//! A cache whose calls are short: a write lets few values leave, and maintenance is done in slices.
+//! A cache with short calls: a flush limit bounds the evictions before a write, and maintenance is
+//! done in slices.
 
 use anyhow::Result;
 use moka::ready::{FoldState, Plain};
@@ -9,9 +10,10 @@ use std::time::Duration;
 
 type Names = CacheState<u64, String, Plain>;
 
+// In nanoseconds.
 const SECOND: u64 = 1_000_000_000;
 
-// Names that live a minute. No more than two leave before a write, however many have expired.
+// Creates a cache with a time to live of a minute. A flush evicts at most two entries.
 fn opened(alloc: Global) -> Result<Names> {
     let builder = CacheBuilder::new(1_000)
         .time_to_live(Duration::from_secs(60))
@@ -19,7 +21,7 @@ fn opened(alloc: Global) -> Result<Names> {
     Ok(builder.build_state(alloc, FoldState::default())?)
 }
 
-// Lets go what has expired, four names in a slice at most. Between two slices there is time for other work.
+// Evicts what has expired, at most four names at a time, with time for other work in between.
 fn let_go_in_slices(rt: &HostRuntime, names: &mut Names, now: u64) -> Result<()> {
     for _ in 0..names.entry_count() {
         if !names.run_pending_tasks_up_to(4, now) {

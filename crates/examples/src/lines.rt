@@ -1,4 +1,4 @@
-//! The lines of a file, each read when it is first asked for, and then kept.
+//! The lines of a file, each read on its first lookup and then cached.
 
 use anyhow::{Context, Result};
 use moka::ready::{FoldState, Plain};
@@ -7,17 +7,17 @@ use moka::sync::CacheBuilder;
 use std::fs;
 use std::sync::Arc;
 
-/// Lines by their numbers, from 0. A line is shared, so that a hit copies a pointer and no text.
+/// Lines by line number, counted from 0. An `Arc` makes a hit clone a pointer and not the text.
 type Lines = CacheState<usize, Arc<String>, Plain>;
 
-// A line as the file has it.
+// Reads one line from the file.
 fn read_line(rt: &HostRuntime, number: usize) -> Result<String> {
     let text = fs::read_to_string(rt, "rivers.txt")?;
     let line = text.lines().nth(number).context("there is no such line")?;
     Ok(String::from_str(rt.alloc(), line)?)
 }
 
-// A line from the cache, or from the file and then cached.
+// Returns a line from the cache, or reads it from the file and caches it.
 fn line(rt: &HostRuntime, lines: &mut Lines, number: usize) -> Result<Arc<String>> {
     if let Some(line) = lines.get(&number, 0)? {
         return Ok(line);

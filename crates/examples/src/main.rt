@@ -1,16 +1,24 @@
-//! The examples, each a module: `examples NAME ..` runs those that are named, in that order.
+//! The examples, one module each. `examples NAME ..` runs the named ones in that order.
 #![tactic(auto)]
 
+mod blobs;
 mod calls;
+mod clock;
 mod counters;
+mod expiring;
 mod first;
 mod found;
 mod limits;
 mod lines;
+mod listener;
+mod loading;
 mod memoizer;
+mod predicate;
 mod read_through;
 mod segments;
 mod sessions;
+mod shared_memoizer;
+mod struct_value;
 mod temp_files;
 mod threads;
 mod walks;
@@ -19,7 +27,7 @@ use anyhow::Result;
 use std::process::ExitCode;
 use std::{env, io};
 
-/// An example, named as its module is.
+/// An example, named like its module.
 #[derive(Clone, Copy)]
 enum Example {
     Calls,
@@ -35,10 +43,18 @@ enum Example {
     Limits,
     Segments,
     ReadThrough,
+    StructValue,
+    Listener,
+    Predicate,
+    Clock,
+    Blobs,
+    Loading,
+    Expiring,
+    SharedMemoizer,
 }
 
 impl Example {
-    const ALL: [Example; 13] = [
+    const ALL: [Example; 21] = [
         Example::Calls,
         Example::Counters,
         Example::First,
@@ -52,6 +68,14 @@ impl Example {
         Example::Limits,
         Example::Segments,
         Example::ReadThrough,
+        Example::StructValue,
+        Example::Listener,
+        Example::Predicate,
+        Example::Clock,
+        Example::Blobs,
+        Example::Loading,
+        Example::Expiring,
+        Example::SharedMemoizer,
     ];
 
     fn name(self) -> &'static str {
@@ -69,6 +93,14 @@ impl Example {
             Example::Limits => "limits",
             Example::Segments => "segments",
             Example::ReadThrough => "read_through",
+            Example::StructValue => "struct_value",
+            Example::Listener => "listener",
+            Example::Predicate => "predicate",
+            Example::Clock => "clock",
+            Example::Blobs => "blobs",
+            Example::Loading => "loading",
+            Example::Expiring => "expiring",
+            Example::SharedMemoizer => "shared_memoizer",
         }
     }
 
@@ -79,7 +111,7 @@ impl Example {
     }
 }
 
-// The examples that the arguments name, or none where one of them names no example.
+// Returns the examples that the arguments name, or `None` if an argument names no example.
 fn asked_for(rt: &HostRuntime) -> io::Result<Option<Vec<Example>>> {
     let mut examples = Vec::new(rt.alloc());
     for name in env::args(rt)?.skip(1) {
@@ -123,6 +155,14 @@ fn main(rt: HostRuntime) -> Result<ExitCode> {
             Example::Limits => limits::main(rt)?,
             Example::Segments => segments::main(rt)?,
             Example::ReadThrough => read_through::main(rt)?,
+            Example::StructValue => struct_value::main(rt)?,
+            Example::Listener => listener::main(rt)?,
+            Example::Predicate => predicate::main(rt)?,
+            Example::Clock => clock::main(rt)?,
+            Example::Blobs => blobs::main(rt)?,
+            Example::Loading => loading::main(rt)?,
+            Example::Expiring => expiring::main(rt)?,
+            Example::SharedMemoizer => shared_memoizer::main(rt)?,
         }
     }
     Ok(ExitCode::SUCCESS)

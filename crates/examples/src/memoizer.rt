@@ -1,4 +1,4 @@
-//! A memoizer whose every answer is proved to be what its function computes, cached or not.
+//! A memoizer. Each result is proved to be what the function computes, cached or not.
 
 ghost use Rattle.std.specs.Prelude.{◌≡◌, IfOk};
 ghost use Rattle.std.proofs.Math.Path.{◌∙◌, ap};
@@ -13,8 +13,8 @@ use moka::sync::CacheBuilder;
 use std::io;
 use thiserror::Error;
 
-/// Caches in which each value is the triangular number of its key.
-struct Triangles;
+/// The value invariant: each value is the triangular number of its key.
+pub(crate) struct Triangles;
 
 impl Keeps<u32, u64> for Triangles {
     ghost keeps = { λ n value. value ≡ triangle n };
@@ -24,15 +24,15 @@ impl Keeps<u32, u64> for Triangles {
     ghost copies_keep = { λ n value copy is_copy kept. is_copy ∙ kept };
 }
 
-/// The sum of the numbers from 1 to n: from the cache, or computed and cached.
+/// Returns the sum of the numbers from 1 to `n`, from the cache or computed and cached.
 fn memoized(cache: &mut CacheState<u32, u64, Keeping<Triangles>>, n: u32) -> Result<u64, Refused>
     ensures { IfOk result (λ value. value ≡ triangle n) }
 {
     cache.get_with(n, || sum_to(n), 0)
 }
 
-// The function itself.
-fn sum_to(n: u32) -> u64
+// Returns the sum of the numbers from 1 to `n`: the function that is memoized.
+pub(crate) fn sum_to(n: u32) -> u64
     ensures { result ≡ triangle n }
 {
     let n = u64::from(n);

@@ -1,5 +1,5 @@
-//! A read-through cache that two threads share. Of two that ask for a page that is not there one renders it, and the other
-//! waits for it.
+//! A read-through cache shared by two threads. If both miss one page, one renders it and the other
+//! waits.
 
 use anyhow::Result;
 use moka::Entry;
@@ -11,10 +11,11 @@ use std::sync::{Arc, Wait};
 use std::thread;
 use std::thread::Threads;
 
-/// Pages by their numbers.
+/// Pages by page number.
 type Pages<W> = Cache<u64, u64, Plain<Arc<ManualClock>>, W>;
 
-// Reads sixteen pages, and adds them up. One that is not there is rendered, while whoever else asks for it waits.
+// Reads sixteen pages and returns their sum. On a miss one caller renders the page and the others
+// wait.
 fn read<W: Wait + Drop>(cache: &Pages<W>) -> Result<u64> {
     let mut sum = 0_u64;
     for number in 0..16 {
@@ -24,18 +25,18 @@ fn read<W: Wait + Drop>(cache: &Pages<W>) -> Result<u64> {
     Ok(sum)
 }
 
-// Stands for what takes long.
+// Renders a page. A real program would do here what takes long.
 fn render(number: u64) -> u64 {
     number.wrapping_mul(number)
 }
 
-// Counts a page once more, and answers how often it was counted. No other count of it comes between.
+// Counts a visit and returns the new count. No other compute of this page comes in between.
 fn visit<W: Wait + Drop>(cache: &Pages<W>, page: u64) -> Result<u64, Refused> {
     let count = cache.entry(page).and_upsert_with(one_more)?;
     Ok(count.into_value())
 }
 
-// One more than the count that is shown, or 1 where there is none.
+// Returns the entry's count plus one, or 1 if there is no entry. The greatest `u64` stays.
 fn one_more(shown: Option<Entry<u64, u64>>) -> u64 {
     match shown {
         Some(entry) => entry.value().saturating_add(1),
@@ -43,7 +44,7 @@ fn one_more(shown: Option<Entry<u64, u64>>) -> u64 {
     }
 }
 
-// Adds up what is cached, a page after another. Others may use the cache meanwhile.
+// Returns the sum of the cached pages. Other threads may use the cache between two steps.
 fn cached<W: Wait + Drop>(cache: &Pages<W>) -> Result<u64> {
     let mut sum = 0_u64;
     for pair in cache.iter() {
@@ -53,7 +54,7 @@ fn cached<W: Wait + Drop>(cache: &Pages<W>) -> Result<u64> {
     Ok(sum)
 }
 
-// Two threads read the pages, and then two visits are counted.
+// Reads the pages in two threads, and then counts two visits.
 fn run<R: Runtime + Wait + Threads + Copy + Send + Sync + 'static>(
     rt: &R,
     cache: &Pages<R>,
@@ -69,7 +70,7 @@ fn run<R: Runtime + Wait + Threads + Copy + Send + Sync + 'static>(
     Ok(())
 }
 
-/// Runs the example. A program's own `main` alone has a runtime that may wait and start threads, and hands it in.
+/// Runs the example. Only a program's `main` gets a runtime that can wait and start threads.
 pub fn main<R: Runtime + AllocGlobal + Wait + Threads + Copy + Send + Sync + 'static>(
     rt: R,
 ) -> Result<()> {

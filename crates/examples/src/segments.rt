@@ -1,4 +1,5 @@
-//! A cache of several segments: each key is of one of them, and each of them is a cache of its share.
+//! An owned cache of several segments. Each key belongs to one of them, and each has a share of the
+//! capacity.
 
 use anyhow::Result;
 use moka::ready::{FoldState, Plain};
@@ -14,6 +15,7 @@ fn opened(alloc: Global) -> Result<Names> {
     Ok(builder.build_segmented_state(alloc, FoldState::default())?)
 }
 
+// Inserts 100 names, prints the entries per segment, and invalidates one.
 fn run(rt: &HostRuntime, names: &mut Names) -> Result<()> {
     for number in 0..100 {
         names.insert(number, String::from_str(rt.alloc(), "Alice")?, 0)?;

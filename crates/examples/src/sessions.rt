@@ -1,4 +1,4 @@
-//! Sessions that end eight hours after their login, and half an hour after their last use.
+//! Sessions that end eight hours after login, or half an hour after their last use.
 
 use anyhow::Result;
 use moka::ready::{FoldState, Plain};
@@ -8,9 +8,10 @@ use std::alloc::Global;
 use std::io;
 use std::time::{Duration, Instant};
 
-/// The users that are logged in, by the numbers of their sessions.
+/// The user of each session, by session number.
 type Sessions = CacheState<u64, String, Plain>;
 
+// In nanoseconds.
 const MINUTE: u64 = 60_000_000_000;
 
 fn opened(alloc: Global) -> Result<Sessions> {
@@ -20,7 +21,7 @@ fn opened(alloc: Global) -> Result<Sessions> {
     Ok(builder.build_state(alloc, FoldState::default())?)
 }
 
-// The moment of a call: the nanoseconds since the program began.
+// Returns the moment of a call: the nanoseconds since the program began.
 fn moment(rt: &HostRuntime, begun: &Instant) -> io::Result<u64> {
     Ok(u64::try_from(begun.elapsed(rt)?.as_nanos()).unwrap_or(u64::MAX))
 }
@@ -33,7 +34,7 @@ fn user_of(sessions: &mut Sessions, number: u64, now: u64) -> Result<Option<Stri
     Ok(sessions.get(&number, now)?)
 }
 
-// Lets go what has expired, and says of each session that ended why it did.
+// Evicts what has expired, and prints why each session ended.
 fn report_ended(rt: &HostRuntime, sessions: &mut Sessions, now: u64) -> Result<()> {
     sessions.run_pending_tasks(now);
     while let Some(notice) = sessions.take_notice() {
@@ -45,7 +46,7 @@ fn report_ended(rt: &HostRuntime, sessions: &mut Sessions, now: u64) -> Result<(
     Ok(())
 }
 
-// The program does not wait: it hands in the moments that later calls would have.
+// Passes the moments that later calls would have, so the program need not wait.
 fn run(rt: &HostRuntime, sessions: &mut Sessions) -> Result<()> {
     let begun = Instant::now(rt)?;
     let login = moment(rt, &begun)?;

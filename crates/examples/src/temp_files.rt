@@ -1,4 +1,5 @@
-//! Temporary files of which those that were used last are kept: a file is deleted when the cache let its name go.
+//! Temporary files, of which the last used are kept. A file is deleted when its name is removed
+//! from the cache.
 
 use anyhow::Result;
 use moka::policy::EvictionPolicy;
@@ -8,7 +9,7 @@ use moka::sync::CacheBuilder;
 use std::alloc::Global;
 use std::fs;
 
-/// The names of the files, by the numbers of the pages that they hold. No two files have the same name.
+/// File names by page number. No two files have the same name.
 type Pages = CacheState<u64, String, Plain>;
 
 fn opened(alloc: Global) -> Result<Pages> {
@@ -16,7 +17,7 @@ fn opened(alloc: Global) -> Result<Pages> {
     Ok(builder.build_state(alloc, FoldState::default())?)
 }
 
-// Writes a page into a file. Where the cache refuses its name the file is deleted at once.
+// Writes a page into a file. If the insert fails, deletes the file at once.
 fn save(rt: &HostRuntime, pages: &mut Pages, number: u64, name: String) -> Result<()> {
     fs::write(rt, &name, "a page")?;
     match pages.insert(number, name, 0) {
@@ -28,7 +29,7 @@ fn save(rt: &HostRuntime, pages: &mut Pages, number: u64, name: String) -> Resul
     }
 }
 
-// Deletes each file whose name has left the cache, for whatever cause.
+// Deletes the file of each entry that was removed, whatever the cause.
 fn delete_those_that_left(rt: &HostRuntime, pages: &mut Pages) -> Result<()> {
     pages.run_pending_tasks(0);
     while let Some(notice) = pages.take_notice() {
@@ -38,6 +39,7 @@ fn delete_those_that_left(rt: &HostRuntime, pages: &mut Pages) -> Result<()> {
     Ok(())
 }
 
+// Saves four pages into a cache of two, then invalidates all of them.
 fn run(rt: &HostRuntime, pages: &mut Pages) -> Result<()> {
     for (number, name) in [(1, "a.tmp"), (2, "b.tmp"), (1, "c.tmp"), (3, "d.tmp")] {
         save(rt, pages, number, String::from_str(rt.alloc(), name)?)?;

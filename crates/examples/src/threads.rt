@@ -1,4 +1,4 @@
-//! Two threads that share a cache of four segments: what either wrote both find.
+//! Two threads that share a cache of four segments. Each finds what the other wrote.
 
 use anyhow::Result;
 use moka::policy::ManualClock;
@@ -9,10 +9,10 @@ use std::sync::{Arc, Wait};
 use std::thread;
 use std::thread::Threads;
 
-/// Squares by their roots.
+/// Squares by root.
 type Squares<W> = SegmentedCache<u64, u64, Plain<Arc<ManualClock>>, W>;
 
-// Writes the squares of sixteen numbers, from this one on.
+// Inserts the squares of sixteen numbers, beginning with this one.
 fn fill<W: Wait + Drop>(squares: &Squares<W>, first: u64) -> Result<()> {
     for root in first..first.saturating_add(16) {
         squares.insert(root, root.wrapping_mul(root))?;
@@ -20,7 +20,7 @@ fn fill<W: Wait + Drop>(squares: &Squares<W>, first: u64) -> Result<()> {
     Ok(())
 }
 
-// Two threads fill it.
+// Fills the cache from two threads and prints three lookups.
 fn run<R: Runtime + Wait + Threads + Copy + Send + Sync + 'static>(
     rt: &R,
     squares: &Squares<R>,
@@ -35,7 +35,7 @@ fn run<R: Runtime + Wait + Threads + Copy + Send + Sync + 'static>(
     Ok(())
 }
 
-/// Runs the example. A program's own `main` alone has a runtime that may wait and start threads, and hands it in.
+/// Runs the example. Only a program's `main` gets a runtime that can wait and start threads.
 pub fn main<R: Runtime + AllocGlobal + Wait + Threads + Copy + Send + Sync + 'static>(
     rt: R,
 ) -> Result<()> {

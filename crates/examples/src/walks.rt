@@ -1,5 +1,5 @@
-//! Walks over what is live: by a cursor over a state, which may change between two calls, and by an
-//! iterator over what stands still.
+//! Iteration: by a cursor over an owned cache that may change between two calls, and by an iterator
+//! over one that does not change.
 
 use anyhow::Result;
 use moka::common::iter::{Iter, ScanningGet, WalkCursor};
@@ -21,7 +21,7 @@ fn opened(alloc: Global) -> Result<Names> {
     Ok(names)
 }
 
-// Removes all names but those of one length, in one walk.
+// Removes all names except those of `length` bytes, in one iteration.
 fn keep_those_of(names: &mut Names, length: usize, now: u64) -> Result<(), Refused> {
     let mut cursor = WalkCursor::new();
     while let Some(pair) = cursor.next(slice::from_ref(&*names), now) {
@@ -33,7 +33,7 @@ fn keep_those_of(names: &mut Names, length: usize, now: u64) -> Result<(), Refus
     Ok(())
 }
 
-/// A cache at one moment.
+/// A cache at one moment, in nanoseconds: what the iterator reads.
 #[derive(Drop)]
 struct Still<'n> {
     names: &'n Names,
@@ -62,7 +62,7 @@ impl ScanningGet<u64, String> for Still<'_> {
     }
 }
 
-// Prints all names.
+// Prints all live names.
 fn print_all(rt: &HostRuntime, names: &Names, now: u64) -> Result<()> {
     let still = Still { names, now };
     for pair in Iter::new(slice::from_ref(&still)) {

@@ -25,6 +25,7 @@ pub use Rattle.moka_state.specs.Step
 pub use Rattle.moka_state.specs.Table
 pub use Rattle.moka_state.specs.Write
 pub use Rattle.moka_cursor.specs.States
+pub use Rattle.moka_ready.specs.Copies
 pub use Rattle.moka_sync.specs.Builder
 pub use Rattle.moka_sync.specs.Cache
 pub use Rattle.moka_walks.specs.Cursors

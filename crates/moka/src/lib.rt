@@ -1,6 +1,7 @@
-//! A cache whose every reply is proved.
+//! A bounded in-process cache with proofs: the front of the Rust crate `moka` 0.12.16, rewritten.
 //!
-//! Every public name stands here under the module path that moka gives it.
+//! This crate re-exports the public names. Those that moka has too are under its module paths,
+//! except that the selectors are in `sync`.
 #![tactic(auto)]
 
 pub use moka_base::common::entry::Entry;
@@ -12,7 +13,7 @@ pub use moka_state::predicate_error::PredicateError;
 pub mod common {
     pub use moka_base::common::{builder_utils, entry};
 
-    /// Walks over caches.
+    /// Iteration over caches.
     pub mod iter {
         pub use moka_cursor::cursor::WalkCursor;
         pub use moka_walks::iter::{Iter, ScanningGet};
@@ -23,18 +24,18 @@ pub mod common {
 pub use moka_walks::walk_laws;
 
 /// Ready-made types of caches.
-pub use moka_ready::{copies, ready};
+pub use moka_ready::{clock, copies, meant, ready};
 
-/// What is to become of a value that was worked out from the one before.
+/// Operations on a value, given the one before.
 pub mod ops {
-    /// The outcomes of computes.
+    /// The operations and the results of computes.
     pub mod compute {
         pub use moka_base::comp_result::CompResult;
         pub use moka_base::turns::Op;
     }
 }
 
-/// Caches that threads share, and what builds caches.
+/// Caches that threads share, and the builder of all caches.
 pub mod sync {
     pub use moka_state::predicate_id::PredicateId;
     pub use moka_sync::builder;
@@ -45,7 +46,7 @@ pub mod sync {
     pub use moka_sync::segment::SegmentedCache;
     pub use moka_walks::iter::Iter;
 
-    /// Turns: one caller works out a value for a key, while others wait for what comes of it.
+    /// Single flight by hand: one caller computes the value of a key, others wait for the outcome.
     pub mod value_initializer {
         pub use moka_base::turns::{Kind, Outcome};
         pub use moka_state::answers::{
@@ -55,17 +56,25 @@ pub mod sync {
         pub use moka_state::turn_name::TurnName;
     }
 
-    /// The cache of several segments as a plain value.
+    /// A cache that threads share, with the history of its steps.
+    pub mod recorded {
+        pub use moka_recorded::naming::Naming;
+        pub use moka_recorded::receipt::Receipt;
+        pub use moka_recorded::recorded_cache::{CloseRefused, Opened, Pass, RecordedCache};
+        pub use moka_recorded::refused::GetWithRefused;
+    }
+
+    /// The owned cache of several segments.
     pub mod segment {
         pub use moka_segmented::segment::{Segmented, SegmentedState};
         pub use moka_segmented::segmented_view::SegmentedStateView;
     }
 }
 
-/// Calls and their answers as data.
+/// Calls and their replies as data.
 pub use moka_state::step;
 
-/// The cache as a plain value.
+/// The owned cache.
 pub mod state {
     pub use moka_state::due_rows::DueRows;
     pub use moka_state::entry_selector::StateEntrySelector;

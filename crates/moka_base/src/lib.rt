@@ -1,5 +1,5 @@
-//! What the layers of the cache share: its policies, its notices, and the definitions that every
-//! contract cites, with the laws above them. Each name is given out under the path that users know.
+//! What the layers of the cache share: its policies, its notices, the definitions that every
+//! contract cites, and the laws about them. Each name is exported under the path that users know.
 #![tactic(auto)]
 
 pub use moka_laws::{
@@ -12,7 +12,7 @@ pub use moka_policy::{clock, expiry, frequency, listener, predicate, weigher};
 pub use moka_sketch::frequency_sketch;
 pub use moka_turn_laws::{turn_laws, worked_turns};
 
-/// The types that a cache is made of, the hasher of number keys, and the refusals.
+/// The types that a cache is made of, the hasher of number keys, and the errors of a cache's calls.
 pub mod policy {
     pub use moka_policy::policy::{
         CacheTypes, Clock, CountTable, EvictionPolicy, ExpireBy, Expiry, FrequencySource, HoldsIf,

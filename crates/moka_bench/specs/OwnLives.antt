@@ -1,7 +1,7 @@
--- Lives of their own, all alike.
+-- Lifetimes that are the same for each entry.
 use Rattle.std.specs.Prelude.{ℕ, Some}
 use Rattle.moka.specs.Lives.{Lifetimes}
 
--- each value lives so many nanoseconds after each write
+-- each entry lives so many nanoseconds after each write
 abbrev pub same_lives : ℕ → Lifetimes ℕ ℕ
 same_lives nanos = record { created = λ _ _ _. Some nanos; read = λ _ _ _ rest _. rest; updated = λ _ _ _ _. Some nanos }

@@ -1,68 +1,74 @@
-//! What the caches are measured on.
+//! The loads on which the caches are measured.
 ghost use Rattle.std.specs.Prelude.{◌≢◌, Some};
 
 use crate::numbers::Numbers;
 use std::alloc::{AllocError, Global};
 
-/// How long the values of a cache live, in calls.
+/// How long the entries of a cache live, in calls. Each call is one nanosecond after the one
+/// before.
 #[derive(Clone, Copy)]
 pub(crate) enum Life {
+    /// They never expire.
     Endless,
-    /// So many after the write.
+    /// So many calls after the write, by a time to live.
     ToLive(u64),
-    /// So many after the last use.
+    /// So many calls after the last access, by a time to idle.
     ToIdle(u64),
-    /// So many after the write, as an expiry says of each value.
+    /// So many calls after the write, by an expiry for each entry.
     Own(u64),
 }
 
 /// What is done with each key of a load.
 #[derive(Clone, Copy, PartialEq)]
 pub(crate) enum Kind {
-    /// The key is looked for, and written where it is not found.
+    /// Looks the key up, and inserts it if it is not found.
     Look,
-    /// The key is written.
+    /// Inserts the key.
     Insert,
-    /// The key is looked for. All keys were written before.
+    /// Looks the key up. All keys were inserted before.
     Hit,
-    /// The key is looked for, a new one, and then written.
+    /// Looks up a new key, and then inserts it.
     Miss,
-    /// The key is written. All keys were written before.
+    /// Overwrites the key. All keys were inserted before.
     Overwrite,
-    /// The key is written, a new one, where the cache is full.
+    /// Inserts a new key into a full cache.
     Replace,
-    /// Each pair comes once. All keys were written before.
+    /// Iterates over each pair once. All keys were inserted before.
     Walk,
-    /// This is called of the key. All keys were written before.
+    /// Makes this call about the key. All keys were inserted before.
     Known(Call),
-    /// This is called of the key, a new one.
+    /// Makes this call about a new key.
     New(Call),
 }
 
-/// Calls that work a value out, and what they are compared with.
+/// Calls that compute a value, and those with which they are compared.
 #[derive(Clone, Copy, PartialEq)]
 pub(crate) enum Call {
     GetWith,
     OrInsert,
-    /// A `get`, and an `insert` whatever it found.
+    /// A `get`, and an `insert` whatever was found.
     GetAndInsert,
     UpsertWith,
-    /// `and_compute_with` that puts.
+    /// `and_compute_with` that puts a value.
     ComputeWith,
 }
 
 /// A load: the capacity of the caches, the keys, and what is done with each.
 #[derive(Clone, Copy)]
 pub(crate) struct Load {
+    /// The name in the table.
     pub name: &'static str,
+    /// What is done with each key.
     pub kind: Kind,
+    /// In entries.
     pub capacity: u32,
-    /// How many keys there are for looks: `2^octaves - 1`, each as often as its inverse.
+    /// There are `2^octaves - 1` keys for lookups, each as frequent as its inverse.
     pub octaves: u32,
-    /// How many calls are measured, behind as many that are not.
+    /// How many calls are measured, after as many that are not.
     pub calls: u32,
+    /// How long the entries live.
     pub life: Life,
-    /// How many values leave before a write at most.
+    /// The greatest number of evictions in a flush.
     pub flush_limit: Option<u64>,
     /// How many turns of other keys are open.
     pub open_turns: u64,
@@ -105,10 +111,10 @@ const NEW_WITH: Load = Load {
     ..LOOKS
 };
 
-/// The first of the loads.
+/// The first three loads.
 pub(crate) const FIRST: [Load; 3] = [LOOKS, INSERTS, HITS];
 
-/// `get_with` of keys that are there, beside `get`.
+/// `get_with` of keys that are stored, beside `get`.
 pub(crate) const KNOWN: [Load; 4] = [
     Load {
         name: "get",
@@ -151,7 +157,7 @@ pub(crate) const NEW: [Load; 4] = [
     },
 ];
 
-/// `or_insert` of keys that are there, beside `get`.
+/// `or_insert` of keys that are stored, beside `get`.
 pub(crate) const OR_INSERT: [Load; 2] = [
     Load {
         name: "get",
@@ -164,7 +170,7 @@ pub(crate) const OR_INSERT: [Load; 2] = [
     },
 ];
 
-/// Computes of keys that are there, beside a `get` and an `insert`.
+/// Computes of keys that are stored, beside a `get` and an `insert`.
 pub(crate) const COMPUTES: [Load; 3] = [
     Load {
         name: "get and insert",
@@ -183,7 +189,7 @@ pub(crate) const COMPUTES: [Load; 3] = [
     },
 ];
 
-/// The loads, each of which every cache is measured on.
+/// The loads on which every cache is measured.
 pub(crate) const LOADS: [Load; 8] = [
     LOOKS,
     INSERTS,
@@ -218,8 +224,8 @@ pub(crate) const LOADS: [Load; 8] = [
     },
 ];
 
-/// Looks and overwrites with and without lives, at a capacity. Each life is as many calls as the capacity, so that about
-/// as many values leave since they expired as for want of room.
+/// Returns lookups and overwrites with and without lifetimes, at a capacity. Each lifetime is as
+/// many calls as the capacity, so that about as many entries expire as are evicted for size.
 pub(crate) fn with_lives(capacity: u32, octaves: u32) -> [Load; 6] {
     let calls = u64::from(capacity);
     let looks = Load {
@@ -258,7 +264,7 @@ pub(crate) fn with_lives(capacity: u32, octaves: u32) -> [Load; 6] {
     ]
 }
 
-/// A walk over a million pairs.
+/// An iteration over a million pairs.
 pub(crate) const WALKS: [Load; 1] = [Load {
     name: "a walk",
     kind: Kind::Walk,
@@ -266,7 +272,7 @@ pub(crate) const WALKS: [Load; 1] = [Load {
     ..LOOKS
 }];
 
-/// Inserts into a full cache, with and without a flush limit.
+/// Inserts into a full cache.
 const FULL: Load = Load {
     name: "full",
     kind: Kind::Replace,
@@ -275,7 +281,7 @@ const FULL: Load = Load {
     ..LOOKS
 };
 
-/// The same where, once it is measured, all rows of the cache have expired.
+/// The same, where all entries of the cache have expired when the measurement begins.
 const EXPIRED: Load = Load {
     name: "expired",
     life: Life::ToLive(1_000),
@@ -308,7 +314,7 @@ pub(crate) const LIMITS: [Load; 6] = [
     },
 ];
 
-/// The capacities at which lives are measured, each with the octaves of its keys.
+/// The capacities at which lifetimes are measured, each with the octaves of its keys.
 pub(crate) const SIZES: [(u32, u32); 3] = [(10_000, 17), (100_000, 20), (1_000_000, 24)];
 
 /// A load of few calls, for the run without arguments.
@@ -320,7 +326,7 @@ pub(crate) const SMALL: Load = Load {
 };
 
 impl Load {
-    /// Its flush limit, if it has one.
+    /// Returns the flush limit, or `None` if there is none or it is 0.
     pub(crate) fn checked_flush_limit(&self) -> Option<u64>
         ensures { result ≢ Some 0 }
     {
@@ -330,7 +336,8 @@ impl Load {
         }
     }
 
-    /// The keys of its calls, in order: those before it is measured, and as many that are.
+    /// Returns the keys of the calls, in order: first those that are not measured, and then as many
+    /// that are.
     pub(crate) fn keys(&self, alloc: Global) -> Result<Vec<u64>, AllocError> {
         let mut numbers = Numbers::new(20_261_123);
         let calls = self.calls.saturating_mul(2);

@@ -1,4 +1,5 @@
-//! Measures the cache beside the `lru` of the kit. Without arguments it prints how many of a thousand looks each finds.
+//! Measures the owned cache beside the kit's `lru`. Without arguments it prints how many of a
+//! thousand lookups each of them finds.
 #![tactic(auto)]
 
 mod load;

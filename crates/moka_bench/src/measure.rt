@@ -1,4 +1,4 @@
-//! One cache on one load.
+//! Measures one cache on one load.
 use crate::load::{Kind, Load};
 use crate::segments::InSegments;
 use crate::subject::{Fold, Made, NoFrequencies, Ours, Subject, Theirs, Unbounded};
@@ -9,42 +9,45 @@ use std::io;
 use std::sync::Wait;
 use std::time::{Clock, Instant};
 
-/// Which cache is measured.
+/// The cache that is measured.
 #[derive(Clone, Copy)]
 pub(crate) enum Which {
-    /// The kit's.
+    /// The kit's `lru`.
     Theirs,
-    /// A map without a bound, with the quick hasher.
+    /// A map without a bound, with `FoldHasher`.
     Map,
-    /// Ours, least recently used.
+    /// Ours, with LRU.
     Lru,
     /// The same, of which the longest call is measured.
     Slowest,
-    /// Ours, TinyLFU with a table of `2^20` counters.
+    /// Ours, with TinyLFU by a table of `2^20` counters.
     Table,
-    /// Ours, TinyLFU with a sketch of about twice as many counters in a row as the capacity.
+    /// Ours, with TinyLFU by a sketch that has about twice as many counters in a row as entries
+    /// fit.
     Sketch,
-    /// Ours of one segment, least recently used.
+    /// Ours with one segment, with LRU.
     Segment,
-    /// The same of sixteen.
+    /// The same with sixteen segments.
     Segments,
 }
 
-/// Which hasher it has: SipHash with fixed keys, or the kit's quick one.
+/// The hasher: SipHash with fixed keys, or the kit's fast one.
 #[derive(Clone, Copy)]
 pub(crate) enum Hashing {
     Sip,
     Fold,
 }
 
-/// What a run came to.
+/// The result of a run.
 #[derive(Clone, Copy)]
 pub(crate) struct Outcome {
+    /// The time of the measured calls, or of the longest of them, in nanoseconds.
     pub nanos: u64,
+    /// How many of the measured lookups found their key.
     pub hits: u64,
 }
 
-/// Makes a cache, and runs a load on it.
+/// Creates a cache and runs a load on it.
 pub(crate) fn measured<R: Wait + Clock + Copy>(
     rt: &R,
     alloc: Global,
@@ -79,7 +82,7 @@ fn by<H: BuildHasher + Default + Drop, R: Wait + Clock + Copy>(
     }
 }
 
-/// With a sketch of the size that suits the capacity.
+/// Does so with a sketch of the size that suits the capacity.
 fn sketched<H: BuildHasher + Default + Drop, R: Wait + Clock + Copy>(
     rt: &R,
     alloc: Global,
@@ -95,8 +98,8 @@ fn sketched<H: BuildHasher + Default + Drop, R: Wait + Clock + Copy>(
     }
 }
 
-/// Makes a cache, runs a load on it, and takes the time of its second half: the first half brings the cache to where it
-/// stays.
+/// Creates a cache, runs a load on it, and times the second half. The first half brings the cache
+/// to a steady state.
 pub(crate) fn timed<S: Made<R>, R: Clock + Copy>(
     rt: &R,
     alloc: Global,
@@ -122,7 +125,8 @@ fn timed_on<S: Subject>(
     Ok(Outcome { nanos, hits })
 }
 
-/// The same, but takes the time of the longest call of the second half. The clock is asked before and behind each.
+/// Does the same, but times the longest call of the second half. The clock is read before and after
+/// each call.
 fn slowest<S: Made<R>, R: Clock + Copy>(
     rt: &R,
     alloc: Global,
@@ -165,13 +169,14 @@ fn timed_call<S: Subject>(
     Ok(Outcome { nanos, hits })
 }
 
-/// The nanoseconds since a moment.
+/// Returns the nanoseconds since a moment.
 pub(crate) fn nanos_since(clock: &impl Clock, begun: Instant) -> io::Result<u64> {
     let took = begun.elapsed(clock)?.as_nanos();
     Ok(u64::try_from(took).unwrap_or(u64::MAX))
 }
 
-/// Brings a cache to where it stays: writes the keys of the loads that look for what is there, and runs the first half.
+/// Brings a cache to a steady state: inserts the keys of the loads that need them, and runs the
+/// first half.
 pub(crate) fn prepare<S: Subject>(
     subject: &mut S,
     load: &Load,
@@ -191,7 +196,8 @@ pub(crate) fn prepare<S: Subject>(
     Ok(())
 }
 
-/// Runs keys of a load, each at its own moment, from a moment on. Answers how many of the looks found their key.
+/// Runs keys of a load, each at its own moment, from `first` on. Returns how many of the lookups
+/// found their key.
 fn hits_of<S: Subject>(
     subject: &mut S,
     kind: Kind,
@@ -210,7 +216,7 @@ fn hits_of<S: Subject>(
     Ok(hits)
 }
 
-/// Runs a key of a load, and answers whether it was looked for and found.
+/// Runs a key of a load. Returns whether it was looked up and found.
 fn is_hit<S: Subject>(subject: &mut S, kind: Kind, key: u64, now: u64) -> Result<bool, AllocError> {
     if let Kind::Known(call) | Kind::New(call) = kind {
         subject.call(call, key, now)?;

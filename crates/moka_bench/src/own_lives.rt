@@ -1,13 +1,14 @@
-//! Lives of their own, all alike.
+//! An expiry that gives each entry the same lifetime.
 ghost use Rattle.std.specs.Prelude.{◌≡◌};
 ghost use Rattle.moka_bench.specs.OwnLives.{same_lives};
 
 use moka::policy::Expiry;
 use std::time::Duration;
 
-/// Lets each value live so many nanoseconds after each write.
+/// Gives each entry so many nanoseconds after each write.
 #[derive(Drop)]
 pub(crate) struct SameLives {
+    /// The lifetime in nanoseconds.
     pub nanos: u64,
 }
 

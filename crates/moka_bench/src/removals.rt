@@ -1,4 +1,4 @@
-//! What removals take: of keys, one by one, and of all rows at once.
+//! What removals cost: of single keys, and of all entries at once.
 use crate::load::{Kind, Life, Load, SMALL};
 use crate::measure::{nanos_since, prepare};
 use crate::subject::{Emptied, Everything, Fold, Made, NoFrequencies, Ours};
@@ -10,22 +10,22 @@ use std::rt::Runtime;
 use std::sync::Arc;
 use std::time::{Clock, Instant};
 
-/// What is measured, each on a cache of its own that was filled and has nothing left to be done.
+/// What is measured, each on its own cache, which is full and has no maintenance to do.
 #[derive(Clone, Copy)]
 pub(crate) enum Removal {
-    /// Each key by `invalidate`, and its notice.
+    /// `invalidate` of each key, with its notice.
     Invalidate,
-    /// Each key by `remove`, and its notice.
+    /// `remove` of each key, with its notice.
     Remove,
-    /// All rows by `invalidate_all`.
+    /// `invalidate_all`.
     InvalidateAll,
-    /// All rows by a predicate, which holds of each.
+    /// An invalidation by a predicate that holds of each entry.
     InvalidateIf,
-    /// The maintenance behind `invalidate_all`, which notices each row.
+    /// The maintenance after `invalidate_all`, which queues a notice for each entry.
     Sweep,
-    /// The maintenance once all rows have expired.
+    /// The maintenance after all entries have expired.
     Expired,
-    /// The same in slices, in each of which a hundred leave at most.
+    /// The same in slices of at most a hundred evictions.
     Slices,
 }
 
@@ -38,16 +38,17 @@ pub(crate) const REMOVALS: [(Removal, &str); 5] = [
     (Removal::Sweep, "the sweep behind"),
 ];
 
-/// A sweep beside the same in slices.
+/// A maintenance beside the same in slices.
 pub(crate) const SWEEPS: [(Removal, &str); 2] = [
     (Removal::Expired, "a sweep of expired rows"),
     (Removal::Slices, "in slices of 100"),
 ];
 
-/// How many rows the caches have.
+/// The numbers of entries in the caches.
 const ROWS: [u32; 4] = [1_000, 10_000, 100_000, 1_000_000];
 
-/// Prints what each of these removals takes at each size: the median of so many rounds, in nanoseconds a row.
+/// Prints the cost of each of these removals at each size: the median of so many rounds, in
+/// nanoseconds an entry.
 pub(crate) fn run<R: Runtime + Copy>(
     rt: &R,
     alloc: Global,
@@ -86,8 +87,8 @@ fn time_of<R: Clock + Copy>(
     Ok(median(times))
 }
 
-/// Makes a cache of so many rows, least recently used, all admitted, so that nothing waits and nothing has left, and takes
-/// the time of a removal. Rows that are to expire have at moment 1.
+/// Creates a cache of so many resident entries with LRU, with nothing pending and no notice, and
+/// times a removal. Entries that are to expire have done so at moment 1.
 fn timed<S: Emptied + Made<R>, R: Clock + Copy>(
     rt: &R,
     alloc: Global,
@@ -141,7 +142,7 @@ fn remove_all<S: Emptied>(
     Ok(())
 }
 
-/// Runs the maintenance of moment 1 in slices, of which no more are needed than rows.
+/// Runs the maintenance of moment 1 in slices, of which there are no more than entries.
 fn sweep_in_slices<S: Emptied>(filled: &mut S, rows: u32) {
     for _ in 0..rows {
         if !filled.settle_up_to(100, 1) {
@@ -150,7 +151,7 @@ fn sweep_in_slices<S: Emptied>(filled: &mut S, rows: u32) {
     }
 }
 
-/// Removes each key, in an order that jumps about: the factor shares no divisor with a power of ten.
+/// Removes each key, in a scattered order: the factor shares no divisor with a power of ten.
 fn remove_each<S: Emptied>(filled: &mut S, removal: Removal, rows: u64) -> Result<(), AllocError> {
     for place in 0..rows {
         let key = place.wrapping_mul(7_368_787).checked_rem(rows).unwrap_or(0);

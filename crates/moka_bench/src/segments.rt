@@ -1,4 +1,4 @@
-//! A cache of several segments.
+//! An owned cache with several segments.
 use crate::load::Load;
 use crate::subject::{Made, NoFrequencies, Subject, Types};
 use moka::policy::EvictionPolicy;
@@ -8,13 +8,13 @@ use moka::sync::segment::Segmented;
 use std::alloc::{AllocError, Global};
 use std::hash::BuildHasher;
 
-/// One of so many segments, least recently used, over any store of rows.
+/// A cache of `N` segments with LRU, over any row store.
 #[derive(Drop)]
 pub(crate) struct SegmentsOf<H: BuildHasher + Drop, R: RowStore<u64, u64>, const N: usize> {
     cache: Segmented<u64, u64, Types<H, NoFrequencies>, R>,
 }
 
-/// The same over the store that each `SegmentedState` has.
+/// The same over the store of a `SegmentedState`.
 pub(crate) type InSegments<H, const N: usize> = SegmentsOf<H, DueRows<u64, u64>, N>;
 
 impl<H: BuildHasher + Default + Drop, const N: usize, W: Drop> Made<W> for InSegments<H, N> {

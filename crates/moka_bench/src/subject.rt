@@ -21,28 +21,30 @@ use std::num::NonZeroUsize;
 use std::sync::{Arc, Mutex, Wait};
 use std::time::Duration;
 
-/// A cache of numbers under measure. Each call of a load is at a moment of its own.
+/// A cache of numbers that is measured. Each call of a load has its own moment.
 pub(crate) trait Subject: Drop {
-    /// Whether a key is found.
+    /// Looks a key up. Returns whether it was found.
     fn look(&mut self, key: u64, now: u64) -> Result<bool, AllocError>;
 
-    /// Writes a key.
+    /// Inserts a key.
     fn insert(&mut self, key: u64, now: u64) -> Result<(), AllocError>;
 
-    /// Gets done what the writes so far left to be done.
+    /// Runs the maintenance that the writes so far left to do.
     fn settle(&mut self, now: u64);
 
-    /// Walks over so many pairs at most, and answers how many came: none where a cache has no walks.
+    /// Iterates over at most `pairs` pairs. Returns how many came: none if a cache has no
+    /// iteration.
     fn walk(&mut self, _pairs: usize, _now: u64) -> Result<u64, AllocError> {
         Ok(0)
     }
 
-    /// Opens so many turns of keys that no load has, where a cache has turns.
+    /// Opens so many turns of keys that no load has, if a cache has turns.
     fn open(&mut self, _turns: u64) -> Result<(), AllocError> {
         Ok(())
     }
 
-    /// Calls this of a key; where a cache has no such calls, looks for the key and writes it where it is not found.
+    /// Makes this call about a key. A cache without such calls looks the key up, and inserts it if
+    /// it is not found.
     fn call(&mut self, _call: Call, key: u64, now: u64) -> Result<(), AllocError> {
         if !self.look(key, now)? {
             self.insert(key, now)?;
@@ -51,9 +53,10 @@ pub(crate) trait Subject: Drop {
     }
 }
 
-/// What a measure makes anew. What waits for a lock is handed in.
+/// A cache that a measurement creates anew.
 pub(crate) trait Made<W>: Subject {
-    /// An empty one of the capacity of a load. Where it has a policy it is this one.
+    /// Creates an empty cache with the capacity of a load, and with this policy if it has one.
+    /// `waits` waits for its lock.
     fn made(
         alloc: Global,
         load: &Load,
@@ -62,7 +65,7 @@ pub(crate) trait Made<W>: Subject {
     ) -> Result<Self, AllocError>;
 }
 
-/// What can be emptied.
+/// A cache that can be emptied.
 pub(crate) trait Emptied: Subject {
     /// Removes a key by `invalidate`, and takes its notice.
     fn invalidate(&mut self, key: u64);
@@ -70,13 +73,13 @@ pub(crate) trait Emptied: Subject {
     /// Removes a key by `remove`, and takes its notice.
     fn remove(&mut self, key: u64) -> Result<(), AllocError>;
 
-    /// Hides all rows.
+    /// Invalidates all entries.
     fn invalidate_all(&mut self);
 
-    /// Hides all rows by a predicate, which holds of each.
+    /// Invalidates all entries by a predicate that holds of each.
     fn invalidate_if(&mut self, predicate: Arc<Everything>) -> Result<(), AllocError>;
 
-    /// Runs a maintenance in which so many leave at most, and answers whether it left something undone.
+    /// Runs a maintenance with at most `limit` evictions. Returns whether work is left.
     fn settle_up_to(&mut self, limit: u64, now: u64) -> bool;
 }
 
@@ -92,13 +95,13 @@ impl Predicate<u64, u64> for Everything {
     }
 }
 
-/// The quick hasher.
+/// The kit's fast hasher.
 pub(crate) type Fold = BuildHasherDefault<FoldHasher>;
 
-/// The source of a cache that asks none: one counter.
+/// The frequency source of a cache that asks none: one counter.
 pub(crate) type NoFrequencies = CountTable<0>;
 
-/// The types of a cache that is measured: its hasher, and its source of frequencies.
+/// The types of a measured cache: its hasher and its frequency source.
 pub(crate) struct Types<H, F>(H, F);
 
 impl<H: BuildHasher + Drop, F: FrequencySource> CacheTypes<u64, u64> for Types<H, F> {
@@ -135,15 +138,15 @@ impl<H: BuildHasher + Drop, F: FrequencySource> CacheTypes<u64, u64> for Types<H
     ghost copies_compose = { λ _ _ _ a b. b ∙ a };
 }
 
-/// A cache of this library. It is called over any store of rows, since a call over the store
-/// itself is dear to prove.
+/// A cache of this library. Its calls are written over any row store, since a call over the store
+/// itself is slow to prove.
 #[derive(Drop)]
 pub(crate) struct OurRows<H: BuildHasher + Drop, F: FrequencySource, R: RowStore<u64, u64>> {
     alloc: Global,
     cache: State<u64, u64, Types<H, F>, R>,
 }
 
-/// The same over the store that each `CacheState` has.
+/// The same over the store of a `CacheState`.
 pub(crate) type Ours<H, F> = OurRows<H, F, DueRows<u64, u64>>;
 
 impl<H: BuildHasher + Drop, F: FrequencySource, R: RowStore<u64, u64>> OurRows<H, F, R> {
@@ -313,7 +316,7 @@ impl<H: BuildHasher + Default + Drop, F: FrequencySource, R: RowStore<u64, u64>>
     }
 }
 
-/// The `lru` of the kit behind the kit's lock, as a program without this library would have it.
+/// The kit's `lru` under the kit's lock, as a program without this library would use it.
 #[derive(Drop)]
 pub(crate) struct Theirs<H: BuildHasher + Drop, W: Drop> {
     cache: Mutex<LruCache<u64, u64, H>>,

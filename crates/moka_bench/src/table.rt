@@ -1,4 +1,4 @@
-//! What is printed.
+//! The tables that are printed.
 use crate::load::{
     COMPUTES, FIRST, KNOWN, LIMITS, LOADS, Load, NEW, OR_INSERT, SIZES, SMALL, WALKS, with_lives,
 };
@@ -34,29 +34,29 @@ const CACHES: [Named; 8] = [
     ),
 ];
 
-/// What is walked over.
+/// What iteration is measured on.
 const WALKED: [Named; 2] = [
     (Which::Map, Hashing::Fold, "a map under a lock"),
     (Which::Lru, Hashing::Fold, "a state, key by key"),
 ];
 
-/// A state beside caches of several segments.
+/// An owned cache beside caches with several segments.
 const SEGMENTED: [Named; 3] = [
     (Which::Lru, Hashing::Fold, "a state"),
     (Which::Segment, Hashing::Fold, "one segment"),
     (Which::Segments, Hashing::Fold, "16 segments"),
 ];
 
-/// What runs the loads with lives and with limits: all calls, and the longest of them.
+/// What runs the loads with lifetimes and with limits: all calls, and the longest of them.
 const SLOWEST: [Named; 2] = [
     (Which::Lru, Hashing::Fold, "all calls"),
     (Which::Slowest, Hashing::Fold, "the longest call"),
 ];
 
-/// What eight caches at most came to in one round, in their order.
+/// The results of at most eight caches in one round, in their order.
 pub(crate) type Round = [Outcome; 8];
 
-/// One in which none was run.
+/// A round without results.
 pub(crate) const NO_ROUND: Round = [Outcome { nanos: 0, hits: 0 }; 8];
 
 /// Does what the arguments ask for.
@@ -89,7 +89,7 @@ fn print_usage(rt: &impl io::Print) -> io::Result<()> {
     )
 }
 
-/// Prints how many looks of a small load each cache finds.
+/// Prints how many lookups of a small load each cache finds.
 fn print_hits<R: Runtime + Wait + Copy>(rt: &R, alloc: Global) -> io::Result<()> {
     let keys = SMALL.keys(alloc)?;
     for (which, hashing, name) in CACHES {
@@ -125,7 +125,7 @@ fn print_head(rt: &impl io::Print, load: &Load) -> io::Result<()> {
     )
 }
 
-/// Prints a table for calls on a cache by itself, each compared with the first of its list.
+/// Prints a table of calls on a cache, each compared with the first of its list.
 fn print_calls<R: Runtime + Wait + Copy>(
     rt: &R,
     alloc: Global,
@@ -145,7 +145,7 @@ fn print_calls<R: Runtime + Wait + Copy>(
     Ok(())
 }
 
-/// One run of each load on a cache by itself.
+/// Runs each load once on a cache.
 fn round_of<R: Wait + Clock + Copy>(rt: &R, alloc: Global, loads: &[Load]) -> io::Result<Round> {
     let mut round = NO_ROUND;
     for (load, outcome) in loads.iter().zip(round.iter_mut()) {
@@ -155,7 +155,8 @@ fn round_of<R: Wait + Clock + Copy>(rt: &R, alloc: Global, loads: &[Load]) -> io
     Ok(round)
 }
 
-/// Runs so many rounds. In each the caches run one after another, so that what else the machine does meets all of them.
+/// Runs so many rounds. In each the caches run one after another, so that other work of the machine
+/// affects all of them.
 fn rounds_of<R: Wait + Clock + Copy>(
     rt: &R,
     alloc: Global,
@@ -171,7 +172,7 @@ fn rounds_of<R: Wait + Clock + Copy>(
     Ok(all)
 }
 
-/// One run of each cache.
+/// Runs each cache once.
 fn round<R: Wait + Clock + Copy>(
     rt: &R,
     alloc: Global,
@@ -186,8 +187,8 @@ fn round<R: Wait + Clock + Copy>(
     Ok(round)
 }
 
-/// Prints the medians of a cache: its time by that of the first cache in the same round, and the time of a call; and how
-/// much of a thousand looks it found.
+/// Prints the medians of a cache: its time as a multiple of the first cache's in the same round,
+/// and the time of a call. Also prints how many of a thousand lookups it found.
 fn print_row(
     rt: &impl io::Print,
     alloc: Global,
@@ -209,7 +210,7 @@ fn print_row(
     )
 }
 
-/// The median of the nanoseconds at a place of each round.
+/// Returns the median of the nanoseconds at a place of each round.
 pub(crate) fn median_time(
     alloc: Global,
     rounds: &[Round],
@@ -222,7 +223,7 @@ pub(crate) fn median_time(
     Ok(median(times))
 }
 
-/// The median of the hundredths that the time at a place takes of that at another place in the same round.
+/// Returns the median ratio, in hundredths, of the times at two places of the same round.
 pub(crate) fn median_ratio(
     alloc: Global,
     rounds: &[Round],
@@ -237,7 +238,7 @@ pub(crate) fn median_ratio(
     Ok(median(ratios))
 }
 
-/// What came out at a place of a round.
+/// Returns the result at a place of a round.
 fn outcome_at(round: &Round, place: usize) -> Outcome {
     match round.get(place) {
         Some(outcome) => *outcome,
@@ -245,7 +246,7 @@ fn outcome_at(round: &Round, place: usize) -> Outcome {
     }
 }
 
-/// How many of a thousand looks were found, which is the same in each round.
+/// Returns how many of a thousand lookups were found, which is the same in each round.
 fn hits_at(load: &Load, rounds: &[Round], place: usize) -> u64 {
     match rounds.first() {
         Some(round) => share(outcome_at(round, place).hits, 1_000, u64::from(load.calls)),
@@ -253,11 +254,11 @@ fn hits_at(load: &Load, rounds: &[Round], place: usize) -> u64 {
     }
 }
 
-/// The head of a table of loads on a cache, least recently used.
+/// The head of a table of loads on a cache with LRU.
 const LOAD_HEAD: &str =
     "| load | capacity | ns a call | hits | slowest call, ns |\n|---|---|---|---|---|";
 
-/// Prints what lives cost at each size.
+/// Prints what lifetimes cost at each size.
 fn print_lives<R: Runtime + Wait + Copy>(rt: &R, alloc: Global, rounds: usize) -> io::Result<()> {
     println!(rt; "{LOAD_HEAD}")?;
     for (capacity, octaves) in SIZES {
@@ -268,7 +269,7 @@ fn print_lives<R: Runtime + Wait + Copy>(rt: &R, alloc: Global, rounds: usize) -
     Ok(())
 }
 
-/// Prints what flush limits do for the slowest insert, and what a sweep costs in slices.
+/// Prints what flush limits do for the slowest insert, and what maintenance in slices costs.
 fn print_limits<R: Runtime + Wait + Copy>(rt: &R, alloc: Global, rounds: usize) -> io::Result<()> {
     println!(rt; "{LOAD_HEAD}")?;
     for load in &LIMITS {
@@ -278,7 +279,8 @@ fn print_limits<R: Runtime + Wait + Copy>(rt: &R, alloc: Global, rounds: usize) 
     removals::run(rt, alloc, rounds, &SWEEPS)
 }
 
-/// Prints what a call of a load takes, in nanoseconds, and the longest call: the medians of so many rounds.
+/// Prints what a call of a load takes, in nanoseconds, and the longest call: the medians of so many
+/// rounds.
 fn print_load<R: Runtime + Wait + Copy>(
     rt: &R,
     alloc: Global,
@@ -299,19 +301,19 @@ fn print_load<R: Runtime + Wait + Copy>(
     )
 }
 
-/// So many parts of a number by another.
+/// Returns `number` times `parts` divided by `by`, or 0 if `by` is 0.
 pub(crate) fn share(number: u64, parts: u64, by: u64) -> u64 {
     number.wrapping_mul(parts).checked_div(by).unwrap_or(0)
 }
 
-/// The number in the middle.
+/// Returns the number in the middle of the sorted list.
 pub(crate) fn median(mut numbers: Vec<u64>) -> u64 {
     numbers.sort_unstable();
     numbers.get(numbers.len() / 2).copied().unwrap_or(0)
 }
 
-/// Prints the most memory that the process took, with the first load on one cache; with a number behind the last cache,
-/// with the load's keys alone.
+/// Prints the most memory that the process used, in KiB, with the first load on one cache. With a
+/// number past the last cache, only the keys of the load are made.
 fn print_memory<R: Runtime + Wait + Copy>(rt: &R, alloc: Global, number: usize) -> io::Result<()> {
     let load = LOADS[0];
     let keys = load.keys(alloc)?;
@@ -327,7 +329,7 @@ fn print_memory<R: Runtime + Wait + Copy>(rt: &R, alloc: Global, number: usize) 
     println!(rt; "{name}: {peak} KiB")
 }
 
-/// The number in the line of the peak, as the system writes it for a process.
+/// Returns the number in the line of the peak, as the system writes it for a process.
 fn peak_of(status: &str) -> Option<&str> {
     let (_, behind) = status.split_once("VmHWM:")?;
     let (kib, _) = behind.split_once("kB")?;

@@ -1,3 +1,3 @@
-//! That no pair of a key and a value is lost or doubled: the words of it, and the lemmas that the
-//! crates above use (`proofs/Callers.antt`). It has no code.
+//! The statement that no pair of a key and a value is lost or doubled (`specs/`), and its lemmas
+//! for the crates above (`proofs/Callers.antt`). It has no code.
 #![tactic(auto)]

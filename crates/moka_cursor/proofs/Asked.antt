@@ -1,4 +1,4 @@
--- What states answer, by the histories for which they stand.
+-- What states return, by the histories that they could have come from.
 use Rattle.std.proofs.Common.{◌≡◌, ℕ, zero, suc, ◌+◌, Bool, true, false, Option, Some, None, Result, Ok, Err, IsOk, IfOk, IfErr, IfSome, IsSomeAnd, List, [], ◌∷◌, ◌++◌, length, map, option_map, refl, sym, ap, ◌∙◌, subst}
 use Rattle.std.specs.List.{AllZip, slice_get, AllByRecursion}
 use Rattle.std.specs.List.Sorted.{IsPermutation}
@@ -127,7 +127,7 @@ module _ {K V E S : Type 0} (eq : K → K → Bool) (is_clone : V → V → Type
     pub walks-to : (old new : Cursor K) (result : Option (Result (K × V) Refused)) → (it : Advance K V Refused) × Advance-of old it new × (result ≡ answered it.ending) → WalksTo eq is_clone is_infallible stands_for states now old result new
     walks-to old new result does histories stand = (does.0, over-histories histories stand old does.0 new does.1, does.2)
 
-    -- What it hands out is kept,
+    -- What it returns satisfies `keeps`,
     ends-kept : (reached : ℕ) (how : Ending K V Refused) (new : Cursor K) → IsEnding (length states) (StateStands eq is_clone is_infallible stands_for states now) (StateFinds eq is_clone is_infallible stands_for states now keeps) reached how new
         → IfSome (answered how) (λ pair. IfOk pair (λ (p : K × V). keeps p.0 p.1)) × IfSome (answered how) (λ pair. IfErr pair (λ e. e ≡ OutOfMemory))
     ends-kept reached (Yielded i k v) new ends = (ends.0.kept, tt)
@@ -135,7 +135,7 @@ module _ {K V E S : Type 0} (eq : K → K → Bool) (is_clone : V → V → Type
     ends-kept reached (SegmentRefused e) new ends = (tt, ends.0.cause)
     ends-kept reached Finished new ends = (tt, tt)
 
-    -- and it is refused for want of memory.
+    -- and it fails only with `OutOfMemory`.
     pub hands-out : (old new : Cursor K) (result : Option (Result (K × V) Refused)) → (it : Advance K V Refused) × Advance-of old it new × (result ≡ answered it.ending)
         → IfSome result (λ pair. IfOk pair (λ (p : K × V). keeps p.0 p.1)) × IfSome result (λ pair. IfErr pair (λ e. e ≡ OutOfMemory))
     hands-out old new result does =

@@ -1,4 +1,4 @@
-//! A walk over states, which are lent anew at each call.
+//! Iteration over owned caches, which are passed in anew at each call.
 ghost use Rattle.std.specs.Prelude.{◌≡◌, ◌<◌, length, option_map, IfOk, IfErr, IfSome};
 ghost use Rattle.std.specs.Arc.{arc_value};
 ghost use Rattle.moka_walks.specs.Walks.{start, calls_left};
@@ -14,7 +14,7 @@ use std::hash::Hash;
 use std::marker::Model;
 use std::sync::Arc;
 
-// States as the segments of a walk, at a moment.
+// States as the segments of a walk, at one moment.
 #[derive(Drop)]
 struct StatesAt<'s, K: Hash + Drop, V: Clone, C: CacheTypes<K, V>, R: RowStore<K, V>> {
     states: &'s [State<K, V, C, R>],
@@ -50,12 +50,12 @@ impl<'s, K: Hash + Drop, V: Clone, C: CacheTypes<K, V>, R: RowStore<K, V>> Segme
     }
 }
 
-/// A walk over the segments of a cache: it takes a segment's stored keys when it reaches the segment, and yields
-/// those that are live when they come.
+/// Iterates over the segments of an owned cache. It lists a segment's stored keys when it reaches
+/// the segment, and yields those that are live when they come.
 ///
-/// It holds on to no state. Between two calls of `next` anything may be done to the states: a key that is removed or
-/// expired then is passed over, one that is overwritten comes with its new value, and one that is new comes only if
-/// its segment was not reached yet.
+/// It holds no reference to the states, so they may be changed between two calls. A key that is
+/// removed or expired meanwhile is skipped. One that is overwritten comes with its new value. A new
+/// one comes only if its segment was not reached yet.
 #[derive(Drop)]
 pub struct WalkCursor<K> {
     place: Place<K>,
@@ -70,7 +70,7 @@ impl<K> Model for WalkCursor<K> {
 }
 
 impl<K: Hash + Drop> WalkCursor<K> {
-    /// A walk before its first call.
+    /// Creates a cursor before its first key.
     pub fn new() -> Self
         ensures { result ≡ start }
     {
@@ -79,13 +79,22 @@ impl<K: Hash + Drop> WalkCursor<K> {
         }
     }
 
-    /// The next pair of a key that is live at this moment, with a copy of its value; none once all keys of all
-    /// segments have come or were passed over. Which key comes next is not said, and no key comes twice. It is no
-    /// use of the value, and changes no state.
+    /// Returns a key that is live at this moment with a clone of its value, or `None` at the end.
+    /// Keys come in no order, and no key comes twice.
     ///
-    /// What memory refused, a segment's keys or a value's copy, is passed over as one `Err`, and the walk goes on at
-    /// the next call. Costs a look-up for each key that it passes over, and copies the `Arc`s of a segment's keys where it
-    /// reaches one. The states are those of the calls before, in the same order.
+    /// `now` is the moment of the call, in nanoseconds. Does not count as an access, and changes no
+    /// state. The states have to be those of the calls before, in the same order.
+    ///
+    /// # Errors
+    ///
+    /// The cursor goes on at the next call.
+    ///
+    /// - `OutOfMemory`: allocating a segment's list of keys or cloning a value failed.
+    ///
+    /// # Complexity
+    ///
+    /// Does a lookup for each key that it skips. When it reaches a segment, it clones the `Arc`s of
+    /// all its keys.
     ///
     /// ```
     /// let mut cursor = WalkCursor::new();
@@ -104,7 +113,7 @@ impl<K: Hash + Drop> WalkCursor<K> {
         ensures step { WalksTo K.eq V.is_clone V.is_infallible ⟦<C as StateView<K, V>>⟧.stands_for
             states.now now self.old (option_map (with_key arc_value) result) self.new }
 
-        // So a loop over a walk ends.
+        // So a loop over a cursor ends.
         ensures nearer { IfSome result (λ _. calls_left (length states.now) self.new
             < calls_left (length states.now) self.old) }
         ensures kept { IfSome result (λ pair. IfOk pair (λ pair. C.keeps (arc_value pair.0) pair.1)) }

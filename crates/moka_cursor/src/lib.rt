@@ -1,4 +1,4 @@
-//! A walk over states that are lent anew at each call.
+//! Iteration over states that are passed in anew at each call.
 #![tactic(auto)]
 
 pub mod cursor;

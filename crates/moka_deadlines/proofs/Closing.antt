@@ -5,7 +5,7 @@ use Rattle.std.proofs.lemmas.List.{append-nil}
 use Rattle.moka_deadlines.specs.Slots.{in_slot, listed}
 use Rattle.moka_deadlines.proofs.SlotLemmas.{listed-same}
 
--- The slots before `at` are closed: what stood there stands in the first `kept`, and each of these holds a number. Those
+-- The slots before `at` are closed: their numbers are in the first `kept` slots, and each of these has a number. Those
 -- from `at` on are as they were.
 pub record Closes (number₀ deadline₀ place₀ number deadline place : ℕ → ℕ) (known kept at : ℕ) : Type 0 where
   pub few : kept ≤ at
@@ -18,7 +18,7 @@ pub record Closes (number₀ deadline₀ place₀ number deadline place : ℕ �
   pub before : (i : ℕ) → i < kept → place₀ (number i) < at
 
 module _ (number₀ deadline₀ place₀ number deadline place : ℕ → ℕ) (known kept at : ℕ) (closes : Closes number₀ deadline₀ place₀ number deadline place known kept at) where
-  -- an empty slot is passed by
+  -- an empty slot is skipped
   pub closes-empty : number₀ at ≡ 0 → Closes number₀ deadline₀ place₀ number deadline place known kept (at + 1)
   closes-empty none = record {
     few = let few = closes.few in omega arith;

@@ -3,12 +3,12 @@ use Rattle.std.proofs.Common.{◌≡◌, ℕ, zero, suc, ◌+◌, ◌*◌, ◌<�
 use Rattle.std.proofs.lemmas.Bool.{cases_lt}
 use Rattle.moka_deadlines.specs.Least.{AreLeast, IsLeast, leftmost}
 
--- they do not stand before it
+-- the first node some levels below a node does not come before it
 pub level-behind : (e k : ℕ) → k ≤ leftmost e k
 level-behind zero k = omega arith
 level-behind (suc e) k = let h = level-behind e (2 * k) in omega arith
 
--- those of the next node come behind
+-- the first node below the next node comes later
 pub levels-ordered : (e k : ℕ) → leftmost e k ≤ leftmost e (k + 1)
 levels-ordered zero k = omega arith
 levels-ordered (suc e) k =
@@ -18,12 +18,12 @@ levels-ordered (suc e) k =
     let c : leftmost e (2 * k + 1) ≤ leftmost e (2 * (k + 1)) = subst (λ (n : ℕ). leftmost e (2 * k + 1) ≤ leftmost e n) same b in
     omega arith
 
--- there are more nodes before them than levels
+-- the first node some levels below has an index greater than the number of levels
 pub level-long : (e k : ℕ) → 0 < k → e + k ≤ leftmost e k
 level-long zero k some = omega arith
 level-long (suc e) k some = let h = level-long e (2 * k) (omega arith) in omega (arith, h, some)
 
--- twice as far along is twice as far along below
+-- the first node below node 2k has twice the index of the first node below node k
 pub level-doubled : (e k : ℕ) → leftmost e (2 * k) ≡ 2 * leftmost e k
 level-doubled zero k = refl
 level-doubled (suc e) k = level-doubled e (2 * k)
@@ -48,7 +48,7 @@ least-of_level nodes size tree (suc e) k m some from to within =
     side (inl left) on_left on_right least = let h = on_left left in omega arith
     side (inr right) on_left on_right least = let h = on_right right in omega arith
 
--- A search for the first leaf within a bound stands at a node so many levels above the leaves: the leaves before those
+-- A search for the first leaf within a bound is at a node this many levels above the leaves: the leaves before those
 -- below it are over the bound.
 pub record Descends (nodes : List ℕ) (size bound levels node : ℕ) : Type 0 where
   pub some : 0 < node

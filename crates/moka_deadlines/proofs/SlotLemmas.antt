@@ -1,4 +1,4 @@
--- What stands in slots, by their numbers and deadlines.
+-- The contents of slots, by their numbers and deadlines.
 use Rattle.std.proofs.Common.{get_or, ◌≡◌, ◌≢◌, ℕ, zero, suc, ◌+◌, ◌<◌, ◌≤◌, ◌==◌, Bool, true, false, ◌⊎◌, inl, inr, Option, Some, None, List, [], ◌∷◌, ◌++◌, length, filter, refl, sym, ap, subst, ◌∙◌, arith}
 use Rattle.std.proofs.lemmas.Bool.{eq-eqb, eqb-true, ne_eqb, le-leb, lt-leb, cases_lt}
 use Rattle.std.proofs.lemmas.List.{length-append}
@@ -8,7 +8,7 @@ use Rattle.moka_rows.proofs.Callers.{row_under-append_left, row_under-append_rig
 use Rattle.moka_deadlines.specs.Least.{never}
 use Rattle.moka_deadlines.specs.Slots.{in_slot, listed, is_due, AreSlots}
 
--- one slot: its own number, another one, none, and one that is due or not
+-- the contents of one slot: with its number, with another number, without one, and due or not
 own-under : (n d : ℕ) → n ≢ 0 → row_under n (in_slot n d) ≡ Some d
 own-under zero d some = absurd (some refl)
 own-under (suc m) d some = rw (eq-eqb (suc m) (suc m) refl) refl
@@ -49,7 +49,7 @@ first_number-append : (xs ys : List (ℕ × ℕ)) (n : ℕ) → first_number xs 
 first_number-append [] ys n is = cc
 first_number-append (x ∷ xs) ys n is = is
 
--- slots that hold the same list the same
+-- slots with the same contents give the same list
 pub listed-same : (number number' deadline deadline' : ℕ → ℕ) (many : ℕ) → ((i : ℕ) → i < many → number' i ≡ number i) → ((i : ℕ) → i < many → deadline' i ≡ deadline i)
     → listed number' deadline' many ≡ listed number deadline many
 listed-same number number' deadline deadline' zero numbers deadlines = refl
@@ -59,14 +59,14 @@ listed-same number number' deadline deadline' (suc k) numbers deadlines =
     ∙ ap (λ d. listed number deadline k ++ in_slot (number k) d) (deadlines k (omega arith))
 
 module _ (number deadline : ℕ → ℕ) where
-  -- a number that stands in no slot is not listed
+  -- a number that is in no slot is not listed
   pub listed-absent : (n many : ℕ) → ((i : ℕ) → i < many → number i ≢ 0 → number i ≢ n) → row_under n (listed number deadline many) ≡ None
   listed-absent n zero other = refl
   listed-absent n (suc k) other =
       row_under-append_right n (listed number deadline k) (in_slot (number k) (deadline k)) (listed-absent n k (λ i less. other i (omega arith)))
       ∙ other-under n (number k) (deadline k) (other k (omega arith))
 
-  -- one that is stands in a slot
+  -- a number that is listed is in a slot
   pub listed-found : (n d many : ℕ) → row_under n (listed number deadline many) ≡ Some d → (p : ℕ) × (p < many) × (number p ≡ n) × (n ≢ 0)
   listed-found n d zero found = cc
   listed-found n d (suc k) found = go (row_under n (listed number deadline k)) refl (λ e before. listed-found n e k before)
@@ -78,7 +78,7 @@ module _ (number deadline : ℕ → ℕ) where
           let here = under-own n (number k) (deadline k) d (sym (row_under-append_right n (listed number deadline k) (in_slot (number k) (deadline k)) is) ∙ found) in
           (k, omega arith, here.0, here.1)
 
-  -- and one that stands in a slot is listed
+  -- and one that is in a slot is listed
   listed-stored : (n many p : ℕ) → p < many → number p ≡ n → n ≢ 0 → (d : ℕ) × (row_under n (listed number deadline many) ≡ Some d)
   listed-stored n zero p less here some = absurd (omega arith)
   listed-stored n (suc k) p less here some = go (row_under n (listed number deadline k)) refl (λ before. listed-stored n k p before here some)
@@ -98,7 +98,7 @@ module _ (number deadline : ℕ → ℕ) where
   pub not-listed : (n many : ℕ) → row_under n (listed number deadline many) ≡ None → n ≢ 0 → (p : ℕ) → p < many → number p ≢ n
   not-listed n many absent some p less here = let there = listed-stored n many p less here some in cc (absent, there.1)
 
-  -- as many are listed as slots hold one
+  -- if no slot is empty, the list is as long as there are slots
   pub listed-full : (many : ℕ) → ((i : ℕ) → i < many → number i ≢ 0) → length (listed number deadline many) ≡ many
   listed-full zero full = refl
   listed-full (suc k) full =
@@ -107,7 +107,7 @@ module _ (number deadline : ℕ → ℕ) where
       let all = length-append (listed number deadline k) (in_slot (number k) (deadline k)) in
       omega (arith, before, one, all)
 
-  -- nothing is due where no deadline has come
+  -- if no deadline has come, nothing is due
   pub none-due : (now many : ℕ) → ((i : ℕ) → i < many → now < deadline i) → filter (is_due now) (listed number deadline many) ≡ []
   none-due now zero over = refl
   none-due now (suc k) over =

@@ -1,29 +1,29 @@
--- What a contract says of `Deadlines`.
+-- The terms in which contracts describe `Deadlines`.
 use Rattle.std.specs.Prelude.{◌≡◌, ◌≢◌, ℕ, ◌/◌, ◌<◌, ◌≤◌, List, vec_len, slice_index}
 use Rattle.moka_deadlines.specs.Least.{leaf}
 use Rattle.moka_deadlines.specs.Slots.{listed}
 use Rattle.moka_deadlines.specs.declared.deadlines.Deadlines.{Deadlines}
 
--- the numbers with their deadlines, in their order
+-- The numbers with their deadlines, in their order.
 abbrev pub order_of : Deadlines → List (ℕ × ℕ)
 order_of d = listed (slice_index d.numbers.items) (leaf d.nodes.items d.size) (vec_len d.numbers)
 
--- each number below has a place
+-- Each number below this one has a place.
 abbrev pub known_of : Deadlines → ℕ
 known_of d = vec_len d.places
 
--- How many numbers can stand. As many slots are left for their uses, so that the empty ones are seldom closed.
+-- How many numbers there is room for. There are twice as many slots, so that the empty ones are seldom closed.
 abbrev pub room_of : Deadlines → ℕ
 room_of d = d.size / 2
 
--- a number stands in a slot, and in no other
+-- A number is in this slot, and in no other.
 pub record IsSlotOf (d : Deadlines) (number place : ℕ) : Type 0 where
   pub within : place < vec_len d.numbers
   pub here : slice_index d.numbers.items place ≡ number
   pub some : number ≢ 0
   pub only : (i : ℕ) → i < vec_len d.numbers → slice_index d.numbers.items i ≡ number → i ≡ place
 
--- no room is gone
+-- No room is lost.
 pub record KeepsRoom (old new : Deadlines) : Type 0 where
   pub known : known_of old ≤ known_of new
   pub room : room_of old ≤ room_of new

@@ -1,4 +1,4 @@
-//! Numbers in the order of their uses, and the first of them that is due.
+//! An order of numbers with deadlines, and the first number in it that is due.
 ghost use Rattle.std.specs.Prelude.{◌≡◌, ◌≢◌, ℕ, ◌+◌, ◌*◌, ◌/◌, ◌^◌, ◌<◌, ◌≤◌, [], ◌∷◌, ◌++◌, true, false, length, filter, OnOk, OnErr, None, MatchOption, vec_len, vec_capacity, slice_index};
 ghost use Rattle.moka_rows.specs.Rows.{row_under, without_row, first_number};
 ghost use Rattle.moka_deadlines.specs.Least.{AreLeast, leaf, leftmost, never};
@@ -9,20 +9,25 @@ use std::alloc::{AllocError, Global};
 
 /// Numbers in an order, each with a deadline.
 ///
-/// Each number stands in a slot, behind those of all that came before it. A number that leaves
-/// leaves its slot empty, and once all slots are used up those that are empty are closed. Over the
-/// slots stands a tree of least deadlines. So the first number that is due is found, and a number
-/// put or taken out, in time logarithmic in the number of slots, and each slot is moved once in as
-/// many calls as there are slots, in the mean. Only `reserve` takes memory.
+/// Each number has a slot, after the slots of all numbers that came before. A number that is
+/// removed leaves its slot empty. Once all slots are used up, the empty ones are closed. A tree of
+/// least deadlines is kept over the slots. Only `reserve` allocates.
+///
+/// # Complexity
+///
+/// Finding the first number that is due takes time logarithmic in the number of slots. So does
+/// adding or removing a number, apart from closing slots. Each slot is moved once in as many calls
+/// as there are slots, on average.
 #[derive(Drop)]
 pub struct Deadlines {
-    // The number in each slot, 0 where none stands.
+    // The number in each slot, and 0 in an empty one.
     numbers: Vec<u32>,
-    // The tree, whose leaves are the slots' deadlines, `NEVER` where none stands.
+    // The tree. Its leaves are the deadlines of the slots, `NEVER` for an empty one.
     nodes: Vec<u64>,
+    // The number of slots: 0, or `2^height`.
     size: usize,
     height: usize,
-    // The slot of each number that stands in one.
+    // The slot of each number that has one.
     places: Vec<u32>,
     ghost tree: { IsTree nodes size height },
     ghost slots: { AreSlots (slice_index numbers.items) (leaf nodes.items size)
@@ -33,7 +38,7 @@ pub struct Deadlines {
     ghost short: { vec_len places ≤ 2 ^ 32 },
 }
 
-/// Moves what stands in the slots to the front, in the same order, and answers how many stand.
+/// Moves the numbers in the slots to the front, in the same order, and returns how many there are.
 fn close_gaps(
     numbers: &mut Vec<u32>,
     nodes: &mut Vec<u64>,
@@ -70,7 +75,7 @@ fn close_gaps(
     kept
 }
 
-/// The first number in the slots whose deadline has come, found by a walk over them.
+/// Returns the first number in the slots whose deadline has come, found by a walk over the slots.
 fn walk_to_due(numbers: &[u32], nodes: &[u64], size: usize, now: u64) -> Option<usize>
     requires long { length nodes.now ≡ 2 * size }
     requires few { length numbers.now ≤ size }
@@ -87,7 +92,7 @@ fn walk_to_due(numbers: &[u32], nodes: &[u64], size: usize, now: u64) -> Option<
     None
 }
 
-/// The first number in the slots whose deadline has come, before the last moment.
+/// Returns the first number in the slots whose deadline has come. `now` is before the last moment.
 fn first_due_in(
     numbers: &[u32],
     nodes: &[u64],
@@ -114,7 +119,7 @@ fn first_due_in(
 impl Deadlines {
     ghost use Rattle.moka_deadlines.specs.Deadlines.{order_of, known_of, room_of, IsSlotOf, KeepsRoom};
 
-    /// No numbers. It takes no memory.
+    /// Creates an order without numbers. Does not allocate.
     pub fn new(alloc: Global) -> Self
         ensures { order_of result ≡ [] }
     {
@@ -127,15 +132,17 @@ impl Deadlines {
         }
     }
 
-    /// Whether no slot is used up, so that no number stands.
+    /// Returns whether no slot is used up. Then there is no number in the order.
+    #[inline(always)]
     pub fn is_unused(&self) -> bool
         ensures { result ≡ true → order_of self.now ≡ [] }
     {
         self.numbers.len() == 0
     }
 
-    /// The first number in the order whose deadline has come. At the last moment of all, 2⁶⁴ - 1,
-    /// it visits each slot.
+    /// Returns the first number in the order whose deadline has come at `now`, a moment in
+    /// nanoseconds. At the last moment, 2^64 - 1, it visits each slot.
+    #[inline(always)]
     pub fn first_due(&self, now: u64) -> Option<usize>
         ensures { result ≡ first_number (filter (is_due now) (order_of self.now)) }
     {
@@ -148,9 +155,13 @@ impl Deadlines {
         first_due_in(&self.numbers, &self.nodes, self.size, self.height, now)
     }
 
-    /// Makes room for so many numbers in all, up to this one. Where memory is refused, or the
-    /// number has more than 32 bits or so many would need more slots than that, the order stays as
-    /// it was.
+    /// Makes room for `count` numbers in all, none of them greater than `number`. The order stays
+    /// as it was, also if it fails.
+    ///
+    /// # Errors
+    ///
+    /// - `AllocError`: an allocation failed, or `number` has more than 32 bits, or there would be
+    ///   more than 2^32 slots.
     pub fn reserve(&mut self, number: usize, count: usize) -> Result<(), AllocError>
         ensures known { OnOk result (number < known_of self.new) }
         ensures room { OnOk result (count ≤ room_of self.new) }
@@ -179,7 +190,7 @@ impl Deadlines {
         self.places.resize(number + 1, 0)
     }
 
-    /// Makes twice as many slots. Visits each slot.
+    /// Doubles the number of slots. Visits each slot.
     fn widen(&mut self) -> Result<(), AllocError>
         ensures wider { OnOk result (self.old.size < self.new.size) }
         ensures order { order_of self.new ≡ order_of self.old }
@@ -200,7 +211,7 @@ impl Deadlines {
         Ok(())
     }
 
-    /// The slot in which a number stands.
+    /// Returns the slot of a number, if it has one.
     fn slot(&self, number: usize) -> Option<usize>
         ensures { MatchOption result (row_under number (order_of self.now) ≡ None)
             (IsSlotOf self.now number) }
@@ -219,8 +230,9 @@ impl Deadlines {
         }
     }
 
-    /// Puts a number behind all others, where it does not stand yet and there is room for it, and
-    /// answers whether that is so. It takes no memory.
+    /// Appends a number with its deadline, and returns whether it did. Does not allocate.
+    ///
+    /// It does not if the number is in the order already, or if there is no room for it.
     pub fn push(&mut self, number: usize, deadline: u64) -> bool
         ensures pushed { result ≡ true →
             order_of self.new ≡ order_of self.old ++ (number, deadline) ∷ [] }
@@ -246,7 +258,7 @@ impl Deadlines {
         has_room
     }
 
-    /// Puts a number into the first of the slots that are not used up.
+    /// Puts a number into the first slot that is not used up.
     fn put(&mut self, number: usize, deadline: u64)
         requires some { 0 < number }
         requires known { number < known_of self.old }
@@ -261,7 +273,7 @@ impl Deadlines {
         set_leaf(&mut self.nodes, self.size, place, deadline);
     }
 
-    /// Takes a number out, where it stands. It takes no memory.
+    /// Removes a number, if it is in the order. Does not allocate.
     pub fn remove(&mut self, number: usize)
         ensures order { order_of self.new ≡ without_row number (order_of self.old) }
         ensures kept { KeepsRoom self.old self.new }
@@ -272,7 +284,7 @@ impl Deadlines {
         }
     }
 
-    /// Takes all numbers out. It visits each slot, and takes no memory.
+    /// Removes all numbers. Visits each slot, and does not allocate.
     pub fn clear(&mut self)
         ensures order { order_of self.new ≡ [] }
         ensures kept { KeepsRoom self.old self.new }

@@ -1,14 +1,15 @@
-//! A tree of least numbers, in a `Vec`: its root is node 1, and below node `k` are `2 k` and
-//! `2 k + 1`. The leaves stand behind the inner nodes.
+//! A tree of least numbers in a `Vec`. Its root is node 1, and `2 k` and `2 k + 1` are below node
+//! `k`. The leaves come after the inner nodes.
 ghost use Rattle.std.specs.Prelude.{◌≡◌, ℕ, ◌+◌, ◌*◌, ◌^◌, ◌<◌, ◌≤◌, length, vec_len, IfNone, IfSome, OnOk, OnErr};
 ghost use Rattle.moka_deadlines.specs.Least.{AreLeast, leaf, leftmost, never, SetsLeaf, KeepsLeaves};
 
 use std::alloc::AllocError;
 
-/// The leaf of a slot where no deadline stands, which no moment but the last reaches.
+/// The leaf of an empty slot. Only the last moment reaches it.
 pub const NEVER: u64 = u64::MAX;
 
-/// The first leaf that is at most a bound. Visits at most two nodes of each level.
+/// Returns the index of the first leaf that is at most a bound. Visits at most two nodes of each
+/// level.
 pub fn first_within(nodes: &[u64], size: usize, height: usize, bound: u64) -> Option<usize>
     requires least { AreLeast nodes.now size }
     requires long { length nodes.now ≡ 2 * size }
@@ -53,7 +54,7 @@ pub fn set_leaf(nodes: &mut Vec<u64>, size: usize, index: usize, deadline: u64)
     }
 }
 
-/// Makes the inner nodes least, whatever the leaves are. Visits each node.
+/// Computes the inner nodes from the leaves. Visits each node.
 pub fn rebuild(nodes: &mut Vec<u64>, size: usize)
     requires long { vec_len nodes.old ≡ 2 * size }
     ensures least { AreLeast nodes.new.items size }
@@ -67,7 +68,7 @@ pub fn rebuild(nodes: &mut Vec<u64>, size: usize)
     }
 }
 
-/// Makes the leaves of all slots from this one on never.
+/// Sets the leaves of all slots from `from` on to `NEVER`.
 pub fn clear_from(nodes: &mut Vec<u64>, size: usize, from: usize)
     requires long { vec_len nodes.old ≡ 2 * size }
     ensures long { vec_len nodes.new ≡ 2 * size }
@@ -80,8 +81,12 @@ pub fn clear_from(nodes: &mut Vec<u64>, size: usize, from: usize)
     }
 }
 
-/// Makes a tree of more leaves, at least twice as many: those that are new are never. Visits each
-/// node. Where memory is refused, the tree stays as it was.
+/// Makes a tree of `wider` leaves, at least twice as many. The new ones are `NEVER`. Visits each
+/// node.
+///
+/// # Errors
+///
+/// - `AllocError`: an allocation failed. The tree stays as it was.
 pub fn widen(nodes: &mut Vec<u64>, size: usize, wider: usize) -> Result<(), AllocError>
     requires long { vec_len nodes.old ≡ 2 * size }
     requires wider { 2 * size ≤ wider }

@@ -1,4 +1,4 @@
-//! Numbers in an order, each with a deadline, and the first of them whose deadline has come.
+//! An order of numbers with deadlines, and the first number in it whose deadline has come.
 #![tactic(auto)]
 
 pub mod deadlines;

@@ -1,4 +1,4 @@
--- The deadlines of rows where a row comes, leaves, or is used, and the first that is due.
+-- The deadlines of rows after a row was added, removed or accessed, and the first that is due.
 use Rattle.std.proofs.Common.{◌≡◌, ◌≢◌, ℕ, suc, ◌==◌, Bool, true, false, nat_le, IsSome, Option, Some, None, cond, ◌-◌, ◌≤◌, MatchOption, option_map, subst, List, [], ◌∷◌, ◌++◌, filter, refl, sym, ap, ◌∙◌, arith, append_assoc}
 use Rattle.std.proofs.lemmas.Bool.{eqb-true, eqb-false, eq-eqb, ne_eqb}
 use Rattle.std.proofs.lemmas.List.{append-nil}
@@ -10,7 +10,7 @@ use Rattle.moka_rows.proofs.Callers.{row_under-append_left, absent-before, row_u
 use Rattle.moka_deadlines.specs.Slots.{is_due}
 use Rattle.moka_due.specs.Due.{deadline_in, deadlines_in, without_deadline, is_of_admitted}
 
--- a deadline under another number does not matter to a number
+-- removing the deadline of a number keeps that of another number
 other-without : (n m : ℕ) (o : Option ℕ) (rest : List (ℕ × ℕ)) → m ≢ n → without_row (suc n) (deadline_in m o ++ rest) ≡ deadline_in m o ++ without_row (suc n) rest
 other-without n m None rest other = refl
 other-without n m (Some d) rest other = rw (ne_eqb (suc m) (suc n) (λ same. other (omega (arith, same)))) refl
@@ -27,7 +27,7 @@ module _ {K V : Type 0} where
   pub deadlines-push : (rows : List (ℕ × Row K V)) (n : ℕ) (row : Row K V) → deadlines_in (rows ++ (n, row) ∷ []) ≡ deadlines_in rows ++ deadline_in n row.info.deadline
   deadlines-push rows n row = deadlines-append rows ((n, row) ∷ []) ∙ ap (λ l. deadlines_in rows ++ l) (append-nil (deadline_in n row.info.deadline))
 
-  -- a change of one row that leaves its deadline leaves all deadlines
+  -- a change of one row that keeps its deadline keeps all deadlines
   pub deadlines-changed : (n : ℕ) (change : Row K V → Row K V) (rows : List (ℕ × Row K V)) → ((row : Row K V) → (change row).info.deadline ≡ row.info.deadline)
       → deadlines_in (with_row n change rows) ≡ deadlines_in rows
   deadlines-changed n change [] same = refl
@@ -37,7 +37,7 @@ module _ {K V : Type 0} where
       go true is later = rw is (ap (λ o. deadline_in p.0 o ++ deadlines_in ps) (same p.1))
       go false is later = rw is (ap (λ l. deadline_in p.0 p.1.info.deadline ++ l) later)
 
-  -- a row's deadline leaves with it
+  -- removing a row removes its deadline
   pub deadlines-without : (n : ℕ) (row : Row K V) (rows : List (ℕ × Row K V)) → row_under n rows ≡ Some row → deadlines_in (without_row n rows) ≡ without_deadline n row.info.deadline (deadlines_in rows)
   deadlines-without n row [] there = cc
   deadlines-without n row (p ∷ ps) there = go (p.0 == n) refl (λ rest. deadlines-without n row ps rest)
@@ -74,12 +74,12 @@ module _ {K V : Type 0} where
       go None has rest = rw has rest
       go (Some d) has rest = come d (nat_le d now) refl has rest
 
--- without deadlines there is none to take out
+-- without deadlines there is none to remove
 without-none : (n : ℕ) (o : Option ℕ) → without_deadline n o [] ≡ []
 without-none n None = refl
 without-none n (Some d) = refl
 
--- a use that gives no deadline leaves none where there was none
+-- an access that sets no deadline keeps a list of deadlines without one
 pub used-undated : {K V : Type 0} (n : ℕ) (admitted admitted' : List (ℕ × Row K V)) (P Q : Type 0) (change : Row K V → Row K V) → ((r : Row K V) → (change r).info.deadline ≡ None) → deadlines_in admitted ≡ []
     → MatchOption (row_under n admitted) ((admitted' ≡ admitted) × P) (λ r. (admitted' ≡ without_row n admitted ++ (n, change r) ∷ []) × Q) → deadlines_in admitted' ≡ []
 used-undated {K = K} {V = V} n admitted admitted' P Q change undated none after = go (row_under n admitted) refl after
@@ -91,7 +91,7 @@ used-undated {K = K} {V = V} n admitted admitted' P Q change undated none after 
         ∙ ap (λ o. deadlines_in (without_row n admitted) ++ deadline_in n o) (undated r) ∙ append-nil (deadlines_in (without_row n admitted))
         ∙ deadlines-without n r admitted here ∙ ap (without_deadline n r.info.deadline) none ∙ without-none n r.info.deadline
 
--- the row that is there under a number
+-- the row that is present with a number
 pub some-row : {R : Type 0} (n : ℕ) (rows : List (ℕ × R)) → IsSome (row_under n rows) → (r : R) × (row_under n rows ≡ Some r)
 some-row {R = R} n rows there = go (row_under n rows) refl there
   where
@@ -99,7 +99,7 @@ some-row {R = R} n rows there = go (row_under n rows) refl there
     go None is none = cc
     go (Some r) is some = (r, is)
 
--- the number that stands under the next one
+-- a row's number, from the number plus 1 under which its deadline is listed
 pub first-below : (place : ℕ) (o : Option ℕ) → Some place ≡ option_map suc o → (Some (place - 1) ≡ o) × (1 ≤ place)
 first-below place None is = cc
 first-below place (Some m) is = let same : place ≡ suc m = cc in (ap Some (omega (arith, same)), omega (arith, same))
@@ -122,7 +122,7 @@ module _ {K V : Type 0} (n : ℕ) (admitted waiting : List (ℕ × Row K V)) whe
     found : (r : Row K V) → row_under n admitted ≡ Some r → r ≡ row
     found r here = let both : Some r ≡ Some row = sym (row_under-append_left n admitted waiting r here) ∙ there in cc
 
-    -- the deadlines after a use of a row, and after it left
+    -- the deadlines after an access to a row, and after its removal
     pub listed-used : (change : Row K V → Row K V)
         → MatchOption (row_under n admitted) ((admitted' ≡ admitted) × P) (λ r. (admitted' ≡ without_row n admitted ++ (n, change r) ∷ []) × Q)
         → deadlines' ≡ without_deadline n (cond b row.info.deadline None) deadlines ++ deadline_in n (cond b (change row).info.deadline None) → deadlines' ≡ deadlines_in admitted'
@@ -155,7 +155,7 @@ module _ {K V : Type 0} (n : ℕ) (admitted waiting : List (ℕ × Row K V)) whe
             ∙ ap (without_deadline n row.info.deadline) listed
             ∙ sym (deadlines-without n row admitted (here ∙ ap Some is_row)) ∙ ap deadlines_in (sym moved.0)
 
-  -- the row that is read under a number once it was admitted is that row
+  -- the row that is read with a number after its admission is the row that was admitted
   pub admitted-read : (row r : Row K V) (admitted' waiting' : List (ℕ × Row K V)) → admitted' ≡ admitted ++ (n, row) ∷ [] → NumbersDiffer (admitted' ++ waiting') → row_under n (admitted' ++ waiting') ≡ Some r → r ≡ row
   admitted-read row r admitted' waiting' is apart there =
       let whole : admitted' ++ waiting' ≡ admitted ++ (n, row) ∷ waiting' = ap (λ l. l ++ waiting') is ∙ append_assoc admitted ((n, row) ∷ []) waiting' in

@@ -28,13 +28,13 @@ module _ {K V : Type 0} (admitted waiting : List (ℕ × Row K V)) where
     listed = λ _. none;
   }
 
-  -- at the end all are
+  -- at the end all are listed
   pub lists-all : (is_whole : Bool) (deadlines : List (ℕ × ℕ)) (passed rest : List (ℕ × Row K V)) → Lists None is_whole deadlines passed rest → is_whole ≡ true → deadlines ≡ deadlines_in admitted
   lists-all is_whole deadlines passed [] lists whole = lists.listed whole ∙ ap deadlines_in (sym (lists.whole ∙ append-nil passed))
   lists-all is_whole deadlines passed (p ∷ ps) lists whole = let none = lists.at in cc
 
   module _ (n : ℕ) (is_whole : Bool) (deadlines : List (ℕ × ℕ)) (passed rest : List (ℕ × Row K V)) (lists : Lists (Some n) is_whole deadlines passed rest) where
-    -- a row stands at the cursor
+    -- there is a row at the cursor
     pub lists-stored : IsSome (row_under n (admitted ++ waiting))
     lists-stored =
         let begins = begins-with rest n lists.at in
@@ -42,7 +42,7 @@ module _ {K V : Type 0} (admitted waiting : List (ℕ × Row K V)) where
         ap (λ l. l ++ waiting) (lists.whole ∙ ap (λ l. passed ++ l) begins.2) ∙ append_assoc passed ((n, begins.0) ∷ begins.1) waiting in
         rw whole (stored-at n begins.0 passed (begins.1 ++ waiting))
 
-    -- it is listed, and the cursor goes on behind it
+    -- it is listed, and the cursor moves past it
     pub lists-on : (row : Row K V) (next : Option ℕ) → NumbersDiffer (admitted ++ waiting) → row_under n (admitted ++ waiting) ≡ Some row
         → MatchOption (row_under n admitted) (next ≡ number_after n waiting) (λ _. next ≡ number_after n admitted)
         → (is_whole' : Bool) (deadlines' : List (ℕ × ℕ)) → (is_whole' ≡ true → (is_whole ≡ true) × (deadlines' ≡ deadlines ++ deadline_in n row.info.deadline))
@@ -69,12 +69,12 @@ module _ {K V : Type 0} (admitted waiting : List (ℕ × Row K V)) where
           ap length begins.2,
         )
 
--- the room for deadlines is that of the start, and where it is enough for all rows the order is whole so far
+-- the room for deadlines is not smaller than at the start; if that is enough for all rows, the order is whole so far
 pub record FitsIn {K V : Type 0} (admitted : List (ℕ × Row K V)) (start now : Deadlines) (is_whole : Bool) : Type 0 where
   pub kept : KeepsRoom start now
   pub whole : AllByRecursion (λ p. suc p.0 < known_of start) admitted → length admitted ≤ room_of start → is_whole ≡ true
 
--- there is no more deadline than rows, and none under another number
+-- there are no more deadlines than rows, and none for a number without a row
 length-listed : {K V : Type 0} (rows : List (ℕ × Row K V)) → length (deadlines_in rows) ≤ length rows
 length-listed [] = omega arith
 length-listed (p ∷ ps) = go p.1.info.deadline (length-listed ps)
@@ -94,7 +94,7 @@ absent-listed n (p ∷ ps) absent = go (p.0 == n) refl p.1.info.deadline (λ lat
 
 module _ {K V : Type 0} (admitted waiting : List (ℕ × Row K V)) (n : ℕ) (is_whole : Bool) (start now : Deadlines) (passed rest : List (ℕ × Row K V)) (lists : Lists admitted waiting (Some n) is_whole (order_of now) passed rest)
     (fits : FitsIn admitted start now is_whole) (apart : NumbersDiffer (admitted ++ waiting)) where
-  -- the next row can stand behind those that are listed, where there is room for all
+  -- the next deadline can be appended, if there is room for all
   pub fits-next : (o : Option ℕ) → AllByRecursion (λ p. suc p.0 < known_of start) admitted → length admitted ≤ room_of start → CanStand n o (known_of now) (room_of now) (order_of now)
   fits-next None known room = tt
   fits-next (Some d) known room =
@@ -109,7 +109,7 @@ module _ {K V : Type 0} (admitted waiting : List (ℕ × Row K V)) (n : ℕ) (is
         rw order_is (absent-listed n passed (absent-before n begins.0 passed begins.1 apart_there)),
       )
 
-  -- and it is whole still once it was listed, if it was put there where it could be
+  -- and the order is still whole after that
   pub fits-on : (o : Option ℕ) (after : Deadlines) (is_whole' : Bool) → KeepsRoom now after
       → (is_whole ≡ true → CanStand n o (known_of now) (room_of now) (order_of now) → is_whole' ≡ true) → FitsIn admitted start after is_whole'
   fits-on o after is_whole' kept put = record {

@@ -7,17 +7,17 @@ use Rattle.moka_rows.specs.Rows.{row_under, with_row, without_row}
 use Rattle.moka_rows.proofs.Callers.{each-at, each-used, each-more}
 use Rattle.moka_due.specs.Due.{CanStand, HasPlace, IsNoted}
 
--- either of two is not where neither is
+-- if `a || b` is false, both are
 pub neither : (a b : Bool) → (a || b) ≡ false → (a ≡ false) × (b ≡ false)
 neither true b is = cc
 neither false b is = (refl, is)
 
--- what is noted stays so where rows with deadlines come, and under a higher top
+-- what is recorded of rows stays true if rows with deadlines are added, and with a higher top
 pub noted-more : {K V : Type 0} (had has : Bool) (top top' : ℕ) (rows : List (ℕ × Row K V)) → (has ≡ false → had ≡ false) → top ≤ top' → AllByRecursion (IsNoted had top) rows → AllByRecursion (IsNoted has top') rows
 noted-more {K} {V} had has top top' rows still higher all =
     each-more (IsNoted had top) (IsNoted has top') rows (λ p noted. (λ none. noted.0 (still none), omega (arith, noted.1, higher))) all
 
--- and where a row is used, which may give a deadline
+-- and after an access to a row, which may set a deadline
 pub noted-used : {K V : Type 0} (had given : Bool) (top n : ℕ) (change : Row K V → Row K V) (admitted waiting admitted' waiting' : List (ℕ × Row K V)) → ((r : Row K V) → given ≡ false → (change r).info.deadline ≡ None)
     → AllByRecursion (IsNoted had top) (admitted ++ waiting)
     → MatchOption (row_under n admitted)
@@ -29,7 +29,7 @@ noted-used {K} {V} had given top n change admitted waiting admitted' waiting' un
     (λ r found. (λ none. undated r (neither had given none).1, (each-at (IsNoted had top) n r (admitted ++ waiting) noted found).1))
     (noted-more had (had || given) top top (admitted ++ waiting) (λ none. (neither had given none).0) (omega arith) noted) after
 
--- where there is none, none is there
+-- an option for which `is_some` is false is `None`
 pub none-there : (o : Option ℕ) → is_some o ≡ false → o ≡ None
 none-there None is = refl
 none-there (Some d) is = cc
@@ -43,7 +43,7 @@ pub placed-none : (n : ℕ) (o : Option ℕ) (known : ℕ) → o ≡ None → Ha
 placed-none n None known is = tt
 placed-none n (Some d) known is = cc
 
--- where a row has no deadline, none of it is listed, admitted or not
+-- a row without a deadline has none in the list, whether it is resident or not
 pub none-of : (b : Bool) (o : Option ℕ) → o ≡ None → cond b o None ≡ None
 none-of true o is = is
 none-of false o is = refl

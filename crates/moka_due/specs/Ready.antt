@@ -6,14 +6,14 @@ use Rattle.moka_slab.specs.Store.{admitted_in, waiting_in}
 use Rattle.moka_due.specs.declared.due_rows.DueRows.{DueRows}
 
 module _ {K V : Type 0} where
-  -- all rows, each with its number, the admitted ones first
+  -- All rows with their numbers, the resident ones first.
   abbrev pub rows_in : DueRows K V → List (ℕ × Row K V)
   rows_in store = admitted_in store.rows ++ waiting_in store.rows
 
-  -- there is room for the deadlines of all rows, and of so many more under as many numbers from the top on
+  -- There is room for the deadlines of all rows, and of this many more with the next numbers from the top on.
   abbrev pub IsReady : ℕ → DueRows K V → Type 0
   IsReady more store = (store.top + more < known_of store.deadlines) × (length (rows_in store) + more ≤ room_of store.deadlines)
 
-  -- a row has had a deadline, or there is none yet
+  -- A row has had a deadline, or there is no row yet.
   abbrev pub WantsRoom : DueRows K V → Type 0
   WantsRoom store = (store.has_deadlines ≡ true) ⊎ (length (rows_in store) ≡ 0)

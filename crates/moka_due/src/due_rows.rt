@@ -1,4 +1,4 @@
-//! A store of rows beside the deadlines of its admitted ones, in the order of use.
+//! A row store that also keeps the deadlines of its resident rows, in access order.
 ghost use Rattle.std.specs.Prelude.{◌≡◌, suc, true, false, ◌+◌, ◌<◌, ◌≤◌, ◌==◌, [], ◌∷◌, ◌++◌, length, filter, None, if◌then◌else◌};
 ghost use Rattle.std.specs.Prelude.{IsSome, IfSome, IfNone, OnSome, OnOk};
 ghost use Rattle.std.specs.List.{AllByRecursion};
@@ -13,30 +13,37 @@ use moka_rows::rows::{Before, EntryInfo, Order, Row, RowStore, Touch};
 use moka_slab::slab_rows::SlabRows;
 use std::alloc::{AllocError, Global};
 
-/// Rows in a slab, of which the first one whose deadline has come is known without a walk.
+/// A row store in a slab that finds the first expired row without a walk.
 ///
-/// The deadlines of the admitted rows stand in an order of their own, the order of use, from which
-/// the first that is due is found in logarithmic time. A row without a deadline has no place there,
-/// so a store none of whose rows has one takes no memory for it. Each call of the store costs what
-/// it costs of the slab, and where a row has a deadline logarithmic time more; `reserve`
-/// makes the room.
+/// The deadlines of the resident rows are kept in an order of their own, in access order. A row
+/// without a deadline has no place there.
+///
+/// `reserve` makes the room for the deadlines: for those of the first rows, and for those of all
+/// rows once one has had a deadline. A deadline for which there is no room makes the order
+/// incomplete. Then `first_expired` walks over the resident rows, until the next `reserve` lists
+/// all deadlines anew.
+///
+/// # Complexity
+///
+/// Each call costs what it costs of the slab. If a row has a deadline, logarithmic time is added on
+/// average. `first_expired` takes logarithmic time.
 #[derive(Drop)]
 pub struct DueRows<K, V> {
     rows: SlabRows<K, V>,
     deadlines: Deadlines,
-    // Whether the deadlines of all admitted rows stand in the order.
+    // Whether the deadlines of all resident rows are in the order.
     is_whole: bool,
-    // Whether a row has had a deadline, so that there is to be room for those of all.
+    // Whether a row has had a deadline. Then there has to be room for those of all rows.
     has_deadlines: bool,
-    // All numbers that were given out are below.
+    // All numbers that were given out are below this one.
     top: usize,
     ghost listed: { is_whole ≡ true → order_of deadlines ≡ deadlines_in (admitted_in rows) },
     ghost noted: { AllByRecursion (IsNoted has_deadlines top) (admitted_in rows ++ waiting_in rows) } by { Prim.hlevel props },
     ghost whole: { has_deadlines ≡ false → is_whole ≡ true },
 }
 
-/// Puts the deadline of a row behind all others, if the row has one, and answers whether the order
-/// is whole still.
+/// Appends the deadline of a row, if it has one. Returns whether the order is still whole.
+#[inline(always)]
 fn enlist(deadlines: &mut Deadlines, is_whole: bool, number: usize, deadline: Option<u64>) -> bool
     ensures listed { result ≡ true → (is_whole ≡ true)
         × (order_of deadlines.new ≡ order_of deadlines.old ++ deadline_in number deadline) }
@@ -52,8 +59,8 @@ fn enlist(deadlines: &mut Deadlines, is_whole: bool, number: usize, deadline: Op
     }
 }
 
-/// Takes the deadline of a row out, if the row has one, and answers whether the order is whole
-/// still.
+/// Removes the deadline of a row, if it has one. Returns whether the order is still whole.
+#[inline(always)]
 fn delist(deadlines: &mut Deadlines, is_whole: bool, number: usize, deadline: Option<u64>) -> bool
     ensures listed { result ≡ true → (is_whole ≡ true)
         × (order_of deadlines.new ≡ without_deadline number deadline (order_of deadlines.old)) }
@@ -70,8 +77,9 @@ fn delist(deadlines: &mut Deadlines, is_whole: bool, number: usize, deadline: Op
     }
 }
 
-/// Moves a row behind all others, with the deadline that it has from then on, and answers whether
-/// the order is whole still.
+/// Moves a row to the end of the order, with its new deadline. Returns whether the order is still
+/// whole.
+#[inline(always)]
 fn relist(
     deadlines: &mut Deadlines,
     is_whole: bool,
@@ -92,8 +100,8 @@ fn relist(
     enlist(deadlines, is_whole, number, after)
 }
 
-/// Lists the deadlines of all admitted rows anew, and answers whether there was room for them.
-/// Visits each admitted row.
+/// Lists the deadlines of all resident rows anew, and returns whether there was room for them.
+/// Visits each resident row.
 fn list_all<K: Eq + Drop, V: Drop, R: RowStore<K, V>>(rows: &R, deadlines: &mut Deadlines) -> bool
     ensures listed { result ≡ true → order_of deadlines.new ≡ deadlines_in (R.admitted rows.now) }
     ensures whole { AllByRecursion (λ p. suc p.0 < known_of deadlines.old) (R.admitted rows.now)
@@ -102,7 +110,7 @@ fn list_all<K: Eq + Drop, V: Drop, R: RowStore<K, V>>(rows: &R, deadlines: &mut 
 {
     deadlines.clear();
     let mut is_whole = true;
-    // Not of a maintenance: nobody asks for this count.
+    // This is no maintenance: nothing reads this count.
     let mut visits = 0;
     let mut cursor = rows.first_admitted();
     while let Some(number) = cursor {
@@ -113,14 +121,16 @@ fn list_all<K: Eq + Drop, V: Drop, R: RowStore<K, V>>(rows: &R, deadlines: &mut 
     is_whole
 }
 
-/// The deadline of a row where it is admitted, and else none.
+/// Returns the deadline of a row if the row is resident, and else `None`.
+#[inline(always)]
 fn only_admitted(is_admitted: bool, deadline: Option<u64>) -> Option<u64>
     ensures { result ≡ (if is_admitted then deadline else None) }
 {
     if is_admitted { deadline } else { None }
 }
 
-/// Whether an order is that of the admitted rows.
+/// Returns whether an order is that of the resident rows.
+#[inline(always)]
 fn is_of_admitted(order: Order) -> bool
     ensures { result ≡ is_of_admitted order }
 {
@@ -149,11 +159,13 @@ impl<K: Eq + Drop, V: Drop> RowStore<K, V> for DueRows<K, V> {
         }
     }
 
+    #[inline(always)]
     fn len(&self) -> usize {
         self.rows.len()
     }
 
-    /// Reads no row of another hash.
+    /// Returns the number of the row with a key. Reads no more rows than have the key's hash.
+    #[inline(always)]
     fn find(&self, key: &K, hash: u64, reads: &mut u64) -> Option<usize>
         requires { reads.old ≡ 0 }
         ensures found { IfSome result (λ number.
@@ -170,10 +182,12 @@ impl<K: Eq + Drop, V: Drop> RowStore<K, V> for DueRows<K, V> {
         self.rows.find(key, hash, reads)
     }
 
+    #[inline(always)]
     fn row(&self, number: usize) -> &Row<K, V> {
         self.rows.row(number)
     }
 
+    #[inline(always)]
     fn hash(&self, number: usize) -> u64 {
         self.rows.hash(number)
     }
@@ -182,12 +196,18 @@ impl<K: Eq + Drop, V: Drop> RowStore<K, V> for DueRows<K, V> {
         self.rows.numbers_differ();
     }
 
+    #[inline(always)]
     fn is_admitted(&self, number: usize) -> bool {
         self.rows.is_admitted(number)
     }
 
-    /// Where a row has had a deadline, and for the first rows, it makes room for the deadlines of
-    /// all. Where there was none for one before, it lists them anew.
+    /// Makes room for this many more rows. It makes room for the deadlines of all rows if a row has
+    /// had one, or if there is no row yet. Then it also lists them anew, if the order is not whole.
+    ///
+    /// # Errors
+    ///
+    /// - `AllocError`: an allocation failed, or a row number or the number of slots has more than
+    ///   32 bits.
     fn reserve(&mut self, more: usize) -> Result<(), AllocError>
         ensures room { OnOk result (more ≤ room_of self.new.rows) }
         ensures more { OnOk result (room_of self.old.rows ≤ room_of self.new.rows) }
@@ -209,6 +229,7 @@ impl<K: Eq + Drop, V: Drop> RowStore<K, V> for DueRows<K, V> {
         Ok(())
     }
 
+    #[inline(always)]
     fn add(&mut self, row: Row<K, V>) -> usize
         requires { 0 < room_of self.old.rows }
         ensures fresh { row_under result (admitted_in self.old.rows ++ waiting_in self.old.rows) ≡ None }
@@ -222,7 +243,9 @@ impl<K: Eq + Drop, V: Drop> RowStore<K, V> for DueRows<K, V> {
         number
     }
 
-    /// Where no row has a deadline, and this use gives none, it is the use of the store below alone.
+    /// Applies an access to a row. If no deadline is listed and this access gives none, only the
+    /// slab changes.
+    #[inline(always)]
     fn touch(&mut self, number: usize, touch: Touch) {
         if touch.deadline.is_none() && self.deadlines.is_unused() {
             self.rows.touch(number, touch);
@@ -237,6 +260,7 @@ impl<K: Eq + Drop, V: Drop> RowStore<K, V> for DueRows<K, V> {
         self.has_deadlines |= touch.deadline.is_some();
     }
 
+    #[inline(always)]
     fn overwrite(&mut self, number: usize, value: V, info: EntryInfo) -> Before<V> {
         let taken = self.rows.overwrite(number, value, info);
         let is_admitted = is_of_admitted(taken.order);
@@ -247,20 +271,26 @@ impl<K: Eq + Drop, V: Drop> RowStore<K, V> for DueRows<K, V> {
         taken
     }
 
-    /// Its deadline stays where it stands in the order.
+    /// Marks a row invalidated. Its deadline keeps its place in the order.
+    #[inline(always)]
     fn hide(&mut self, number: usize) {
         self.rows.hide(number);
     }
 
+    #[inline(always)]
     fn waiting_len(&self) -> usize {
         self.rows.waiting_len()
     }
 
+    #[inline(always)]
     fn first_admitted(&self) -> Option<usize> {
         self.rows.first_admitted()
     }
 
-    /// It takes logarithmic time, where the deadlines of all admitted rows stand in the order.
+    /// Returns the number of the first expired resident row, in access order. Takes logarithmic
+    /// time if the deadlines of all resident rows are in the order, except at the last moment, 2^64
+    /// - 1.
+    #[inline(always)]
     fn first_expired(&self, now: u64) -> Option<usize> {
         if self.is_whole {
             match self.deadlines.first_due(now) {
@@ -272,20 +302,27 @@ impl<K: Eq + Drop, V: Drop> RowStore<K, V> for DueRows<K, V> {
         }
     }
 
+    #[inline(always)]
     fn first_waiting(&self) -> Option<usize> {
         self.rows.first_waiting()
     }
 
+    #[inline(always)]
     fn next(&self, number: usize, visits: &mut u128) -> Option<usize> {
         self.rows.next(number, visits)
     }
 
+    #[inline(always)]
     fn admit(&mut self, number: usize) {
         self.rows.admit(number);
-        let deadline = self.rows.row(number).info().deadline;
-        self.is_whole = enlist(&mut self.deadlines, self.is_whole, number, deadline);
+        // If no row has had a deadline, this one has none.
+        if self.has_deadlines {
+            let deadline = self.rows.row(number).info().deadline;
+            self.is_whole = enlist(&mut self.deadlines, self.is_whole, number, deadline);
+        }
     }
 
+    #[inline(always)]
     fn remove(&mut self, number: usize) -> (Row<K, V>, Order) {
         let (row, order) = self.rows.remove(number);
         let before = only_admitted(is_of_admitted(order), row.info().deadline);
@@ -293,6 +330,7 @@ impl<K: Eq + Drop, V: Drop> RowStore<K, V> for DueRows<K, V> {
         (row, order)
     }
 
+    #[inline(always)]
     fn take_first_admitted(&mut self) -> Option<Row<K, V>> {
         let number = self.rows.first_admitted()?;
         let (row, _) = self.remove(number);

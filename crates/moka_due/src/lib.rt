@@ -1,4 +1,4 @@
-//! A store of rows that knows the first one whose deadline has come without a walk.
+//! A row store that finds the first expired row without a walk.
 #![tactic(auto)]
 
 pub mod due_rows;

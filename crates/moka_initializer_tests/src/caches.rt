@@ -1,4 +1,4 @@
-//! The cache under test, and its calls of turns, each tried once more where memory is refused.
+//! The cache under test and its calls about turns. Some are retried once if an allocation fails.
 ghost use Rattle.std.specs.Prelude.{◌≡◌, ◌≢◌, ◌%◌, ℕ, nat_eq, None, IfOk};
 ghost use Rattle.std.specs.Arc.{arc_value};
 ghost use Rattle.moka_model.specs.declared.turns.Kind.{Kind};
@@ -43,15 +43,16 @@ impl SteadyPredicate<u64, u64> for Odd {
 
 type Hasher = BuildHasherDefault<NumberHash>;
 
-/// Initializers may fail with a number.
+/// The types of the cache. Initializers may fail with a number.
 pub(crate) type Types = ReadyTypes<Hasher, NoWeigher, NoExpiry, ManualClock, Odd, u64>;
 
 pub(crate) type Numbers = CacheState<u64, u64, Types>;
 
-/// A key of a lent cache, for one call.
+/// A selector of an owned cache.
 pub(crate) type Selector<'a> = StateEntrySelector<'a, u64, u64, Types, DueRows<u64, u64>>;
 
-/// How a cache is built: its capacity and its policy, its lives in seconds, and its first number.
+/// How a cache is built: its capacity in entries, its policy, its lifetimes in seconds, and its
+/// first sequence number.
 #[derive(Clone, Copy)]
 pub(crate) struct Rules {
     pub max_capacity: Option<u64>,
@@ -62,7 +63,7 @@ pub(crate) struct Rules {
 }
 
 impl Rules {
-    /// No capacity and no lives.
+    /// No capacity and no lifetimes.
     pub(crate) const UNLIMITED: Rules = Rules {
         max_capacity: None,
         is_tiny_lfu: false,
@@ -107,7 +108,7 @@ fn built<R: RowStore<u64, u64>>(
     }
 }
 
-/// A cache over a store of rows. Where memory is refused, it asks once more.
+/// Creates a cache over a row store. Retries once if an allocation fails.
 pub(crate) fn opened_over<R: RowStore<u64, u64>>(
     alloc: Global,
     rules: Rules,
@@ -118,7 +119,7 @@ pub(crate) fn opened_over<R: RowStore<u64, u64>>(
     }
 }
 
-/// A cache whose turns and writes are numbered from here on.
+/// Creates a cache with this first sequence number and this capacity.
 pub(crate) fn opened(alloc: Global, first_number: u64, capacity: u64) -> Result<Numbers, Refused> {
     opened_over(
         alloc,
@@ -130,14 +131,14 @@ pub(crate) fn opened(alloc: Global, first_number: u64, capacity: u64) -> Result<
     )
 }
 
-// A call of a cache is dear to prove wherever it stands, so each stands once, in one of these.
+// A call of a cache is slow to prove wherever it is made, so each is made once, in one of these.
 
-/// What a look finds that uses the value.
+/// Returns what `get` finds at moment 0.
 pub(crate) fn look(cache: &mut Numbers, key: u64) -> Result<Option<u64>, Refused> {
     cache.get(&key, 0)
 }
 
-/// Whether a key is stored.
+/// Returns whether a key has a live value at moment 0.
 pub(crate) fn is_stored(cache: &Numbers, key: u64) -> bool {
     cache.contains_key(&key, 0)
 }
@@ -150,7 +151,7 @@ pub(crate) fn notice_count(cache: &Numbers) -> usize {
     cache.notice_count()
 }
 
-/// The number of stored keys and of notices, and whether one of the keys is stored.
+/// Returns the entry count, the notice count, and whether `key` has a live value.
 pub(crate) fn counts(cache: &Numbers, key: u64) -> (u64, usize, bool) {
     (
         entry_count(cache),
@@ -163,12 +164,12 @@ pub(crate) fn invalidate(cache: &mut Numbers, key: u64) {
     cache.invalidate(&key, 0);
 }
 
-/// The first notice is taken.
+/// Takes the first notice.
 fn take_notice(cache: &mut Numbers) -> Option<Notice<u64, u64>> {
     cache.take_notice()
 }
 
-/// The first notice is of this value, which left for this cause.
+/// Checks the value and the cause of the first notice, which is taken.
 pub(crate) fn left_by(rt: &impl Abort, cache: &mut Numbers, value: u64, cause: RemovalCause) {
     match take_notice(cache) {
         Some(notice) => assert_eq!(rt; (notice.value, notice.cause), (value, cause)),
@@ -176,17 +177,17 @@ pub(crate) fn left_by(rt: &impl Abort, cache: &mut Numbers, value: u64, cause: R
     }
 }
 
-/// Gives a turn up.
+/// Abandons a turn.
 pub(crate) fn abandon(cache: &mut Numbers, turn: Turn<u64>) -> Result<(), Refused> {
     cache.abandon(turn)
 }
 
-/// Spends a ticket.
+/// Leaves a ticket.
 pub(crate) fn leave(cache: &mut Numbers, ticket: Ticket<u64>) -> Result<(), Refused> {
     cache.leave(ticket)
 }
 
-/// Ends a turn.
+/// Finishes a turn at moment 0.
 pub(crate) fn finish(
     cache: &mut Numbers,
     turn: Turn<u64>,
@@ -197,7 +198,7 @@ pub(crate) fn finish(
     cache.finish(turn, outcome, 0)
 }
 
-/// A ticket asks what came of its turn.
+/// Collects a ticket.
 fn collect(cache: &mut Numbers, ticket: Ticket<u64>) -> Result<Told, CollectRefused<u64>> {
     cache.collect(ticket)
 }
@@ -214,17 +215,17 @@ pub(crate) fn or_insert(selector: Selector<'_>, value: u64) -> Result<Entry<u64,
     selector.or_insert(value)
 }
 
-/// Writes a value. Where memory is refused, it asks once more.
+/// Inserts a value. Retries once if an allocation fails.
 pub(crate) fn insert(rt: &impl Abort, cache: &mut Numbers, key: u64, value: u64) {
     if cache.insert(key, value, 0).is_err() {
         assert!(rt; cache.insert(key, value, 0).is_ok(), "it is refused");
     }
 }
 
-/// Lets a cache go. In a body that does it itself, the end of all that it owns is proved again.
+/// Drops a cache. In a body that drops it itself, the drop of all that it owns is proved again.
 pub(crate) fn let_go(_cache: Numbers) {}
 
-/// A key, as the calls of turns take it. Where memory is refused, it asks once more.
+/// Creates a key as the calls about turns take it. Retries once if the allocation fails.
 pub(crate) fn shared(alloc: Global, key: u64) -> Result<Arc<u64>, AllocError> {
     match Arc::new(alloc, key) {
         Ok(key) => Ok(key),
@@ -234,7 +235,7 @@ pub(crate) fn shared(alloc: Global, key: u64) -> Result<Arc<u64>, AllocError> {
 
 type Begins = Result<Begun<u64, u64>, Refused>;
 
-/// Begins, whatever value is live. Where memory is refused, it asks once more.
+/// Begins a turn that replaces no live value. Retries once if an allocation fails.
 pub(crate) fn begin(cache: &mut Numbers, key: &Arc<u64>, kind: Kind) -> Begins
     requires { kind ≢ Kind.Compute }
     ensures { IfOk result (IsNamed kind (arc_value key.now)) }
@@ -245,19 +246,19 @@ pub(crate) fn begin(cache: &mut Numbers, key: &Arc<u64>, kind: Kind) -> Begins
     }
 }
 
-/// Begins, where a live value of this number is turned down.
+/// Begins a turn that replaces a live value equal to `unwanted`.
 pub(crate) fn begin_if(cache: &mut Numbers, key: &Arc<u64>, unwanted: u64) -> Begins
     ensures { IfOk result (IsNamed Kind.With (arc_value key.now)) }
 {
     cache.begin(key, Kind::With, Some(|value: &u64| *value == unwanted), 0)
 }
 
-/// Begins by a key that is lent, whatever value is live.
+/// Begins a turn that replaces no live value, with the key by reference.
 pub(crate) fn begin_by_ref(cache: &mut Numbers, key: u64) -> Begins {
     cache.begin_by_ref(&key, Kind::With, None::<fn(&u64) -> bool>, 0)
 }
 
-/// Spends what a begin handed out, and says what it was.
+/// Consumes what a begin returned, and returns what it was.
 pub(crate) fn spent(cache: &mut Numbers, begun: Begins) -> &'static str {
     match begun {
         Ok(Begun::Run(turn)) => {
@@ -273,7 +274,7 @@ pub(crate) fn spent(cache: &mut Numbers, begun: Begins) -> &'static str {
     }
 }
 
-/// The turn of a begin that runs.
+/// Returns the turn of a begin that runs.
 pub(crate) fn ran(rt: &impl Abort, cache: &mut Numbers, key: &Arc<u64>, kind: Kind) -> Turn<u64>
     requires { kind ≢ Kind.Compute }
     ensures { result.key.kind ≡ kind }
@@ -284,7 +285,7 @@ pub(crate) fn ran(rt: &impl Abort, cache: &mut Numbers, key: &Arc<u64>, kind: Ki
     }
 }
 
-/// The ticket of a begin that waits.
+/// Returns the ticket of a begin that waits.
 pub(crate) fn waited(
     rt: &impl Abort,
     cache: &mut Numbers,
@@ -299,7 +300,7 @@ pub(crate) fn waited(
     }
 }
 
-/// Ends a turn.
+/// Finishes a turn, and returns its result.
 pub(crate) fn finished(
     rt: &impl Abort,
     cache: &mut Numbers,
@@ -318,7 +319,7 @@ pub(crate) fn finished(
     }
 }
 
-/// Ends a turn with a value, which is refused for this cause, and hands both back.
+/// Checks that a finish with a value fails for this cause and hands back both. Returns the turn.
 pub(crate) fn refused_to_finish(
     rt: &impl Abort,
     cache: &mut Numbers,
@@ -343,19 +344,19 @@ pub(crate) fn refused_to_finish(
     }
 }
 
-/// Gives a turn up, which is known.
+/// Abandons a turn that the cache knows.
 pub(crate) fn abandoned(rt: &impl Abort, cache: &mut Numbers, turn: Turn<u64>) {
     assert!(rt; abandon(cache, turn).is_ok(), "it is refused");
 }
 
-/// Spends a ticket, which is known.
+/// Leaves a ticket that the cache knows.
 pub(crate) fn left(rt: &impl Abort, cache: &mut Numbers, ticket: Ticket<u64>) {
     assert!(rt; leave(cache, ticket).is_ok(), "it is refused");
 }
 
 type Told = Collected<u64, u64, u64>;
 
-/// What a ticket is told.
+/// Returns what a ticket collects.
 fn collected(rt: &impl Abort, cache: &mut Numbers, ticket: Ticket<u64>) -> Told {
     match collect(cache, ticket) {
         Ok(told) => told,
@@ -366,7 +367,7 @@ fn collected(rt: &impl Abort, cache: &mut Numbers, ticket: Ticket<u64>) -> Told 
     }
 }
 
-/// Spends what a ticket was told, and says what it was.
+/// Consumes what a ticket collected, and returns what it was.
 fn spent_told(cache: &mut Numbers, told: Told) -> &'static str {
     match told {
         Collected::Ready(_) => "it gave something",
@@ -379,7 +380,7 @@ fn spent_told(cache: &mut Numbers, told: Told) -> &'static str {
     }
 }
 
-/// A ticket is told that its turn was a compute, and has ended.
+/// Checks that a ticket collects the end of a compute.
 pub(crate) fn has_ended(rt: &impl Abort, cache: &mut Numbers, ticket: Ticket<u64>) {
     match collected(rt, cache, ticket) {
         Collected::Ended => {}
@@ -387,7 +388,7 @@ pub(crate) fn has_ended(rt: &impl Abort, cache: &mut Numbers, ticket: Ticket<u64
     }
 }
 
-/// What an ended turn gave to a ticket.
+/// Returns the result that a ticket collects.
 pub(crate) fn ready(
     rt: &impl Abort,
     cache: &mut Numbers,
@@ -399,7 +400,7 @@ pub(crate) fn ready(
     }
 }
 
-/// The ticket of a turn that is open still.
+/// Returns the ticket again after it found its turn still open.
 pub(crate) fn not_yet(rt: &impl Abort, cache: &mut Numbers, ticket: Ticket<u64>) -> Ticket<u64> {
     match collected(rt, cache, ticket) {
         Collected::NotYet(ticket) => ticket,
@@ -407,13 +408,13 @@ pub(crate) fn not_yet(rt: &impl Abort, cache: &mut Numbers, ticket: Ticket<u64>)
     }
 }
 
-/// The turn of a ticket was abandoned.
+/// Checks that the turn of a ticket was abandoned.
 pub(crate) fn gave_nothing(rt: &impl Abort, cache: &mut Numbers, ticket: Ticket<u64>) {
     let told = collected(rt, cache, ticket);
     assert_eq!(rt; spent_told(cache, told), "it was abandoned");
 }
 
-/// A ticket that a cache does not know, and hands back.
+/// Checks that a cache does not know a ticket. Returns the ticket, which is handed back.
 pub(crate) fn unknown(rt: &impl Abort, cache: &mut Numbers, ticket: Ticket<u64>) -> Ticket<u64> {
     match collect(cache, ticket) {
         Err(CollectRefused { ticket, cause }) => {
@@ -424,7 +425,7 @@ pub(crate) fn unknown(rt: &impl Abort, cache: &mut Numbers, ticket: Ticket<u64>)
     }
 }
 
-/// The parts of an entry that was given: key, value, and whether it is fresh and replaced a value.
+/// Returns the parts of an entry: key, value, `is_fresh` and `is_old_value_replaced`.
 fn entry_of(rt: &impl Abort, answer: &Answer<u64, u64, u64>) -> (u64, u64, bool, bool) {
     match answer {
         Answer::Entry(entry) => (
@@ -437,7 +438,7 @@ fn entry_of(rt: &impl Abort, answer: &Answer<u64, u64, u64>) -> (u64, u64, bool,
     }
 }
 
-/// What was given is this entry, by these parts.
+/// Checks that a result is the entry with these parts.
 pub(crate) fn gave(
     rt: &impl Abort,
     answer: &Answer<u64, u64, u64>,
@@ -446,7 +447,7 @@ pub(crate) fn gave(
     assert_eq!(rt; entry_of(rt, answer), expected);
 }
 
-/// The error that was given.
+/// Returns the error in a result.
 pub(crate) fn error_of(rt: &impl Abort, answer: &Answer<u64, u64, u64>) -> u64 {
     match answer {
         Answer::Failed(error) => **error,

@@ -1,9 +1,9 @@
-//! The forms of initializers: each with how often its closure was asked, and what it answers.
+//! The loaders. Each function here returns how often the closure was called, and the result.
 use crate::caches::Numbers;
 use moka_policy::policy::Refused;
 use std::sync::Arc;
 
-/// What a form answers.
+/// The result of a loader.
 #[derive(Clone, Copy, Debug, PartialEq)]
 pub(crate) enum Told {
     Value(u64),
@@ -12,7 +12,7 @@ pub(crate) enum Told {
     Refused(Refused),
 }
 
-/// How often a closure was asked, and what its form answered.
+/// How often a closure was called, and the result of its loader.
 pub(crate) type Asked = (u64, Told);
 
 fn value_of(given: Result<u64, Refused>) -> Told {
@@ -38,7 +38,7 @@ fn result_of(given: Result<Result<u64, Arc<u64>>, Refused>) -> Told {
     }
 }
 
-/// By a closure that gives this value.
+/// Loads by a closure that returns this value.
 pub(crate) fn get_with(cache: &mut Numbers, key: u64, value: u64) -> Asked {
     let mut asked = 0_u64;
     let given = cache.get_with(
@@ -52,7 +52,7 @@ pub(crate) fn get_with(cache: &mut Numbers, key: u64, value: u64) -> Asked {
     (asked, value_of(given))
 }
 
-/// Where a live value of that number is turned down.
+/// Loads, and replaces a live value equal to `unwanted`.
 pub(crate) fn get_with_if(cache: &mut Numbers, key: u64, value: u64, unwanted: u64) -> Asked {
     let mut asked = 0_u64;
     let given = cache.get_with_if(
@@ -67,7 +67,7 @@ pub(crate) fn get_with_if(cache: &mut Numbers, key: u64, value: u64, unwanted: u
     (asked, value_of(given))
 }
 
-/// By a closure that gives this value, or none.
+/// Loads by a closure that returns this value, or `None`.
 pub(crate) fn optionally_get_with(cache: &mut Numbers, key: u64, value: Option<u64>) -> Asked {
     let mut asked = 0_u64;
     let given = cache.optionally_get_with(
@@ -81,7 +81,7 @@ pub(crate) fn optionally_get_with(cache: &mut Numbers, key: u64, value: Option<u
     (asked, option_of(given))
 }
 
-/// By a closure that gives this value, or fails with this error.
+/// Loads by a closure that returns this value, or fails with this error.
 pub(crate) fn try_get_with(cache: &mut Numbers, key: u64, value: Result<u64, u64>) -> Asked {
     let mut asked = 0_u64;
     let given = cache.try_get_with(
@@ -95,7 +95,7 @@ pub(crate) fn try_get_with(cache: &mut Numbers, key: u64, value: Result<u64, u64
     (asked, result_of(given))
 }
 
-/// As `get_with`, by a key that is lent.
+/// As `get_with`, with the key by reference.
 pub(crate) fn get_with_by_ref(cache: &mut Numbers, key: u64, value: u64) -> Asked {
     let mut asked = 0_u64;
     let given = cache.get_with_by_ref(
@@ -109,7 +109,7 @@ pub(crate) fn get_with_by_ref(cache: &mut Numbers, key: u64, value: u64) -> Aske
     (asked, value_of(given))
 }
 
-/// As `optionally_get_with`, by a key that is lent.
+/// As `optionally_get_with`, with the key by reference.
 pub(crate) fn optionally_by_ref(cache: &mut Numbers, key: u64, value: Option<u64>) -> Asked {
     let mut asked = 0_u64;
     let given = cache.optionally_get_with_by_ref(
@@ -123,7 +123,7 @@ pub(crate) fn optionally_by_ref(cache: &mut Numbers, key: u64, value: Option<u64
     (asked, option_of(given))
 }
 
-/// As `try_get_with`, by a key that is lent.
+/// As `try_get_with`, with the key by reference.
 pub(crate) fn try_by_ref(cache: &mut Numbers, key: u64, value: Result<u64, u64>) -> Asked {
     let mut asked = 0_u64;
     let given = cache.try_get_with_by_ref(

@@ -1,4 +1,4 @@
-//! What computes are shown, and what becomes of their values.
+//! The turns of computes: the entry that a begin returns, and the result.
 ghost use Rattle.std.specs.Prelude.{◌≡◌, IfOk};
 ghost use Rattle.std.specs.Arc.{arc_value};
 ghost use Rattle.moka_model.specs.declared.turns.Kind.{Kind};
@@ -23,7 +23,7 @@ fn begin(cache: &mut Numbers, key: &Arc<u64>, keep: bool) -> Result<BegunCompute
     cache.begin_compute(key, keep, 0)
 }
 
-/// The turn of a compute that runs, and what it is shown.
+/// Returns the turn of a compute that runs, and the live entry that came with it.
 pub(crate) fn ran(
     rt: &impl Abort,
     cache: &mut Numbers,
@@ -42,7 +42,7 @@ pub(crate) fn ran(
     }
 }
 
-/// The ticket of one that waits.
+/// Returns the ticket of a compute that waits.
 fn waited(rt: &impl Abort, cache: &mut Numbers, key: &Arc<u64>) -> Ticket<u64> {
     match begin(cache, key, true) {
         Ok(BegunCompute::Wait(ticket)) => ticket,
@@ -54,7 +54,7 @@ fn waited(rt: &impl Abort, cache: &mut Numbers, key: &Arc<u64>) -> Ticket<u64> {
     }
 }
 
-/// What became of the value.
+/// Finishes a compute, and returns its result.
 pub(crate) fn computed(
     rt: &impl Abort,
     cache: &mut Numbers,
@@ -73,7 +73,7 @@ pub(crate) fn computed(
     }
 }
 
-/// The key, the value and the marks of an entry.
+/// Returns the key, the value, `is_fresh` and `is_old_value_replaced` of an entry.
 pub(crate) fn parts(entry: &Entry<u64, u64>) -> (u64, u64, bool, bool) {
     (
         *entry.key(),
@@ -83,7 +83,7 @@ pub(crate) fn parts(entry: &Entry<u64, u64>) -> (u64, u64, bool, bool) {
     )
 }
 
-/// What a compute was shown: this entry of its key, without a mark.
+/// Checks the live entry that came with a turn: under key 5, and with neither flag.
 fn shows(rt: &impl Abort, shown: &Option<Entry<u64, u64>>, wanted: Option<u64>) {
     match shown {
         Some(entry) => {
@@ -94,7 +94,7 @@ fn shows(rt: &impl Abort, shown: &Option<Entry<u64, u64>>, wanted: Option<u64>) 
     }
 }
 
-/// What a result says: its word, and its entry.
+/// Returns a result as a word and its entry.
 pub(crate) fn said(
     computed: CompResult<u64, u64>,
 ) -> (&'static str, Option<(u64, u64, bool, bool)>) {
@@ -107,7 +107,7 @@ pub(crate) fn said(
     }
 }
 
-/// A result is said so.
+/// Checks a result.
 pub(crate) fn says(
     rt: &impl Abort,
     computed: CompResult<u64, u64>,
@@ -119,6 +119,7 @@ pub(crate) fn says(
     assert_eq!(rt; entry, wanted);
 }
 
+/// A compute puts a value under an absent key, and replaces a live one.
 #[test]
 fn a_value_is_put_and_replaced(rt: HostRuntime) -> Result<(), Fail> {
     let key = shared(rt.alloc(), 5)?;
@@ -133,7 +134,7 @@ fn is_put_and_replaced(rt: &impl Abort, cache: &mut Numbers, key: &Arc<u64>) {
     is_replaced(rt, cache, key);
 }
 
-/// A put of a key that is absent; one who waited for it is told that it has ended.
+/// Checks a put under an absent key. A ticket that waits for it collects that it has ended.
 fn is_put(rt: &impl Abort, cache: &mut Numbers, key: &Arc<u64>) {
     let (turn, shown) = ran(rt, cache, key, false);
     let ticket = waited(rt, cache, key);
@@ -143,7 +144,7 @@ fn is_put(rt: &impl Abort, cache: &mut Numbers, key: &Arc<u64>) {
     says(rt, result, "inserted", Some((5, 7, true, false)));
 }
 
-/// A put replaces what its begin was shown, although that is gone since.
+/// Checks that a put replaces the entry that its begin returned, although that is removed since.
 fn is_replaced(rt: &impl Abort, cache: &mut Numbers, key: &Arc<u64>) {
     let (turn, shown) = ran(rt, cache, key, false);
     invalidate(cache, 5);
@@ -152,6 +153,7 @@ fn is_replaced(rt: &impl Abort, cache: &mut Numbers, key: &Arc<u64>) {
     says(rt, result, "replaced", Some((5, 8, true, true)));
 }
 
+/// A compute leaves the entry as it is, or removes it.
 #[test]
 fn a_value_is_left_or_removed(rt: HostRuntime) -> Result<(), Fail> {
     let key = shared(rt.alloc(), 5)?;
@@ -167,7 +169,8 @@ fn is_left_or_removed(rt: &impl Abort, cache: &mut Numbers, key: &Arc<u64>) {
     is_removed(rt, cache, key);
 }
 
-/// What was kept aside is answered, whatever became of the key; and nothing where none was.
+/// Checks that `Op::Nop` returns the entry that was kept, whatever became of the key, or nothing if
+/// none was kept.
 fn is_left(rt: &impl Abort, cache: &mut Numbers, key: &Arc<u64>) {
     let (turn, _) = ran(rt, cache, key, true);
     insert(rt, cache, 5, 8);
@@ -178,7 +181,7 @@ fn is_left(rt: &impl Abort, cache: &mut Numbers, key: &Arc<u64>) {
     says(rt, result, "still none", None);
 }
 
-/// What stands at the removal is answered, and nothing where none does.
+/// Checks that `Op::Remove` returns the entry that is live at the removal, or nothing if none is.
 fn is_removed(rt: &impl Abort, cache: &mut Numbers, key: &Arc<u64>) {
     let (turn, shown) = ran(rt, cache, key, true);
     insert(rt, cache, 5, 9);

@@ -1,4 +1,4 @@
-//! What the forms of initializers answer: begin, closure and finish at one moment.
+//! The loaders: begin, closure and finish at one moment.
 use crate::caches::{
     Numbers, abandoned, begin_by_ref, counts, gave_nothing, insert, is_stored, let_go, look,
     opened, ran, shared, spent, waited,
@@ -14,6 +14,7 @@ use std::process::Abort;
 use std::sync::Arc;
 use std::test::Fail;
 
+/// A loader returns a live value without a call of its closure.
 #[test]
 fn a_live_value_is_answered_unasked(rt: HostRuntime) -> Result<(), Fail> {
     let mut cache = opened(rt.alloc(), 0, 100)?;
@@ -22,7 +23,7 @@ fn a_live_value_is_answered_unasked(rt: HostRuntime) -> Result<(), Fail> {
     Ok(())
 }
 
-/// A form answers this, and its closure was asked so often.
+/// Checks the result of a loader, and how often its closure was called.
 fn says(rt: &impl Abort, found: Asked, asked: u64, expected: Told) {
     assert_eq!(rt; found, (asked, expected));
 }
@@ -35,6 +36,7 @@ fn is_answered_unasked(rt: &impl Abort, cache: &mut Numbers) {
     says(rt, get_with_by_ref(cache, 5, 8), 0, Told::Value(7));
 }
 
+/// On a miss a loader calls its closure once, and stores the value if there is one.
 #[test]
 fn an_absent_one_is_asked_for_and_written(rt: HostRuntime) -> Result<(), Fail> {
     let mut cache = opened(rt.alloc(), 0, 100)?;
@@ -69,12 +71,13 @@ fn is_written_if_none_fails(rt: &impl Abort, cache: &mut Numbers) {
     is_written(rt, cache, 3, Some(30));
 }
 
-/// A look at a key finds this.
+/// Checks what a lookup of a key finds.
 fn is_written(rt: &impl Abort, cache: &mut Numbers, key: u64, value: Option<u64>) {
     assert_eq!(rt; is_stored(cache, key), value.is_some());
     assert_eq!(rt; look(cache, key), Ok(value));
 }
 
+/// `get_with_if` replaces a live value if its predicate holds.
 #[test]
 fn a_value_that_is_turned_down_is_replaced(rt: HostRuntime) -> Result<(), Fail> {
     let mut cache = opened(rt.alloc(), 0, 100)?;
@@ -90,6 +93,7 @@ fn is_replaced(rt: &impl Abort, cache: &mut Numbers) {
     is_written(rt, cache, 5, Some(31));
 }
 
+/// A loader fails with `TurnIsOpen` if a turn of its key and kind is open.
 #[test]
 fn an_open_turn_is_not_waited_for(rt: HostRuntime) -> Result<(), Fail> {
     let key = shared(rt.alloc(), 5)?;
@@ -113,6 +117,7 @@ fn is_not_waited_for(rt: &impl Abort, cache: &mut Numbers, key: &Arc<u64>, anoth
     abandoned(rt, cache, turn);
 }
 
+/// A loader whose finish fails abandons its turn.
 #[test]
 fn a_refused_finish_abandons_the_turn(rt: HostRuntime) -> Result<(), Fail> {
     let key = shared(rt.alloc(), 5)?;
@@ -133,6 +138,7 @@ fn abandons_the_turn(rt: &impl Abort, cache: &mut Numbers, key: &Arc<u64>) {
     gave_nothing(rt, cache, ticket);
 }
 
+/// Loaders take the key by reference, too.
 #[test]
 fn keys_may_be_lent(rt: HostRuntime) -> Result<(), Fail> {
     let mut cache = opened(rt.alloc(), 0, 100)?;
@@ -156,11 +162,11 @@ fn may_be_lent(rt: &impl Abort, cache: &mut Numbers) {
     assert!(rt; spent(cache, begun) == "it runs");
 }
 
-/// A form, with what its closure gives.
+/// A loader, with what its closure returns.
 #[derive(Clone, Copy, Debug)]
 enum Form {
     GetWith,
-    /// It turns the live value down.
+    /// Replaces the live value.
     GetWithIf,
     Optionally(Option<u64>),
     Try(Result<u64, u64>),
@@ -169,7 +175,7 @@ enum Form {
     TryByRef(Result<u64, u64>),
 }
 
-/// Each form by a key of its own, once for each thing that its closure may give, and what it answers.
+/// Each loader under a key of its own, once for each result of its closure, and its own result.
 const FORMS: [(Form, Told); 11] = [
     (Form::GetWith, Told::Value(7)),
     (Form::GetWithIf, Told::Value(7)),
@@ -184,7 +190,7 @@ const FORMS: [(Form, Told); 11] = [
     (Form::TryByRef(Err(9)), Told::Failed(9)),
 ];
 
-/// What is turned down.
+/// The value that is replaced.
 const UNWANTED: u64 = 30;
 
 fn asked(cache: &mut Numbers, form: Form, key: u64) -> Asked {
@@ -199,8 +205,10 @@ fn asked(cache: &mut Numbers, form: Form, key: u64) -> Asked {
     }
 }
 
-/// A form answers this. Where memory is refused it says so, it has written nothing, and it is asked once more. The answer is
-/// whether its closure was asked then: a turn was opened for that, and abandoned.
+/// Checks the result of a loader. If an allocation fails, it says so, has stored nothing, and is
+/// called again.
+///
+/// Returns whether its closure was called before the failure: then a turn was opened and abandoned.
 fn answers(rt: &impl Abort, cache: &mut Numbers, form: Form, key: u64, expected: Told) -> bool {
     let before = counts(cache, key);
     let (times, told) = asked(cache, form, key);
@@ -215,7 +223,7 @@ fn answers(rt: &impl Abort, cache: &mut Numbers, form: Form, key: u64, expected:
     times > 0
 }
 
-// What is seen is what was expected of a form.
+// Each of these names the loader if its check fails.
 fn is_told(rt: &impl Abort, told: Told, expected: Told, form: Form) {
     assert_eq!(rt; told, expected, "{form:?}");
 }
@@ -230,7 +238,7 @@ fn is_counted(rt: &impl Abort, counts: Counts, expected: Counts, form: Form) {
     assert_eq!(rt; counts, expected, "{form:?}");
 }
 
-/// The number of a turn, which is abandoned.
+/// Returns the number of a new turn, which it abandons.
 fn drawn(rt: &impl Abort, cache: &mut Numbers, key: &Arc<u64>) -> u64 {
     let turn = ran(rt, cache, key, Kind::With);
     let number = turn.number();
@@ -238,15 +246,15 @@ fn drawn(rt: &impl Abort, cache: &mut Numbers, key: &Arc<u64>) -> u64 {
     number
 }
 
-/// Before a form that turns the live value down there is one.
+/// Inserts the live value that a loader is to replace, if it replaces any.
 fn insert_unwanted(rt: &impl Abort, cache: &mut Numbers, form: Form, key: u64) {
     if matches!(form, Form::GetWithIf) {
         insert(rt, cache, key, UNWANTED);
     }
 }
 
-/// Two caches, of which one may be refused a request for memory, go on alike: the refused form was as no call, or as a
-/// begin and an abandon.
+/// Checks that two caches go on alike, in one of which an allocation may fail. The failed loader
+/// changed as much as no call, or as a begin and an abandon.
 fn answer_alike(
     rt: &impl Abort,
     cache: &mut Numbers,
@@ -267,7 +275,7 @@ fn answer_alike(
     is_counted(rt, counts(cache, key), counts(twin, key), form);
 }
 
-/// It passes also where one request for memory is refused, whichever: `scripts/refused_memory` tries each.
+/// Loaders work, also if any one allocation fails: `scripts/refused_memory` tries each.
 #[test]
 fn forms_answer_where_a_request_is_refused(rt: HostRuntime) -> Result<(), Fail> {
     let free = shared(rt.alloc(), 1000)?;

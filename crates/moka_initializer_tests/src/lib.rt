@@ -1,5 +1,5 @@
-//! The tests of the calls of turns on a cache: begin, finish, abandon, collect and leave; and of those that
-//! answer a live value or write one.
+//! The tests of the calls about turns on an owned cache: begin, finish, abandon, collect and leave.
+//! Also of the loaders and computes, and of the calls that return a live value or store one.
 #![tactic(auto)]
 
 #[cfg(test)]

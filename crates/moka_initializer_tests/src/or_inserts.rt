@@ -1,4 +1,4 @@
-//! What the calls answer that find a live value, or write one.
+//! The calls that return a live value, or store one.
 use crate::caches::{
     Numbers, entry_count, insert, left_by, let_go, look, notice_count, opened, shared,
 };
@@ -10,10 +10,10 @@ use std::process::Abort;
 use std::sync::Arc;
 use std::test::Fail;
 
-/// Key, value, and whether it is fresh and replaced another.
+/// Key, value, `is_fresh` and `is_old_value_replaced`.
 type Parts = (u64, u64, bool, bool);
 
-/// What an `or_insert` answers. One that is refused hands back its value.
+/// Returns the result of an `or_insert`. A failed one hands back its value.
 fn or_inserted(
     cache: &mut Numbers,
     key: &Arc<u64>,
@@ -31,7 +31,7 @@ fn or_inserted(
     }
 }
 
-/// What an `or_default` answers.
+/// Returns the result of an `or_default`.
 fn or_default(cache: &mut Numbers, key: u64, now: u64) -> Result<Parts, Refused> {
     match cache.or_default(key, now) {
         Ok(entry) => Ok((
@@ -44,7 +44,7 @@ fn or_default(cache: &mut Numbers, key: u64, now: u64) -> Result<Parts, Refused>
     }
 }
 
-/// An `or_insert` answers this.
+/// Checks the result of an `or_insert`.
 fn gives(
     rt: &impl Abort,
     cache: &mut Numbers,
@@ -55,22 +55,23 @@ fn gives(
     assert_eq!(rt; or_inserted(cache, key, value, 0), wanted);
 }
 
-/// An `or_default` answers this.
+/// Checks the result of an `or_default`.
 fn gives_default(rt: &impl Abort, cache: &mut Numbers, key: u64, wanted: Result<Parts, Refused>) {
     assert_eq!(rt; or_default(cache, key, 0), wanted);
 }
 
-/// So many notices wait, and so many keys are stored.
+/// Checks the numbers of queued notices and of stored entries.
 fn holds(rt: &impl Abort, cache: &Numbers, notices: usize, keys: u64) {
     assert_eq!(rt; notice_count(cache), notices);
     assert_eq!(rt; entry_count(cache), keys);
 }
 
-/// A look finds this value.
+/// Checks the value that a lookup finds.
 fn finds(rt: &impl Abort, cache: &mut Numbers, key: u64, wanted: u64) {
     assert_eq!(rt; look(cache, key), Ok(Some(wanted)));
 }
 
+/// A live value is returned, and nothing is stored.
 #[test]
 fn a_live_value_is_found(rt: HostRuntime) -> Result<(), Fail> {
     let key = shared(rt.alloc(), 5)?;
@@ -87,6 +88,7 @@ fn is_found(rt: &impl Abort, cache: &mut Numbers, key: &Arc<u64>) {
     holds(rt, cache, 0, 1);
 }
 
+/// Under an absent key the value is stored, or the default value.
 #[test]
 fn an_absent_one_is_written(rt: HostRuntime) -> Result<(), Fail> {
     let key = shared(rt.alloc(), 5)?;
@@ -112,6 +114,7 @@ fn a_default_is_written(rt: &impl Abort, cache: &mut Numbers) {
     finds(rt, cache, 6, 0);
 }
 
+/// An invalidated entry counts as absent: the new value replaces none.
 #[test]
 fn a_removed_one_is_written_anew(rt: HostRuntime) -> Result<(), Fail> {
     let key = shared(rt.alloc(), 5)?;
@@ -128,6 +131,7 @@ fn is_written_anew(rt: &impl Abort, cache: &mut Numbers, key: &Arc<u64>) {
     left_by(rt, cache, 7, RemovalCause::Explicit);
 }
 
+/// At a capacity of 0 the value is returned and not stored.
 #[test]
 fn nothing_is_stored_at_a_capacity_of_0(rt: HostRuntime) -> Result<(), Fail> {
     let key = shared(rt.alloc(), 5)?;
@@ -143,6 +147,7 @@ fn is_not_stored(rt: &impl Abort, cache: &mut Numbers, key: &Arc<u64>) {
     holds(rt, cache, 0, 0);
 }
 
+/// Without a sequence number left, the call fails unless a value is live.
 #[test]
 fn numbers_are_used_up(rt: HostRuntime) -> Result<(), Fail> {
     let key = shared(rt.alloc(), 5)?;
@@ -161,7 +166,8 @@ fn are_used_up(rt: &impl Abort, cache: &mut Numbers, key: &Arc<u64>, other: &Arc
     holds(rt, cache, 0, 1);
 }
 
-/// What a step answers: a value and whether it is fresh, or none where no number is left.
+/// Returns the reply to a step: a value and whether it is fresh, or `None` if no sequence number is
+/// left.
 fn stepped(rt: &impl Abort, cache: &mut Numbers, key: Arc<u64>, value: u64) -> Option<(u64, bool)> {
     match cache.step(Step::OrInsert { key, value, now: 0 }) {
         Reply::Entered(entry) => Some((*entry.value(), entry.is_fresh())),
@@ -170,7 +176,7 @@ fn stepped(rt: &impl Abort, cache: &mut Numbers, key: Arc<u64>, value: u64) -> O
     }
 }
 
-/// A step answers this.
+/// Checks the reply to a step.
 fn steps(
     rt: &impl Abort,
     cache: &mut Numbers,
@@ -181,6 +187,7 @@ fn steps(
     assert_eq!(rt; stepped(rt, cache, key, value), wanted);
 }
 
+/// A step replies what `or_insert` returns.
 #[test]
 fn a_step_is_the_call(rt: HostRuntime) -> Result<(), Fail> {
     let key = shared(rt.alloc(), 5)?;

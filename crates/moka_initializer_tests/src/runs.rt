@@ -1,4 +1,4 @@
-//! Steps that are drawn at random, over both stores of rows.
+//! Random steps, over both row stores.
 ghost use Rattle.std.specs.Prelude.{◌≡◌, ◌≢◌, ℕ, IfOk};
 ghost use Rattle.moka_model.specs.declared.turns.Kind.{Kind};
 ghost use Rattle.moka_state.specs.Finish.{OutcomeKeeps};
@@ -28,9 +28,9 @@ struct Drawn {
     what: u64,
     key: u64,
     kind: u64,
-    /// The number of a turn.
+    /// The sequence number of a turn.
     number: u64,
-    /// A value, a limit, what is said of a live value, or an outcome.
+    /// A value, a limit, whether a live value is replaced, or an outcome.
     given: u64,
     now: u64,
 }
@@ -45,7 +45,7 @@ fn kind_of(number: u64) -> Kind
     }
 }
 
-/// A step of a key.
+/// Returns a step about a key.
 fn key_step(alloc: Global, drawn: Drawn) -> Result<Step<u64, u64, Types>, AllocError>
     ensures { IfOk result (StepKeeps ⟦<Types as CacheTypes<u64, u64>>⟧.keeps
         ⟦<Odd as Predicate<u64, u64>>⟧.tests ⟦<Types as CacheTypes<u64, u64>>⟧.test) }
@@ -65,7 +65,7 @@ fn key_step(alloc: Global, drawn: Drawn) -> Result<Step<u64, u64, Types>, AllocE
     })
 }
 
-/// A step of the whole cache.
+/// Returns a step about the whole cache.
 fn whole_step(alloc: Global, drawn: Drawn) -> Result<Step<u64, u64, Types>, AllocError>
     ensures { IfOk result (StepKeeps ⟦<Types as CacheTypes<u64, u64>>⟧.keeps
         ⟦<Odd as Predicate<u64, u64>>⟧.tests ⟦<Types as CacheTypes<u64, u64>>⟧.test) }
@@ -87,7 +87,7 @@ fn whole_step(alloc: Global, drawn: Drawn) -> Result<Step<u64, u64, Types>, Allo
     })
 }
 
-/// What a caller says of a live value.
+/// Returns what a begin says about a live value: whether it is replaced, or nothing.
 fn replace_of(given: u64) -> Option<bool> {
     match given {
         0 => Some(false),
@@ -96,7 +96,7 @@ fn replace_of(given: u64) -> Option<bool> {
     }
 }
 
-/// What a turn ends with, whether or not that fits its kind.
+/// Returns the outcome of a turn, whether or not it fits the kind.
 fn outcome_of(alloc: Global, given: u64) -> Result<Outcome<u64, Arc<u64>>, AllocError>
     ensures { IfOk result (λ outcome. (key : ℕ)
         → OutcomeKeeps (⟦<Types as CacheTypes<u64, u64>>⟧.keeps key) outcome) }
@@ -108,7 +108,7 @@ fn outcome_of(alloc: Global, given: u64) -> Result<Outcome<u64, Arc<u64>>, Alloc
     })
 }
 
-/// A step of a turn.
+/// Returns a step about a turn.
 fn turn_step(alloc: Global, drawn: Drawn) -> Result<Step<u64, u64, Types>, AllocError>
     ensures { IfOk result (StepKeeps ⟦<Types as CacheTypes<u64, u64>>⟧.keeps
         ⟦<Odd as Predicate<u64, u64>>⟧.tests ⟦<Types as CacheTypes<u64, u64>>⟧.test) }
@@ -139,7 +139,7 @@ fn turn_step(alloc: Global, drawn: Drawn) -> Result<Step<u64, u64, Types>, Alloc
     })
 }
 
-/// How many steps there are.
+/// The bound of the numbers that choose a step.
 const WHAT: u64 = 25;
 
 fn step_of(alloc: Global, drawn: Drawn) -> Result<Step<u64, u64, Types>, AllocError>
@@ -153,7 +153,7 @@ fn step_of(alloc: Global, drawn: Drawn) -> Result<Step<u64, u64, Types>, AllocEr
     }
 }
 
-/// A reply as a text, which names whatever it says.
+/// Returns a reply as a text that shows all its parts.
 fn text_of(alloc: Global, reply: &Reply<u64, u64, Types>) -> Result<String, Fail> {
     match reply {
         Reply::Failed(error) => Ok(format!(in alloc; "Failed({error:?})")?),
@@ -161,7 +161,7 @@ fn text_of(alloc: Global, reply: &Reply<u64, u64, Types>) -> Result<String, Fail
     }
 }
 
-/// The number of the turn that a begin's reply names.
+/// Returns the number of the turn that a begin's reply names.
 fn number_in(reply: &Reply<u64, u64, Types>) -> Option<u64> {
     match reply {
         Reply::Run(name, _) | Reply::Wait(name) => Some(name.number),
@@ -169,7 +169,7 @@ fn number_in(reply: &Reply<u64, u64, Types>) -> Option<u64> {
     }
 }
 
-/// What a cache replies to a step, and the number of the turn that it names.
+/// Makes a step. Returns the number of the turn that the reply names, and the reply as a text.
 fn replied<R: RowStore<u64, u64>>(
     alloc: Global,
     cache: &mut State<u64, u64, Types, R>,
@@ -181,7 +181,44 @@ fn replied<R: RowStore<u64, u64>>(
     Ok((number_in(&reply), text))
 }
 
-/// What steps are drawn from.
+/// Checks the step and the reply of an entry of a record.
+fn is_entry(
+    rt: &impl Abort,
+    alloc: Global,
+    entry: &(Step<u64, u64, Types>, Reply<u64, u64, Types>),
+    step: &str,
+    reply: &str,
+    place: u64,
+) -> Result<(), Fail> {
+    let done = format!(in alloc; "{:?}", entry.0)?;
+    let told = text_of(alloc, &entry.1)?;
+    is_text(rt, done.as_str(), step, place);
+    is_text(rt, told.as_str(), reply, place);
+    Ok(())
+}
+
+/// Makes a recorded step, and returns the reply as a text. Checks both clones of the step and of
+/// the reply.
+fn recorded<R: RowStore<u64, u64>>(
+    rt: &impl Abort,
+    alloc: Global,
+    cache: &mut State<u64, u64, Types, R>,
+    drawn: Drawn,
+    place: u64,
+) -> Result<String, Fail> {
+    let step = step_of(alloc, drawn)?;
+    let asked = format!(in alloc; "{step:?}")?;
+    let (reply, first, second) = match cache.step_recorded(step) {
+        Ok(done) => done,
+        Err(refused) => return Ok(format!(in alloc; "Refused({refused:?})")?),
+    };
+    let text = text_of(alloc, &reply)?;
+    is_entry(rt, alloc, &first, asked.as_str(), text.as_str(), place)?;
+    is_entry(rt, alloc, &second, asked.as_str(), text.as_str(), place)?;
+    Ok(text)
+}
+
+/// The source of random steps.
 #[derive(Drop)]
 struct Source {
     generator: SplitMix64,
@@ -190,7 +227,7 @@ struct Source {
     now: u64,
 }
 
-/// The place of a kind and a key.
+/// Returns the place of a kind and a key in `told`.
 fn place_of(drawn: Drawn) -> usize {
     drawn.kind.wrapping_mul(3).wrapping_add(drawn.key) as usize
 }
@@ -204,13 +241,13 @@ impl Source {
         }
     }
 
-    /// One of so many numbers, from 0 on.
+    /// Returns a number below `bound`, or 0 if that is 0.
     fn below(&mut self, bound: u64) -> u64 {
         self.generator.next_u64().checked_rem(bound).unwrap_or(0)
     }
 
-    /// A step for one of three keys, up to a second behind the one before. A turn is mostly named by the number that was
-    /// told last for its kind and its key.
+    /// Draws a step about one of three keys, less than a second after the one before. Mostly names
+    /// the turn that was named last for its kind and its key.
     fn next(&mut self) -> Drawn {
         self.now = self.now.wrapping_add(self.below(1_000_000_000));
         let drawn = Drawn {
@@ -230,7 +267,7 @@ impl Source {
         }
     }
 
-    /// Notes which turn was named.
+    /// Notes the number of the turn that was named.
     fn learn(&mut self, drawn: Drawn, number: Option<u64>) {
         if let (Some(number), Some(told)) = (number, self.told.get_mut(place_of(drawn))) {
             *told = number;
@@ -238,7 +275,7 @@ impl Source {
     }
 }
 
-/// Both caches answer so many steps alike, and have the same sizes then.
+/// Checks that both caches reply alike to so many steps, and have as many notices then.
 fn answer_alike(
     rt: &impl Abort,
     alloc: Global,
@@ -255,7 +292,8 @@ fn answer_alike(
     Ok(())
 }
 
-/// Both reply to a step alike. The answer is the number of the turn that it names.
+/// Checks that both reply alike to a step, although the one over lists records it. Returns the
+/// number of the turn that the reply names.
 fn reply_alike(
     rt: &impl Abort,
     alloc: Global,
@@ -265,7 +303,7 @@ fn reply_alike(
     place: u64,
 ) -> Result<Option<u64>, Fail> {
     let (number, text) = replied(alloc, one, drawn)?;
-    let (_, expected) = replied(alloc, other, drawn)?;
+    let expected = recorded(rt, alloc, other, drawn, place)?;
     is_text(rt, text.as_str(), expected.as_str(), place);
     Ok(number)
 }
@@ -274,10 +312,11 @@ fn is_text(rt: &impl Abort, text: &str, expected: &str, place: u64) {
     assert_eq!(rt; text, expected, "step {place}");
 }
 
-/// How many steps a list has.
+/// The number of steps in a list.
 const STEPS: u64 = 500;
 
-/// Without and with a capacity, under either policy, with each of the lives, and up to the last number.
+/// Without and with a capacity, with either policy, with each of the lifetimes, and up to the last
+/// sequence number.
 const ALL_RULES: [Rules; 5] = [
     Rules::UNLIMITED,
     Rules {
@@ -301,6 +340,7 @@ const ALL_RULES: [Rules; 5] = [
     },
 ];
 
+/// Both row stores reply alike to random steps.
 #[test]
 fn both_stores_answer_random_lists_alike(rt: HostRuntime) -> Result<(), Fail> {
     for seed in 0..LISTS {
@@ -311,7 +351,7 @@ fn both_stores_answer_random_lists_alike(rt: HostRuntime) -> Result<(), Fail> {
     Ok(())
 }
 
-/// How many lists are tried with each of the rules.
+/// The number of lists that are tried with each of the rules.
 const LISTS: u64 = 4;
 
 fn answers_alike(rt: &impl Abort, alloc: Global, rules: Rules, seed: u64) -> Result<(), Fail> {
@@ -321,7 +361,7 @@ fn answers_alike(rt: &impl Abort, alloc: Global, rules: Rules, seed: u64) -> Res
     passed
 }
 
-/// A cache over plain lists answers as this one, which is as new.
+/// Checks that a new cache over plain lists replies as this one, which is new, too.
 fn answers_as_lists(
     rt: &impl Abort,
     alloc: Global,

@@ -1,4 +1,4 @@
-//! What the calls of a selector answer whose closure may fail, or says what becomes of the value.
+//! The calls of a selector whose closure may fail, or returns an operation.
 use crate::caches::{
     Numbers, Selector, counts, entry, entry_by_ref, insert, let_go, look, opened, or_insert, shared,
 };
@@ -14,13 +14,13 @@ use std::rc::Rc;
 use std::sync::Arc;
 use std::test::Fail;
 
-/// Key, value, and whether it is fresh and replaced another.
+/// Key, value, `is_fresh` and `is_old_value_replaced`.
 type Parts = (u64, u64, bool, bool);
 
-/// What a call answers.
+/// The result of a call.
 #[derive(Clone, Copy, Debug, PartialEq)]
 enum Told {
-    /// A word for what became of the value, and its entry.
+    /// A word for the result of a compute, and its entry.
     Became(&'static str, Option<Parts>),
     Entry(Parts),
     Failed(u64),
@@ -64,8 +64,8 @@ fn tried_compute_of(given: Result<Result<CompResult<u64, u64>, u64>, Refused>) -
     }
 }
 
-/// How often a closure was asked, and which live value it was shown. A closure shares it: one that is handed to a
-/// selector borrows nothing.
+/// How often a closure was called, and the live value that it got. A closure shares it, since one
+/// that is passed to a selector borrows nothing.
 #[derive(Drop)]
 struct Asked {
     times: Cell<u64>,
@@ -80,20 +80,20 @@ impl Asked {
         }
     }
 
-    /// A closure is asked, and shown this.
+    /// Counts a call of a closure, which got this value.
     fn note(&self, shown: Option<u64>) {
         self.times.set(self.times.get().wrapping_add(1));
         self.shown.set(shown);
     }
 
-    /// No closure was asked yet.
+    /// Resets the count and the value.
     fn forget(&self) {
         self.times.set(0);
         self.shown.set(None);
     }
 }
 
-/// No closure was asked yet. Where memory is refused, it asks once more.
+/// Creates a count of 0. Retries once if the allocation fails.
 fn unasked(alloc: Global) -> Result<Rc<Asked>, AllocError> {
     match Rc::new(alloc, Asked::new()) {
         Ok(asked) => Ok(asked),
@@ -101,7 +101,7 @@ fn unasked(alloc: Global) -> Result<Rc<Asked>, AllocError> {
     }
 }
 
-/// The value of an entry that is shown.
+/// Returns the value of an entry that a closure got.
 fn live(shown: Option<Entry<u64, u64>>) -> Option<u64> {
     match shown {
         Some(entry) => Some(*entry.value()),
@@ -109,7 +109,7 @@ fn live(shown: Option<Entry<u64, u64>>) -> Option<u64> {
     }
 }
 
-/// One more than what is live.
+/// Returns the live value plus 1, or 1 if there is none.
 fn next(live: Option<u64>) -> u64 {
     match live {
         Some(value) => value.wrapping_add(1),
@@ -163,14 +163,14 @@ fn upsert_by_ref(cache: &mut Numbers, asked: Rc<Asked>, key: &u64) -> Told {
     }
 }
 
-/// A call, with what its closure says. All are of one key.
+/// A call, with what its closure returns. All are about one key.
 #[derive(Clone, Copy)]
 enum Call {
     TryInsert(Result<u64, u64>),
     Nop,
     Put(u64),
     Remove,
-    /// One more than what is live is put.
+    /// Puts the live value plus 1, or 1 if there is none.
     Upsert,
     TryPut(u64),
     TryFail(u64),
@@ -192,7 +192,7 @@ fn answer_by(cache: &mut Numbers, asked: Rc<Asked>, call: Call) -> Told {
     }
 }
 
-/// What a call answers, whose closure notes that it is asked.
+/// Returns the result of a call, whose closure counts its calls.
 fn answer_of(cache: &mut Numbers, asked: &Rc<Asked>, call: Call) -> Told {
     match asked.clone() {
         Ok(asked) => answer_by(cache, asked, call),
@@ -200,12 +200,12 @@ fn answer_of(cache: &mut Numbers, asked: &Rc<Asked>, call: Call) -> Told {
     }
 }
 
-/// A closure was asked so often, and shown this.
+/// Checks how often a closure was called, and the value that it got.
 fn was_asked(rt: &impl Abort, asked: &Asked, times: u64, shown: Option<u64>) {
     assert_eq!(rt; (asked.times.get(), asked.shown.get()), (times, shown));
 }
 
-/// A call answers this, and its closure is asked, once.
+/// Checks the result of a call that calls its closure once.
 fn asks(
     rt: &impl Abort,
     cache: &mut Numbers,
@@ -219,7 +219,7 @@ fn asks(
     was_asked(rt, asked, 1, shown);
 }
 
-/// A call answers this, and its closure is not asked.
+/// Checks the result of a call that does not call its closure.
 fn asks_nothing(rt: &impl Abort, cache: &mut Numbers, asked: &Rc<Asked>, call: Call, wanted: Told) {
     asked.forget();
     is_said(rt, answer_of(cache, asked, call), wanted);
@@ -230,7 +230,7 @@ fn is_said(rt: &impl Abort, told: Told, wanted: Told) {
     assert_eq!(rt; told, wanted);
 }
 
-/// A look at the key finds this.
+/// Checks what a lookup of the key finds.
 fn finds(rt: &impl Abort, cache: &mut Numbers, wanted: Option<u64>) {
     assert_eq!(rt; look(cache, 5), Ok(wanted));
 }
@@ -249,6 +249,7 @@ const FOUND_3: Told = Told::Entry((5, 3, false, false));
 
 const REMOVED: Told = Told::Became("removed", Some((5, 2, false, false)));
 
+/// A compute inserts, replaces, leaves or removes a value, and returns which.
 #[test]
 fn a_value_is_computed(rt: HostRuntime) -> Result<(), Fail> {
     let asked = unasked(rt.alloc())?;
@@ -273,6 +274,7 @@ fn is_left_and_removed(rt: &impl Abort, cache: &mut Numbers, asked: &Rc<Asked>) 
     finds(rt, cache, None);
 }
 
+/// An upsert gets the live value, and returns the new one.
 #[test]
 fn a_count_goes_up(rt: HostRuntime) -> Result<(), Fail> {
     let asked = unasked(rt.alloc())?;
@@ -292,6 +294,7 @@ fn goes_up(rt: &impl Abort, cache: &mut Numbers, asked: &Rc<Asked>) {
     finds(rt, cache, Some(3));
 }
 
+/// The error of a closure is returned, and nothing is stored.
 #[test]
 fn a_closure_may_fail(rt: HostRuntime) -> Result<(), Fail> {
     let asked = unasked(rt.alloc())?;
@@ -314,7 +317,7 @@ fn an_initializer_may_fail(rt: &impl Abort, cache: &mut Numbers, asked: &Rc<Aske
     asks_nothing(rt, cache, asked, Call::TryInsert(Ok(6)), FOUND_3);
 }
 
-/// Where the closure fails, nothing is written, and the next compute opens a turn.
+/// Checks that nothing is stored if the closure fails, and that the next compute opens a turn.
 fn a_compute_may_fail(rt: &impl Abort, cache: &mut Numbers, asked: &Rc<Asked>) {
     let failed = Told::Failed(9);
     let replaced = Told::Became("replaced", Some((5, 4, true, true)));
@@ -324,6 +327,7 @@ fn a_compute_may_fail(rt: &impl Abort, cache: &mut Numbers, asked: &Rc<Asked>) {
     finds(rt, cache, Some(4));
 }
 
+/// A selector takes the key by reference, too.
 #[test]
 fn a_key_may_be_lent(rt: HostRuntime) -> Result<(), Fail> {
     let asked = unasked(rt.alloc())?;
@@ -340,6 +344,7 @@ fn may_be_lent(rt: &impl Abort, cache: &mut Numbers, asked: &Rc<Asked>) {
     asks(rt, cache, asked, Call::UpsertByRef, Some(3), replaced);
 }
 
+/// Computes fail with `TurnIsOpen` while a compute of their key is open.
 #[test]
 fn an_open_compute_refuses(rt: HostRuntime) -> Result<(), Fail> {
     let key = shared(rt.alloc(), 5)?;
@@ -372,7 +377,7 @@ fn counts_so(rt: &impl Abort, cache: &Numbers, wanted: (u64, usize, bool)) {
     assert_eq!(rt; counts(cache, 5), wanted);
 }
 
-/// Calls of one key, one behind the other, and what they answer.
+/// Calls about one key, one after another, and their results.
 const CALLS: [(Call, Told); 10] = [
     (Call::TryInsert(Err(9)), Told::Failed(9)),
     (Call::Nop, STILL_NONE),
@@ -386,7 +391,8 @@ const CALLS: [(Call, Told); 10] = [
     (Call::Upsert, Told::Entry((5, 3, true, true))),
 ];
 
-/// A call answers this. Where memory is refused it says so, nothing has changed, and it is asked once more.
+/// Checks the result of a call. If an allocation fails, it says so, nothing has changed, and it is
+/// called again.
 fn answers_again(rt: &impl Abort, cache: &mut Numbers, asked: &Rc<Asked>, row: (Call, Told)) {
     let (call, wanted) = row;
     let before = counts(cache, 5);
@@ -399,7 +405,7 @@ fn answers_again(rt: &impl Abort, cache: &mut Numbers, asked: &Rc<Asked>, row: (
     is_said(rt, answer_of(cache, asked, call), wanted);
 }
 
-/// It passes also where one request for memory is refused, whichever: `scripts/refused_memory` tries each.
+/// Computes work, also if any one allocation fails: `scripts/refused_memory` tries each.
 #[test]
 fn computes_answer_where_a_request_is_refused(rt: HostRuntime) -> Result<(), Fail> {
     let asked = unasked(rt.alloc())?;

@@ -1,4 +1,4 @@
-//! What the calls of a selector answer.
+//! The calls of a selector.
 use crate::caches::{Numbers, abandoned, entry, let_go, opened, or_insert, ran, shared};
 use moka_model::entry::Entry;
 use moka_model::turns::Kind;
@@ -7,7 +7,7 @@ use std::process::Abort;
 use std::sync::Arc;
 use std::test::Fail;
 
-/// What a call answers: a value and whether it is fresh, or why there is none.
+/// The result of a call: a value and whether it is fresh, or why there is none.
 #[derive(Clone, Copy, Debug, PartialEq)]
 enum Told {
     Value(u64, bool),
@@ -55,6 +55,7 @@ fn says(rt: &impl Abort, told: Told, wanted: Told) {
     assert_eq!(rt; told, wanted);
 }
 
+/// A value is inserted if none is live, and else the live one is returned.
 #[test]
 fn a_value_is_inserted_once(rt: HostRuntime) -> Result<(), Fail> {
     let mut cache = opened(rt.alloc(), 0, 100)?;
@@ -72,6 +73,7 @@ fn is_inserted_once(rt: &impl Abort, cache: &mut Numbers) {
     says(rt, inserted_with(cache, 3, 5), Told::Value(4, false));
 }
 
+/// `or_insert_with_if` replaces a live value if its predicate holds.
 #[test]
 fn a_value_that_is_turned_down_is_replaced(rt: HostRuntime) -> Result<(), Fail> {
     let mut cache = opened(rt.alloc(), 0, 100)?;
@@ -86,6 +88,7 @@ fn is_replaced(rt: &impl Abort, cache: &mut Numbers) {
     says(rt, inserted_if(cache, 6, 3), Told::Value(6, true));
 }
 
+/// `or_optionally_insert_with` stores nothing if its closure returns `None`.
 #[test]
 fn a_value_may_be_missing(rt: HostRuntime) -> Result<(), Fail> {
     let mut cache = opened(rt.alloc(), 0, 100)?;
@@ -100,6 +103,7 @@ fn may_be_missing(rt: &impl Abort, cache: &mut Numbers) {
     says(rt, perhaps_inserted(cache, Some(6)), Told::Value(3, false));
 }
 
+/// `or_insert_with` fails with `TurnIsOpen` while a turn is open and no value is live.
 #[test]
 fn an_open_turn_refuses(rt: HostRuntime) -> Result<(), Fail> {
     let key = shared(rt.alloc(), 5)?;

@@ -1,4 +1,4 @@
-//! What begins, finishes, collects and leaves answer.
+//! Begin, finish, abandon, collect and leave.
 ghost use Rattle.std.specs.Prelude.{◌≡◌};
 ghost use Rattle.moka_model.specs.declared.turns.Kind.{Kind};
 
@@ -17,6 +17,7 @@ use std::process::Abort;
 use std::sync::Arc;
 use std::test::Fail;
 
+/// The first caller gets the turn, and later ones get tickets.
 #[test]
 fn one_caller_runs_and_the_others_wait(rt: HostRuntime) -> Result<(), Fail> {
     let key = shared(rt.alloc(), 5)?;
@@ -50,7 +51,8 @@ fn first_ticket(rt: &impl Abort, cache: &mut Numbers, key: &Arc<u64>) -> Ticket<
     ticket
 }
 
-/// A turn gives a value, and its ticket is told that value although it is gone since.
+/// Checks that a turn returns its value, and that its ticket collects it although it is removed
+/// since.
 fn is_given_and_told(rt: &impl Abort, cache: &mut Numbers, turn: Turn<u64>, ticket: Ticket<u64>)
     requires { turn.key.kind ≡ Kind.With }
 {
@@ -61,6 +63,7 @@ fn is_given_and_told(rt: &impl Abort, cache: &mut Numbers, turn: Turn<u64>, tick
     gave(rt, &told, (5, 7, false, false));
 }
 
+/// Turns of different kinds share no computation.
 #[test]
 fn kinds_do_not_meet(rt: HostRuntime) -> Result<(), Fail> {
     let key = shared(rt.alloc(), 5)?;
@@ -81,7 +84,7 @@ fn do_not_meet(rt: &impl Abort, cache: &mut Numbers, key: &Arc<u64>, error: Arc<
     gave(rt, &told, (5, 7, true, false));
 }
 
-/// A turn that may fail does, and who waits is told.
+/// Checks that a turn that fails returns its error, and that its ticket collects it.
 fn fails(rt: &impl Abort, cache: &mut Numbers, key: &Arc<u64>, error: Arc<u64>) {
     let tried = ran(rt, cache, key, Kind::Try);
     assert_eq!(rt; tried.number(), 1);
@@ -92,6 +95,7 @@ fn fails(rt: &impl Abort, cache: &mut Numbers, key: &Arc<u64>, error: Arc<u64>) 
     assert_eq!(rt; error_of(rt, &told), 9);
 }
 
+/// The tickets of an abandoned turn collect nothing, and a new turn can begin.
 #[test]
 fn an_abandoned_turn_gives_nothing(rt: HostRuntime) -> Result<(), Fail> {
     let key = shared(rt.alloc(), 5)?;
@@ -113,6 +117,7 @@ fn one_abandons(rt: &impl Abort, cache: &mut Numbers, key: &Arc<u64>) {
     abandoned(rt, cache, next);
 }
 
+/// A begin replaces a live value if its predicate holds.
 #[test]
 fn a_value_that_is_turned_down_is_replaced(rt: HostRuntime) -> Result<(), Fail> {
     let key = shared(rt.alloc(), 1)?;
@@ -131,7 +136,7 @@ fn is_replaced(rt: &impl Abort, cache: &mut Numbers, key: &Arc<u64>) {
     left_by(rt, cache, 30, RemovalCause::Replaced);
 }
 
-/// The turn of a begin that turns this live value down.
+/// Returns the turn of a begin that replaces this live value.
 fn ran_over(rt: &impl Abort, cache: &mut Numbers, key: &Arc<u64>, unwanted: u64) -> Turn<u64>
     ensures { result.key.kind ≡ Kind.With }
 {
@@ -141,7 +146,7 @@ fn ran_over(rt: &impl Abort, cache: &mut Numbers, key: &Arc<u64>, unwanted: u64)
     }
 }
 
-/// A begin that turns 30 down finds this value, which was written before.
+/// Checks that a begin that would replace 30 finds this value, which was stored before.
 fn is_found(rt: &impl Abort, cache: &mut Numbers, key: &Arc<u64>, value: u64) {
     match begin_if(cache, key, 30) {
         Ok(Begun::Found(entry)) => {
@@ -151,6 +156,7 @@ fn is_found(rt: &impl Abort, cache: &mut Numbers, key: &Arc<u64>, value: u64) {
     }
 }
 
+/// A turn or a ticket of another cache is unknown, and is handed back.
 #[test]
 fn what_another_cache_handed_out_is_not_known(rt: HostRuntime) -> Result<(), Fail> {
     let key = shared(rt.alloc(), 5)?;
@@ -187,6 +193,7 @@ fn are_not_known(rt: &impl Abort, other: &mut Numbers, turn: Turn<u64>, ticket: 
     assert!(rt; abandon(other, turn) == Err(Refused::UnknownTurn));
 }
 
+/// Without a sequence number left, finish and begin fail, and finish hands back the turn.
 #[test]
 fn numbers_are_used_up(rt: HostRuntime) -> Result<(), Fail> {
     let key = shared(rt.alloc(), 5)?;

@@ -1,4 +1,4 @@
--- After steps that keep, a call that keeps gives a step that keeps, and its answer keeps.
+-- After steps that satisfy `keeps`, a call that does so gives a step and an answer that satisfy it.
 use Rattle.std.proofs.Common.{◌≡◌, ℕ, Bool, true, false, cond, option_map, Option, Some, None, List, [], ◌∷◌, ◌++◌, ◌==◌, ◌&&◌, append-nil, refl, sym, ◌∙◌, subst}
 use Rattle.std.specs.Cmp.{IsEquivalence}
 use Rattle.std.specs.Option.{IfSome}
@@ -35,7 +35,7 @@ module _ {K V E : Type 0} (keeps : K → V → Type 0) (eq : K → K → Bool) (
   abbrev EventsKeep : List (Event K V) → Type 0
   EventsKeep es = AllByRecursion (EventKeeps keeps) es
 
-  -- an accepted call keeps where its events and its move do, and what it answers
+  -- an accepted call satisfies `keeps` if its events, its move and its answer do
   abbrev ItKeeps : Call K V E → Accepted K V E → Type 0
   ItKeeps call it = EventsKeep it.step.events × MoveKeeps keeps (turns steps) it.step.move × AnswerKeeps keeps call it.answer
 
@@ -93,7 +93,7 @@ module _ {K V E : Type 0} (keeps : K → V → Type 0) (eq : K → K → Bool) (
   alone : (t u : Turn K V E) → IsIn t (turns steps) → IsIn u (turns steps) → u.name.number ≡ t.name.number → t ≡ u
   alone t u is_t is_u same = numbered-alone (turns steps) (turns-apart eq settings steps (legal-fit eq settings steps legal)) t u is_t is_u (sym same)
 
-  -- the end of a turn that is found keeps under the turn's key
+  -- the end of a turn that is found satisfies `keeps` with the turn's key
   ends : (t : Turn K V E) → IsIn t (turns steps) → (end : End V E) → EndKeeps keeps t.name.key end → MoveKeeps keeps (turns steps) (Some (turning.Ended t.name.number end))
   ends t is end kept u is_u same = subst (λ (x : Turn K V E). EndKeeps keeps x.name.key end) (alone t u is is_u same) kept
 
@@ -166,7 +166,7 @@ module _ {K V E : Type 0} (keeps : K → V → Type 0) (eq : K → K → Bool) (
       (λ t is passes. collects name t.name.number t.name.key t.end (same_name-key eq t.name name (and_parts (has_ticket t) (same_name eq t.name name) passes).1) (each-of (TurnKeeps keeps) (turns steps) keep.1 t is).1)
   accepted-keeps (Leave name) owed = on-found (Leave name) (has_ticket_as eq name) (λ t. spends t.name.number) (λ t is passes. (tt, tt, tt))
 
-  -- after a call that keeps, the steps keep
+  -- after a call that satisfies `keeps`, the steps do
   pub steps-keep : (call : Call K V E) → CallKeeps keeps call → StepsKeep keeps (after eq settings call steps)
   steps-keep call owed = go (accepted eq settings steps call) (accepted-keeps call owed)
     where
@@ -174,11 +174,11 @@ module _ {K V E : Type 0} (keeps : K → V → Type 0) (eq : K → K → Bool) (
       go None it_keeps = keep
       go (Some it) it_keeps = (All-append (EventKeeps keeps) it.step.events h it_keeps.0 keep.0, moved-keep keeps (turns steps) it.step.move it_keeps.1 keep.1)
 
-  -- and its answer keeps
+  -- and so does its answer
   pub answer-keeps : (call : Call K V E) (it : Accepted K V E) → CallKeeps keeps call → accepted eq settings steps call ≡ Some it → AnswerKeeps keeps call it.answer
   answer-keeps call it owed is = let it_keeps : IfSome (Some it) (ItKeeps call) = subst (λ o. IfSome o (ItKeeps call)) is (accepted-keeps call owed) in it_keeps.2
 
-  -- so does what it is said to answer
+  -- and what it is said to return
   pub said-keeps : (call : Call K V E) (answer : Answer K V E) → CallKeeps keeps call → answer_of (accepted eq settings steps call) ≡ Some answer → AnswerKeeps keeps call answer
   said-keeps call answer owed = go (accepted eq settings steps call) (accepted-keeps call owed)
     where

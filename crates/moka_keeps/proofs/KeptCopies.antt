@@ -1,4 +1,4 @@
--- A copy of an answer keeps where the answer does.
+-- The clone of an answer satisfies `keeps` if the answer does.
 use Rattle.std.proofs.Common.{Option, Some, None, sym, subst}
 use Rattle.std.specs.Option.{IfSome}
 use Rattle.moka_model.specs.Calls.{Call, Answer, Found, Entered, Run, Unchanged, Inserted, ReplacedWith, Removed, Entry, IsCopyOf, IsCopiedEntry, IsEntryOf, IsAnswer}

@@ -1,4 +1,4 @@
--- After a move that keeps, all turns keep.
+-- After a move that satisfies `keeps`, all turns do.
 use Rattle.std.proofs.Common.{◌≡◌, ⊎_elim, inl, inr, ℕ, Option, Some, None, List, [], ◌∷◌, refl, subst}
 use Rattle.std.specs.Option.{IfSome}
 use Rattle.std.specs.List.{AllByRecursion}
@@ -17,7 +17,7 @@ module _ {A : Type 0} (P : A → Type 0) where
   all-of (x ∷ xs) each = (each x (inl refl), all-of xs (λ y is. each y (inr is)))
 
 module _ {K V E : Type 0} (keeps : K → V → Type 0) where
-  -- A move keeps where what is kept aside and the end do, to the keys of their turns.
+  -- A move satisfies `keeps` if the value kept aside and the end do, with the keys of their turns.
   abbrev pub MoveKeeps : List (Turn K V E) → Option (Move K V E) → Type 0
   MoveKeeps ts None = Unit {0}
   MoveKeeps ts (Some (Opened name shown kept)) = IfSome kept (keeps name.key)

@@ -1,4 +1,4 @@
--- A state keeps a history that keeps from call to call, and what it hands out keeps.
+-- From call to call a state still has a history that satisfies `keeps`, and what it returns satisfies it.
 use Rattle.std.proofs.Common.{◌≡◌, Bool, Option, Some, None, [], refl}
 use Rattle.std.specs.Cmp.{IsEquivalence}
 use Rattle.moka_model.specs.Lives.{Settings}
@@ -13,7 +13,7 @@ pub kept-opening : {K V E : Type 0} (keeps : K → V → Type 0) (eq : K → K �
 kept-opening keeps eq is_clone settings view stands = record { settings = settings; steps = []; stands = stands; keep = (tt, tt) }
 
 module _ {K V E : Type 0} (keeps : K → V → Type 0) (eq : K → K → Bool) (is_clone : V → V → Type 0) (laws : IsEquivalence eq) (alike : IsAlike keeps eq) where
-  -- and so does one that stands for the same steps followed by a call that keeps
+  -- so has one that could have come from the same steps followed by a call that satisfies `keeps`
   pub kept-followed : (old new : WholeView K V E) (call : Call K V E) (kept : HasKeptHistory keeps eq is_clone old) → CallKeeps keeps call → StandsFor eq is_clone kept.settings new (after eq kept.settings call kept.steps) → HasKeptHistory keeps eq is_clone new
   kept-followed old new call kept owed stands = record {
     settings = kept.settings;
@@ -25,7 +25,7 @@ module _ {K V E : Type 0} (keeps : K → V → Type 0) (eq : K → K → Bool) (
   pub kept-after : (old new : WholeView K V E) (call : Call K V E) → Follows eq is_clone old call new → CallKeeps keeps call → HasKeptHistory keeps eq is_clone old → HasKeptHistory keeps eq is_clone new
   kept-after old new call follows owed kept = kept-followed old new call kept owed (follows kept.settings kept.steps kept.stands)
 
-  -- What is handed out after these steps keeps,
+  -- What is returned after these steps satisfies `keeps`,
   pub kept-told : IsCopied keeps is_clone → (view : WholeView K V E) (call : Call K V E) (answer : Answer K V E) (kept : HasKeptHistory keeps eq is_clone view) → CallKeeps keeps call → IsAnswerOf is_clone (accepted eq kept.settings kept.steps call) answer → AnswerKeeps keeps call answer
   kept-told copied view call answer kept owed = go (accepted eq kept.settings kept.steps call) refl
     where
@@ -33,6 +33,6 @@ module _ {K V E : Type 0} (keeps : K → V → Type 0) (eq : K → K → Bool) (
       go None is none = absurd none
       go (Some it) is copy = copy-keeps keeps is_clone copied call it.answer answer copy (answer-keeps keeps eq kept.settings laws alike kept.steps kept.stands.legal kept.keep call it owed is)
 
-  -- and so what is handed out whatever the state stands for.
+  -- and so does what is returned whatever history the state could have come from.
   pub kept-answer : IsCopied keeps is_clone → (view : WholeView K V E) (call : Call K V E) (answer : Answer K V E) → Answers eq is_clone view call answer → CallKeeps keeps call → HasKeptHistory keeps eq is_clone view → AnswerKeeps keeps call answer
   kept-answer copied view call answer answers owed kept = kept-told copied view call answer kept owed (answers kept.settings kept.steps kept.stands)

@@ -1,4 +1,4 @@
--- After events that keep, all that stands keeps, and all that left.
+-- After events that satisfy `keeps`, all that is stored satisfies it, and all that was removed.
 use Rattle.std.proofs.Common.{◌≡◌, ℕ, max, Bool, true, false, cond, option_map, Option, Some, None, List, [], ◌∷◌, ◌++◌, slice_get, sym, ◌∙◌, subst}
 use Rattle.std.specs.Cmp.{IsEquivalence}
 use Rattle.std.specs.Option.{IfSome, option_to_list}
@@ -30,11 +30,11 @@ first-holds P [] all = tt
 first-holds P (x ∷ xs) all = All-head P x xs all
 
 module _ {K V : Type 0} (keeps : K → V → Type 0) (eq : K → K → Bool) (settings : Settings K V) (laws : IsEquivalence eq) (alike : IsAlike keeps eq) where
-  -- a write that stands keeps under its stored key
+  -- a stored write satisfies `keeps` with its stored key
   abbrev WriteKeeps : Write K V → Type 0
   WriteKeeps w = keeps w.key w.value
 
-  -- and a notice under its own
+  -- and a notice with its own
   abbrev pub RemovalKeeps : Removal K V → Type 0
   RemovalKeeps r = keeps r.key r.value
 
@@ -70,7 +70,7 @@ module _ {K V : Type 0} (keeps : K → V → Type 0) (eq : K → K → Bool) (se
   standing-keeps k (Drawn ∷ h) all = standing-keeps k h all.1
   standing-keeps k (Taken ∷ h) all = standing-keeps k h all.1
 
-  -- a live write keeps under its stored key and under the key of the look
+  -- a live write satisfies `keeps` with its stored key and with the key of the lookup
   abbrev pub LiveKeeps : K → Write K V → Type 0
   LiveKeeps k w = keeps w.key w.value × keeps k w.value
 
@@ -131,6 +131,6 @@ module _ {K V : Type 0} (keeps : K → V → Type 0) (eq : K → K → Bool) (se
   removals-keep [] all = All-nil RemovalKeeps
   removals-keep (e ∷ h) all = All-append RemovalKeeps (removals eq settings h) (removals_at eq settings e h) (removals-keep h all.1) (removals_at-keep e h all.1)
 
-  -- the notice that is taken next keeps
+  -- the notice that is taken next satisfies `keeps`
   pub notice-keeps : (h : List (Event K V)) → AllByRecursion (EventKeeps keeps) h → IfSome (slice_get (notices_left eq settings h) 0) RemovalKeeps
   notice-keeps h all = first-holds RemovalKeeps (notices_left eq settings h) (All-drop RemovalKeeps (taken eq settings h) (removals eq settings h) (removals-keep h all))

@@ -1,4 +1,4 @@
--- What a caller owes, where every value keeps under every key.
+-- What a caller owes if every value satisfies `keeps` with every key.
 use Rattle.moka_model.specs.declared.turns.Op.TheVariants as ops
 use Rattle.moka_model.specs.declared.turns.Outcome.TheVariants as outcomes
 use Rattle.moka_model.specs.Calls.{Call, Insert, OrInsert, Finish}

@@ -1,4 +1,4 @@
--- What a turn gives is such as its kind may give: an initializer that may not fail gives no error, and so on.
+-- How a turn may end, by its kind: an initializer that may not fail gives no error, and so on.
 use Rattle.std.specs.Prelude.{⊤, Option, IfSome}
 use Rattle.moka_model.specs.declared.turns.Kind.{Kind}
 use Rattle.moka_model.specs.declared.turns.Kind.TheVariants.{With, Optionally, Try, Compute}
@@ -6,7 +6,7 @@ use Rattle.moka_model.specs.Turns.{Turn, End}
 use Rattle.moka_model.specs.Turns as turning
 
 module _ {V E : Type 0} where
-  abbrev pub EndFits : Kind → End V E → Type 0  -- a turn of the kind may end so
+  abbrev pub EndFits : Kind → End V E → Type 0  -- a turn of this kind may end so
   EndFits With (turning.Value v replaced) = ⊤
   EndFits Optionally (turning.Value v replaced) = ⊤
   EndFits Optionally turning.Nothing = ⊤
@@ -17,5 +17,5 @@ module _ {V E : Type 0} where
   EndFits kind end = ⊥
 
 module _ {K V E : Type 0} where
-  abbrev pub TurnFits : Turn K V E → Type 0  -- a turn has ended so, if it has ended
+  abbrev pub TurnFits : Turn K V E → Type 0  -- the turn has ended as its kind may, if it has ended
   TurnFits t = IfSome t.end (EndFits t.name.kind)

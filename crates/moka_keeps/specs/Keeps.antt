@@ -1,4 +1,5 @@
--- A relation in which all keys and values stand that are handed in, and what then holds of all that is kept and handed out.
+-- The value invariant: a relation `keeps` between keys and values. If every pair that calls are given satisfies it, so
+-- does all that is stored and returned.
 use Rattle.std.specs.Prelude.{⊤, ◌≡◌, Bool, true, Option, Some, None, List, IfSome}
 use Rattle.std.specs.List.{AllByRecursion}
 use Rattle.moka_model.specs.declared.turns.Op.TheVariants.{Put}
@@ -13,7 +14,8 @@ use Rattle.moka_model.specs.Calls.{Finish, Abandon, Collect, Leave}
 use Rattle.moka_model.specs.Calls.{Entry, Answer, Found, Noticed, Entered, Run, Unchanged, Inserted, ReplacedWith, Removed}
 use Rattle.moka_model.specs.StandsFor.{WholeView, StandsFor}
 
-abbrev pub key_of : {K V E : Type 0} → Call K V E → Option K  -- the key that a call hands in, by itself or in a turn's name
+-- the key that a call is given, by itself or in a turn's name
+abbrev pub key_of : {K V E : Type 0} → Call K V E → Option K
 key_of (Get k at) = Some k
 key_of (ContainsKey k at) = Some k
 key_of (Insert k v at) = Some k
@@ -29,28 +31,29 @@ key_of (Leave name) = Some name.key
 key_of call = None
 
 module _ {K V : Type 0} (keeps : K → V → Type 0) where
-  abbrev pub IsAlike : (K → K → Bool) → Type 0  -- It does not tell equal keys apart,
+  abbrev pub IsAlike : (K → K → Bool) → Type 0  -- `keeps` does not distinguish equal keys
   IsAlike eq = (a b : K) (v : V) → eq a b ≡ true → keeps a v → keeps b v
 
-  abbrev pub IsCopied : (V → V → Type 0) → Type 0  -- nor a value from its copies.
+  abbrev pub IsCopied : (V → V → Type 0) → Type 0  -- nor a value from its clones
   IsCopied is_clone = (k : K) (v w : V) → is_clone v w → keeps k v → keeps k w
 
-  abbrev pub EventKeeps : Event K V → Type 0  -- What is written stands in it;
+  abbrev pub EventKeeps : Event K V → Type 0  -- a pair that is written satisfies `keeps`
   EventKeeps (Written k v at) = keeps k v
   EventKeeps e = ⊤
 
-  abbrev pub EndKeeps : {E : Type 0} → K → End V E → Type 0  -- so does the value that a turn ended with, to a key,
+  abbrev pub EndKeeps : {E : Type 0} → K → End V E → Type 0  -- so does the value that a turn ended with, with this key
   EndKeeps k (turning.Value v replaced) = keeps k v
   EndKeeps k end = ⊤
 
-  abbrev pub TurnKeeps : {E : Type 0} → Turn K V E → Type 0  -- and to the turn's key that and the value that was kept aside.
+  -- so do that value and the one kept aside, with the turn's key
+  abbrev pub TurnKeeps : {E : Type 0} → Turn K V E → Type 0
   TurnKeeps t = IfSome t.kept (keeps t.name.key) × IfSome t.end (EndKeeps t.name.key)
 
-  -- Accepted steps keep where all their events and turns do.
+  -- Accepted steps satisfy `keeps` if all their events and turns do.
   abbrev pub StepsKeep : {E : Type 0} → List (AcceptedStep K V E) → Type 0
   StepsKeep steps = AllByRecursion EventKeeps (events_in steps) × AllByRecursion TurnKeeps (turns steps)
 
-  -- What a caller owes: a value that it hands in stands in the relation to the key that it is to be written under.
+  -- What a caller owes: a value to be written satisfies `keeps` with the key under which it is to be written.
   abbrev pub CallKeeps : {E : Type 0} → Call K V E → Type 0
   CallKeeps (Insert k v at) = keeps k v
   CallKeeps (OrInsert k v at) = keeps k v
@@ -59,13 +62,13 @@ module _ {K V : Type 0} (keeps : K → V → Type 0) where
   CallKeeps call = ⊤
 
   module _ {E : Type 0} (call : Call K V E) where
-    abbrev pub ValueKeeps : V → Type 0  -- a value stands in it to the key that the call hands in, if it hands in one
+    abbrev pub ValueKeeps : V → Type 0  -- a value satisfies `keeps` with the key that the call is given, if any
     ValueKeeps v = IfSome (key_of call) (λ k. keeps k v)
 
-    abbrev pub EntryKeeps : Entry K V → Type 0  -- and to the key that it is handed out under
+    abbrev pub EntryKeeps : Entry K V → Type 0  -- and with the key of its entry
     EntryKeeps e = keeps e.key e.value × ValueKeeps e.value
 
-    -- Each value that an answer hands out stands in the relation to its key, and to that of the call.
+    -- Each value that a call returns satisfies `keeps` with its own key, and with the key that the call is given.
     abbrev pub AnswerKeeps : Answer K V E → Type 0
     AnswerKeeps (Found v) = IfSome v ValueKeeps
     AnswerKeeps (Noticed l) = IfSome l (λ r. keeps r.key r.value)
@@ -77,7 +80,7 @@ module _ {K V : Type 0} (keeps : K → V → Type 0) where
     AnswerKeeps (Removed e) = EntryKeeps e
     AnswerKeeps answer = ⊤
 
-  -- A state has a history that keeps: it stands for accepted steps that keep, under some settings.
+  -- A state has a history that satisfies `keeps`: it could have come from such accepted steps, under some settings.
   pub record HasKeptHistory {E : Type 0} (eq : K → K → Bool) (is_clone : V → V → Type 0) (view : WholeView K V E) : Type 0 where
     pub settings : Settings K V
     pub steps : List (AcceptedStep K V E)

@@ -1,5 +1,5 @@
-//! The laws of what is kept, over every legal list of accepted steps, with the relation that a
-//! cache's types keep.
+//! The laws of the value invariant, over every legal list of accepted steps. The invariant is the
+//! `keeps` of a cache's types: a relation between keys and values.
 ghost use Rattle.std.specs.Prelude.{◌≡◌, ℕ, Bool, Option, Some, List, []};
 ghost use Rattle.moka_model.specs.declared.turns.Kind.{Kind};
 ghost use Rattle.moka_model.specs.declared.turns.Op.TheVariants.{Nop, Put};
@@ -18,8 +18,10 @@ ghost use Rattle.moka_keeps.specs.KeepLaws.{AfterKept, WhereAnswered};
 
 use moka_policy::policy::CacheTypes;
 
-/// Before any call nothing is there that might not keep. After a call whose value the caller keeps,
-/// if it hands in one, all that was written and all that turns have still keeps.
+/// If every value that calls are given satisfies `keeps`, so does all that a history stores.
+///
+/// Before any call nothing is stored (`none`). After a call whose value satisfies `keeps`, if it
+/// has one, all values in entries and turns still do (`next`).
 pub fn what_was_handed_in_stays_kept<K: Eq, V: Clone, C: CacheTypes<K, V>, E>()
     ensures none { (none : List (AcceptedStep K V E)) → none ≡ [] → StepsKeep C.keeps none }
     ensures next { (call : Call K V E) → CallKeeps C.keeps call
@@ -27,14 +29,15 @@ pub fn what_was_handed_in_stays_kept<K: Eq, V: Clone, C: CacheTypes<K, V>, E>()
         (λ settings steps. StepsKeep C.keeps (after K.eq settings call steps)) }
 {}
 
-/// No call owes more than that its value is kept: where each value is kept under each key, no call
-/// owes anything.
+/// No call owes more than that its value satisfies `keeps`. If every value does so under every key,
+/// no call owes anything.
 pub fn no_call_owes_more<K: Eq, V: Clone, C: CacheTypes<K, V>, E>()
     ensures { ((k : K) (v : V) → C.keeps k v) → (call : Call K V E) → CallKeeps C.keeps call }
 {}
 
-/// What an accepted call answers keeps, after steps that keep: each value stands in the relation to
-/// the key that it comes under, and to the key that the call hands in. So do its copies.
+/// After steps that satisfy `keeps`, each value that an accepted call returns satisfies it too
+/// (`answer`). It does so with its own key and with the key that the call was given. So do its
+/// clones (`copy`).
 pub fn what_is_handed_out_is_kept<K: Eq, V: Clone, C: CacheTypes<K, V>, E>()
     ensures answer { (call : Call K V E) (answer : Answer K V E) → CallKeeps C.keeps call
         → WhereAnswered C.keeps K.eq call answer (AnswerKeeps C.keeps call answer) }
@@ -43,8 +46,11 @@ pub fn what_is_handed_out_is_kept<K: Eq, V: Clone, C: CacheTypes<K, V>, E>()
         → AnswerKeeps C.keeps call copy }
 {}
 
-/// A state for which nothing was done stands for steps that keep, and where one does, so does the
-/// state after each call whose value the caller keeps. What such a state hands out keeps.
+/// A state's history stays one that satisfies `keeps`.
+///
+/// A state that could have come from no steps has such a history (`opening`). If a state has one,
+/// so has the state after each call whose value satisfies `keeps` (`next`). What such a state
+/// returns satisfies `keeps` (`handed_out`).
 pub fn a_kept_history_goes_on<K: Eq, V: Clone, C: CacheTypes<K, V>, E>()
     ensures opening { (settings : Settings K V) (view : WholeView K V E)
         (none : List (AcceptedStep K V E)) → none ≡ []
@@ -59,8 +65,9 @@ pub fn a_kept_history_goes_on<K: Eq, V: Clone, C: CacheTypes<K, V>, E>()
         → HasKeptHistory C.keeps K.eq V.is_clone view → AnswerKeeps C.keeps call answer }
 {}
 
-/// What a look finds for a key is kept under that key, even where it was written under an equal
-/// one; and where a look is answered with an entry, also under the entry's own key.
+/// A value that a lookup finds for a key satisfies `keeps` with that key, even if it was written
+/// under an equal one. If the lookup returns an entry, the value also satisfies it with the entry's
+/// own key.
 pub fn a_look_finds_a_kept_value<K: Eq, V: Clone, C: CacheTypes<K, V>, E>()
     ensures get { (k : K) (v : V) (at : ℕ)
         → WhereAnswered {E = E} C.keeps K.eq (Get k at) (Found (Some v)) (C.keeps k v) }
@@ -77,14 +84,16 @@ pub fn a_look_finds_a_kept_value<K: Eq, V: Clone, C: CacheTypes<K, V>, E>()
         (C.keeps e.key e.value × C.keeps k e.value) }
 {}
 
-/// What left is kept under the key that it was stored under, where its notice is taken.
+/// The value of a notice that is taken satisfies `keeps` with the key that it was stored under.
 pub fn a_notice_tells_of_a_kept_value<K: Eq, V: Clone, C: CacheTypes<K, V>, E>()
     ensures { (l : Removal K V) → WhereAnswered {E = E} C.keeps K.eq TakeNotice (Noticed (Some l))
         (C.keeps l.key l.value) }
 {}
 
-/// What a compute is answered is kept under the key of its turn's name: the value that it put,
-/// which its caller keeps there, the one that it removed, and the one that its begin kept aside.
+/// The value that a compute returns satisfies `keeps` with the key of its turn's name.
+///
+/// It is the value that the compute put, the one that it removed, or the one that its begin kept
+/// aside. Of the first its caller has to prove it.
 pub fn a_compute_is_answered_a_kept_value<K: Eq, V: Clone, C: CacheTypes<K, V>, E>()
     ensures inserted { (name : Name K) (v : V) (at : ℕ) (e : Entry K V) → C.keeps name.key v
         → WhereAnswered {E = E} C.keeps K.eq (Finish name (outcomes.Op (Put v)) at) (Inserted e)
@@ -100,9 +109,11 @@ pub fn a_compute_is_answered_a_kept_value<K: Eq, V: Clone, C: CacheTypes<K, V>, 
         (C.keeps e.key e.value × C.keeps name.key e.value) }
 {}
 
-/// A value with which a turn is finished, and which is kept under the key of the turn's name, is
-/// kept under the key of a ticket that collects it next, and under a key that the next look finds
-/// it for.
+/// A value that a turn is finished with satisfies `keeps` with the key of the turn's name, as its
+/// caller has to prove. Then it does so with every key that it is returned for next.
+///
+/// That is the key of a ticket that collects it (`collected`), or a key whose lookup finds it
+/// (`found`). It is also the key of the entry that the finish returns (`answered`).
 pub fn a_finished_value_is_kept_under_the_tickets_key<K: Eq, V: Clone, C: CacheTypes<K, V>, E>()
     ensures collected { (name ticket : Name K) (v : V) (at : ℕ) (e : Entry K V) → C.keeps name.key v
         → AfterKept C.keeps K.eq (λ settings steps.
@@ -119,8 +130,8 @@ pub fn a_finished_value_is_kept_under_the_tickets_key<K: Eq, V: Clone, C: CacheT
         (C.keeps e.key e.value × C.keeps name.key e.value) }
 {}
 
-/// A value that is inserted, and which is kept under its key, is kept under a key that the next
-/// look finds it for. Where nothing else was done this needs nothing more.
+/// A value that is inserted, and satisfies `keeps` with its key, does so with each key for which
+/// the next lookup finds it. If nothing else was done, this needs no other premise (`first`).
 pub fn an_inserted_value_is_found_as_kept<K: Eq, V: Clone, C: CacheTypes<K, V>, E>()
     ensures next { (k q : K) (v w : V) (at now : ℕ) → C.keeps k v
         → AfterKept C.keeps K.eq (λ settings steps.

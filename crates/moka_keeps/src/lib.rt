@@ -1,6 +1,6 @@
-//! That what is handed out stands in the relation that all that was handed in stands in: the words
-//! of it, its laws, and the lemmas that the crates above use (`proofs/Callers.antt`). A law stands
-//! as the contract of a function that does nothing.
+//! The value invariant of a history: if every value that calls are given satisfies it, so does
+//! every value that they return. This crate has its definitions, its laws, and the lemmas that
+//! upper crates use (`proofs/Callers.antt`). Each law is the contract of a function without code.
 #![tactic(auto)]
 
 pub mod keep_laws;

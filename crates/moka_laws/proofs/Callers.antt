@@ -1,3 +1,3 @@
--- What callers of a cache conclude from its contracts.
+-- Lemmas that callers of a cache use with its contracts.
 pub use Rattle.moka_laws.proofs.FoundAgain.{end_of_lives, moment_of_write, found-after_insert, none-after_insert}
 pub use Rattle.moka_laws.proofs.FoundInTime.{found-in_time}

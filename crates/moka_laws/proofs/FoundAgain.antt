@@ -1,4 +1,4 @@
--- What a caller finds of a value that it has just written.
+-- What a caller finds of a value that it has just inserted, in a cache without an expiry.
 use Rattle.std.proofs.Common.{◌≡◌, ℕ, max, Bool, true, false, not, ◌&&◌, cond, if◌then◌else◌, Option, Some, None, List, [], ◌∷◌, ◌++◌, refl, sym, ap, ◌∙◌, subst}
 use Rattle.std.specs.Option.{option_map}
 use Rattle.std.specs.Cmp.{IsEquivalence}
@@ -13,13 +13,13 @@ use Rattle.moka_model.specs.StandsFor.{WholeView, StandsFor, Follows, Answers}
 use Rattle.moka_laws.proofs.Written.{is_expired-after_write, after_write-shown, after_write-value}
 
 module _ {K V : Type 0} (eq : K → K → Bool) (settings : Settings K V) where
-  -- the value has no life of its own
+  -- the entry has no lifetime of its own
   abbrev OwnsNone : Option (Write K V) → Type 0
   OwnsNone None = Unit {0}
   OwnsNone (Some w) = w.own_life ≡ None
 
   module _ (plain : settings.behaviour.lifetimes ≡ no_lifetimes) where
-    -- none is given by a write,
+    -- a write gives none,
     life_given-none : (k : K) (v : V) (at : ℕ) (o : Option (Write K V)) → OwnsNone o → life_given settings k v at o ≡ None
     life_given-none k v at None none = ap (λ (l : Lifetimes K V). l.created k v at) plain
     life_given-none k v at (Some w) none =
@@ -35,7 +35,7 @@ module _ {K V : Type 0} (eq : K → K → Bool) (settings : Settings K V) where
     written-none k v at None none = ap (λ life. given life at) (life_given-none k v at None none)
     written-none k v at (Some w) none = ap (λ life. given life at) (life_given-none k v at (Some w) none)
 
-    -- nor by a look
+    -- nor does a lookup
     look-none : (at : ℕ) (o : Option (Write K V)) → OwnsNone o → OwnsNone (option_map (after_look settings at) o)
     look-none at None none = tt
     look-none at (Some w) none = go (is_live settings w at)
@@ -51,7 +51,7 @@ module _ {K V : Type 0} (eq : K → K → Bool) (settings : Settings K V) where
     either-none true a b one other = one
     either-none false a b one other = other
 
-    -- so no value that stands has one
+    -- so no stored entry has one
     stands-none : (k : K) (h : List (Event K V)) → OwnsNone (standing eq settings k h)
     stands-none k [] = tt
     stands-none k (Looked q at ∷ h) =
@@ -72,11 +72,11 @@ module _ {K V : Type 0} (eq : K → K → Bool) (settings : Settings K V) where
     stands-none k (Drawn ∷ h) = stands-none k h
     stands-none k (Taken ∷ h) = stands-none k h
 
-    -- The end of the lives that all values have, of one that is written at a moment.
+    -- The deadline by TTL and TTI of an entry that is written at a moment.
     abbrev pub end_of_lives : ℕ → Option ℕ
     end_of_lives at = earlier (ends_at settings.time_to_live at) (ends_at settings.time_to_idle at)
 
-    -- what a look finds of a write, by that end
+    -- what a lookup finds after a write, by that deadline
     found_then : (k : K) (v : V) (at now : ℕ) (o : Option (Write K V)) → OwnsNone o → (b : Bool) → has_come (end_of_lives at) now ≡ b
         → option_map (λ (w : Write K V). w.value) (live_one settings now (Some (after_write settings k v at o))) ≡ (if b then None else Some v)
     found_then k v at now o none b come =
@@ -97,7 +97,7 @@ module _ {K V E : Type 0} (eq : K → K → Bool) (is_clone : V → V → Type 0
   abbrev pub moment_of_write : K → V → ℕ → List (AcceptedStep K V E) → ℕ
   moment_of_write k v at steps = latest (events_in (after eq settings (Insert k v at) steps))
 
-  -- what a look is answered after a write: the value, unless an end of its lives has come
+  -- what a lookup returns after a write: the value, unless its deadline has come
   answered : (steps : List (AcceptedStep K V E)) (k q : K) (v : V) (at now : ℕ) (plain : settings.behaviour.lifetimes ≡ no_lifetimes) → eq k q ≡ true → stores_nothing settings.max_capacity ≡ false
       → (b : Bool) → has_come (end_of_lives eq settings plain (moment_of_write k v at steps)) (max (moment_of_write k v at steps) now) ≡ b
       → option_map (λ (w : Write K V). w.value) (live_at eq settings q now (events_in (after eq settings (Insert k v at) steps))) ≡ (if b then None else Some v)
@@ -118,7 +118,7 @@ module _ {K V E : Type 0} (eq : K → K → Bool) (is_clone : V → V → Type 0
     by_answer : IsCopyOf is_clone (option_map (λ (w : Write K V). w.value) (live_at eq settings q now (events_in (after eq settings (Insert k v at) steps)))) found
     by_answer = answers settings (after eq settings (Insert k v at) steps) (follows settings steps stands)
 
-    -- A value that was just inserted is found, as a copy, until an end of its lives comes,
+    -- A value that was just inserted is found, as a clone, until its deadline comes,
     pub found-after_insert : has_come (end_of_lives eq settings plain (moment_of_write k v at steps)) (max (moment_of_write k v at steps) now) ≡ false → IsCopyOf is_clone (Some v) found
     found-after_insert lives = subst (λ o. IsCopyOf is_clone o found) (answered steps k q v at now plain same stores false lives) by_answer
 

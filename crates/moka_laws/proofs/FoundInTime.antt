@@ -1,4 +1,4 @@
--- What a caller finds of the first value of a cache whose values live so long after their writes.
+-- What a caller finds of the first inserted value, in a cache that has only a TTL.
 use Rattle.std.proofs.Common.{◌≡◌, ℕ, ◌+◌, max, Bool, true, false, if◌then◌else◌, Option, Some, None, [], ◌∷◌, ◌++◌, sym, ap, ◌∙◌, subst, nat_le, arith}
 use Rattle.std.specs.Cmp.{IsEquivalence}
 use Rattle.moka_model.specs.Lives.{Settings, no_lifetimes, earlier, ends_at, has_come}
@@ -15,11 +15,11 @@ module _ {K V E : Type 0} (eq : K → K → Bool) (is_clone : V → V → Type 0
   abbrev moment : ℕ
   moment = moment_of_write {E = E} eq is_clone laws settings k v 0 []
 
-  -- the same, where it is said whether anything is stored
+  -- the same, by whether the cache stores anything
   abbrev moment_if : Bool → ℕ
   moment_if t = latest ((if t then Passed 0 ∷ [] else Written k v 0 ∷ flush eq settings 0 []) ++ [])
 
-  -- of what is written at moment 0 the end has come once the life has passed
+  -- an entry written at moment 0 has reached its deadline once the TTL has passed
   come : has_come (end_of_lives eq settings plain moment) (max moment now) ≡ nat_le life now
   come =
       ap (λ t. has_come (end_of_lives eq settings plain (moment_if t)) (max (moment_if t) now)) stores
@@ -28,7 +28,7 @@ module _ {K V E : Type 0} (eq : K → K → Bool) (is_clone : V → V → Type 0
       ∙ ap (λ (end : ℕ). nat_le end (max 0 now)) (omega (arith))
       ∙ ap (λ (at : ℕ). nat_le life at) (omega (arith))
 
-  -- The first value that was inserted, at moment 0, is found, as a copy, until its life has passed, and not from then on.
+  -- The first inserted value, at moment 0, is found, as a clone, until the TTL has passed, and not from then on.
   pub found-in_time : (b : Bool) → nat_le life now ≡ b → IsCopyOf is_clone (if b then None else Some v) found
   found-in_time false early = found-after_insert eq is_clone laws settings before after_it [] k q v 0 now found stands follows answers same plain stores (come ∙ early)
   found-in_time true late =

@@ -1,4 +1,4 @@
--- What stays admitted is what a front leaves behind, by whatever rule of who wins.
+-- Residents are evicted as a prefix of the access order, whatever the admission rule.
 use Rattle.std.proofs.Common.{◌≡◌, ℕ, ◌+◌, Bool, Option, List, [], ◌∷◌, ◌++◌, drop, filter, sym, ap, ◌∙◌, inl, inr, refl, append_assoc, append-nil, drop-drop}
 use Rattle.std.proofs.lemmas.List.{drop-append-le}
 use Rattle.moka_model.specs.Maintenance.{Queues, front, parts, after_parts}

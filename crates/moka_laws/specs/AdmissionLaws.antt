@@ -1,4 +1,4 @@
--- The words of the laws of admission.
+-- The terms of the laws about admission.
 use Rattle.std.specs.Prelude.{◌≡◌, ◌≤◌, ℕ, Bool, true, Option, Some, None, List, [], ◌∷◌, ◌++◌, take, drop, option_to_list}
 use Rattle.std.specs.List.{AllByRecursion}
 use Rattle.moka_model.specs.Maintenance.{total, front}
@@ -8,40 +8,41 @@ use Rattle.moka_model.specs.Admission.{frequency}
 use Rattle.moka_model.specs.Orders.{orders}
 use Rattle.moka_model.specs.SizeLaws.{lives}
 
--- the key that an event looks for, if it is a recorded look
+-- The key that a recorded lookup looks up; none for other events.
 abbrev pub looked_for : {K V : Type 0} → Event K V → Option K
 looked_for (Looked k at) = Some k
 looked_for (TurnedDown k at) = Some k
 looked_for e = None
 
--- the keys that were looked for, hit or miss, oldest first
+-- The keys that recorded lookups looked up, with or without success, the oldest first.
 abbrev pub all_looked_for : {K V : Type 0} → List (Event K V) → List K
 all_looked_for [] = []
 all_looked_for (e ∷ h) = all_looked_for h ++ option_to_list (looked_for e)
 
--- The words of one maintenance at a capacity, the events before it being h.
+-- The terms of one maintenance at a capacity, after the events `h`.
 module _ {K V : Type 0} (eq : K → K → Bool) (settings : Settings K V) (h : List (Event K V)) (capacity : ℕ) where
-  -- how many of the admitted have to leave, the least recently used first, to make room for a write
+  -- How many residents have to be evicted, the least recently used first, to make room for a pending entry.
   abbrev pub victim_count : Write K V → ℕ
   victim_count w = front (λ u. u.policy_weight) (Some capacity) w.policy_weight (orders eq settings h).admitted
 
-  -- the admitted that have to leave
+  -- The victims: the residents that have to be evicted.
   abbrev pub victims : Write K V → List (Write K V)
   victims w = take (victim_count w) (orders eq settings h).admitted
 
-  -- the admitted that can stay
+  -- The residents that can stay.
   abbrev pub others : Write K V → List (Write K V)
   others w = drop (victim_count w) (orders eq settings h).admitted
 
-  -- the weight of the admitted
+  -- The total weight of the residents.
   abbrev pub admitted_weight : ℕ
   admitted_weight = total (λ u. u.policy_weight) (orders eq settings h).admitted
 
--- the frequencies of some writes together: what the source estimates of their hashes
+-- The sum of the estimated frequencies of some entries.
 abbrev pub frequencies : {K V : Type 0} → Settings K V → List (Event K V) → List (Write K V) → ℕ
 frequencies settings h ws = total (λ u. frequency settings h u.hash) ws
 
--- One write waits alone before a maintenance, live, beside live admitted ones that are within the capacity.
+-- The entry is the only pending one before a maintenance. It and all residents are live, and these are within the
+-- capacity.
 pub record WaitsAlone {K V : Type 0} (eq : K → K → Bool) (settings : Settings K V) (at : ℕ) (h : List (Event K V)) (capacity : ℕ)
     (w : Write K V) : Type 0 where
   pub capacity_is : settings.max_capacity ≡ Some capacity

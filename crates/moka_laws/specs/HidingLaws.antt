@@ -1,4 +1,4 @@
--- The words of the laws of mass invalidation.
+-- The terms of the laws about mass invalidation.
 use Rattle.std.specs.Prelude.{⊤, ◌≡◌, ◌++◌, ℕ, Bool, true, false, Some, None, List, ◌∷◌}
 use Rattle.moka_model.specs.Lives.{Settings}
 use Rattle.moka_model.specs.Events.{Event, Hidden}
@@ -7,7 +7,7 @@ use Rattle.moka_model.specs.Calls.{Call, Get, ContainsKey, Invalidate, Remove, I
 use Rattle.moka_model.specs.Calls.{Finish, Abandon, Collect, Leave}
 use Rattle.moka_laws.specs.Laws.{answer}
 
--- An event that hides a value under a key, at its place among some events.
+-- An event among these that invalidates a value under a stored key, at its place.
 pub record HidingEvent {K V : Type 0} (k : K) (v : V) (those : List (Event K V)) : Type 0 where
   pub later : List (Event K V)
   pub test : K → V → Bool
@@ -15,14 +15,14 @@ pub record HidingEvent {K V : Type 0} (k : K) (v : V) (those : List (Event K V))
   pub place : those ≡ later ++ Hidden test ∷ before
   pub holds : test k v ≡ true
 
--- no look and no removal finds anything under a key, at any moment
+-- No lookup or removal finds anything under the key, at any moment.
 abbrev pub IsNotFound : {K V E : Type 0} → (K → K → Bool) → Settings K V → K → List (AcceptedStep K V E) → Type 0
 IsNotFound eq settings k steps =
     (at : ℕ) → (answer eq settings (Get k at) steps ≡ Some (Found None))
     × (answer eq settings (ContainsKey k at) steps ≡ Some (Contains false))
     × (answer eq settings (Remove k at) steps ≡ Some (Found None))
 
--- a call that removes a key, or hides
+-- The call removes or invalidates one key or many.
 abbrev pub IsInvalidation : {K V E : Type 0} → Call K V E → Type 0
 IsInvalidation (Invalidate k at) = ⊤
 IsInvalidation (Remove k at) = ⊤
@@ -30,7 +30,7 @@ IsInvalidation InvalidateAll = ⊤
 IsInvalidation (InvalidateIf test) = ⊤
 IsInvalidation call = ⊥
 
--- a call that may be refused by its name: it hides by a test, or names a turn
+-- The call can be rejected: it invalidates by a test, or names a turn.
 abbrev pub IsByName : {K V E : Type 0} → Call K V E → Type 0
 IsByName (InvalidateIf test) = ⊤
 IsByName (Finish name outcome at) = ⊤

@@ -1,4 +1,4 @@
--- The words of the laws over lists of events and of accepted steps.
+-- The terms of the laws over lists of events and of accepted steps.
 use Rattle.std.specs.Prelude.{⊤, ◌≡◌, ◌⊎◌, ℕ, ◌+◌, ◌≤◌, ◌++◌, ◌&&◌, ◌||◌, max, Bool, true, false, if◌then◌else◌, Option, Some, None, List}
 use Rattle.std.specs.Prelude.{[], ◌∷◌, filter, is_some}
 use Rattle.moka_model.specs.declared.notification.RemovalCause.{RemovalCause}
@@ -12,15 +12,15 @@ use Rattle.moka_model.specs.Calls.{Call, Get, ContainsKey, Insert, Invalidate, R
 use Rattle.moka_model.specs.Calls.{BeginCompute, Finish, RunPendingTasks, RunPendingTasksUpTo}
 use Rattle.moka_model.specs.Calls.{Answer, accepted, answer_of}
 
--- what a call is answered after some accepted steps
+-- What a call returns after some accepted steps; none if it is rejected.
 abbrev pub answer : {K V E : Type 0} → (K → K → Bool) → Settings K V → Call K V E → List (AcceptedStep K V E) → Option (Answer K V E)
 answer eq settings call steps = answer_of (accepted eq settings steps call)
 
--- some accepted steps, and these events as one more
+-- Some accepted steps, and these events as one step more.
 abbrev pub and_then : {K V E : Type 0} → List (Event K V) → List (AcceptedStep K V E) → List (AcceptedStep K V E)
 and_then events steps = record { events = events; move = None } ∷ steps
 
--- the moment that a call hands in to be recorded, 0 where it hands in none
+-- The moment that a call gives to be recorded, 0 if it gives none.
 abbrev pub moment_of : {K V E : Type 0} → Call K V E → ℕ
 moment_of (Get k at) = at
 moment_of (Insert k v at) = at
@@ -34,7 +34,7 @@ moment_of (BeginCompute k keep at) = at
 moment_of (Finish name outcome at) = at
 moment_of call = 0
 
--- a call that may write, or open a turn
+-- The call may write, or open a turn.
 abbrev pub IsWrite : {K V E : Type 0} → Call K V E → Type 0
 IsWrite (Insert k v at) = ⊤
 IsWrite (OrInsert k v at) = ⊤
@@ -43,53 +43,53 @@ IsWrite (BeginCompute k keep at) = ⊤
 IsWrite (Finish name outcome at) = ⊤
 IsWrite call = ⊥
 
--- a call that may open a turn
+-- The call may open a turn.
 abbrev pub IsBegin : {K V E : Type 0} → Call K V E → Type 0
 IsBegin (Begin k kind replace at) = ⊤
 IsBegin (BeginCompute k keep at) = ⊤
 IsBegin call = ⊥
 
--- a call that only asks
+-- The call only reads.
 abbrev pub IsQuestion : {K V E : Type 0} → Call K V E → Type 0
 IsQuestion (ContainsKey k at) = ⊤
 IsQuestion EntryCount = ⊤
 IsQuestion WeightedSize = ⊤
 IsQuestion call = ⊥
 
--- whether an event writes a key
+-- Whether an event writes a key.
 abbrev pub writes : {K V : Type 0} → (K → K → Bool) → K → Event K V → Bool
 writes eq k (Written q v at) = eq q k
 writes eq k e = false
 
--- whether an event removes a key, the events before it being h: by its name, or as a maintenance that evicts its write
+-- Whether an event after `h` removes a key: by naming it, or as a maintenance that evicts its entry.
 abbrev pub removes : {K V : Type 0} → (K → K → Bool) → Settings K V → K → Event K V → List (Event K V) → Bool
 removes eq settings k (Invalidated q at) h = eq q k
 removes eq settings k (Maintained limit at) h = is_evicted eq settings k limit at h
 removes eq settings k e h = false
 
--- whether an event writes or removes a key: what stood for it ends
+-- Whether an event after `h` writes, removes or evicts a key, which ends its stored value.
 abbrev pub ends : {K V : Type 0} → (K → K → Bool) → Settings K V → K → Event K V → List (Event K V) → Bool
 ends eq settings k (Written q v at) h = eq q k
 ends eq settings k (Invalidated q at) h = eq q k
 ends eq settings k (Maintained limit at) h = is_evicted eq settings k limit at h
 ends eq settings k e h = false
 
--- none of these events writes a key
+-- None of these events writes the key.
 abbrev pub IsUnwritten : {K V : Type 0} → (K → K → Bool) → K → List (Event K V) → Type 0
 IsUnwritten eq k [] = Unit {0}
 IsUnwritten eq k (e ∷ h) = (writes eq k e ≡ false) × IsUnwritten eq k h
 
--- none of these events, which come after those of a list, removes a key
+-- None of these events, which come after `h`, removes the key.
 abbrev pub IsUnremoved : {K V : Type 0} → (K → K → Bool) → Settings K V → K → List (Event K V) → List (Event K V) → Type 0
 IsUnremoved eq settings k [] h = Unit {0}
 IsUnremoved eq settings k (e ∷ later) h = (removes eq settings k e (later ++ h) ≡ false) × IsUnremoved eq settings k later h
 
--- none of them does either
+-- None of these events, which come after `h`, writes or removes the key.
 abbrev pub IsUntouched : {K V : Type 0} → (K → K → Bool) → Settings K V → K → List (Event K V) → List (Event K V) → Type 0
 IsUntouched eq settings k [] h = Unit {0}
 IsUntouched eq settings k (e ∷ later) h = (ends eq settings k e (later ++ h) ≡ false) × IsUntouched eq settings k later h
 
--- The last write to a key, at its place: nothing later writes or removes the key.
+-- The last write of a key, at its place in `h`: nothing later writes or removes the key.
 pub record LastWrite {K V : Type 0} (eq : K → K → Bool) (settings : Settings K V) (k : K) (h : List (Event K V)) : Type 0 where
   pub later : List (Event K V)
   pub key : K
@@ -100,7 +100,7 @@ pub record LastWrite {K V : Type 0} (eq : K → K → Bool) (settings : Settings
   pub same_key : eq key k ≡ true
   pub untouched : IsUntouched eq settings k later (Written key value at ∷ before)
 
--- The first of these events, which come after those of a list, that writes or removes a key, at its place.
+-- The first of these events, which come after `h`, that writes or removes the key, at its place.
 pub record FirstEnd {K V : Type 0} (eq : K → K → Bool) (settings : Settings K V) (k : K) (those h : List (Event K V)) : Type 0 where
   pub later : List (Event K V)
   pub event : Event K V
@@ -109,7 +109,7 @@ pub record FirstEnd {K V : Type 0} (eq : K → K → Bool) (settings : Settings 
   pub ends_it : ends eq settings k event (before ++ h) ≡ true
   pub untouched : IsUntouched eq settings k before h
 
--- The last removal of a key, after its last write, at its place.
+-- The last removal of a key, at its place in `h`: nothing later writes the key.
 pub record LastRemoval {K V : Type 0} (eq : K → K → Bool) (settings : Settings K V) (k : K) (h : List (Event K V)) : Type 0 where
   pub later : List (Event K V)
   pub event : Event K V
@@ -118,11 +118,11 @@ pub record LastRemoval {K V : Type 0} (eq : K → K → Bool) (settings : Settin
   pub removes_it : removes eq settings k event before ≡ true
   pub unwritten : IsUnwritten eq k later
 
--- no write to a key has come, or after the last one the key was removed
+-- Nothing is stored for the key: it was never written, or was removed after its last write.
 abbrev pub NothingStands : {K V : Type 0} → (K → K → Bool) → Settings K V → K → List (Event K V) → Type 0
 NothingStands eq settings k h = IsUnwritten eq k h ⊎ LastRemoval eq settings k h
 
--- The write that found a key not stored, at its place: nothing stood before it, and nothing later removes the key.
+-- The write that created a key's entry, at its place: nothing was stored before it, and nothing later removes the key.
 pub record FirstWrite {K V : Type 0} (eq : K → K → Bool) (settings : Settings K V) (k : K) (h : List (Event K V)) : Type 0 where
   pub later : List (Event K V)
   pub key : K
@@ -134,12 +134,12 @@ pub record FirstWrite {K V : Type 0} (eq : K → K → Bool) (settings : Setting
   pub absent : NothingStands eq settings k before
   pub kept : IsUnremoved eq settings k later (Written key value at ∷ before)
 
--- the events up to the last write, with it
+-- The events up to and including the last write.
 abbrev pub up_to_write : {K V : Type 0} {eq : K → K → Bool} {settings : Settings K V} {k : K} {h : List (Event K V)}
     → LastWrite eq settings k h → List (Event K V)
 up_to_write last = Written last.key last.value last.at ∷ last.before
 
--- The moments of the hits on a key among the events after `before`: its recorded looks that found its write live.
+-- The moments of the hits on a key among the events after `before`: its recorded lookups that found it live.
 abbrev pub hits : {K V : Type 0} → (K → K → Bool) → Settings K V → K → List (Event K V) → List (Event K V) → List ℕ
 hits eq settings k [] before = []
 hits eq settings k (Looked q at ∷ later) before =
@@ -149,19 +149,19 @@ hits eq settings k (Looked q at ∷ later) before =
     else hits eq settings k later before
 hits eq settings k (e ∷ later) before = hits eq settings k later before
 
--- the greatest of some moments
+-- The greatest of some moments, 0 if there are none.
 abbrev pub greatest : List ℕ → ℕ
 greatest [] = 0
 greatest (m ∷ ms) = max m (greatest ms)
 
--- whether one of these events hides a value under a key
+-- Whether one of these events invalidates a value under a stored key.
 abbrev pub hides : {K V : Type 0} → K → V → List (Event K V) → Bool
 hides k v [] = false
 hides k v (Hidden test ∷ later) = hides k v later || test k v
 hides k v (e ∷ later) = hides k v later
 
--- What stands has the value, the weight and the moment of the last write, was used at the greatest moment among that one
--- and the hits since, and is hidden where an event since hid its value under its stored key.
+-- The entry has the value, weight and moment of the last write. It was last accessed at the greatest moment among that
+-- one and the hits since, and is invalidated if an event since invalidated it.
 pub record IsAsWritten {K V : Type 0} {eq : K → K → Bool} {settings : Settings K V} {k : K} {h : List (Event K V)}
     (last : LastWrite eq settings k h) (w : Write K V) : Type 0 where
   pub value : w.value ≡ last.value
@@ -170,14 +170,14 @@ pub record IsAsWritten {K V : Type 0} {eq : K → K → Bool} {settings : Settin
   pub used : w.last_accessed ≡ greatest (latest (up_to_write last) ∷ hits eq settings k last.later (up_to_write last))
   pub hidden : w.is_hidden ≡ hides w.key w.value last.later
 
--- a write, hidden by what hides its value among these events
+-- The entry, invalidated if one of these events invalidates it.
 abbrev pub hidden_since : {K V : Type 0} → List (Event K V) → Write K V → Write K V
 hidden_since [] w = w
 hidden_since (Hidden test ∷ later) w = hidden_by test (hidden_since later w)
 hidden_since (e ∷ later) w = hidden_since later w
 
--- A removal is that of the last write: with its value, under an equal key, and for the event's own cause; but as removed
--- where what stood was hidden, and as expired where at that moment its deadline had come.
+-- The removal is that of the last write: its value, under the stored key, which equals `k`. The cause is `Explicit` if
+-- the entry was invalidated, else `Expired` if its deadline had come at that moment, else the event's own.
 pub record IsRemovalOf {K V : Type 0} {eq : K → K → Bool} {settings : Settings K V} {k : K} {h : List (Event K V)}
     (last : LastWrite eq settings k h) (own : RemovalCause) (at : ℕ) (l : Removal K V) : Type 0 where
   pub stood : Write K V
@@ -188,40 +188,40 @@ pub record IsRemovalOf {K V : Type 0} {eq : K → K → Bool} {settings : Settin
   pub value : l.value ≡ last.value
   pub cause : l.cause ≡ (if stood.is_hidden then Explicit else (if has_come (deadline settings stood) at then Expired else own))
 
--- the life of its own that a write gives to its value, the events before it being h
+-- The lifetime that the expiry gives to the entry at a write after `h`.
 abbrev pub life_by_write : {K V : Type 0} → (K → K → Bool) → Settings K V → K → V → ℕ → List (Event K V) → Option ℕ
 life_by_write eq settings k v at h = life_given settings k v (latest (Written k v at ∷ h)) (standing eq settings k h)
 
--- a life from a moment on has ended at a moment
+-- A lifetime that started at `from` has ended at a moment.
 abbrev pub HasEnded : Option ℕ → ℕ → ℕ → Type 0
 HasEnded life from at = (nanoseconds : ℕ) × (life ≡ Some nanoseconds) × (from + nanoseconds ≤ at)
 
--- a life of its own has ended at a moment
+-- An entry's own lifetime has ended at a moment.
 abbrev pub OwnHasEnded : Option OwnLife → ℕ → Type 0
 OwnHasEnded own at = (it : OwnLife) × (own ≡ Some it) × (it.from + it.life ≤ at)
 
--- whether an event draws a number: a write does, and what draws one alone
+-- Whether an event draws a sequence number: a write or a `Drawn`.
 abbrev pub draws : {K V : Type 0} → Event K V → Bool
 draws (Written q v at) = true
 draws Drawn = true
 draws e = false
 
--- the values that were written to a key, in order
+-- The values written to a key, in order.
 abbrev pub values_written : {K V : Type 0} → (K → K → Bool) → K → List (Event K V) → List V
 values_written eq k [] = []
 values_written eq k (Written q v at ∷ h) = values_written eq k h ++ (if eq q k then v ∷ [] else [])
 values_written eq k (e ∷ h) = values_written eq k h
 
--- the values that left under a key, in order
+-- The values removed under a key, in order.
 abbrev pub values_left : {K V : Type 0} → (K → K → Bool) → K → List (Removal K V) → List V
 values_left eq k [] = []
 values_left eq k (l ∷ ls) = if eq l.key k then l.value ∷ values_left eq k ls else values_left eq k ls
 
--- the removals of a key, in order
+-- The removals of a key, in order.
 abbrev pub removals_under : {K V : Type 0} → (K → K → Bool) → K → List (Removal K V) → List (Removal K V)
 removals_under eq k ls = filter (λ l. eq l.key k) ls
 
--- the value of the write that stands, if one does
+-- The value of a stored entry, if there is one.
 abbrev pub value_standing : {K V : Type 0} → Option (Write K V) → List V
 value_standing None = []
 value_standing (Some w) = w.value ∷ []

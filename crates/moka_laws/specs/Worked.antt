@@ -1,4 +1,4 @@
--- The settings and the events of the worked cases. Keys and values are numbers.
+-- Settings and events of the worked cases. Keys and values are numbers.
 use Rattle.std.specs.Prelude.{ℕ, ◌*◌, ◌%◌, Bool, true, nat_eq, Option, Some, None, List, [], ◌∷◌}
 use Rattle.moka_model.specs.declared.notification.RemovalCause.{RemovalCause}
 use Rattle.moka_model.specs.Lives.{Settings, Behaviour, no_lifetimes}
@@ -9,15 +9,15 @@ use Rattle.moka_model.specs.Calls.{Call, Answer, Done, Found, Contains, Counted,
 use Rattle.moka_laws.specs.Laws.{answer, and_then}
 use Rattle.moka_policy.specs.Frequency.{estimate_after}
 
--- some seconds, in nanoseconds
+-- `n` seconds, in nanoseconds.
 abbrev pub seconds : ℕ → ℕ
 seconds n = n * 1_000_000_000
 
--- Least recently used, each key its own hash, each weight one, no value with a life of its own.
+-- LRU; each key is its own hash, every entry weighs 1, and none has a lifetime of its own.
 abbrev pub plain_behaviour : Behaviour ℕ ℕ
 plain_behaviour = record { is_lru = true; hash = λ k. k; weight = λ k v. 1; lifetimes = no_lifetimes }
 
--- no life ends
+-- No TTL, no TTI and no capacity.
 abbrev pub without_lives : Settings ℕ ℕ
 without_lives =
     record {
@@ -31,59 +31,63 @@ without_lives =
       frequency = estimate_after 6;
     }
 
--- ten seconds to live
+-- A TTL of 10 s.
 abbrev pub ten_to_live : Settings ℕ ℕ
 ten_to_live = record without_lives { time_to_live = Some (seconds 10) }
 
--- five seconds to idle
+-- A TTI of 5 s.
 abbrev pub five_to_idle : Settings ℕ ℕ
 five_to_idle = record without_lives { time_to_idle = Some (seconds 5) }
 
--- ten seconds to live, and five to idle
+-- A TTL of 10 s and a TTI of 5 s.
 abbrev pub both_lives : Settings ℕ ℕ
 both_lives = record without_lives { time_to_live = Some (seconds 10); time_to_idle = Some (seconds 5) }
 
--- one number is left to draw
+-- One sequence number is left to draw.
 abbrev pub at_the_last_number : Settings ℕ ℕ
 at_the_last_number = record without_lives { first_number = 18446744073709551614 }
 
--- the value 7 is written to the key 1 at 0
+-- The value 7 is written to the key 1 at moment 0.
 abbrev pub written : List (Event ℕ ℕ)
 written = Written 1 7 0 ∷ []
 
--- numbers that are equal as keys where their last digits are
+-- Whether two numbers are equal as keys: their last digits are.
 abbrev pub same_last_digit : ℕ → ℕ → Bool
 same_last_digit a b = nat_eq (a % 10) (b % 10)
 
--- some events as one accepted step
+-- Some events as one accepted step.
 abbrev pub stepped : List (Event ℕ ℕ) → List (AcceptedStep ℕ ℕ ℕ)
 stepped h = and_then h []
 
--- what a call is answered after some events
+-- What a call returns after some events.
 abbrev pub answer_after : (ℕ → ℕ → Bool) → Settings ℕ ℕ → Call ℕ ℕ ℕ → List (Event ℕ ℕ) → Option (Answer ℕ ℕ ℕ)
 answer_after eq settings call h = answer eq settings call (stepped h)
 
--- what calls are answered, in order, after some accepted steps
+-- What calls return, in order, after some accepted steps.
 abbrev pub answers : (ℕ → ℕ → Bool) → Settings ℕ ℕ → List (Call ℕ ℕ ℕ) → List (AcceptedStep ℕ ℕ ℕ) → List (Option (Answer ℕ ℕ ℕ))
 answers eq settings [] steps = []
 answers eq settings (call ∷ calls) steps = answer eq settings call steps ∷ answers eq settings calls (after eq settings call steps)
 
--- the answers, each to an accepted call
+-- The result of an accepted lookup.
 abbrev pub found : Option ℕ → Option (Answer ℕ ℕ ℕ)
 found value = Some (Found value)
 
+-- The result of an accepted `contains_key`.
 abbrev pub contains : Bool → Option (Answer ℕ ℕ ℕ)
 contains is_there = Some (Contains is_there)
 
+-- The result of an accepted call that returns nothing.
 abbrev pub is_done : Option (Answer ℕ ℕ ℕ)
 is_done = Some Done
 
+-- The result of an accepted count.
 abbrev pub counted : ℕ → Option (Answer ℕ ℕ ℕ)
 counted n = Some (Counted n)
 
+-- The result of an accepted call that takes a notice.
 abbrev pub noticed : Option (Removal ℕ ℕ) → Option (Answer ℕ ℕ ℕ)
 noticed removal = Some (Noticed removal)
 
--- a value that left, under its key
+-- The removal of a value under a key.
 abbrev pub left_as : ℕ → ℕ → RemovalCause → Removal ℕ ℕ
 left_as k v cause = record { key = k; value = v; cause = cause }

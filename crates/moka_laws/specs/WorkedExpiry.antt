@@ -1,8 +1,8 @@
--- The lives that the closures of the worked cases give. Keys and values are numbers.
+-- The lifetimes that the closures of the worked cases give, in nanoseconds. Keys and values are numbers.
 use Rattle.std.specs.Prelude.{ℕ, ◌-◌, Some, None}
 use Rattle.moka_model.specs.Lives.{Lifetimes}
 
--- as long as the moment says, and after a look as long as the value has stood
+-- As long as the moment's number; after a lookup as long as the value's age.
 abbrev pub by_moments : Lifetimes ℕ ℕ
 by_moments = record {
   created = λ k v at. Some at;
@@ -10,7 +10,7 @@ by_moments = record {
   updated = λ k v at left. Some at;
 }
 
--- what is left, and none at first
+-- The rest of the lifetime, and none at creation.
 abbrev pub by_rest : Lifetimes ℕ ℕ
 by_rest = record {
   created = λ k v at. None;

@@ -1,5 +1,4 @@
-//! The laws of how often keys were looked for, and of which keys are admitted, over every list of
-//! events.
+//! Laws about noted lookups and the admission of entries, for every list of events.
 ghost use Rattle.std.specs.Prelude.{◌≡◌, ◌⊎◌, ◌↔◌, ℕ, ◌+◌, ◌<◌, ◌≤◌, true, false, Some, None, List, [], ◌∷◌, ◌++◌, map};
 ghost use Rattle.moka_model.specs.MaintenanceLaws.{queues as two_queues};
 ghost use Rattle.moka_model.specs.Lives.{Settings, Write};
@@ -10,9 +9,10 @@ ghost use Rattle.moka_model.specs.OrderLaws.{is_admitted};
 ghost use Rattle.moka_model.specs.SizeLaws.{gone};
 ghost use Rattle.moka_laws.specs.AdmissionLaws.{looked_for, all_looked_for, victims, others, admitted_weight, frequencies, WaitsAlone};
 
-/// Each recorded look, hit or miss, notes the hash of its key once, in order, and nothing else
-/// notes any. So no write, removal, hiding or maintenance changes how often a hash was noted; nor
-/// does a question, which is no event.
+/// Each recorded lookup notes its key's hash once, in order, whether it finds a value or not.
+/// Nothing else notes any.
+///
+/// So no write, removal, invalidation, maintenance or reading call changes a frequency.
 pub fn recorded_looks_alone_are_noted<K, V>()
     ensures hashes { (settings : Settings K V) (h : List (Event K V)) → notes settings h ≡ map settings.behaviour.hash (all_looked_for h) }
     ensures more { (settings : Settings K V) (later h : List (Event K V)) → notes settings (later ++ h) ≡ notes settings h ++ map settings.behaviour.hash (all_looked_for later) }
@@ -23,15 +23,17 @@ pub fn recorded_looks_alone_are_noted<K, V>()
         → frequency settings (e ∷ h) hash ≡ frequency settings h hash }
 {}
 
-/// What stands has the hash of the key that it is stored under.
+/// A stored entry has the hash of its stored key.
 pub fn what_stands_has_its_keys_hash<K: Eq, V>()
     ensures { (settings : Settings K V) (h : List (Event K V)) (k : K) (w : Write K V)
         → standing K.eq settings k h ≡ Some w → w.hash ≡ settings.behaviour.hash w.key }
 {}
 
-/// By either policy a key that waits alone, beside others that live within the capacity, is
-/// admitted behind them in a maintenance where there is room, and leaves where it is heavier than
-/// the capacity.
+/// Under either policy, a single pending entry is admitted if there is room, and dropped if it is
+/// heavier than the capacity.
+///
+/// It is the only pending one, and all residents are live and within the capacity. It becomes the
+/// most recently used.
 pub fn where_there_is_room_a_key_is_admitted<K: Eq, V>()
     ensures room { (settings : Settings K V) (h : List (Event K V)) (at capacity : ℕ) (w : Write K V) → WaitsAlone K.eq settings at h capacity w
         → w.policy_weight + admitted_weight K.eq settings h capacity ≤ capacity
@@ -41,19 +43,21 @@ pub fn where_there_is_room_a_key_is_admitted<K: Eq, V>()
         → (gone K.eq settings at h ≡ w ∷ []) × (orders K.eq settings (Maintained None at ∷ h) ≡ two_queues (orders K.eq settings h).admitted []) }
 {}
 
-/// Under least recently used a key that waits alone, and is no heavier than the capacity, is
-/// admitted: just as many of the least recently used leave as have to make room for it.
+/// Under LRU, a single pending entry no heavier than the capacity is admitted: exactly its victims,
+/// the least recently used, are evicted.
 pub fn least_recently_used_admits_each<K: Eq, V>()
     ensures { (settings : Settings K V) (h : List (Event K V)) (at capacity : ℕ) (w : Write K V) → WaitsAlone K.eq settings at h capacity w
         → settings.behaviour.is_lru ≡ true → w.policy_weight ≤ capacity
         → (gone K.eq settings at h ≡ victims K.eq settings h capacity w) × (orders K.eq settings (Maintained None at ∷ h) ≡ two_queues (others K.eq settings h capacity w ++ w ∷ []) []) }
 {}
 
-/// Under TinyLFU a key that waits alone, beside others that live within the capacity, is admitted
-/// exactly where there is room, or where it is no heavier than the capacity and its frequency is
-/// greater than those of all together that would have to leave for it. Then those leave; and else it
-/// leaves itself, also where the frequencies are equal. A frequency is what the cache's source
-/// estimates of a key's hash.
+/// When a single pending entry is admitted under TinyLFU. All residents are live and within the
+/// capacity.
+///
+/// It is admitted exactly if there is room, or if it is no heavier than the capacity and its
+/// frequency exceeds the sum of its victims' frequencies. Then the victims are evicted. Otherwise,
+/// also if the frequencies are equal, it is dropped. A frequency is what the cache's source
+/// estimates for a key's hash.
 pub fn greater_frequency_is_admitted<K: Eq, V>()
     ensures exactly { (settings : Settings K V) (h : List (Event K V)) (at capacity : ℕ) (w : Write K V) → WaitsAlone K.eq settings at h capacity w
         → settings.behaviour.is_lru ≡ false

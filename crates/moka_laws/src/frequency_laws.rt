@@ -1,20 +1,22 @@
-//! The laws of the sources of frequency, and of the table of counters in the words of its rule.
-//! Each stands as the contract of a function that does nothing.
+//! Laws about frequency sources, and about the table of counters.
+//!
+//! Each is the contract of a function without code.
 ghost use Rattle.std.specs.Prelude.{◌≡◌, ℕ, ◌*◌, ◌<◌, ◌≤◌, List, [], ◌∷◌, ◌++◌, length, filter, reverse, min, nat_eq};
 ghost use Rattle.moka_policy.specs.Frequency.{Counts, after_notes, counter_count, counter_of, estimated, estimate_after, kept};
 
 use moka_policy::frequency::{CountTable, FrequencySource};
 
-/// A source after some notes is one that took each of them in order.
+/// A source after some notes is the one that took each of them in order.
 pub fn notes_come_in_order<F: FrequencySource>()
     ensures none { after_notes F.opened F.noted [] ≡ F.opened }
     ensures one_more { (notes : List ℕ) (hash : ℕ) → after_notes F.opened F.noted (notes ++ hash ∷ []) ≡ F.noted (after_notes F.opened F.noted notes) hash }
     ensures parts { (notes later : List ℕ) → after_notes F.opened F.noted (notes ++ later) ≡ after_notes (after_notes F.opened F.noted notes) F.noted later }
 {}
 
-/// A table estimates for a hash what its counter keeps of all notes, the newest first: one for each
-/// note that uses the counter, up to 15, and half of it with each ten notes for a counter. Before
-/// the first halving that is how many notes used the counter, up to 15.
+/// A table of counters estimates for a hash what its counter keeps of all notes.
+///
+/// A counter keeps one for each note that uses it, up to 15. It is halved with every 10 notes for
+/// each counter of the table. Before the first halving it is the number of those notes, up to 15.
 pub fn a_table_keeps_its_notes<const BITS: u32>()
     ensures kept { (notes : List ℕ) (hash : ℕ)
         → ⟦<CountTable<BITS> as FrequencySource>⟧.count (after_notes ⟦<CountTable<BITS> as FrequencySource>⟧.opened ⟦<CountTable<BITS> as FrequencySource>⟧.noted (reverse notes)) hash ≡ kept BITS hash notes }

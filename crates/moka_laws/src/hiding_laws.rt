@@ -1,4 +1,4 @@
-//! The laws of mass invalidation, and the law that no pair of a key and a value is lost or doubled.
+//! Laws about mass invalidation, and the law that no pair of a key and a value is lost or doubled.
 ghost use Rattle.std.specs.Prelude.{◌≡◌, ◌↔◌, ℕ, ◌+◌, Bool, true, false, Some, None, List, [], ◌∷◌, ◌++◌};
 ghost use Rattle.moka_model.specs.declared.notification.RemovalCause.{RemovalCause};
 ghost use Rattle.moka_model.specs.declared.notification.RemovalCause.TheVariants.{Explicit};
@@ -14,8 +14,10 @@ ghost use Rattle.moka_conserved.specs.Conserved.{SeesKeysAlike, count_written, c
 ghost use Rattle.moka_laws.specs.Laws.{IsUnwritten, LastWrite};
 ghost use Rattle.moka_laws.specs.HidingLaws.{HidingEvent, IsNotFound, IsInvalidation, IsByName};
 
-/// A write is hidden exactly where, behind it, an event hides by a test that holds of its stored
-/// key and its value. So what is written later is not, and nothing leaves at such an event.
+/// An entry is invalidated exactly if an event after its last write invalidates by a test that
+/// holds of its stored key and value.
+///
+/// So values written later are not invalidated. Such an event removes nothing.
 pub fn hidden_exactly_where_a_test_held_since<K: Eq, V>()
     ensures exactly { (settings : Settings K V) (h : List (Event K V)) (k : K) (w : Write K V) (last : LastWrite K.eq settings k h)
         → standing K.eq settings k h ≡ Some w
@@ -25,9 +27,11 @@ pub fn hidden_exactly_where_a_test_held_since<K: Eq, V>()
     ensures none_leaves { (settings : Settings K V) (h : List (Event K V)) (test : K → V → Bool) → removals_at K.eq settings (Hidden test) h ≡ [] }
 {}
 
-/// What was hidden is never found again: after a call that hides everything nothing is found under
-/// a key until it is written; after one that hides by a test so it is with what passes the test,
-/// and what does not pass it stands as it stood.
+/// An invalidated value is never found again.
+///
+/// After `invalidate_all` no lookup or removal finds a key until it is written. After an
+/// invalidation by a test so it is for the entries that pass the test, and the others are
+/// unchanged.
 pub fn what_is_hidden_is_never_found<K: Eq, V, E>()
     ensures all { (settings : Settings K V) (later steps : List (AcceptedStep K V E)) (k : K) → IsUnwritten K.eq k (events_in later)
         → IsNotFound K.eq settings k (later ++ after K.eq settings InvalidateAll steps) }
@@ -40,20 +44,22 @@ pub fn what_is_hidden_is_never_found<K: Eq, V, E>()
         → standing K.eq settings k (events_in (after K.eq settings (InvalidateIf test) steps)) ≡ Some w }
 {}
 
-/// Whatever takes a hidden write away, it leaves as removed.
+/// An invalidated entry is removed with the cause `Explicit`, whatever removes it.
 pub fn what_was_hidden_leaves_as_removed<K, V>()
     ensures { (settings : Settings K V) (own : RemovalCause) (at : ℕ) (w : Write K V) → w.is_hidden ≡ true
         → (removal_of settings own at w).cause ≡ Explicit }
 {}
 
-/// No invalidation changes a frequency.
+/// No invalidation or removal changes a frequency.
 pub fn an_invalidation_changes_no_frequency<K: Eq, V, E>()
     ensures { (settings : Settings K V) (steps : List (AcceptedStep K V E)) (call : Call K V E) (hash : ℕ) → IsInvalidation call
         → frequency settings (events_in (after K.eq settings call steps)) hash ≡ frequency settings (events_in steps) hash }
 {}
 
-/// A call that hides by a test is refused by its name exactly where the cache does not support that. Of
-/// all others only those are that name a turn. Where a call is refused by its name nothing has changed.
+/// Which calls can be rejected.
+///
+/// An invalidation by a test exactly if the cache does not support that; of the others, only calls
+/// that name a turn. A rejected call changes nothing.
 pub fn tests_and_names_alone_are_refused<K: Eq, V, E>()
     ensures exactly { (settings : Settings K V) (steps : List (AcceptedStep K V E)) (test : K → V → Bool)
         → (accepted K.eq settings steps (InvalidateIf test) ≡ None) ↔ (settings.supports_closures ≡ false) }
@@ -63,9 +69,11 @@ pub fn tests_and_names_alone_are_refused<K: Eq, V, E>()
         → accepted K.eq settings steps call ≡ None → after K.eq settings call steps ≡ steps }
 {}
 
-/// Each pair of a key and a value that was written stands, or has left and was not given out yet,
-/// or was given out by a notice, and so just once: as many of them pass a test that does not tell
-/// equal keys apart.
+/// Each written pair of a key and a value is at one place: stored, queued as a notice, or taken as
+/// a notice.
+///
+/// Stated by counts, for any test that does not distinguish equal keys: as many written pairs pass
+/// it as stored, queued and taken pairs together.
 pub fn each_pair_stands_or_was_noticed<K: Eq, V>()
     ensures stands_or_left { (settings : Settings K V) (h : List (Event K V)) (test : K → V → Bool) → SeesKeysAlike K.eq test
         → count_written test h ≡ count_standing test (orders K.eq settings h) + count_left test (removals K.eq settings h) }

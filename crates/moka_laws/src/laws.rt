@@ -1,6 +1,7 @@
-//! The laws of the definitions over the list of events, and over the list of accepted steps, in the
-//! words of the subject. Each stands as the contract of a function that does nothing, so that the
-//! check proves it for every such list.
+//! Laws about what lookups find, what is stored, and what is removed.
+//!
+//! Each is the contract of a function without code, and holds for every list of events or of
+//! accepted steps.
 ghost use Rattle.std.specs.Prelude.{◌≡◌, ◌≢◌, ◌⊎◌, ◌↔◌, ℕ, ◌+◌, ◌<◌, ◌≤◌, max, Bool, not, if◌then◌else◌, Option, Some, None, IsSome, option_to_list, true, false, List, [], ◌∷◌, ◌++◌, length, filter, slice_get, ◌^◌, fold};
 ghost use Rattle.moka_model.specs.declared.notification.RemovalCause.TheVariants.{Explicit, Replaced, Size};
 ghost use Rattle.moka_model.specs.declared.turns.Outcome.{Outcome};
@@ -18,10 +19,11 @@ ghost use Rattle.moka_conserved.specs.Conserved.{given_out};
 ghost use Rattle.moka_policy.specs.NumberHash.{number_hash};
 ghost use Rattle.std.specs.Hash.{u64 as number_writes};
 
-/// After a write a look at the same moment, or at an earlier one, finds its value; with a life of
-/// nothing, be it one of all values or its own, no look finds it at any moment. The value of an
-/// accepted write is found alike, whether a maintenance came before it or not; but where the
-/// capacity is 0 no look finds anything.
+/// After a write, a lookup at the write's moment or an earlier one finds its value.
+///
+/// If a lifetime is 0 (TTL, TTI or the entry's own), no lookup ever finds it. The value of an
+/// accepted `insert` is found too, with or without a flush before it. At a capacity of 0 no lookup
+/// finds anything.
 pub fn get_after_insert<K: Eq, V, E>()
     ensures found { (settings : Settings K V) (steps : List (AcceptedStep K V E)) (k q : K) (v : V) (at now : ℕ) → K.eq k q ≡ true → now ≤ at
         → settings.time_to_live ≢ Some 0 → settings.time_to_idle ≢ Some 0 → life_by_write K.eq settings k v at (events_in steps) ≢ Some 0
@@ -38,9 +40,10 @@ pub fn get_after_insert<K: Eq, V, E>()
         → answer K.eq settings (Get q now) (after K.eq settings (Insert k v at) steps) ≡ Some (Found None) }
 {}
 
-/// After a turn has ended with a value, a look at the same moment, or at an earlier one, finds that
-/// value: so who gets a value by an initializer of his own finds it by the next look. It does not
-/// where the capacity is 0, or where the value has a life of nothing.
+/// After a turn is finished with a value, a lookup at the same moment or an earlier one finds it.
+///
+/// So the next lookup finds a value that an initializer computed. This does not hold at a capacity
+/// of 0, or if the entry has a lifetime of 0.
 pub fn get_after_finish<K: Eq, V, E>()
     ensures { (settings : Settings K V) (steps : List (AcceptedStep K V E)) (name : Name K) (q : K) (v : V) (at now : ℕ) → K.eq name.key q ≡ true → now ≤ at
         → stores_nothing settings.max_capacity ≡ false → settings.time_to_live ≢ Some 0 → settings.time_to_idle ≢ Some 0
@@ -49,10 +52,12 @@ pub fn get_after_finish<K: Eq, V, E>()
         → answer K.eq settings (Get q now) (after K.eq settings (Finish name (Outcome.Value v) at) steps) ≡ Some (Found (Some v)) }
 {}
 
-/// An `or_insert` on a live value is a hit as by `get`: it answers that value, not fresh and not
-/// replaced, and is the same step. Else it is a look and a write: it answers its own value, fresh, and
-/// a look at the same moment, or at an earlier one, finds that, but where the capacity is 0, or where
-/// the value has a life of nothing.
+/// An `or_insert` on a live value is a hit, as by `get`: it returns that value, neither fresh nor
+/// replaced, and is the same step.
+///
+/// Otherwise it is a lookup and a write. It returns its own value as fresh, and a lookup at the
+/// same moment or an earlier one finds that. Exceptions to the last: a capacity of 0, and a
+/// lifetime of 0.
 pub fn get_after_or_insert<K: Eq, V, E>()
     ensures hit { (settings : Settings K V) (steps : List (AcceptedStep K V E)) (k : K) (v : V) (at : ℕ) (w : Write K V)
         → live_at K.eq settings k at (events_in steps) ≡ Some w
@@ -69,9 +74,11 @@ pub fn get_after_or_insert<K: Eq, V, E>()
         → answer K.eq settings (Get q now) (after K.eq settings (OrInsert k v at) steps) ≡ Some (Found (Some v)) }
 {}
 
-/// A question is a step without events, and such a step, where it moves no turn either, changes
-/// nothing: every later answer is as if it had not been made, and so are the two orders, whether a
-/// flush is due, what was not given out yet, and how often each hash was noted.
+/// A call that only reads is a step without events and without a move.
+///
+/// Such a step changes nothing: with or without it, every later result is the same. So are both
+/// orders, whether a flush is due, the queued notices, the next sequence number and the
+/// frequencies.
 pub fn a_question_changes_nothing<K: Eq, V, E>()
     ensures step { (settings : Settings K V) (steps : List (AcceptedStep K V E)) (call : Call K V E) → IsQuestion call
         → after K.eq settings call steps ≡ and_then [] steps }
@@ -91,8 +98,8 @@ pub fn a_question_changes_nothing<K: Eq, V, E>()
         → frequency settings (events_in (later ++ and_then [] steps)) hash ≡ frequency settings (events_in (later ++ steps)) hash }
 {}
 
-/// No value is lost or doubled: the values that were written to a key are, in this order, those
-/// that left under it, and then the one that stands.
+/// No value is lost or doubled: the values written to a key are, in order, those removed under it
+/// and then the stored one.
 pub fn each_write_stands_or_left<K: Eq, V>()
     ensures in_order { (settings : Settings K V) (h : List (Event K V)) (k : K)
         → values_written K.eq k h ≡ values_left K.eq k (removals K.eq settings h) ++ value_standing (standing K.eq settings k h) }
@@ -100,9 +107,10 @@ pub fn each_write_stands_or_left<K: Eq, V>()
         → length (filter p (values_written K.eq k h)) ≡ length (filter p (value_standing (standing K.eq settings k h))) + length (filter p (values_left K.eq k (removals K.eq settings h))) }
 {}
 
-/// Each removal is given out once and in order: those that the notices gave out, and then those
-/// that are left to give out, are all that left. What a call that takes a notice is answered is the
-/// next of them, and it gives out just that.
+/// Each removal is taken as a notice once, in order.
+///
+/// The removals taken so far, followed by the queued ones, are all removals. A call that takes a
+/// notice returns the next one, and takes only that.
 pub fn each_removal_is_noticed_once<K: Eq, V, E>()
     ensures in_order { (settings : Settings K V) (h : List (Event K V))
         → given_out K.eq settings h ++ notices_left K.eq settings h ≡ removals K.eq settings h }
@@ -117,10 +125,11 @@ pub fn each_removal_is_noticed_once<K: Eq, V, E>()
         → (answer K.eq settings TakeNotice steps ≡ Some (Noticed None)) ↔ (given_out K.eq settings (events_in steps) ≡ removals K.eq settings (events_in steps)) }
 {}
 
-/// What stands for a key is its last write, if nothing later writes or removes the key: with that
-/// value, its weight and that moment, used at the greatest moment among that one and the hits
-/// since, hidden where an event since hid it, and stored under the key of the write that found it
-/// not stored.
+/// The entry stored for a key is its last write, if nothing later writes or removes the key.
+///
+/// It has that write's value, weight and moment. It was last accessed at the greatest moment among
+/// that one and the hits since. It is invalidated if an event since invalidated it. Its stored key
+/// is that of the write that created the entry.
 pub fn standing_is_the_last_write<K: Eq, V>()
     ensures stands { (settings : Settings K V) (h : List (Event K V)) (k : K) (last : LastWrite K.eq settings k h)
         → (w : Write K V) × (standing K.eq settings k h ≡ Some w) × IsAsWritten last w }
@@ -136,9 +145,11 @@ pub fn standing_is_the_last_write<K: Eq, V>()
         → (a.later ≡ b.later) × (up_to_write a ≡ up_to_write b) }
 {}
 
-/// A look answers the value of the last write, where nothing later removed the key, until that is
-/// hidden or its deadline has come; and where nothing stands it answers none. It uses the greater of
-/// its moment and the latest one.
+/// A lookup returns the value of the last write, if nothing later removed the key, until the entry
+/// is invalidated or its deadline comes.
+///
+/// If nothing is stored, it returns none. It happens at its own moment, or at the latest moment if
+/// that is greater.
 pub fn looks_answer_the_last_write<K: Eq, V, E>()
     ensures found { (settings : Settings K V) (steps : List (AcceptedStep K V E)) (k : K) (at : ℕ) (last : LastWrite K.eq settings k (events_in steps))
         → (w : Write K V) × IsAsWritten last w
@@ -150,14 +161,16 @@ pub fn looks_answer_the_last_write<K: Eq, V, E>()
         → (answer K.eq settings (Get k at) steps ≡ Some (Found None)) × (answer K.eq settings (ContainsKey k at) steps ≡ Some (Contains false)) }
 {}
 
-/// A write is expired exactly where its time to live has passed since it was written, or its time
-/// to idle since it was last used, or the life of its own since it was given.
+/// An entry is expired exactly if one of three times has passed.
+///
+/// They are its TTL since it was written, its TTI since it was last accessed, and its own lifetime
+/// since it was given.
 pub fn expired_where_a_life_has_ended<K, V>()
     ensures { (settings : Settings K V) (w : Write K V) (at : ℕ)
         → (is_expired settings w at ≡ true) ↔ (HasEnded settings.time_to_live w.last_modified at ⊎ HasEnded settings.time_to_idle w.last_accessed at ⊎ OwnHasEnded w.own_life at) }
 {}
 
-/// Equal keys are one key: the same write stands for them, and looks answer the same of them.
+/// Equal keys are one key: they have the same entry, and lookups of them return the same.
 pub fn equal_keys_are_one_key<K: Eq, V, E>()
     ensures standing { (settings : Settings K V) (h : List (Event K V)) (k q : K) → K.eq k q ≡ true
         → standing K.eq settings k h ≡ standing K.eq settings q h }
@@ -166,9 +179,11 @@ pub fn equal_keys_are_one_key<K: Eq, V, E>()
         × (answer K.eq settings (ContainsKey k at) steps ≡ answer K.eq settings (ContainsKey q at) steps) }
 {}
 
-/// A write leaves once: at the first later event that writes or removes its key, of which there is
-/// one or none, and nothing else ever leaves. It leaves with its value, for that event's cause, or
-/// as removed where it was hidden, or as expired where its deadline had come.
+/// Each written value is removed at most once, and nothing else is ever removed.
+///
+/// It is removed at the first later event that writes, removes or evicts its key; there is at most
+/// one. The cause is `Explicit` if the entry was invalidated, else `Expired` if its deadline had
+/// come, else the event's own.
 pub fn what_leaves_leaves_once<K: Eq, V>()
     ensures replaced { (settings : Settings K V) (h : List (Event K V)) (k q : K) (v : V) (at : ℕ) (last : LastWrite K.eq settings k h) → K.eq q k ≡ true
         → (l : Removal K V) × (removals_at K.eq settings (Written q v at) h ≡ l ∷ []) × IsRemovalOf last Replaced (latest (Written q v at ∷ h)) l }
@@ -189,10 +204,12 @@ pub fn what_leaves_leaves_once<K: Eq, V>()
         → ((k : K) → ends K.eq settings k e h ≡ false) → removals_at K.eq settings e h ≡ [] }
 {}
 
-/// The latest moment never falls, and no end is undone: a deadline that has come has come at each
-/// later moment; a write that is hidden or whose deadline has come stays as it is until its key is
-/// written or removed, but that it may be hidden; and after a `get` that finds nothing, no look
-/// finds anything until the key is written.
+/// Expiration is final.
+///
+/// - The latest moment never decreases, and a deadline that has come stays so at each later moment.
+/// - An entry that is not live stays as it is until its key is written or removed, except that it
+///   may be invalidated.
+/// - After a `get` that finds nothing, no lookup finds anything until the key is written.
 pub fn expiry_is_final<K: Eq, V, E>()
     ensures latest { (later h : List (Event K V)) → latest h ≤ latest (later ++ h) }
     ensures deadline { (settings : Settings K V) (w : Write K V) (at later : ℕ)
@@ -208,8 +225,10 @@ pub fn expiry_is_final<K: Eq, V, E>()
         × (answer K.eq settings (ContainsKey k now) (later ++ after K.eq settings (Get k at) steps) ≡ Some (Contains false)) }
 {}
 
-/// No number is drawn twice: each write, and what draws one alone, draws the next one, which is the
-/// first plus as many as there were of these, and never falls.
+/// No sequence number is drawn twice.
+///
+/// Each write and each `Drawn` draws the next number. That is the first number plus the draws so
+/// far, and never decreases.
 pub fn numbers_never_come_again<K, V>()
     ensures counted { (settings : Settings K V) (h : List (Event K V))
         → next_number settings h ≡ settings.first_number + length (filter draws h) }
@@ -220,8 +239,10 @@ pub fn numbers_never_come_again<K, V>()
         → next_number settings h < next_number settings (later ++ e ∷ h) }
 {}
 
-/// A `u64` key hashes to itself under `NumberHash`: its eight bytes, the least first, leave that
-/// number, whatever was there before.
+/// A `u64` key hashes to itself under `NumberHash`.
+///
+/// Hashing its eight bytes, the least significant first, gives that number, whatever the hash was
+/// before.
 pub fn a_number_hashes_to_itself()
     ensures { (hash number : ℕ) → hash < 2 ^ 64 → number < 2 ^ 64 → fold number_hash hash (number_writes number) ≡ number }
 {}

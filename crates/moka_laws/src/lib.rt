@@ -1,5 +1,7 @@
-//! The laws of the definitions, in the words of the subject, and worked cases of them. A law stands
-//! as the contract of a function that does nothing, and so does a case, but where it asks closures.
+//! Laws: theorems about the definitions, in the terms of a cache, and worked cases.
+//!
+//! A law is the contract of a function without code, so that the prover checks it. So is a worked
+//! case, unless it calls closures.
 #![tactic(auto)]
 
 pub mod admission_laws;

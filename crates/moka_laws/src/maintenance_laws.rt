@@ -1,13 +1,16 @@
-//! The laws of a maintenance of two queues, in the words of the subject. Each stands as the
-//! contract of a function that does nothing, so that the check proves it for every weight,
-//! capacity, test for live, admission rule and pair of queues.
+//! Laws about a maintenance of any two queues.
+//!
+//! Each is the contract of a function without code. It holds for every weight, capacity, liveness
+//! test, admission rule, limit and pair of queues.
 ghost use Rattle.std.specs.Prelude.{◌≡◌, ◌⊎◌, ℕ, ◌+◌, ◌-◌, ◌<◌, ◌≤◌, Bool, true, false, Option, Some, None, List, [], ◌∷◌, ◌++◌, length, take, drop, filter};
 ghost use Rattle.std.specs.List.{AllByRecursion};
 ghost use Rattle.moka_model.specs.Maintenance.{Queues, Part, total, fits, front, parts, done, evicted_in, after_parts};
 ghost use Rattle.moka_model.specs.MaintenanceLaws.{queues, everything, count, the_dead, the_living, behind_the_dead, AreAmong, evicted_within, after_within};
 
-/// The shortest front: where more fits alone, it fits beside what the front leaves behind, and it
-/// fits behind no shorter one.
+/// `front` is the length of the shortest prefix to evict.
+///
+/// Weight that fits on its own fits beside what that prefix leaves, and not beside what a shorter
+/// one leaves.
 pub fn the_front_is_shortest<X>()
     ensures enough { (weight : X → ℕ) (capacity : Option ℕ) (more : ℕ) (xs : List X) → fits weight capacity more [] ≡ true
         → fits weight capacity more (drop (front weight capacity more xs) xs) ≡ true }
@@ -16,8 +19,8 @@ pub fn the_front_is_shortest<X>()
     ensures within { (weight : X → ℕ) (capacity : Option ℕ) (more : ℕ) (xs : List X) → front weight capacity more xs ≤ length xs }
 {}
 
-/// After a whole maintenance nothing waits, all that stands is live, and its weight is within the
-/// capacity, if there is one.
+/// After a full maintenance nothing is pending, all that is stored is live, and its weight is
+/// within the capacity, if there is one.
 pub fn all_is_done<X>()
     ensures none_waits { (weight : X → ℕ) (capacity : Option ℕ) (is_live : X → Bool) (wins : X → List X → Bool) (q : Queues X)
         → (after_within weight capacity is_live wins None q).waiting ≡ [] }
@@ -27,8 +30,8 @@ pub fn all_is_done<X>()
         → total weight (after_within weight (Some capacity) is_live wins None q).admitted ≤ capacity }
 {}
 
-/// Where all that live fit the capacity, just the dead leave, the admitted before the waiting,
-/// and each that waits is admitted, in order, whatever the admission rule.
+/// If all live elements fit the capacity, only the dead are evicted, residents before pending ones.
+/// Each live pending one is admitted, in order, whatever the admission rule.
 pub fn where_all_fit_just_the_dead_leave<X>()
     ensures leaving { (weight : X → ℕ) (capacity : ℕ) (is_live : X → Bool) (wins : X → List X → Bool) (q : Queues X) → total weight (the_living is_live q) ≤ capacity
         → evicted_within weight (Some capacity) is_live wins None q ≡ the_dead is_live q }
@@ -36,7 +39,7 @@ pub fn where_all_fit_just_the_dead_leave<X>()
         → (after_within weight (Some capacity) is_live wins None q).admitted ≡ the_living is_live q }
 {}
 
-/// So it is without a capacity.
+/// The same holds without a capacity.
 pub fn without_a_capacity<X>()
     ensures leaving { (weight : X → ℕ) (is_live : X → Bool) (wins : X → List X → Bool) (q : Queues X)
         → evicted_within weight None is_live wins None q ≡ the_dead is_live q }
@@ -44,14 +47,17 @@ pub fn without_a_capacity<X>()
         → (after_within weight None is_live wins None q).admitted ≡ the_living is_live q }
 {}
 
-/// Nothing is lost or doubled: for each test, as many pass it among what left and what stands after
-/// a maintenance as among what stood before it, also where a limit ended the maintenance early.
+/// Nothing is lost or doubled, with or without a limit.
+///
+/// As many elements pass any test before a maintenance as pass it, together, among the evicted and
+/// the remaining ones.
 pub fn nothing_is_lost<X>()
     ensures { (weight : X → ℕ) (capacity : Option ℕ) (is_live : X → Bool) (wins : X → List X → Bool) (limit : Option ℕ) (q : Queues X) (test : X → Bool)
         → count test (evicted_within weight capacity is_live wins limit q) + count test (everything (after_within weight capacity is_live wins limit q)) ≡ count test (everything q) }
 {}
 
-/// The dead leave first, the admitted before the waiting, and what leaves behind them is live.
+/// The dead are evicted first, residents before pending ones. All that is evicted after them is
+/// live.
 pub fn the_dead_leave_first<X>()
     ensures dead { (weight : X → ℕ) (capacity : Option ℕ) (is_live : X → Bool) (wins : X → List X → Bool) (q : Queues X)
         → take (length (the_dead is_live q)) (evicted_within weight capacity is_live wins None q) ≡ the_dead is_live q }
@@ -59,9 +65,11 @@ pub fn the_dead_leave_first<X>()
         → AllByRecursion (λ x. is_live x ≡ true) (behind_the_dead is_live q (evicted_within weight capacity is_live wins None q)) }
 {}
 
-/// Where each wins, as under least recently used, and none that waits is heavier than the capacity,
-/// the order of use alone decides: behind the dead the shortest front of the living leaves that
-/// brings them within the capacity, and the rest stays, in order.
+/// If every pending element wins, as under LRU, and none is heavier than the capacity, only the
+/// access order decides.
+///
+/// After the dead, the shortest prefix of the live elements is evicted that brings them within the
+/// capacity. The rest stays, in order.
 pub fn the_order_of_use_decides<X>()
     ensures in_order { (weight : X → ℕ) (capacity : ℕ) (is_live : X → Bool) (wins : X → List X → Bool) (q : Queues X)
         → ((x : X) (victims : List X) → wins x victims ≡ true) → AllByRecursion (λ x. weight x ≤ capacity) (filter is_live q.waiting)
@@ -74,17 +82,20 @@ pub fn the_order_of_use_decides<X>()
         → (after_within weight (Some capacity) is_live wins None q).admitted ≡ drop (front weight (Some capacity) 0 (the_living is_live q)) (the_living is_live q) }
 {}
 
-/// By whatever rule of who wins, and whatever the weights, the order of use says which of the
-/// admitted leave for size: a front of it, where those that joined stand behind. The weights and
-/// the rule say how many, and who joins.
+/// Whatever the weights and the admission rule, residents are evicted for size by access order.
+///
+/// A prefix of the live residents, followed by the newly admitted, is evicted. The weights and the
+/// rule only say how many, and which pending ones are admitted.
 pub fn a_front_of_the_order_of_use_leaves<X>()
     ensures { (weight : X → ℕ) (capacity : Option ℕ) (is_live : X → Bool) (wins : X → List X → Bool) (q : Queues X)
         → (n : ℕ) × (joined : List X) × AreAmong joined (filter is_live q.waiting)
         × ((after_within weight capacity is_live wins None q).admitted ≡ drop n (filter is_live q.admitted ++ joined)) }
 {}
 
-/// At most as many leave as a limit allows. What is done is a front of the parts, and all of them
-/// where there is no limit, or it is enough; else the next part would pass the limit.
+/// A maintenance evicts no more than its limit.
+///
+/// What is done is a prefix of the parts: all of them if there is no limit, or if it suffices.
+/// Otherwise the next part would exceed the limit.
 pub fn a_limit_is_kept<X>()
     ensures kept { (ps : List (Part X)) (limit : ℕ) → length (evicted_in (done (Some limit) ps)) ≤ limit }
     ensures whole { (ps : List (Part X)) → done None ps ≡ ps }
@@ -94,8 +105,10 @@ pub fn a_limit_is_kept<X>()
         → (done (Some limit) ps ≡ ps) ⊎ ((p : Part X) × (rest : List (Part X)) × (ps ≡ done (Some limit) ps ++ p ∷ rest) × (limit < length (evicted_in (done (Some limit) ps)) + length p.evicted)) }
 {}
 
-/// Where each weighs one and each wins, as under least recently used, just as many leave behind the
-/// dead as the living pass the capacity: the least recently used.
+/// If every element weighs 1 and every pending one wins, as under LRU, the least recently used are
+/// evicted after the dead.
+///
+/// They are as many as the live elements exceed the capacity.
 pub fn the_least_recently_used_leave<X>()
     ensures leaving { (weight : X → ℕ) (capacity : ℕ) (is_live : X → Bool) (wins : X → List X → Bool) (q : Queues X)
         → ((x : X) → weight x ≡ 1) → ((x : X) (victims : List X) → wins x victims ≡ true)
@@ -105,9 +118,10 @@ pub fn the_least_recently_used_leave<X>()
         → (after_within weight (Some capacity) is_live wins None q).admitted ≡ drop (length (the_living is_live q) - capacity) (the_living is_live q) }
 {}
 
-/// A maintenance that a limit ended goes on where it ended: after the first parts of it, the parts
-/// that are left are the parts of the next one, and together they do what one without a limit does.
-/// After that one there is nothing to do.
+/// A maintenance that a limit cut short is resumed by the next one.
+///
+/// The parts left undone are the parts of the next maintenance. Together they do what one without a
+/// limit does. After a full maintenance nothing is left to do.
 pub fn it_goes_on_where_it_ended<X>()
     ensures parts { (weight : X → ℕ) (capacity : Option ℕ) (is_live : X → Bool) (wins : X → List X → Bool) (q : Queues X) (n : ℕ)
         → parts weight capacity is_live wins (after_parts q (take n (parts weight capacity is_live wins q))) ≡ drop n (parts weight capacity is_live wins q) }
@@ -119,9 +133,11 @@ pub fn it_goes_on_where_it_ended<X>()
         → parts weight capacity is_live wins (after_within weight capacity is_live wins None q) ≡ [] }
 {}
 
-/// One that waits beside live ones within the capacity is dropped where it is heavier than the
-/// capacity, and admitted where there is room. Else the shortest front that makes room stands
-/// against it: where it wins they leave and it is admitted, and where it does not it is dropped.
+/// How a single pending element is judged, beside live residents within the capacity.
+///
+/// It is dropped if it is heavier than the capacity, and admitted if there is room. Otherwise its
+/// victims are the shortest prefix of the residents that makes room. If it wins, they are evicted
+/// and it is admitted; if not, it is dropped.
 pub fn one_that_waits_is_judged<X>()
     ensures too_heavy { (weight : X → ℕ) (capacity : ℕ) (is_live : X → Bool) (wins : X → List X → Bool) (admitted : List X) (x : X)
         → AllByRecursion (λ y. is_live y ≡ true) (x ∷ admitted) → total weight admitted ≤ capacity → capacity < weight x
@@ -139,9 +155,10 @@ pub fn one_that_waits_is_judged<X>()
         → parts weight (Some capacity) is_live wins (queues admitted (x ∷ [])) ≡ record { evicted = x ∷ []; after = queues admitted [] } ∷ [] }
 {}
 
-/// Those that wait are judged one by one: where all are live, and the admitted within the capacity,
-/// the first that waits is judged as if it waited alone, and the rest is the maintenance of what
-/// that leaves.
+/// Pending elements are judged one by one, if all are live and the residents are within the
+/// capacity.
+///
+/// The first is judged as if it were the only one. The rest is the maintenance of what that leaves.
 pub fn those_that_wait_are_judged_one_by_one<X>()
     ensures { (weight : X → ℕ) (capacity : Option ℕ) (is_live : X → Bool) (wins : X → List X → Bool) (admitted : List X) (x : X) (xs : List X)
         → AllByRecursion (λ y. is_live y ≡ true) (x ∷ admitted) → AllByRecursion (λ y. is_live y ≡ true) xs

@@ -1,5 +1,4 @@
-//! The laws of the two orders in which the stored writes stand: those that are admitted, and those
-//! that wait.
+//! Laws about the access order of the resident entries and the arrival order of the pending ones.
 ghost use Rattle.std.specs.Prelude.{nat_eq, ◌≡◌, ◌≢◌, ◌⊎◌, ◌<◌, length, ℕ, Bool, not, true, List, [], ◌∷◌, ◌++◌, filter, option_to_list};
 ghost use Rattle.moka_model.specs.Maintenance.{Queues};
 ghost use Rattle.moka_model.specs.Lives.{Settings, Write, is_live, hit, after_look, after_write};
@@ -10,8 +9,8 @@ ghost use Rattle.moka_model.specs.OrderLaws.{writes_of, keys, held, HasOneEach, 
 ghost use Rattle.moka_laws.specs.Worked.{without_lives, five_to_idle, seconds};
 ghost use Rattle.moka_laws.specs.WorkedOrder.{three_come, first_again, second_hit, first_removed, first_anew, three_admitted};
 
-/// The two orders hold just what stands: the write that stands for a key is in one of them, once,
-/// and nothing else is in either.
+/// The two orders hold exactly what is stored: the entry of a key is in one of them, once, and
+/// nothing else is in either.
 pub fn the_queues_hold_what_stands<K: Eq, V>()
     ensures held { (settings : Settings K V) (h : List (Event K V)) (k : K)
         → held K.eq k (orders K.eq settings h) ≡ option_to_list (standing K.eq settings k h) }
@@ -24,10 +23,11 @@ pub fn the_queues_hold_what_stands<K: Eq, V>()
         ⊎ ((writes_of K.eq k (orders K.eq settings h).admitted ≡ []) × (writes_of K.eq k (orders K.eq settings h).waiting ≡ w ∷ [])) }
 {}
 
-/// A key that waits keeps its place until it is removed. A look, whether it hits or not, a hiding,
-/// and a write over a key that stands leave the waiting keys in their order; a removal takes out
-/// its own key; a write of a key that does not stand puts it behind all others. So in any two
-/// orders.
+/// A pending key keeps its place until it is removed. This holds for any two queues.
+///
+/// - Lookups, invalidations by a test and overwrites leave the pending keys in their order.
+/// - A removal takes out only its own key.
+/// - A write of a new key appends it.
 pub fn a_hit_leaves_the_waiting_order_alone<K: Eq, V>()
     ensures look { (settings : Settings K V) (q : Queues (Write K V)) (k : K) (at : ℕ)
         → keys (used_where K.eq settings (is_hit K.eq settings k at) (after_look settings at) q).waiting ≡ keys q.waiting }
@@ -50,9 +50,11 @@ pub fn a_hit_leaves_the_waiting_order_alone<K: Eq, V>()
         → removed_in K.eq settings k q ≡ with_waiting q (before ++ after) }
 {}
 
-/// An admitted key that is used goes behind all others: at a look that hits it, and at a write over
-/// it, its write is taken from its place and stands last. A look that hits nothing leaves both
-/// orders as they are, and so does a removal of a key that has no write. So in any two orders.
+/// An access moves a resident key to the end of the access order. This holds for any two queues.
+///
+/// - A lookup that hits, and an overwrite, take the key's entry from its place and append it.
+/// - A lookup that hits nothing changes neither order, nor does a removal of a key without an
+///   entry.
 pub fn a_use_moves_an_admitted_key_behind_all_others<K: Eq, V>()
     ensures hit { (settings : Settings K V) (q : Queues (Write K V)) (k : K) (at : ℕ) (before after : List (Write K V)) (w : Write K V)
         → HasOneEach K.eq q → K.eq w.key k ≡ true → q.admitted ≡ before ++ w ∷ after → is_live settings w at ≡ true
@@ -68,9 +70,10 @@ pub fn a_use_moves_an_admitted_key_behind_all_others<K: Eq, V>()
     ensures no_removal { (settings : Settings K V) (q : Queues (Write K V)) (k : K) → held K.eq k q ≡ [] → removed_in K.eq settings k q ≡ q }
 {}
 
-/// What waits stands in the order of arrival: the waiting keys are those of the writes that found
-/// their key not standing, each at its last such write, kept where the key still waits. So of two
-/// that wait, the one whose first write is the older stands before the other.
+/// Pending entries are in arrival order.
+///
+/// The pending keys are those of the writes that created an entry, each at the last such write, if
+/// the key is still pending. Of two pending keys, the one that was created earlier comes first.
 pub fn waiting_is_the_order_of_arrival<K: Eq, V>()
     ensures in_order { (settings : Settings K V) (h : List (Event K V))
         → keys (orders K.eq settings h).waiting ≡ filter (waits K.eq settings h) (lasts K.eq (openings K.eq settings h)) }
@@ -79,9 +82,10 @@ pub fn waiting_is_the_order_of_arrival<K: Eq, V>()
         → (x : FirstWrite K.eq settings a.key h) (y : FirstWrite K.eq settings b.key h) → length x.before < length y.before }
 {}
 
-/// What is admitted stands in the order of use: the admitted keys are the used ones, each at the
-/// place of its last use, of those that are admitted. So each has a last use, and of two the one
-/// whose last use is older stands before the other.
+/// Resident entries are in access order.
+///
+/// The resident keys are the accessed ones, each at the place of its last access, if the key is
+/// resident. So each has a last access, and of two, the one accessed earlier comes first.
 pub fn admitted_is_the_order_of_use<K: Eq, V>()
     ensures in_order { (settings : Settings K V) (h : List (Event K V))
         → keys (orders K.eq settings h).admitted ≡ filter (is_admitted K.eq settings h) (lasts K.eq (uses K.eq settings h)) }
@@ -92,8 +96,8 @@ pub fn admitted_is_the_order_of_use<K: Eq, V>()
         → (x : LastUse K.eq a.key (uses K.eq settings h)) (y : LastUse K.eq b.key (uses K.eq settings h)) → length x.before < length y.before }
 {}
 
-/// Three keys come and wait in that order. An overwrite and a hit keep it; a removal takes out its
-/// key, which waits behind all others once it comes anew.
+/// Three keys arrive and are pending in that order. An overwrite and a hit keep it. A removal takes
+/// out its key, which comes last when it is written anew.
 pub fn waiting_keys()
     ensures come { keys (orders nat_eq without_lives three_come).waiting ≡ 1 ∷ 2 ∷ 3 ∷ [] }
     ensures overwritten { keys (orders nat_eq without_lives first_again).waiting ≡ 1 ∷ 2 ∷ 3 ∷ [] }
@@ -104,8 +108,8 @@ pub fn waiting_keys()
     ensures lasts { lasts nat_eq (1 ∷ 2 ∷ 3 ∷ 1 ∷ []) ≡ 2 ∷ 3 ∷ 1 ∷ [] }
 {}
 
-/// Three keys are admitted. A hit and an overwrite put their key behind the others; a look at an
-/// expired write, or at a key that is not there, moves nothing; nor does a hit on a key that waits.
+/// Three keys are resident. A hit and an overwrite move their key to the end. A lookup of an
+/// expired entry or of an absent key moves nothing, nor does a hit on a pending key.
 pub fn admitted_keys()
     ensures hit { keys (used_where nat_eq without_lives (is_hit nat_eq without_lives 1 4) (after_look without_lives 4) three_admitted).admitted ≡ 2 ∷ 3 ∷ 1 ∷ [] }
     ensures expired { used_where nat_eq five_to_idle (is_hit nat_eq five_to_idle 1 (seconds 5)) (after_look five_to_idle (seconds 5)) three_admitted ≡ three_admitted }

@@ -1,5 +1,4 @@
-//! The laws of a bounded size, over every list of events, and over every legal list of accepted
-//! steps.
+//! Laws about the bounded size of a cache, for every list of events, or every legal history.
 ghost use Rattle.std.specs.Prelude.{◌≡◌, ◌≢◌, ◌↔◌, ℕ, Option, ◌+◌, ◌≤◌, true, false, Some, None, List, [], ◌∷◌, ◌++◌, length, take, drop, map, filter};
 ghost use Rattle.std.specs.List.{AllByRecursion};
 ghost use Rattle.moka_model.specs.declared.notification.RemovalCause.TheVariants.{Size};
@@ -17,14 +16,16 @@ ghost use Rattle.moka_laws.specs.Laws.{answer};
 
 use moka_policy::policy::CacheTypes;
 
-/// Equal keys weigh alike with each value: it does not matter under which of them a value is
+/// Equal keys have the same weight with each value: the weight does not depend on which of them is
 /// written.
 pub fn equal_keys_weigh_alike<K: Eq, V: Clone, C: CacheTypes<K, V>>()
     ensures { (weigher : C.Weigher) (a b : K) (v : V) → K.eq a b ≡ true → C.weight weigher a v ≡ C.weight weigher b v }
 {}
 
-/// After a maintenance nothing waits, all that stands is live at its moment, and its weight is
-/// within the capacity. Where each key weighs one, no more stand than the capacity allows.
+/// After a full maintenance nothing is pending, all that is stored is live, and the weight is
+/// within the capacity.
+///
+/// If every entry weighs 1, no more entries are stored than the capacity.
 pub fn after_a_maintenance<K: Eq, V>()
     ensures none_waits { (settings : Settings K V) (h : List (Event K V)) (at : ℕ) → (orders K.eq settings (Maintained None at ∷ h)).waiting ≡ [] }
     ensures all_live { (settings : Settings K V) (h : List (Event K V)) (at : ℕ) (k : K) (w : Write K V)
@@ -35,10 +36,12 @@ pub fn after_a_maintenance<K: Eq, V>()
         → entry_count K.eq settings (Maintained None at ∷ h) ≤ capacity }
 {}
 
-/// Where each key weighs one the size stays bounded between maintenances too: no more are admitted
-/// than the capacity allows, whatever happens, and no more stand than it allows and the flush point
-/// says together, within whatever limit of a flush, but 0. Without such a limit no more wait than
-/// the flush point says.
+/// If every entry weighs 1, the size is bounded between maintenances too.
+///
+/// - Never are more entries resident than the capacity, for any list of events.
+/// - Never are more entries stored than the capacity plus 64 (the flush point), if the flush limit
+///   is not 0.
+/// - Without a flush limit, never are more than 64 pending. This one holds for any weights.
 pub fn the_size_stays_bounded<K: Eq, V, E>()
     ensures admitted { (settings : Settings K V) (h : List (Event K V)) (capacity : ℕ) → WeighsOnes settings → settings.max_capacity ≡ Some capacity
         → length (orders K.eq settings h).admitted ≤ capacity }
@@ -48,9 +51,10 @@ pub fn the_size_stays_bounded<K: Eq, V, E>()
         → entry_count K.eq settings (events_in steps) ≤ capacity + flush_point }
 {}
 
-/// A maintenance within any limit lets no key that waits wait anew, and where the admitted were
-/// within the capacity they stay so. No more leave than the limit says. Where it leaves no part
-/// undone, it does what a whole one does.
+/// What holds after a maintenance within any limit.
+///
+/// No more entries are pending than before. Residents within the capacity stay so. No more entries
+/// are evicted than the limit. If no part is left undone, it does what a full maintenance does.
 pub fn within_any_limit<K: Eq, V>()
     ensures waiting { (settings : Settings K V) (h : List (Event K V)) (limit : Option ℕ) (at : ℕ)
         → length (orders K.eq settings (Maintained limit at ∷ h)).waiting ≤ length (orders K.eq settings h).waiting }
@@ -63,7 +67,8 @@ pub fn within_any_limit<K: Eq, V>()
         × (removals_at K.eq settings (Maintained limit at) h ≡ removals_at K.eq settings (Maintained None at) h) }
 {}
 
-/// Without a capacity nothing ever leaves for size, and in a maintenance just the dead leave.
+/// Without a capacity no entry is ever evicted for size, and a full maintenance evicts only the
+/// entries that are not live.
 pub fn without_a_capacity_nothing_leaves_for_size<K: Eq, V>()
     ensures never { (settings : Settings K V) (h : List (Event K V)) → settings.max_capacity ≡ None
         → AllByRecursion (λ l. l.cause ≢ Size) (removals K.eq settings h) }
@@ -76,8 +81,8 @@ pub fn no_other_capacity_stores_nothing()
     ensures { (capacity : Option ℕ) → (stores_nothing capacity ≡ true) ↔ (capacity ≡ Some 0) }
 {}
 
-/// With a capacity of 0 nothing is ever stored, found or counted, nothing leaves, and no write
-/// draws a number.
+/// With a capacity of 0 nothing is ever stored, found, counted or removed, and no write draws a
+/// sequence number.
 pub fn a_capacity_of_0_stores_nothing<K: Eq, V, E>()
     ensures orders { (settings : Settings K V) (steps : List (AcceptedStep K V E)) → stores_nothing settings.max_capacity ≡ true → IsLegal K.eq settings steps
         → ((orders K.eq settings (events_in steps)).admitted ≡ []) × ((orders K.eq settings (events_in steps)).waiting ≡ []) × (entry_count K.eq settings (events_in steps) ≡ 0) }
@@ -91,9 +96,9 @@ pub fn a_capacity_of_0_stores_nothing<K: Eq, V, E>()
         → drawn_in (write_events K.eq settings k v at h) ≡ 0 }
 {}
 
-/// By either policy the dead leave first in a maintenance, as removed where they were hidden and
-/// else as expired, the admitted before those that wait; and all that leaves behind them leaves for
-/// size.
+/// Under either policy a full maintenance first evicts the entries that are not live, residents
+/// before pending ones: as `Explicit` if invalidated, else as `Expired`. All that it evicts after
+/// them has the cause `Size`.
 pub fn the_dead_leave_as_removed_or_expired<K: Eq, V>()
     ensures dead_first { (settings : Settings K V) (h : List (Event K V)) (at : ℕ)
         → gone K.eq settings at h ≡ dead K.eq settings at h ++ gone_behind K.eq settings at h }
@@ -101,10 +106,12 @@ pub fn the_dead_leave_as_removed_or_expired<K: Eq, V>()
         → removals_at K.eq settings (Maintained None at) h ≡ map dead_removal (dead K.eq settings at h) ++ map (removal_as Size) (gone_behind K.eq settings at h) }
 {}
 
-/// Under least recently used, where each key weighs one, the order of use alone says what leaves in
-/// a maintenance: the dead leave first, the admitted before those that wait; then, of the living in
-/// their order of use, those that waited last, just as many leave from the front as pass the
-/// capacity, for size, and the rest are admitted in that order.
+/// Under LRU, if every entry weighs 1, only the access order decides what a full maintenance
+/// evicts.
+///
+/// First the entries that are not live, residents before pending ones. Then, with the cause `Size`,
+/// the least recently used live ones, as many as exceed the capacity; pending entries count as the
+/// most recently used. The rest is resident, in that order.
 pub fn what_is_least_recently_used_leaves<K: Eq, V>()
     ensures leaving { (settings : Settings K V) (h : List (Event K V)) (at capacity : ℕ)
         → settings.behaviour.is_lru ≡ true → WeighsOnes settings → settings.max_capacity ≡ Some capacity
@@ -119,9 +126,11 @@ pub fn what_is_least_recently_used_leaves<K: Eq, V>()
         → (orders K.eq settings (Maintained None at ∷ h)).admitted ≡ living K.eq settings at h }
 {}
 
-/// Under least recently used, whatever the weights, the shortest front of the living in their order
-/// of use leaves behind the dead that brings them within the capacity, and the rest is admitted in
-/// that order: so where no live key that waits is heavier than the capacity.
+/// Under LRU, if no live pending entry is heavier than the capacity, a full maintenance evicts a
+/// shortest prefix.
+///
+/// After the entries that are not live, it evicts the shortest prefix of the live ones, in access
+/// order, that brings them within the capacity. The rest is resident, in that order.
 pub fn the_shortest_front_leaves<K: Eq, V>()
     ensures leaving { (settings : Settings K V) (h : List (Event K V)) (at capacity : ℕ) → settings.behaviour.is_lru ≡ true → settings.max_capacity ≡ Some capacity
         → AllByRecursion (λ w. w.policy_weight ≤ capacity) (filter (lives K.eq settings at h) (orders K.eq settings h).waiting)
@@ -131,9 +140,11 @@ pub fn the_shortest_front_leaves<K: Eq, V>()
         → (orders K.eq settings (Maintained None at ∷ h)).admitted ≡ drop (overweight K.eq settings at h capacity) (living K.eq settings at h) }
 {}
 
-/// By either policy, and whatever the weights, the order of use says which of the admitted leave in
-/// a maintenance as the least recently used: a front of it, where those that are admitted just now
-/// stand behind.
+/// Under either policy and for all weights, a full maintenance evicts live residents by access
+/// order.
+///
+/// What it evicts of them is a prefix of the live residents, followed by the newly admitted
+/// entries.
 pub fn a_front_of_the_order_of_use_leaves<K: Eq, V>()
     ensures { (settings : Settings K V) (h : List (Event K V)) (at : ℕ)
         → (n : ℕ) × (joined : List (Write K V)) × AreAmong joined (filter (lives K.eq settings at h) (orders K.eq settings h).waiting)

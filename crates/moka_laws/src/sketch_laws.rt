@@ -1,5 +1,6 @@
-//! The laws of the sketch of frequencies, in the words of its rule, over every list of notes. Each stands as the
-//! contract of a function that does nothing.
+//! Laws about the frequency sketch, for every list of notes.
+//!
+//! Each is the contract of a function without code.
 ghost use Rattle.std.specs.Prelude.{◌≡◌, ◌≢◌, ℕ, ◌+◌, ◌*◌, ◌/◌, ◌%◌, ◌<◌, ◌≤◌, List, [], ◌∷◌, ◌++◌, length, filter, replicate, reverse, min, nat_eq};
 ghost use Rattle.moka_policy.specs.Frequency.{Counts, after_notes, counter_count, halved};
 ghost use Rattle.moka_sketch.specs.Sketch.{place, least, estimated, estimate_after, kept};
@@ -7,9 +8,11 @@ ghost use Rattle.moka_sketch.specs.Sketch.{place, least, estimated, estimate_aft
 use moka_policy::frequency::FrequencySource;
 use moka_sketch::frequency_sketch::FrequencySketch;
 
-/// A sketch estimates for a hash the least of what its four counters keep of all notes, the newest first: one for each
-/// note that uses the counter, up to 15, and half of it with each ten notes for a counter of a row. That never passes 15,
-/// and is 0 where nothing is noted. Hashes that share all four counters have one estimate.
+/// A sketch estimates for a hash the least of what its four counters keep of all notes.
+///
+/// A counter keeps one for each note that uses it, up to 15. It is halved with every 10 notes for
+/// each counter of a row. An estimate is at most 15, and 0 before the first note. Hashes that share
+/// all four counters have the same estimate.
 pub fn a_sketch_takes_the_least_of_four<const BITS: u32>()
     ensures kept { (notes : List ℕ) (hash : ℕ)
         → ⟦<FrequencySketch<BITS> as FrequencySource>⟧.count (after_notes ⟦<FrequencySketch<BITS> as FrequencySource>⟧.opened ⟦<FrequencySketch<BITS> as FrequencySource>⟧.noted (reverse notes)) hash ≡ least (kept BITS hash notes) }
@@ -18,8 +21,10 @@ pub fn a_sketch_takes_the_least_of_four<const BITS: u32>()
     ensures shared { (counts : Counts) (a b : ℕ) → ((row : ℕ) → row < 4 → place BITS row a ≡ place BITS row b) → estimated BITS counts a ≡ estimated BITS counts b }
 {}
 
-/// A note raises the estimate of its hash by one, up to 15, and lowers none. But with each ten notes for a counter of a
-/// row the estimates are halved, rounded down, and the note itself counts first.
+/// A note raises the estimate of its hash by 1, up to 15, and lowers none.
+///
+/// With every 10 notes for each counter of a row the estimates are halved, rounded down, after that
+/// note is counted.
 pub fn a_note_raises_an_estimate<const BITS: u32>()
     ensures raised { (notes : List ℕ) (hash : ℕ) → (length notes + 1) % (10 * counter_count BITS) ≢ 0
         → estimate_after BITS (notes ++ hash ∷ []) hash ≡ min (estimate_after BITS notes hash + 1) 15 }
@@ -31,9 +36,11 @@ pub fn a_note_raises_an_estimate<const BITS: u32>()
         → estimated BITS (halved counts) hash ≡ estimated BITS counts hash / 2 }
 {}
 
-/// The estimate of a hash is never too low for what was noted since the last halving: it is at least how often the hash
-/// was noted since, up to 15. Before the first halving it is the least, of the four, of how many notes used its counter,
-/// up to 15, and so the very number where one hash is noted alone.
+/// An estimate is never too low for the notes since the last halving.
+///
+/// It is at least how often its hash was noted since, up to 15. Before the first halving it is the
+/// least, over the four rows, of how many notes used the hash's counter, up to 15. So it is exact
+/// if only one hash is noted.
 pub fn no_estimate_is_too_low<const BITS: u32>()
     ensures at_least { (earlier since : List ℕ) (hash : ℕ) → length earlier % (10 * counter_count BITS) ≡ 0 → length since < 10 * counter_count BITS
         → min (length (filter (λ note. nat_eq note hash) since)) 15 ≤ estimate_after BITS (earlier ++ since) hash }

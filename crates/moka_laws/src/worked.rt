@@ -1,4 +1,5 @@
-//! Worked cases of the definitions, at numbers: each computes.
+//! Worked cases of lifetimes, causes, stored keys, notices and sequence numbers. The prover
+//! computes each.
 ghost use Rattle.std.specs.Prelude.{◌≡◌, true, false, nat_eq, [], ◌∷◌};
 ghost use Rattle.moka_model.specs.declared.notification.RemovalCause.TheVariants.{Expired, Explicit, Replaced};
 ghost use Rattle.moka_model.specs.Events.{Looked, Written, Invalidated, Taken};
@@ -7,8 +8,8 @@ ghost use Rattle.moka_model.specs.Numbers.{next_number, greatest_number};
 ghost use Rattle.moka_model.specs.Calls.{Get, ContainsKey, Insert, TakeNotice, IsOutOfNumbers};
 ghost use Rattle.moka_laws.specs.Worked.{seconds, without_lives, ten_to_live, five_to_idle, both_lives, at_the_last_number, written, same_last_digit, left_as, stepped, answer_after, answers, found, contains, noticed};
 
-/// Ten seconds to live: the last nanosecond still finds the value, the end does not, and a moment
-/// that goes back counts as the latest.
+/// A TTL of 10 s: the last nanosecond still finds the value, the deadline does not. A moment before
+/// the latest one counts as the latest.
 pub fn time_to_live()
     ensures before { answer_after nat_eq ten_to_live (Get 1 9_999_999_999) written ≡ found (Some 7) }
     ensures at_end { answer_after nat_eq ten_to_live (Get 1 10_000_000_000) (Looked 1 9_999_999_999 ∷ written) ≡ found None }
@@ -18,7 +19,7 @@ pub fn time_to_live()
     ensures anew { answer_after nat_eq ten_to_live (Get 1 (seconds 19)) (Written 1 8 (seconds 10) ∷ written) ≡ found (Some 8) }
 {}
 
-/// Five seconds to idle: a `get` that finds the value extends it, a `contains_key` does not.
+/// A TTI of 5 s: a `get` that finds the value extends it, a `contains_key` does not.
 pub fn time_to_idle()
     ensures contained { answer_after nat_eq five_to_idle (ContainsKey 1 (seconds 4)) written ≡ contains true }
     ensures not_extended { answers nat_eq five_to_idle (ContainsKey 1 (seconds 4) ∷ Get 1 (seconds 5) ∷ []) (stepped written) ≡ contains true ∷ found None ∷ [] }
@@ -29,20 +30,20 @@ pub fn time_to_idle()
     ensures not_by_a_miss { answer_after nat_eq five_to_idle (Get 1 (seconds 6)) (Looked 1 (seconds 5) ∷ written) ≡ found None }
 {}
 
-/// With both lives the earlier end counts: hits extend the idle time and never the time to live.
+/// With a TTL and a TTI the earlier deadline counts: hits extend the TTI, never the TTL.
 pub fn both_lives_end()
     ensures idle { answer_after nat_eq both_lives (Get 1 (seconds 5)) written ≡ found None }
     ensures live { answer_after nat_eq both_lives (Get 1 (seconds 9)) (Looked 1 (seconds 8) ∷ Looked 1 (seconds 4) ∷ written) ≡ found (Some 7) }
     ensures ended { answer_after nat_eq both_lives (Get 1 (seconds 10)) (Looked 1 (seconds 8) ∷ Looked 1 (seconds 4) ∷ written) ≡ found None }
 {}
 
-/// A look by `contains_key` records no moment: a later moment that it used does not count.
+/// `contains_key` records no moment: a later lookup at an earlier moment still finds the value.
 pub fn looks_record_nothing()
     ensures gone { answer_after nat_eq ten_to_live (ContainsKey 1 (seconds 10)) written ≡ contains false }
     ensures still { answers nat_eq ten_to_live (ContainsKey 1 (seconds 10) ∷ Get 1 (seconds 9) ∷ []) (stepped written) ≡ contains false ∷ found (Some 7) ∷ [] }
 {}
 
-/// The causes under which a value leaves.
+/// The causes of removals by a write and by an invalidation, before and at the deadline.
 pub fn causes()
     ensures overwritten { removals_at nat_eq ten_to_live (Written 1 8 (seconds 1)) written ≡ left_as 1 7 Replaced ∷ [] }
     ensures invalidated { removals_at nat_eq ten_to_live (Invalidated 1 (seconds 1)) written ≡ left_as 1 7 Explicit ∷ [] }
@@ -53,13 +54,13 @@ pub fn causes()
     ensures look { removals_at nat_eq ten_to_live (Looked 1 (seconds 10)) written ≡ [] }
 {}
 
-/// A key that stands keeps the stored key, and a key that was removed does not.
+/// An overwrite keeps the stored key; after a removal the next write brings its own.
 pub fn stored_key()
     ensures kept { removals same_last_digit without_lives (Invalidated 21 2 ∷ Written 11 8 1 ∷ written) ≡ left_as 1 7 Replaced ∷ left_as 1 8 Explicit ∷ [] }
     ensures anew { removals same_last_digit without_lives (Invalidated 21 3 ∷ Written 11 8 2 ∷ Invalidated 31 1 ∷ written) ≡ left_as 1 7 Explicit ∷ left_as 11 8 Explicit ∷ [] }
 {}
 
-/// A notice is given once, in the order of leaving, and then there is none.
+/// Notices are taken once each, in the order of the removals, and then there is none.
 pub fn notices()
     ensures first { answer_after nat_eq without_lives TakeNotice (Invalidated 1 2 ∷ Written 1 8 1 ∷ written) ≡ noticed (Some (left_as 1 7 Replaced)) }
     ensures second { answer_after nat_eq without_lives TakeNotice (Taken ∷ Invalidated 1 2 ∷ Written 1 8 1 ∷ written) ≡ noticed (Some (left_as 1 8 Explicit)) }
@@ -67,8 +68,8 @@ pub fn notices()
     ensures none_counts { answer_after nat_eq without_lives TakeNotice (Invalidated 1 1 ∷ Taken ∷ written) ≡ noticed (Some (left_as 1 7 Explicit)) }
 {}
 
-/// Each write draws a number, also one that overwrites. Once the greatest is next, none can be
-/// drawn.
+/// Each write draws a sequence number, also an overwrite. Once the greatest is next, no number can
+/// be drawn.
 pub fn numbers()
     ensures drawn { next_number without_lives (Looked 1 3 ∷ Invalidated 1 2 ∷ Written 1 8 1 ∷ written) ≡ 2 }
     ensures used_up { next_number at_the_last_number written ≡ greatest_number }

@@ -1,5 +1,5 @@
-//! Worked cases of admission by frequency and by weight, and of lives of single values, at numbers:
-//! each computes.
+//! Worked cases of admission by frequency and by weight, and of the lifetimes of single entries.
+//! The prover computes each.
 ghost use Rattle.std.specs.Prelude.{◌≡◌, true, false, nat_eq, Some, None, [], ◌∷◌};
 ghost use Rattle.moka_model.specs.declared.notification.RemovalCause.TheVariants.{Expired, Explicit, Replaced, Size};
 ghost use Rattle.moka_model.specs.Events.{Looked, Written, Invalidated, Maintained};
@@ -12,9 +12,10 @@ ghost use Rattle.moka_laws.specs.Worked.{seconds, written, left_as, stepped, ans
 ghost use Rattle.moka_laws.specs.WorkedSize.{three_used, fourth_comes};
 ghost use Rattle.moka_laws.specs.WorkedAdmission.{by_frequency, by_weight, weighed, five_and_three, five_alone, from_a_hit, until_a_hit, as_long_again, with_lives, asked_once, asked_twice, fourth_tries, fourth_again, second_heavier, second_lighter, third_of_four, two_contend, two_heaviest, hit_twice};
 
-/// Three keys were looked for twice, twice and once, and the third is the least recently used. A
-/// fourth is not admitted before it was looked for, nor after one look, since one is not greater
-/// than one; after two it is, and the third leaves.
+/// Three resident keys were looked up twice, twice and once; the third is the least recently used.
+///
+/// A fourth key is not admitted before it was looked up, nor after one lookup, since 1 is not
+/// greater than 1. After two lookups it is admitted, and the third is evicted.
 pub fn a_key_enters_that_is_asked_for_more_often()
     ensures first { frequency (by_frequency 3) three_used 1 ≡ 2 }
     ensures second { frequency (by_frequency 3) three_used 2 ≡ 2 }
@@ -28,9 +29,10 @@ pub fn a_key_enters_that_is_asked_for_more_often()
     ensures invalidated { removals_at nat_eq (by_frequency 3) (Invalidated 2 20) (Maintained None 18 ∷ asked_twice) ≡ left_as 2 20 Explicit ∷ [] }
 {}
 
-/// Weights of 10, 15 and 5 at a capacity of 31. A fourth of 15 needs the room of the third and the
-/// first, and is not admitted until its frequency is greater than theirs together. An overwrite that
-/// is heavier, or lighter, changes what fits.
+/// Weights of 10, 15 and 5 at a capacity of 31.
+///
+/// A fourth key, of weight 15, needs the room of the third and the first. It is admitted only once
+/// its frequency exceeds the sum of theirs. A heavier or lighter overwrite changes what fits.
 pub fn a_key_enters_by_its_weight()
     ensures four_times { removals nat_eq (by_weight 31) (fourth_tries 4) ≡ left_as 4 15 Size ∷ left_as 4 15 Size ∷ left_as 4 15 Size ∷ left_as 4 15 Size ∷ [] }
     ensures misses { answer_after nat_eq (by_weight 31) (Get 4 11) (fourth_tries 4) ≡ found None }
@@ -46,8 +48,8 @@ pub fn a_key_enters_by_its_weight()
     ensures weight { answer_after nat_eq (by_weight 31) WeightedSize (Maintained None 17 ∷ second_lighter) ≡ counted 25 }
 {}
 
-/// A third key of weight four needs the room of both others, which were looked for once each: two
-/// looks for it are not enough, and three are.
+/// A third key of weight 4 needs the room of both others, which were looked up once each. Two
+/// lookups of it are not enough, three are.
 pub fn more_often_than_both_together()
     ensures twice { removals_at nat_eq (by_weight 5) (Maintained None 8) third_of_four ≡ left_as 3 4 Size ∷ [] }
     ensures weight_then { answer_after nat_eq (by_weight 5) WeightedSize (Maintained None 8 ∷ third_of_four) ≡ counted 5 }
@@ -55,9 +57,9 @@ pub fn more_often_than_both_together()
     ensures weight { answer_after nat_eq (by_weight 5) WeightedSize (Maintained None 9 ∷ Looked 3 8 ∷ third_of_four) ≡ counted 4 }
 {}
 
-/// Two keys stand at a capacity of two, the first looked for twice and the second once, and two
-/// others wait. Each of these is judged by its own looks, in order, and the second against what the
-/// first left.
+/// Two keys are resident at a capacity of 2, looked up twice and once, and two others are pending.
+///
+/// Each pending key is judged by its own lookups, in order, the second against what the first left.
 pub fn two_contend_for_the_place()
     ensures order { keys (orders nat_eq (by_frequency 2) (two_contend 2 2)).admitted ≡ 1 ∷ 2 ∷ [] }
     ensures waiting { keys (orders nat_eq (by_frequency 2) (two_contend 2 2)).waiting ≡ 3 ∷ 4 ∷ [] }
@@ -75,9 +77,12 @@ pub fn two_of_the_greatest_weight()
     ensures left { removals nat_eq weighed (Maintained None 0 ∷ two_heaviest) ≡ [] }
 {}
 
-/// Five seconds from the creation on, and three from each hit on; or no hit changes it; or a hit
-/// takes it away; or a hit gives as long again as the value had stood, from the moment of the hit.
-/// An update asks for itself over a live value alone: over an expired one the value is created.
+/// Lifetimes of single entries.
+///
+/// - 5 s from creation, and 3 s from each hit.
+/// - A hit that keeps the lifetime, one that ends it, and one that gives as long again as the
+///   value's age.
+/// - An update's lifetime counts only over a live value. Over an expired one the creation's does.
 pub fn own_lives()
     ensures at_four { answer_after nat_eq (with_lives five_and_three) (Get 1 (seconds 4)) written ≡ found (Some 7) }
     ensures at_six { answer_after nat_eq (with_lives five_and_three) (Get 1 (seconds 6)) (Looked 1 (seconds 4) ∷ written) ≡ found (Some 7) }

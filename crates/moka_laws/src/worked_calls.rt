@@ -1,6 +1,7 @@
-//! Worked cases of calls in order, each with its answer, and of events that no call makes yet: a
-//! hiding, a maintenance within a limit, a look that is turned down, and a number that is drawn
-//! alone. Each computes, but for the flush.
+//! Worked cases of calls in sequence. The prover computes each, except the flush.
+//!
+//! Others are of invalidation by a test, maintenance within a limit, lookups that are turned down,
+//! and single draws of a sequence number.
 ghost use Rattle.std.specs.Prelude.{◌≡◌, ℕ, true, false, nat_eq, Some, None, [], ◌∷◌};
 ghost use Rattle.moka_model.specs.declared.notification.RemovalCause.TheVariants.{Explicit, Expired, Replaced, Size};
 ghost use Rattle.moka_model.specs.Events.{Written, Invalidated, Maintained, Passed, Drawn, latest};
@@ -17,21 +18,20 @@ ghost use Rattle.moka_laws.specs.WorkedAdmission.{by_frequency};
 ghost use Rattle.moka_laws.specs.WorkedCalls.{session, behind_64, steps_come, two_and_two, one_leaves, another_leaves, two_hidden, turned_down};
 ghost use Rattle.moka_laws.specs.WorkedCalls.{all_hidden, some_hidden, removals_of_both, one_taken, has_value};
 
-/// A session at a capacity of two. The first of two keys is hit, so a third takes the place of the
+/// A session at a capacity of 2: the first of two keys is hit, so that a third one evicts the
 /// second.
 pub fn a_session()
     ensures { answers nat_eq (at_capacity 2) session [] ≡ is_done ∷ is_done ∷ is_done ∷ found (Some 10) ∷ is_done ∷ contains true ∷ counted 3
         ∷ is_done ∷ noticed (Some (left_as 2 20 Size)) ∷ noticed None ∷ found None ∷ is_done ∷ counted 1 ∷ noticed (Some (left_as 1 10 Explicit)) ∷ [] }
 {}
 
-/// At a capacity of ten 64 keys come. The write of the next one runs a maintenance first, so that
-/// eleven stand.
+/// At a capacity of 10, 64 keys are pending. The next write flushes first, so that 11 are stored.
 pub fn a_session_with_a_flush()
     ensures { answers nat_eq (at_capacity 10) behind_64 (steps_come 64) ≡ is_done ∷ counted 11 ∷ found (Some 65) ∷ [] }
 {}
 
-/// A maintenance within a limit: it ends before the first part in which more would leave, and
-/// another goes on there. At a capacity of two each key that waits takes the place of another.
+/// Maintenance within a limit stops before the first part that would exceed it, and the next one
+/// continues there. At a capacity of 2 each pending key evicts a resident one.
 pub fn a_maintenance_within_a_limit()
     ensures nothing { removals_at nat_eq (at_capacity 2) (Maintained (Some 0) 5) two_and_two ≡ [] }
     ensures nothing_moves { keys (orders nat_eq (at_capacity 2) (Maintained (Some 0) 5 ∷ two_and_two)).waiting ≡ 3 ∷ 4 ∷ [] }
@@ -44,8 +44,8 @@ pub fn a_maintenance_within_a_limit()
     ensures all_at_once { removals nat_eq (at_capacity 2) (Maintained None 5 ∷ two_and_two) ≡ removals nat_eq (at_capacity 2) another_leaves }
 {}
 
-/// What is hidden stands, and is counted, but no look finds it; it leaves as removed, also where
-/// its life has ended too. A write brings the key back.
+/// An invalidated entry is stored and counted, but no lookup finds it. Its cause is `Explicit`,
+/// also if it is expired too. A write brings the key back.
 pub fn what_is_hidden()
     ensures not_found { answer_after nat_eq without_lives (Get 2 3) two_hidden ≡ found None }
     ensures not_there { answer_after nat_eq without_lives (ContainsKey 3 3) two_hidden ≡ contains false }
@@ -59,27 +59,28 @@ pub fn what_is_hidden()
     ensures anew { answer_after nat_eq without_lives (Get 2 4) (Written 2 20 3 ∷ two_hidden) ≡ found (Some 20) }
 {}
 
-/// All that stood is hidden at once, and leaves as removed; what comes later is not.
+/// `invalidate_all` invalidates everything stored at once, with the cause `Explicit`. Later writes
+/// are not invalidated.
 pub fn a_session_that_hides_all()
     ensures { answers nat_eq without_lives all_hidden [] ≡ is_done ∷ is_done ∷ is_done ∷ found None ∷ found (Some 20) ∷ counted 2
         ∷ is_done ∷ noticed (Some (left_as 1 10 Explicit)) ∷ noticed None ∷ counted 1 ∷ [] }
 {}
 
-/// What passes a test is hidden, and leaves in the order of use; what comes later is not, though it
-/// passes the test.
+/// Entries that pass a test are invalidated, and removed in access order. Later writes are not
+/// invalidated, even if they pass the test.
 pub fn a_session_that_hides_by_a_test()
     ensures { answers nat_eq without_lives some_hidden [] ≡ is_done ∷ is_done ∷ is_done ∷ is_done ∷ is_done ∷ is_done ∷ is_done
         ∷ noticed (Some (left_as 0 7 Explicit)) ∷ noticed (Some (left_as 2 9 Explicit)) ∷ noticed None
         ∷ found None ∷ found (Some 8) ∷ found None ∷ found (Some 7) ∷ counted 2 ∷ [] }
 {}
 
-/// A removal answers a live value alone; a dead one leaves all the same, as expired.
+/// `remove` returns only a live value; an expired one is removed too, as `Expired`.
 pub fn a_session_that_removes()
     ensures { answers nat_eq ten_to_live removals_of_both [] ≡ is_done ∷ is_done ∷ found None ∷ noticed (Some (left_as 1 10 Expired))
         ∷ found (Some 20) ∷ noticed (Some (left_as 2 20 Explicit)) ∷ found None ∷ counted 0 ∷ [] }
 {}
 
-/// A look that is turned down is noted and records its moment, but it is no use of the value.
+/// A lookup that is turned down is noted and records its moment, but does not extend the TTI.
 pub fn a_look_that_is_turned_down()
     ensures noted { notes without_lives turned_down ≡ 1 ∷ [] }
     ensures frequency { frequency (by_frequency 3) turned_down 1 ≡ 1 }
@@ -88,7 +89,8 @@ pub fn a_look_that_is_turned_down()
     ensures not_extended { answer_after nat_eq five_to_idle (Get 1 (seconds 5)) turned_down ≡ found None }
 {}
 
-/// A number that is drawn alone, and a moment that passes.
+/// A `Drawn` draws a sequence number and nothing else; a `Passed` records a moment and nothing
+/// else.
 pub fn a_number_and_a_moment()
     ensures drawn { next_number without_lives (Drawn ∷ turned_down) ≡ 2 }
     ensures stands { answer_after nat_eq without_lives (Get 1 0) (Drawn ∷ turned_down) ≡ found (Some 7) }
@@ -96,8 +98,8 @@ pub fn a_number_and_a_moment()
     ensures none_drawn { next_number without_lives (Passed (seconds 10) ∷ turned_down) ≡ 1 }
 {}
 
-/// A key is written, written over and removed, and one notice is taken. Of the two pairs none is
-/// stored: the first was given out, and the notice of the second waits.
+/// A key is written, overwritten and removed, and one notice is taken. Neither pair is stored: the
+/// notice of the first was taken, that of the second is queued.
 pub fn each_pair_is_at_one_place()
     ensures written { count_written (λ k v. true) one_taken ≡ 2 }
     ensures stored { count_standing (λ k v. true) (orders nat_eq without_lives one_taken) ≡ 0 }

@@ -1,5 +1,5 @@
-//! Worked cases of an expiry that asks closures: each is told what it is to be told, each thing in
-//! its place.
+//! Worked cases of an expiry made of closures: each closure gets the right arguments, in the right
+//! places.
 ghost use Rattle.std.specs.Prelude.{◌≡◌, ℕ, Some, None, option_map};
 ghost use Rattle.std.specs.Duration.{as_nanos};
 ghost use Rattle.moka_model.specs.Lives.{Lifetimes};
@@ -7,8 +7,10 @@ ghost use Rattle.moka_model.specs.Lives.{Lifetimes};
 use moka_policy::expiry::{ExpireBy, Expiry};
 use std::time::Duration;
 
-/// The lives after a creation at 3, after a look at 10 for a value that was written at 4, and after
-/// an update at 8, each with this rest.
+/// Returns the lifetimes for a creation at 3, for a lookup at 10 of a value written at 4, and for
+/// an update at 8.
+///
+/// The old lifetime has `rest` left. Moments are nanoseconds.
 fn lives<E: Expiry<u64, u64>>(
     expiry: &E,
     rest: Option<Duration>,
@@ -26,8 +28,10 @@ fn lives<E: Expiry<u64, u64>>(
     )
 }
 
-/// Closures that answer by moments: a creation at 3 and an update at 8 give as many nanoseconds,
-/// and a look at 10 gives the 6 that the value has stood since 4.
+/// Returns lifetimes computed from moments.
+///
+/// A creation at 3 and an update at 8 give as many nanoseconds. A lookup at 10 gives the 6 ns since
+/// the write at 4.
 pub fn closures_are_told_the_moments() -> (Option<Duration>, Option<Duration>, Option<Duration>)
     ensures { (option_map as_nanos result.0 ≡ Some 3) × (option_map as_nanos result.1 ≡ Some 6) × (option_map as_nanos result.2 ≡ Some 8) }
 {
@@ -43,7 +47,8 @@ pub fn closures_are_told_the_moments() -> (Option<Duration>, Option<Duration>, O
     lives(&by_moments, None)
 }
 
-/// Closures that leave what is left: the 5 that are left stay after a look and after an update.
+/// Returns lifetimes computed from the rest: the 5 ns that are left stay after a lookup and after
+/// an update.
 pub fn closures_are_told_the_rest() -> (Option<Duration>, Option<Duration>, Option<Duration>)
     ensures { (option_map as_nanos result.0 ≡ None) × (option_map as_nanos result.1 ≡ Some 5) × (option_map as_nanos result.2 ≡ Some 5) }
 {

@@ -1,10 +1,10 @@
-//! Worked cases of a maintenance of two queues, at numbers: each computes.
+//! Worked cases of a maintenance of two queues. The prover computes each.
 ghost use Rattle.std.specs.Prelude.{◌≡◌, Some, None, [], ◌∷◌};
 ghost use Rattle.moka_model.specs.MaintenanceLaws.{queues, evicted_within, after_within};
 ghost use Rattle.moka_laws.specs.WorkedMaintenance.{one, all_live, two_and_five_dead, least_recently_used, by_count, of_four, twelve_wait, four_waits, two_wait, three_wait};
 
-/// Least recently used, where each weighs one: of twelve that wait at a capacity of ten the first
-/// two leave; and one that waits at a full cache takes the place of the least recently used.
+/// LRU, each weighs 1: of twelve pending keys at a capacity of 10 the first two are evicted. A
+/// pending key at a full cache evicts the least recently used one.
 pub fn least_recently_used_leaves()
     ensures two_leave { evicted_within one (Some 10) all_live least_recently_used None twelve_wait ≡ 1 ∷ 2 ∷ [] }
     ensures ten_stay { after_within one (Some 10) all_live least_recently_used None twelve_wait ≡ queues (3 ∷ 4 ∷ 5 ∷ 6 ∷ 7 ∷ 8 ∷ 9 ∷ 10 ∷ 11 ∷ 12 ∷ []) [] }
@@ -13,7 +13,7 @@ pub fn least_recently_used_leaves()
     ensures no_capacity { after_within one None all_live least_recently_used None four_waits ≡ queues (3 ∷ 1 ∷ 2 ∷ 4 ∷ []) [] }
 {}
 
-/// By counts: one that waits takes the place of its victim only where its count is greater.
+/// By counts: a pending key evicts its victim only if its count is greater.
 pub fn greater_count_wins()
     ensures dropped { evicted_within one (Some 3) all_live (by_count (of_four 2 2 1 1)) None four_waits ≡ 4 ∷ [] }
     ensures as_before { after_within one (Some 3) all_live (by_count (of_four 2 2 1 1)) None four_waits ≡ queues (3 ∷ 1 ∷ 2 ∷ []) [] }
@@ -22,9 +22,10 @@ pub fn greater_count_wins()
     ensures room { evicted_within one (Some 4) all_live (by_count (of_four 2 2 1 0)) None four_waits ≡ [] }
 {}
 
-/// By counts, where two wait: each is judged by itself, in order, the second against what the first
-/// left. So the second takes the place of the key that the first did not win against, or of the
-/// next one, or of the first itself.
+/// By counts, two pending keys: each is judged by itself, in order, the second against what the
+/// first left.
+///
+/// So the second evicts the key that the first did not beat, or the next one, or the first itself.
 pub fn each_is_judged_by_itself()
     ensures neither { evicted_within one (Some 2) all_live (by_count (of_four 2 1 2 2)) None two_wait ≡ 3 ∷ 4 ∷ [] }
     ensures both { evicted_within one (Some 2) all_live (by_count (of_four 2 1 3 2)) None two_wait ≡ 1 ∷ 2 ∷ [] }
@@ -38,8 +39,8 @@ pub fn each_is_judged_by_itself()
     ensures room_is_made { evicted_within (of_four 1 1 2 2) (Some 2) all_live (by_count (of_four 1 1 2 3)) None two_wait ≡ 3 ∷ 1 ∷ 2 ∷ [] }
 {}
 
-/// By weights: the victims are the shortest front that makes room, and one that waits wins against
-/// the sum of their counts. One that is heavier than the capacity is dropped, and has no victim.
+/// By weights: the victims are the shortest prefix that makes room, and a pending key has to beat
+/// the sum of their counts. A key heavier than the capacity is dropped, without victims.
 pub fn weights_make_room()
     ensures two_victims { evicted_within (of_four 10 15 5 15) (Some 31) all_live least_recently_used None four_waits ≡ 3 ∷ 1 ∷ [] }
     ensures two_stay { after_within (of_four 10 15 5 15) (Some 31) all_live least_recently_used None four_waits ≡ queues (2 ∷ 4 ∷ []) [] }
@@ -50,7 +51,7 @@ pub fn weights_make_room()
     ensures over { evicted_within (of_four 20 15 5 10) (Some 31) all_live least_recently_used None four_waits ≡ 3 ∷ 1 ∷ [] }
 {}
 
-/// The dead leave before all others, the admitted before the waiting, and make room.
+/// Dead keys are evicted before all others, residents before pending ones, and make room.
 pub fn dead_leave_before()
     ensures leaving { evicted_within one (Some 3) two_and_five_dead least_recently_used None three_wait ≡ 2 ∷ 5 ∷ 1 ∷ [] }
     ensures standing { after_within one (Some 3) two_and_five_dead least_recently_used None three_wait ≡ queues (3 ∷ 4 ∷ 6 ∷ []) [] }
@@ -58,9 +59,9 @@ pub fn dead_leave_before()
     ensures no_capacity { evicted_within one None two_and_five_dead least_recently_used None three_wait ≡ 2 ∷ 5 ∷ [] }
 {}
 
-/// Within a limit the first parts are done, and what the next one would move stays where it was.
-/// One that waits and its victims are one part: at a limit below the number of its victims it still
-/// waits.
+/// Within a limit the first parts are done, and what the next one would move stays in place. A
+/// pending key and its victims are one part: at a limit below the number of victims the key stays
+/// pending.
 pub fn limits()
     ensures none { after_within one (Some 3) two_and_five_dead least_recently_used (Some 0) three_wait ≡ three_wait }
     ensures first { evicted_within one (Some 3) two_and_five_dead least_recently_used (Some 1) three_wait ≡ 2 ∷ [] }

@@ -1,5 +1,5 @@
-//! Worked cases of a bounded size, at numbers: each computes, but for the maintenance of 64 keys,
-//! where the laws of the size take the step.
+//! Worked cases of a bounded size. The prover computes each, except the maintenance of 64 keys,
+//! which follows from the size laws.
 ghost use Rattle.std.specs.Prelude.{◌≡◌, true, false, nat_eq, Some, None, [], ◌∷◌};
 ghost use Rattle.moka_model.specs.declared.notification.RemovalCause.TheVariants.{Expired, Size};
 ghost use Rattle.moka_model.specs.Events.{Looked, Written, Maintained, Passed};
@@ -11,7 +11,7 @@ ghost use Rattle.moka_model.specs.Calls.{Get, EntryCount, write_events};
 ghost use Rattle.moka_laws.specs.Worked.{seconds, written, left_as, answer_after, found, counted};
 ghost use Rattle.moka_laws.specs.WorkedSize.{at_capacity, ten_to_live_at_ten, third_comes, three_used, fourth_comes, skipped, all_come, after_65, all_left};
 
-/// At a capacity of two a third key takes the place of the second, since the first was hit.
+/// At a capacity of 2 a third key evicts the second, since the first was hit.
 pub fn a_hit_keeps_a_key()
     ensures leaving { removals_at nat_eq (at_capacity 2) (Maintained None 5) third_comes ≡ left_as 2 20 Size ∷ [] }
     ensures admitted { keys (orders nat_eq (at_capacity 2) (Maintained None 5 ∷ third_comes)).admitted ≡ 1 ∷ 3 ∷ [] }
@@ -20,8 +20,7 @@ pub fn a_hit_keeps_a_key()
     ensures gone { answer_after nat_eq (at_capacity 2) (Get 2 6) (Maintained None 5 ∷ third_comes) ≡ found None }
 {}
 
-/// Three keys in their order of use: the third was used first, then the first, and then the second.
-/// So a fourth takes the place of the third.
+/// Three keys in access order: the third, the first, the second. So a fourth evicts the third.
 pub fn three_keys_in_use()
     ensures uses { uses nat_eq (at_capacity 3) three_used ≡ 1 ∷ 2 ∷ 1 ∷ 2 ∷ 1 ∷ 2 ∷ 3 ∷ 3 ∷ 3 ∷ 1 ∷ 2 ∷ [] }
     ensures lasts { lasts nat_eq (uses nat_eq (at_capacity 3) three_used) ≡ 3 ∷ 1 ∷ 2 ∷ [] }
@@ -32,8 +31,8 @@ pub fn three_keys_in_use()
     ensures counted { answer_after nat_eq (at_capacity 3) EntryCount (Maintained None 12 ∷ fourth_comes) ≡ counted 3 }
 {}
 
-/// Ten seconds to live at a capacity of ten: a maintenance at the end lets the value go as expired,
-/// and one before it lets nothing go.
+/// A TTL of 10 s at a capacity of 10: a maintenance at the deadline evicts the value as `Expired`,
+/// one before it evicts nothing.
 pub fn a_dead_value_leaves_as_expired()
     ensures before { removals_at nat_eq ten_to_live_at_ten (Maintained None 9_999_999_999) written ≡ [] }
     ensures at_end { removals_at nat_eq ten_to_live_at_ten (Maintained None (seconds 10)) written ≡ left_as 1 7 Expired ∷ [] }
@@ -41,7 +40,7 @@ pub fn a_dead_value_leaves_as_expired()
     ensures counted { entry_count nat_eq ten_to_live_at_ten (Maintained None (seconds 10) ∷ written) ≡ 0 }
 {}
 
-/// At a capacity of 0 an accepted write writes nothing, and draws no number.
+/// At a capacity of 0 an accepted write stores nothing, and draws no sequence number.
 pub fn a_capacity_of_0()
     ensures skips { skipped ≡ Passed 0 ∷ [] }
     ensures not_found { answer_after nat_eq (at_capacity 0) (Get 1 0) skipped ≡ found None }
@@ -49,7 +48,7 @@ pub fn a_capacity_of_0()
     ensures none_drawn { next_number (at_capacity 0) skipped ≡ 0 }
 {}
 
-/// At a capacity of 1 a write is stored, as it is without a capacity, and one key stands after a
+/// At a capacity of 1 a write is stored, as it is without a capacity, and one key is stored after a
 /// maintenance.
 pub fn a_capacity_of_1()
     ensures stores { stores_nothing (Some 1) ≡ false }
@@ -61,8 +60,8 @@ pub fn a_capacity_of_1()
     ensures stays { keys (orders nat_eq (at_capacity 1) (Maintained None 2 ∷ Written 2 8 1 ∷ written)).admitted ≡ 2 ∷ [] }
 {}
 
-/// At a capacity of ten 64 keys come, and all wait. The write of the next one runs a maintenance
-/// first: the first 54 leave for size, in order, ten are admitted, and the new one waits.
+/// At a capacity of 10, 64 keys are pending. The next write flushes first: the first 54 are evicted
+/// for size, in order, ten are admitted, and the new one is pending.
 pub fn the_flush_point()
     ensures not_due { is_flush_due nat_eq (at_capacity 10) (all_come 63) ≡ false }
     ensures due { is_flush_due nat_eq (at_capacity 10) (all_come 64) ≡ true }

@@ -9,7 +9,7 @@ use Rattle.moka_links.specs.declared.links.Links.{Links}
 use Rattle.moka_orders.proofs.Callers.{not-both, few-ordered, in-admitted as among-admitted, in-waiting as among-waiting}
 use Rattle.moka_links.proofs.IndexLemmas.{Chained, chained-in, stands-among, among-stands, number-within, number-above}
 
--- what is linked is a row's number and has a place
+-- a linked number is that of a row, and has a place
 pub linked-above : (l : Links) (k : ℕ) → IsLinked l k → 2 ≤ k
 linked-above l k q = number-above l.orders k q
 
@@ -22,7 +22,7 @@ linked-among l k q = stands-among l.orders k q
 pub among-linked : (l : Links) (k : ℕ) → IsLinked l k → IsAmong k (numbers_of l)
 among-linked l k q = among-stands l.orders k q
 
--- a number stands in one order, and once
+-- a number is in one order, and only once
 pub linked-once : (l : Links) (k : ℕ) → IsAmong k (admitted_of l) → IsAbsent k (waiting_of l)
 linked-once l k p q = not-both l.orders.nodes.items (admitted_of l) (waiting_of l) k l.orders.ringed p q
 
@@ -36,7 +36,7 @@ waiting-apart l = apart-counted (waiting_of l) l.orders.ringed.second.apart
 pub linked-chains : (l : Links) → Chained (same_at l) (hash_at l) (first_at l) (numbers_of l) (chain_of l)
 linked-chains l = chained-in l.orders l.firsts l.indexed
 
--- there are no more numbers than 32 bits name
+-- each order has at most 2^32 numbers
 pub few-linked : (l : Links) → (length (admitted_of l) ≤ 2 ^ 32) × (length (waiting_of l) ≤ 2 ^ 32)
 few-linked l =
     let few = l.orders.ringed.few in
@@ -44,7 +44,7 @@ few-linked l =
     let second = few-ordered l.orders.nodes.items 1 false (waiting_of l) l.orders.ringed.second in
     (omega (arith, few, first), omega (arith, few, second))
 
--- which order a number stands in, by what `is_admitted` says
+-- the order of a number, by what `is_admitted` returns
 pub in-admitted : (l : Links) (k : ℕ) (said : Bool) → IsLinked l k
     → (IsAmong k (waiting_of l) → said ≡ false) → said ≡ true → IsAmong k (admitted_of l)
 in-admitted l k said there waits is = among-admitted (admitted_of l) (waiting_of l) k said there waits is

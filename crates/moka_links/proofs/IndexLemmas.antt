@@ -14,7 +14,7 @@ use Rattle.moka_orders.proofs.Callers.{IsApart, apart-counted, counted-apart, am
 use Rattle.moka_orders.proofs.Callers.{IsLine, chain-line, line-chase, line-chain, line-frame, line-passed, without-behind}
 use Rattle.moka_orders.proofs.Callers.{stands-within, stands-above}
 
--- the same with the links one by one
+-- each hash has a chain of all its numbers, with the links one by one
 pub record Chained (same : ℕ → Option ℕ) (hash : ℕ → ℕ) (first : ℕ → Option ℕ) (numbers : List ℕ) (chain : ℕ → List ℕ) : Type 0 where
   pub line : (h : ℕ) → IsLine same (first h) (chain h)
   pub apart : (h : ℕ) → IsApart (chain h)
@@ -45,7 +45,7 @@ chained-same same hash first numbers chain chain' is h = record {
   covers = λ k q. subst (IsAmong k) (sym (is (hash k))) (h.covers k q);
 }
 
--- what stands, by the list of all numbers
+-- a number is in one of the orders if and only if it is in the list of all numbers
 pub stands-among : (o : Orders) (k : ℕ) → IsAmong k (numbers_in o) → Stands o k
 stands-among o k q = among-parts k (admitted_in o) (waiting_in o) q
 
@@ -62,7 +62,7 @@ module _ {S : Type 0} where
   pub chained-in : (o : Orders) (firsts : IndexMap ℕ ℕ S) → IsIndexed o firsts → Chained (same_of o.nodes.items) (hash_of o.nodes.items) (first_in firsts) (numbers_in o) (chain_in o firsts)
   chained-in o firsts h = chained (same_of o.nodes.items) (hash_of o.nodes.items) (first_in firsts) (numbers_in o) (chain_in o firsts) h
 
-  -- chains of what stands are those that the links give
+  -- the chains of the numbers in the orders are those that the links form
   chain-is : (o : Orders) (firsts : IndexMap ℕ ℕ S) (chain : ℕ → List ℕ) → Chained (same_of o.nodes.items) (hash_of o.nodes.items) (first_in firsts) (numbers_in o) chain → (h : ℕ) → chain_in o firsts h ≡ chain h
   chain-is o firsts chain c h =
       let few = few-below (places_in o) (chain h) (c.apart h) (λ k q. number-within o k (stands-among o k (c.members h k q).0)) in
@@ -93,7 +93,7 @@ module _ (same : ℕ → Option ℕ) (hash : ℕ → ℕ) (first : ℕ → Optio
       go [] line = let both : None ≡ Some k = sym line ∙ some in absurd cc
       go (x ∷ xs) line = let both : Some x ≡ Some k = sym line.0 ∙ some in inl cc
 
-  -- a number that is not the first of its chain is passed by
+  -- a number that is not the first of its chain is unlinked from it
   pub unchained-behind : (same' : ℕ → Option ℕ) (n p : ℕ) (front back : List ℕ) → chain (hash n) ≡ front ++ p ∷ n ∷ back → same' p ≡ same n → ((k : ℕ) → k ≢ p → same' k ≡ same k)
       → (h : ℕ) → IsChain same' (first h) (without n (chain h))
   unchained-behind same' n p front back is past others h = line-chain same' (first h) (without n (chain h)) (⊎_elim (λ e. here e) (λ ne. there ne) (cases_eq h (hash n)))
@@ -115,7 +115,7 @@ module _ (same : ℕ → Option ℕ) (hash : ℕ → ℕ) (first : ℕ → Optio
           subst (IsLine same' (first h)) (sym (without-absent n (chain h) (elsewhere n h ne)))
           (line-frame same same' (first h) (chain h) (λ k q. others k (λ e. ne (sym (c.members h k q).1 ∙ ap hash e ∙ leads))) (c.line h))
 
-  -- the first number of a chain leaves
+  -- the first number of a chain is removed
   pub unchained-first : (first' : ℕ → Option ℕ) (n : ℕ) → first (hash n) ≡ Some n → first' (hash n) ≡ same n → ((h : ℕ) → h ≢ hash n → first' h ≡ first h)
       → (h : ℕ) → IsChain same (first' h) (without n (chain h))
   unchained-first first' n was is others h = line-chain same (first' h) (without n (chain h)) (⊎_elim (λ e. here e) (λ ne. there ne) (cases_eq h (hash n)))
@@ -133,7 +133,7 @@ module _ (same : ℕ → Option ℕ) (hash : ℕ → ℕ) (first : ℕ → Optio
       there : h ≢ hash n → IsLine same (first' h) (without n (chain h))
       there ne = subst (IsLine same (first' h)) (sym (without-absent n (chain h) (elsewhere n h ne))) (subst (λ t. IsLine same t (chain h)) (sym (others h ne)) (c.line h))
 
-  -- once a number is out of its chain and stands no more
+  -- after a number was removed from its chain and from its order
   pub chained-left : (same' : ℕ → Option ℕ) (hash' : ℕ → ℕ) (first' : ℕ → Option ℕ) (numbers' : List ℕ) (n : ℕ) → ((h : ℕ) → IsChain same' (first' h) (without n (chain h))) → ((k : ℕ) → hash' k ≡ hash k)
       → ((k : ℕ) → IsAmong k numbers' → IsAmong k numbers × (k ≢ n)) → ((k : ℕ) → IsAmong k numbers → k ≢ n → IsAmong k numbers')
       → Chained same' hash' first' numbers' (λ h. without n (chain h))
@@ -233,7 +233,7 @@ module _ {S : Type 0} (o : Orders) (firsts : IndexMap ℕ ℕ S) (n : ℕ) (stan
     pub within-chain : IsAmong n (chain_from o (Some first))
     within-chain = subst (IsAmong n) (sym chain) (c.covers n (among-stands o n stands))
 
-    -- it is not the first one, but behind another
+    -- it is not the first one, but after another
     module _ (before : ℕ) (leads : LeadsTo (chain_from o (Some first)) before n) where
       pub before-hash : hash_of o.nodes.items before ≡ hash
       before-hash =

@@ -13,14 +13,14 @@ use Rattle.moka_orders.proofs.Callers.{apart-counted, among-without, among-other
 use Rattle.moka_orders.proofs.Callers.{chain-line, line-chain, line-frame}
 use Rattle.moka_links.proofs.IndexLemmas.{Chained, chained-in, indexed, stands-among, among-stands, number-above, first-among, chained-moved, chained-left, chained-came, chain_with}
 
--- a number that left stands nowhere
+-- a number that was removed is in no order
 pub absent-left : (o d : Orders) (n : ℕ) → admitted_in d ≡ without n (admitted_in o) → waiting_in d ≡ without n (waiting_in o) → IsAbsent n (admitted_in d) × IsAbsent n (waiting_in d)
 absent-left o d n admitted waiting = (
   subst (IsAbsent n) (sym admitted) (absent-without n (admitted_in o) (apart-counted (admitted_in o) o.ringed.first.apart)),
   subst (IsAbsent n) (sym waiting) (absent-without n (waiting_in o) (apart-counted (waiting_in o) o.ringed.second.apart)),
 )
 
--- what stands where the orders are the same
+-- if the orders are the same, so are the numbers in them
 stands-same : (o d : Orders) → admitted_in d ≡ admitted_in o → waiting_in d ≡ waiting_in o → (k : ℕ) → Stands d k → Stands o k
 stands-same o d admitted waiting k q = ⊎_elim (λ t. inl (subst (IsAmong k) admitted t)) (λ t. inr (subst (IsAmong k) waiting t)) q
 

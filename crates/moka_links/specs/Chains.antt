@@ -1,4 +1,4 @@
--- The chains of the numbers of one hash.
+-- The chains of the numbers with one hash.
 use Rattle.std.specs.Prelude.{◌≡◌, ℕ, ◌<◌, ◌≤◌, Option, List, ◌++◌}
 use Rattle.indexmap.specs.IndexMap.{IndexMap}
 use Rattle.moka_orders.specs.Paths.{IsAmong, count_of, IsChain}
@@ -7,7 +7,7 @@ use Rattle.moka_links.specs.Firsts.{first_in}
 use Rattle.moka_orders.specs.Orders.{admitted_in, waiting_in, chain_from}
 use Rattle.moka_orders.specs.declared.orders.Orders.{Orders}
 
--- each hash has a chain of all its numbers
+-- Each hash has a chain of exactly those of the numbers that have it.
 pub record IsChained (same : ℕ → Option ℕ) (hash : ℕ → ℕ) (first : ℕ → Option ℕ) (numbers : List ℕ)
     (chain : ℕ → List ℕ) : Type 0 where
   pub linked : (h : ℕ) → IsChain same (first h) (chain h)
@@ -15,15 +15,15 @@ pub record IsChained (same : ℕ → Option ℕ) (hash : ℕ → ℕ) (first : �
   pub members : (h k : ℕ) → IsAmong k (chain h) → (0 < count_of k numbers) × (hash k ≡ h)
   pub covers : (k : ℕ) → IsAmong k numbers → 0 < count_of k (chain (hash k))
 
--- all numbers, the admitted ones first
+-- All numbers, the resident ones first.
 abbrev pub numbers_in : Orders → List ℕ
 numbers_in o = admitted_in o ++ waiting_in o
 
 module _ {S : Type 0} where
-  -- the numbers of a hash
+  -- The chain of a hash.
   abbrev pub chain_in : Orders → IndexMap ℕ ℕ S → ℕ → List ℕ
   chain_in o firsts hash = chain_from o (first_in firsts hash)
 
-  -- each hash has a chain of all its numbers that stand
+  -- Each hash has a chain of exactly the numbers that have it and are in an order.
   abbrev pub IsIndexed : Orders → IndexMap ℕ ℕ S → Type 0
   IsIndexed o firsts = IsChained (same_of o.nodes.items) (hash_of o.nodes.items) (first_in firsts) (numbers_in o) (chain_in o firsts)

@@ -3,11 +3,11 @@ use Rattle.std.specs.Prelude.{◌≡◌, ◌≢◌, ℕ, ◌≤◌, Option, nat_
 use Rattle.indexmap.specs.IndexMap.{IndexMap, get, spare}
 
 module _ {S : Type 0} where
-  -- the first number of a hash
+  -- The first number of a hash, if it has one.
   abbrev pub first_in : IndexMap ℕ ℕ S → ℕ → Option ℕ
   first_in firsts hash = get nat_eq firsts hash
 
-  -- the hash has this first number, or none, all others have what they had, and no room is gone
+  -- The first number of a hash was set or removed. All other hashes keep theirs, and no room is lost.
   pub record Leads (old new : IndexMap ℕ ℕ S) (hash : ℕ) (first : Option ℕ) : Type 0 where
     pub changed : first_in new hash ≡ first
     pub others : (other : ℕ) → other ≢ hash → first_in new other ≡ first_in old other

@@ -3,8 +3,8 @@ ghost use Rattle.moka_links.specs.AsIs.{hash_after};
 
 use std::hash::Hasher;
 
-/// Hashes a `u64` to itself. Of other writes it takes the first eight bytes, and those with less it
-/// passes over.
+/// Hashes a `u64` to itself. Of any other write it takes the first eight bytes, and ignores one
+/// with fewer.
 #[derive(Clone, Copy, Debug, Default, Drop)]
 pub struct AsIs {
     hash: u64,
@@ -15,6 +15,7 @@ impl Hasher for AsIs {
 
     ghost finish = { λ hasher. hasher.hash };
 
+    #[inline(always)]
     fn finish(&self) -> u64 {
         self.hash
     }
@@ -27,6 +28,7 @@ impl Hasher for AsIs {
         }
     }
 
+    #[inline(always)]
     fn write_u64(&mut self, number: u64) {
         *self = AsIs { hash: number };
     }

@@ -1,4 +1,4 @@
-//! The first number of each hash, by an index.
+//! An index from each hash to its first number.
 ghost use Rattle.std.specs.Prelude.{◌≡◌, ◌≢◌, ℕ, ◌+◌, ◌<◌, ◌≤◌, Some, None, option_map, IfSome, MatchOption, slice_get};
 ghost use Rattle.indexmap.specs.IndexMap.{spare};
 ghost use Rattle.moka_links.specs.Firsts.{first_in, Leads};
@@ -7,10 +7,11 @@ use crate::as_is::AsIs;
 use indexmap::IndexMap;
 use std::hash::BuildHasherDefault;
 
-/// Finds the first number of a hash, which it takes as it is.
+/// An index from a hash to its first number. It uses the hash as it is.
 pub type Firsts = IndexMap<u64, u32, BuildHasherDefault<AsIs>>;
 
-/// The first number of a hash.
+/// Returns the first number of a hash, if it has one.
+#[inline(always)]
 pub fn first(firsts: &Firsts, hash: u64) -> Option<usize>
     ensures { result ≡ first_in firsts.now hash }
 {
@@ -20,7 +21,8 @@ pub fn first(firsts: &Firsts, hash: u64) -> Option<usize>
     }
 }
 
-/// The place in the index of a hash that has a number, and its first one.
+/// Returns the place of a hash in the index, and its first number, if it has one.
+#[inline(always)]
 pub fn place(firsts: &Firsts, hash: u64) -> Option<(usize, u32)>
     ensures first { option_map (λ p. p.1) result ≡ first_in firsts.now hash }
     ensures place { IfSome result (λ p. slice_get firsts.now.entries p.0 ≡ Some (hash, p.1)) }
@@ -31,7 +33,8 @@ pub fn place(firsts: &Firsts, hash: u64) -> Option<(usize, u32)>
     }
 }
 
-/// Puts a number before all others of its hash, and answers the one that was the first, or 0.
+/// Puts a number before all others with its hash. Returns the one that was the first before, or 0.
+#[inline(always)]
 pub fn put_first(firsts: &mut Firsts, hash: u64, number: u32) -> u32
     requires { 0 < spare firsts.old }
     ensures before { MatchOption (first_in firsts.old hash) (result ≡ 0) (λ first. result ≡ first) }
@@ -46,7 +49,8 @@ pub fn put_first(firsts: &mut Firsts, hash: u64, number: u32) -> u32
     }
 }
 
-/// Changes the first number of the hash at a place.
+/// Sets the first number of the hash at a place.
+#[inline(always)]
 pub fn change_first(firsts: &mut Firsts, place: usize, hash: u64, first: u32, number: u32)
     requires { slice_get firsts.old.entries place ≡ Some (hash, first) }
     ensures { Leads firsts.old firsts.new hash (Some number) }
@@ -56,7 +60,8 @@ pub fn change_first(firsts: &mut Firsts, place: usize, hash: u64, first: u32, nu
     }
 }
 
-/// Takes out the hash at a place.
+/// Removes the hash at a place.
+#[inline(always)]
 pub fn drop_first(firsts: &mut Firsts, place: usize, hash: u64, first: u32)
     requires { slice_get firsts.old.entries place ≡ Some (hash, first) }
     ensures { Leads firsts.old firsts.new hash None }

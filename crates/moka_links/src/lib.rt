@@ -1,5 +1,5 @@
-//! The orders in which the rows of a cache stand, and the chains of the rows of one hash, as links
-//! between numbers.
+//! The orders of a cache's rows, and the chains of the rows with one hash, as links between
+//! numbers.
 #![tactic(auto)]
 
 pub mod as_is;

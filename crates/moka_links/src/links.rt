@@ -1,4 +1,4 @@
-//! The rows of a cache by their numbers: two orders, and for each hash a chain.
+//! The rows of a cache by their numbers: in two orders, and in a chain for each hash.
 ghost use Rattle.std.specs.Prelude.{◌≡◌, ◌≢◌, ◌⊎◌, ℕ, ◌+◌, ◌<◌, ◌≤◌, [], ◌∷◌, ◌++◌, true, false, length, OnOk, Some};
 ghost use Rattle.moka_orders.specs.Paths.{IsAmong, IsAbsent, IsChain, without, first_of, number_behind};
 ghost use Rattle.moka_orders.specs.Nodes.{hash_of, same_of, row_of};
@@ -13,12 +13,15 @@ use moka_orders::orders::Orders;
 use std::alloc::{AllocError, Global};
 use std::hash::BuildHasherDefault;
 
-/// Numbers in two orders, those that wait and those that are admitted, and in a chain for each
-/// hash.
+/// Numbers in two orders, the pending and the resident ones, and in a chain for each hash.
 ///
-/// A number is that of a node, of which the first two are the ends of the orders: so numbers begin
-/// at 2. Each has 32 bits. Every call takes constant time, but `reserve`, which may have to grow,
-/// and `remove`, which follows the links of the numbers of one hash.
+/// A number is the index of a node. The first two nodes are the ends of the orders, so numbers
+/// begin at 2. Each has 32 bits.
+///
+/// # Complexity
+///
+/// Every call takes constant time except two. `reserve` may have to grow. `remove` follows the
+/// links of the numbers with one hash.
 #[derive(Drop)]
 pub struct Links {
     orders: Orders,
@@ -26,7 +29,8 @@ pub struct Links {
     ghost indexed: { IsIndexed orders firsts },
 }
 
-/// Takes a number out of the chain of its hash.
+/// Removes a number from the chain of its hash.
+#[inline(always)]
 fn unchain(orders: &mut Orders, firsts: &mut Firsts, number: u32)
     requires stands { Stands orders.old number }
     requires indexed { IsIndexed orders.old firsts.old }
@@ -51,7 +55,8 @@ fn unchain(orders: &mut Orders, firsts: &mut Firsts, number: u32)
     }
 }
 
-/// A number as a link keeps it.
+/// Returns a number in the width of a link.
+#[inline(always)]
 fn link(orders: &Orders, number: usize) -> u32
     requires { number < places_in orders.now }
     ensures { result ≡ number }
@@ -62,7 +67,7 @@ fn link(orders: &Orders, number: usize) -> u32
 impl Links {
     ghost use Rattle.moka_links.specs.Links.{admitted_of, waiting_of, IsLinked, hash_at, first_at, same_at, places_of, spare_of, KeepsRoom};
 
-    /// No numbers. It takes no memory.
+    /// Creates links without numbers. Does not allocate.
     pub fn new(alloc: Global) -> Self
         ensures admitted { admitted_of result ≡ [] }
         ensures waiting { waiting_of result ≡ [] }
@@ -73,35 +78,40 @@ impl Links {
         }
     }
 
-    /// How many numbers are admitted.
+    /// Returns how many numbers are resident.
+    #[inline(always)]
     pub fn admitted_len(&self) -> usize
         ensures { result ≡ length (admitted_of self.now) }
     {
         self.orders.lens().0
     }
 
-    /// How many numbers wait.
+    /// Returns how many numbers are pending.
+    #[inline(always)]
     pub fn waiting_len(&self) -> usize
         ensures { result ≡ length (waiting_of self.now) }
     {
         self.orders.lens().1
     }
 
-    /// The least recently used admitted number.
+    /// Returns the least recently used resident number, if there is one.
+    #[inline(always)]
     pub fn first_admitted(&self) -> Option<usize>
         ensures { result ≡ first_of (admitted_of self.now) }
     {
         self.orders.first_admitted()
     }
 
-    /// The number that has waited longest.
+    /// Returns the number that has been pending longest, if there is one.
+    #[inline(always)]
     pub fn first_waiting(&self) -> Option<usize>
         ensures { result ≡ first_of (waiting_of self.now) }
     {
         self.orders.first_waiting()
     }
 
-    /// The number behind this one, in the order in which this one stands.
+    /// Returns the next number in the order of this one, if there is one.
+    #[inline(always)]
     pub fn next(&self, number: usize) -> Option<usize>
         requires { IsLinked self.now number }
         ensures admitted { IsAmong number (admitted_of self.now) → result ≡ number_behind number (admitted_of self.now) }
@@ -110,7 +120,8 @@ impl Links {
         self.orders.next(link(&self.orders, number))
     }
 
-    /// Whether a number is admitted.
+    /// Returns whether a number is resident.
+    #[inline(always)]
     pub fn is_admitted(&self, number: usize) -> bool
         requires { IsLinked self.now number }
         ensures admitted { IsAmong number (admitted_of self.now) → result ≡ true }
@@ -119,7 +130,8 @@ impl Links {
         self.orders.is_admitted(link(&self.orders, number))
     }
 
-    /// The hash of a number.
+    /// Returns the hash of a number.
+    #[inline(always)]
     pub fn hash(&self, number: usize) -> u64
         requires { IsLinked self.now number }
         ensures { result ≡ hash_at self.now number }
@@ -127,14 +139,16 @@ impl Links {
         self.orders.hash(link(&self.orders, number))
     }
 
-    /// The first number of a hash.
+    /// Returns the first number of a hash, if it has one.
+    #[inline(always)]
     pub fn first(&self, hash: u64) -> Option<usize>
         ensures { result ≡ first_at self.now hash }
     {
         firsts::first(&self.firsts, hash)
     }
 
-    /// The next number of the same hash.
+    /// Returns the next number with the same hash, if there is one.
+    #[inline(always)]
     pub fn same(&self, number: usize) -> Option<usize>
         requires { IsLinked self.now number }
         ensures { result ≡ same_at self.now number }
@@ -142,8 +156,12 @@ impl Links {
         self.orders.same(link(&self.orders, number))
     }
 
-    /// Makes places for all numbers below this many, and room for the hashes of this many more
-    /// numbers. Numbers of more than 32 bits are refused.
+    /// Makes places for all numbers below `places`, and room for the hashes of `more` more numbers.
+    /// The orders and the hashes stay as they were, also if it fails.
+    ///
+    /// # Errors
+    ///
+    /// - `AllocError`: an allocation failed, or `places` has more than 32 bits.
     pub fn reserve(&mut self, places: usize, more: usize) -> Result<(), AllocError>
         ensures made { OnOk result (places ≤ places_of self.new) }
         ensures spare { OnOk result (more ≤ spare_of self.new) }
@@ -155,8 +173,9 @@ impl Links {
         self.firsts.reserve(more)
     }
 
-    /// Puts a new number behind all that wait, and before all others of its hash. It takes no
-    /// memory, and the room of one hash at most.
+    /// Appends a new number to the pending ones, and puts it before all others with its hash. Does
+    /// not allocate, and uses the room of at most one hash.
+    #[inline(always)]
     pub fn add(&mut self, number: usize, hash: u64)
         requires above { 2 ≤ number }
         requires within { number < places_of self.old }
@@ -175,7 +194,8 @@ impl Links {
         self.orders.wait(number);
     }
 
-    /// Puts a number behind all that are admitted, wherever it stood.
+    /// Appends a number to the resident ones, after removing it from its order.
+    #[inline(always)]
     pub fn admit(&mut self, number: usize)
         requires { IsLinked self.old number }
         ensures admitted { admitted_of self.new ≡ without number (admitted_of self.old) ++ number ∷ [] }
@@ -187,8 +207,11 @@ impl Links {
         self.orders.admit(used);
     }
 
-    /// Puts an admitted number behind all others that are admitted, leaves one that waits where it
-    /// stands, and answers whether it is admitted. No link changes where it is the last already.
+    /// Moves a resident number after all other resident ones; a pending one keeps its place.
+    /// Returns whether the number is resident.
+    ///
+    /// No link changes if the number is the last already.
+    #[inline(always)]
     pub fn touch(&mut self, number: usize) -> bool
         requires { IsLinked self.old number }
         ensures admitted { IsAmong number (admitted_of self.old) → (result ≡ true)
@@ -200,13 +223,26 @@ impl Links {
     {
         let is_admitted = self.is_admitted(number);
         if is_admitted && self.next(number).is_some() {
-            self.admit(number);
+            self.move_last(number);
         }
         is_admitted
     }
 
-    /// Takes a number out of its order and of the chain of its hash, and answers whether it was
-    /// admitted.
+    // Moves a resident number after all other resident ones.
+    #[inline(always)]
+    fn move_last(&mut self, number: usize)
+        requires { IsAmong number (admitted_of self.old) }
+        ensures admitted { admitted_of self.new ≡ without number (admitted_of self.old) ++ number ∷ [] }
+        ensures waiting { waiting_of self.new ≡ without number (waiting_of self.old) }
+        ensures kept { KeepsRoom self.old self.new }
+    {
+        let used = link(&self.orders, number);
+        self.orders.move_last(used);
+    }
+
+    /// Removes a number from its order and from the chain of its hash. Returns whether it was
+    /// resident.
+    #[inline(always)]
     pub fn remove(&mut self, number: usize) -> bool
         requires { IsLinked self.old number }
         ensures was_admitted { IsAmong number (admitted_of self.old) → result ≡ true }

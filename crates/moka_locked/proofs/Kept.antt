@@ -1,4 +1,5 @@
--- What stands under a shared cache's lock keeps a history that keeps, and so what is handed out keeps.
+-- What a shared cache's lock guards always has a history that satisfies `keeps`. So what it returns satisfies `keeps`
+-- too.
 use Rattle.std.proofs.Common.{◌≡◌, ◌≢◌, ℕ, Bool, Option, Some, None, Result, Ok, Err, refl, sym, subst}
 use Rattle.std.specs.Prelude.{OnOk, OnErr, IfOk, IfSome, option_map}
 use Rattle.std.specs.Cmp.{IsEquivalence}
@@ -37,7 +38,7 @@ use Rattle.moka_turns.specs.declared.handles.CollectRefused.{CollectRefused}
 use Rattle.moka_locked.specs.Kept.{CollectedFits, CollectedKeeps, FinishedKeeps, GivenKeeps, ResultKeeps}
 
 module _ {K V E : Type 0} (keeps : K → V → Type 0) where
-  -- who hands in an outcome that keeps owes no more
+  -- a caller whose outcome satisfies `keeps` owes nothing more
   pub outcome-owed : (name : Name K) (at : ℕ) (outcome : Outcome V (Arc E Global)) → OutcomeKeeps (keeps name.key) outcome → CallKeeps keeps (Finish name (outcome_of outcome) at)
   outcome-owed name at (outcomes.Value v) kept = kept
   outcome-owed name at outcomes.Nothing kept = tt
@@ -46,13 +47,13 @@ module _ {K V E : Type 0} (keeps : K → V → Type 0) where
   outcome-owed name at (outcomes.Op ops.Remove) kept = tt
   outcome-owed name at (outcomes.Op ops.Nop) kept = tt
 
-  -- what an ended turn is answered keeps
+  -- what the finish of an initializer returns satisfies `keeps`
   given-keeps : (name : Name K) (outcome : Outcome V E) (at : ℕ) (answer : Answer K V E) → AnswerKeeps keeps (Finish name outcome at) (of_answer answer) → GivenKeeps keeps name.key answer
   given-keeps name outcome at (answers.Entry entry) kept = kept
   given-keeps name outcome at answers.Nothing kept = tt
   given-keeps name outcome at (answers.Failed error) kept = tt
 
-  -- and what an ended compute is answered
+  -- so does what the finish of a compute returns
   result-keeps : (name : Name K) (outcome : Outcome V E) (at : ℕ) (result : CompResult K V) → AnswerKeeps keeps (Finish name outcome at) (of_computed result) → ResultKeeps keeps name.key result
   result-keeps name outcome at (results.StillNone key) kept = tt
   result-keeps name outcome at (results.Unchanged entry) kept = kept
@@ -60,7 +61,7 @@ module _ {K V E : Type 0} (keeps : K → V → Type 0) where
   result-keeps name outcome at (results.ReplacedWith entry) kept = kept
   result-keeps name outcome at (results.Removed entry) kept = kept
 
-  -- what a ticket is told keeps
+  -- what a collect returns satisfies `keeps`
   collected-keeps : (name : Name K) (told : Collected K V E) → AnswerKeeps keeps {E = E} (Collect name) (of_collected told) → CollectedKeeps keeps name.key told
   collected-keeps name (collects.Ready (answers.Entry entry)) kept = kept
   collected-keeps name (collects.Ready answers.Nothing) kept = tt
@@ -70,7 +71,7 @@ module _ {K V E : Type 0} (keeps : K → V → Type 0) where
   collected-keeps name collects.Ended kept = tt
 
 module _ {K V E : Type 0} (is_clone : V → V → Type 0) where
-  -- the answer by an end that fits a kind is such as the kind may give
+  -- an end that fits a kind gives an answer that the kind may give
   end-told : (name : Name K) (kind : Kind) (end : End V E) (told : Collected K V E) → IsAnswer is_clone (answer_by name end) (of_collected told) → EndFits kind end → CollectedFits kind told
   end-told name kind end (collects.NotYet ticket) is fit = tt
   end-told name kind end collects.Abandoned is fit = tt
@@ -113,12 +114,12 @@ module _ {K V E S : Type 0} (keeps : K → V → Type 0) (eq : K → K → Bool)
   abbrev pub Kept : S → Type 0
   Kept state = HasKeptHistory keeps eq is_clone (view state)
 
-  -- after a call that keeps, where it is done or else nothing has changed
+  -- after a call that satisfies `keeps` and is either done or changes nothing
   pub kept-call : {A B : Type 0} (old new : S) (call : Call K V E) (result : Result A B) → OnOk result (Follows eq is_clone (view old) call (view new)) → OnErr result (new ≡ old) → CallKeeps keeps call → Kept old → Kept new
   kept-call old new call (Ok done) follows same owed kept = kept-after keeps eq is_clone laws alike (view old) (view new) call follows owed kept
   kept-call old new call (Err refused) follows same owed kept = subst Kept (sym same) kept
 
-  -- after the look of a begin
+  -- after the lookup of a begin
   pub kept-look : (old new : S) (key : K) (said : Option Bool) (at : ℕ) (result : Result (Option (Entry K V)) Refused) → ByFound ((kind : Kind) → kind ≢ Compute → Follows eq is_clone (view old) (Begin key kind said at) (view new)) (new ≡ old) result → Kept old → Kept new
   kept-look old new key said at (Ok (Some entry)) stands kept = kept-after keeps eq is_clone laws alike (view old) (view new) (Begin key With said at) (stands With (λ same. cc)) tt kept
   kept-look old new key said at (Ok None) stands kept = subst Kept (sym stands) kept

@@ -1,4 +1,4 @@
--- That what a shared cache hands out stands in the cache's relation, and is such as a turn of its kind may give.
+-- The values that a shared cache returns satisfy its `keeps`, and the answers fit the kind of the turn.
 use Rattle.std.specs.Prelude.{⊤}
 use Rattle.moka_model.specs.declared.turns.Kind.{Kind}
 use Rattle.moka_model.specs.declared.turns.Kind.TheVariants.{With, Optionally, Try}
@@ -13,17 +13,17 @@ use Rattle.moka_state.specs.declared.answers.Finished.{Finished}
 use Rattle.moka_state.specs.declared.answers.Finished.TheVariants as finishes
 
 module _ {K V : Type 0} (keeps : K → V → Type 0) (key : K) where
-  -- the value that a turn gave is kept, if it gave one
+  -- The value that a turn gave, if it gave one, satisfies `keeps`.
   abbrev pub GivenKeeps : {E : Type 0} → Answer K V E → Type 0
   GivenKeeps (answers.Entry entry) = EntryKeeps keeps key entry
   GivenKeeps answer = ⊤
 
-  -- the value that a ticket is told is kept, if it is told one
+  -- The value that a ticket gets, if it gets one, satisfies `keeps`.
   abbrev pub CollectedKeeps : {E : Type 0} → Collected K V E → Type 0
   CollectedKeeps (collects.Ready answer) = GivenKeeps answer
   CollectedKeeps collected = ⊤
 
-  -- the value that a compute is answered is kept, if it is answered one
+  -- The value in the result of a compute, if there is one, satisfies `keeps`.
   abbrev pub ResultKeeps : CompResult K V → Type 0
   ResultKeeps (results.Unchanged entry) = EntryKeeps keeps key entry
   ResultKeeps (results.Inserted entry) = EntryKeeps keeps key entry
@@ -31,11 +31,12 @@ module _ {K V : Type 0} (keeps : K → V → Type 0) (key : K) where
   ResultKeeps (results.Removed entry) = EntryKeeps keeps key entry
   ResultKeeps (results.StillNone own) = ⊤
 
+  -- The value that a finish returns, if it returns one, satisfies `keeps`.
   abbrev pub FinishedKeeps : {E : Type 0} → Finished K V E → Type 0
   FinishedKeeps (finishes.Answer answer) = GivenKeeps answer
   FinishedKeeps (finishes.Computed result) = ResultKeeps result
 
--- an initializer of the kind may give such an answer
+-- An initializer of this kind may give such an answer.
 abbrev pub AnswerFits : {K V E : Type 0} → Kind → Answer K V E → Type 0
 AnswerFits With (answers.Entry entry) = ⊤
 AnswerFits Optionally (answers.Entry entry) = ⊤
@@ -44,7 +45,7 @@ AnswerFits Try (answers.Entry entry) = ⊤
 AnswerFits Try (answers.Failed error) = ⊤
 AnswerFits kind answer = ⊥
 
--- what a ticket of the kind is given, if it is given an answer, is such
+-- What a ticket of this kind gets, if it gets an answer, is one that an initializer of the kind may give.
 abbrev pub CollectedFits : {K V E : Type 0} → Kind → Collected K V E → Type 0
 CollectedFits kind (collects.Ready answer) = AnswerFits kind answer
 CollectedFits kind collected = ⊤

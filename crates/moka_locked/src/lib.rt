@@ -1,4 +1,4 @@
-//! What stands under the lock of a shared cache: a state with a clock, and their calls.
+//! What the lock of a shared cache guards: a state with its clock, and their calls.
 #![tactic(auto)]
 
 pub mod locked;

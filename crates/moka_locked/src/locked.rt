@@ -1,5 +1,5 @@
-//! What stands under the lock of a shared cache, and its calls: each is one of the state's, at a
-//! moment that the clock tells.
+//! What the lock of a shared cache guards, and its calls. Each is a call of the state, at a moment
+//! that the clock gives.
 ghost use Rattle.std.specs.Prelude.{◌≡◌, ◌≢◌, ◌≤◌, [], Some, None, length, map, option_map, IfOk, IfErr, IfSome, IsSome, OnOk, OnErr};
 ghost use Rattle.std.specs.Arc.{arc_value};
 ghost use Rattle.std.specs.Duration.{as_nanos};
@@ -22,20 +22,22 @@ use std::hash::Hash;
 use std::marker::Model;
 use std::sync::Arc;
 
-/// A state, and the clock that its calls look at. There is a history that the state stands for and of which each value
-/// stands in the cache's relation to its key.
+/// A state, and the clock that gives the moments of its calls.
+///
+/// The invariant: the state has some history whose values all satisfy the cache's `keeps` with
+/// their keys.
 #[derive(Drop)]
 pub struct Locked<K: Hash + Drop, V: Clone, C: CacheTypes<K, V>> {
     pub(crate) state: CacheState<K, V, C>,
     pub(crate) clock: Arc<C::Clock>,
 }
 
-/// The notices that stood at the end of a call: the first one, and how many others.
+/// The notices that were queued at the end of a call: the first one, and how many others.
 #[derive(Drop)]
 pub struct Gone<K: Drop, V: Drop> {
-    /// The first one, taken.
+    /// The first notice, taken from the queue.
     pub first: Option<Notice<K, V>>,
-    /// How many stand behind it.
+    /// How many notices are queued behind it.
     pub others: usize,
 }
 
@@ -58,8 +60,11 @@ impl<K: Hash + Drop, V: Clone, C: CacheTypes<K, V>> Model for Locked<K, V, C> {
 }
 
 impl<K: Hash + Drop, V: Clone, C: CacheTypes<K, V>> Locked<K, V, C> {
-    /// A new state of these settings, and the clock that its calls look at. Refused for want of
-    /// memory alone.
+    /// Creates a state of these settings, with the clock that gives the moments of its calls.
+    ///
+    /// # Errors
+    ///
+    /// - `OutOfMemory`: an allocation failed.
     pub fn open(
         alloc: Global,
         settings: Settings<K, V, C>,
@@ -89,7 +94,7 @@ impl<K: Hash + Drop, V: Clone, C: CacheTypes<K, V>> Locked<K, V, C> {
         Ok(Locked { state, clock })
     }
 
-    /// How much the state may store and how long its values live, as it was built.
+    /// Returns the capacity and the lifetimes that the state was built with.
     pub fn policy(&self) -> Policy
         ensures max_capacity { result.max_capacity ≡ self.now.state.settings.max_capacity }
         ensures num_segments { result.num_segments ≡ 1 }
@@ -101,7 +106,11 @@ impl<K: Hash + Drop, V: Clone, C: CacheTypes<K, V>> Locked<K, V, C> {
         self.state.policy()
     }
 
-    /// The live value of a key, which is then used.
+    /// Returns a clone of the live value for `key`, or `None`. Counts as an access.
+    ///
+    /// # Errors
+    ///
+    /// - `OutOfMemory`: cloning the value failed. Nothing has changed.
     pub fn get(&mut self, key: &K) -> Result<Option<V>, Refused>
         ensures step { AtToldMoment (C.Clock.tells self.old.clock) (λ now.
             OnOk result (⟦<C as StateView<K, V>>⟧.follows self.old.state
@@ -116,7 +125,7 @@ impl<K: Hash + Drop, V: Clone, C: CacheTypes<K, V>> Locked<K, V, C> {
         self.state.get(key, now)
     }
 
-    /// Whether a key has a live value.
+    /// Returns whether `key` has a live value. Does not count as an access.
     pub fn contains_key(&self, key: &K) -> bool
         ensures { AtToldMoment (C.Clock.tells self.now.clock) (λ now.
             ⟦<C as StateView<K, V>>⟧.answers self.now.state
@@ -126,7 +135,11 @@ impl<K: Hash + Drop, V: Clone, C: CacheTypes<K, V>> Locked<K, V, C> {
         self.state.contains_key(key, now)
     }
 
-    /// Writes a value for a key.
+    /// Inserts `value` under `key`, or overwrites the value that is stored there.
+    ///
+    /// # Errors
+    ///
+    /// As the state's `insert`: hands back the key and the value, and changes nothing.
     pub fn insert(&mut self, key: K, value: V) -> Result<(), InsertRefused<K, V>>
         requires { C.keeps key value }
         ensures { AtToldMoment (C.Clock.tells self.old.clock) (λ now. WriteEnds
@@ -137,7 +150,7 @@ impl<K: Hash + Drop, V: Clone, C: CacheTypes<K, V>> Locked<K, V, C> {
         self.state.insert(key, value, now)
     }
 
-    /// Removes a key.
+    /// Removes the entry of `key`, live or expired, if there is one.
     pub fn invalidate(&mut self, key: &K)
         ensures { AtToldMoment (C.Clock.tells self.old.clock) (λ now.
             ⟦<C as StateView<K, V>>⟧.follows self.old.state (Invalidate key.now now) self.new.state) }
@@ -146,7 +159,11 @@ impl<K: Hash + Drop, V: Clone, C: CacheTypes<K, V>> Locked<K, V, C> {
         self.state.invalidate(key, now);
     }
 
-    /// Removes a key, and answers the live value that it had.
+    /// Removes the entry of `key`, live or expired, and returns a clone of its live value.
+    ///
+    /// # Errors
+    ///
+    /// - `OutOfMemory`: cloning the value failed. Nothing has changed.
     pub fn remove(&mut self, key: &K) -> Result<Option<V>, Refused>
         ensures step { AtToldMoment (C.Clock.tells self.old.clock) (λ now.
             OnOk result (⟦<C as StateView<K, V>>⟧.follows self.old.state
@@ -161,14 +178,18 @@ impl<K: Hash + Drop, V: Clone, C: CacheTypes<K, V>> Locked<K, V, C> {
         self.state.remove(key, now)
     }
 
-    /// Hides all that is stored.
+    /// Invalidates all entries.
     pub fn invalidate_all(&mut self)
         ensures { ⟦<C as StateView<K, V>>⟧.follows self.old.state InvalidateAll self.new.state }
     {
         self.state.invalidate_all();
     }
 
-    /// Hides what a predicate holds of, and names it by an id.
+    /// Invalidates each entry of which `predicate` holds, and returns a new id.
+    ///
+    /// # Errors
+    ///
+    /// As the state's `invalidate_entries_if`. Nothing is invalidated.
     pub fn invalidate_entries_if<G: Rng>(
         &mut self,
         predicate: C::Predicate,
@@ -182,7 +203,11 @@ impl<K: Hash + Drop, V: Clone, C: CacheTypes<K, V>> Locked<K, V, C> {
         self.state.invalidate_entries_if(predicate, generator)
     }
 
-    /// Hides what a predicate holds of.
+    /// Invalidates each entry of which `predicate` holds.
+    ///
+    /// # Errors
+    ///
+    /// - `InvalidationClosuresDisabled`: the cache was built without support for closures.
     pub fn invalidate_entries_with_arc_fun(
         &mut self,
         predicate: Arc<C::Predicate>,
@@ -197,7 +222,7 @@ impl<K: Hash + Drop, V: Clone, C: CacheTypes<K, V>> Locked<K, V, C> {
         self.state.invalidate_entries_with_arc_fun(predicate)
     }
 
-    /// As [`Locked::invalidate_entries_with_arc_fun`] for a predicate that is lent.
+    /// Does what [`Locked::invalidate_entries_with_arc_fun`] does, for a predicate by reference.
     pub fn hide_where(&mut self, predicate: &C::Predicate) -> Result<(), PredicateError>
         requires tests { C.Predicate.tests predicate.now (C.test predicate.now) }
         ensures step { OnOk result (⟦<C as StateView<K, V>>⟧.follows self.old.state
@@ -211,7 +236,7 @@ impl<K: Hash + Drop, V: Clone, C: CacheTypes<K, V>> Locked<K, V, C> {
         Ok(())
     }
 
-    /// Runs a maintenance.
+    /// Runs maintenance.
     pub fn run_pending_tasks(&mut self)
         ensures { AtToldMoment (C.Clock.tells self.old.clock) (λ now.
             ⟦<C as StateView<K, V>>⟧.follows self.old.state (RunPendingTasks now) self.new.state) }
@@ -220,7 +245,8 @@ impl<K: Hash + Drop, V: Clone, C: CacheTypes<K, V>> Locked<K, V, C> {
         self.state.run_pending_tasks(now);
     }
 
-    /// Runs a maintenance within a limit, and answers whether it left a part undone.
+    /// Runs maintenance, but evicts at most `limit` entries. Returns whether something is left to
+    /// do.
     pub fn run_pending_tasks_up_to(&mut self, limit: u64) -> bool
         ensures { AtToldMoment (C.Clock.tells self.old.clock) (λ now.
             ⟦<C as StateView<K, V>>⟧.follows self.old.state
@@ -232,21 +258,21 @@ impl<K: Hash + Drop, V: Clone, C: CacheTypes<K, V>> Locked<K, V, C> {
         self.state.run_pending_tasks_up_to(limit, now)
     }
 
-    /// How many keys are stored.
+    /// Returns the number of stored entries.
     pub fn entry_count(&self) -> u64
         ensures { ⟦<C as StateView<K, V>>⟧.answers self.now.state EntryCount (Counted result) }
     {
         self.state.entry_count()
     }
 
-    /// How heavy all that is stored is.
+    /// Returns the total weight of the stored entries.
     pub fn weighted_size(&self) -> u64
         ensures { ⟦<C as StateView<K, V>>⟧.answers self.now.state WeightedSize (Counted result) }
     {
         self.state.weighted_size()
     }
 
-    /// The first notice that has not been taken.
+    /// Takes the oldest notice, or returns `None` if none is queued.
     pub fn take_notice(&mut self) -> Option<Notice<K, V>>
         ensures reply { ⟦<C as StateView<K, V>>⟧.answers self.old.state TakeNotice
             (Noticed (option_map removal_of result)) }
@@ -256,7 +282,7 @@ impl<K: Hash + Drop, V: Clone, C: CacheTypes<K, V>> Locked<K, V, C> {
         self.state.take_notice()
     }
 
-    /// The first notice, taken, and how many others have not been.
+    /// Takes the oldest notice, and counts those that stay queued.
     pub fn take_gone(&mut self) -> Gone<K, V>
         ensures first { ⟦<C as StateView<K, V>>⟧.answers self.old.state TakeNotice
             (Noticed (option_map removal_of result.first)) }
@@ -271,7 +297,11 @@ impl<K: Hash + Drop, V: Clone, C: CacheTypes<K, V>> Locked<K, V, C> {
         }
     }
 
-    /// The stored keys, in the state's order.
+    /// Returns the stored keys, in the state's order.
+    ///
+    /// # Errors
+    ///
+    /// - `OutOfMemory`: allocating the list failed.
     pub fn keys(&self) -> Result<Vec<Arc<K>>, Refused>
         ensures keys { IfOk result (λ keys.
             map arc_value keys.items ≡ map (λ w. w.key) (all_writes self.now.state)) }
@@ -280,7 +310,11 @@ impl<K: Hash + Drop, V: Clone, C: CacheTypes<K, V>> Locked<K, V, C> {
         self.state.scan_keys()
     }
 
-    /// The live value of a key, which is not used by this.
+    /// Returns a clone of the live value for `key`, or `None`. Does not count as an access.
+    ///
+    /// # Errors
+    ///
+    /// - `OutOfMemory`: cloning the value failed.
     pub fn scan_get(&self, key: &K) -> Result<Option<V>, Refused>
         ensures step { AtToldMoment (C.Clock.tells self.now.clock) (λ now.
             IfOk result (λ found. ⟦<C as StateView<K, V>>⟧.answers self.now.state

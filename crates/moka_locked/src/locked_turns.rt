@@ -1,4 +1,5 @@
-//! The calls of turns under the lock of a shared cache, and those that answer entries.
+//! The calls of turns under the lock of a shared cache, and those that return entries. Each fails
+//! as the state's call does, and then changes nothing.
 ghost use Rattle.std.specs.Prelude.{◌≡◌, ◌≢◌, Bool, Option, Some, true, IfOk, IfErr, IfSome, OnOk, OnErr};
 ghost use Rattle.std.specs.Arc.{arc_value};
 ghost use Rattle.moka_model.specs.Steps.{events_in};
@@ -26,7 +27,8 @@ use std::hash::Hash;
 use std::sync::Arc;
 
 impl<K: Hash + Drop, V: Clone, C: CacheTypes<K, V>> Locked<K, V, C> {
-    /// The live value of a key, or else the one that is handed in.
+    /// Returns the live entry of `key`. If there is none, inserts `value` and returns an entry with
+    /// a clone of that value. A failed call hands back the value.
     pub fn or_insert(&mut self, key: &Arc<K>, value: V) -> Result<Entry<K, V>, OrInsertRefused<V>>
         requires { C.keeps (arc_value key.now) value }
         ensures step { AtToldMoment (C.Clock.tells self.old.clock) (λ now. OrInsertEnds
@@ -43,7 +45,8 @@ impl<K: Hash + Drop, V: Clone, C: CacheTypes<K, V>> Locked<K, V, C> {
         self.state.or_insert(key, value, now)
     }
 
-    /// The look of a begin: it finds an acceptable value, or changes nothing.
+    /// Returns the live entry of `key`, unless `replace_if` returns true for its value. This is the
+    /// lookup of a begin: a hit counts as an access, a miss changes nothing.
     pub fn look<F: FnMut(&V) -> bool + Drop>(
         &mut self,
         key: &K,
@@ -66,7 +69,8 @@ impl<K: Hash + Drop, V: Clone, C: CacheTypes<K, V>> Locked<K, V, C> {
         self.state.acceptable_entry(key, hash, replace_if, now)
     }
 
-    /// An acceptable value of a key, or the turn of its initializer, or a ticket for another's.
+    /// Returns the live entry of `key` if it is acceptable. Otherwise returns a ticket if a turn of
+    /// the key and the kind is open, else a new turn.
     pub fn begin<F: FnMut(&V) -> bool + Drop>(
         &mut self,
         key: &Arc<K>,
@@ -93,7 +97,8 @@ impl<K: Hash + Drop, V: Clone, C: CacheTypes<K, V>> Locked<K, V, C> {
         self.state.begin(key, kind, replace_if, now)
     }
 
-    /// The turn to compute a key's value, or a ticket for another's turn.
+    /// Begins a compute of `key`: returns a turn, or a ticket if another compute of the key is
+    /// open.
     pub fn begin_compute(&mut self, key: &Arc<K>, keep: bool) -> Result<BegunCompute<K, V>, Refused>
         ensures step { AtToldMoment (C.Clock.tells self.old.clock) (λ now. ComputeBegins
             (λ given. ⟦<C as StateView<K, V>>⟧.at_each_history self.old.state (λ settings steps.
@@ -109,7 +114,7 @@ impl<K: Hash + Drop, V: Clone, C: CacheTypes<K, V>> Locked<K, V, C> {
         self.state.begin_compute(key, keep, now)
     }
 
-    /// Ends a turn with an outcome.
+    /// Ends a turn with an outcome. A failed call hands back the turn and the outcome.
     pub fn finish(
         &mut self,
         turn: Turn<K>,
@@ -130,7 +135,7 @@ impl<K: Hash + Drop, V: Clone, C: CacheTypes<K, V>> Locked<K, V, C> {
         self.state.finish(turn, outcome, now)
     }
 
-    /// Ends a turn without one.
+    /// Ends a turn without an outcome. The turn is spent in any case.
     pub fn abandon(&mut self, turn: Turn<K>) -> Result<(), Refused>
         ensures reply { ⟦<C as StateView<K, V>>⟧.at_each_history self.old.state (λ settings steps.
             Gives K.eq V.is_clone V.is_infallible settings steps (Abandon (turn_name turn))
@@ -143,7 +148,7 @@ impl<K: Hash + Drop, V: Clone, C: CacheTypes<K, V>> Locked<K, V, C> {
         self.state.abandon(turn)
     }
 
-    /// Gives a ticket back.
+    /// Spends a ticket and collects nothing. The ticket is spent in any case.
     pub fn leave(&mut self, ticket: Ticket<K>) -> Result<(), Refused>
         ensures reply { ⟦<C as StateView<K, V>>⟧.at_each_history self.old.state (λ settings steps.
             Gives K.eq V.is_clone V.is_infallible settings steps (Leave (ticket_name ticket))
@@ -156,7 +161,8 @@ impl<K: Hash + Drop, V: Clone, C: CacheTypes<K, V>> Locked<K, V, C> {
         self.state.leave(ticket)
     }
 
-    /// What a ticket's turn gave, once it has ended.
+    /// Returns what came of a ticket's turn, or the ticket if the turn is open. A failed call hands
+    /// back the ticket.
     pub fn collect(
         &mut self,
         ticket: Ticket<K>,
@@ -179,7 +185,7 @@ impl<K: Hash + Drop, V: Clone, C: CacheTypes<K, V>> Locked<K, V, C> {
 }
 
 impl<K: Hash + Clone + Drop, V: Clone, C: CacheTypes<K, V>> Locked<K, V, C> {
-    /// As [`Locked::begin`] for a key that is lent.
+    /// Does what [`Locked::begin`] does, for a key by reference.
     pub fn begin_by_ref<F: FnMut(&V) -> bool + Drop>(
         &mut self,
         key: &K,
@@ -208,7 +214,7 @@ impl<K: Hash + Clone + Drop, V: Clone, C: CacheTypes<K, V>> Locked<K, V, C> {
 }
 
 impl<K: Hash + Drop, V: Clone + Default, C: CacheTypes<K, V>> Locked<K, V, C> {
-    /// As [`Locked::or_insert`], of the default value, for who hands in the key.
+    /// Does what [`Locked::or_insert`] does, with the default value. A failed call drops the key.
     pub fn or_default(&mut self, key: K) -> Result<Entry<K, V>, Refused>
         requires { (value : V) → V.is_default value → C.keeps key value }
         ensures step { AtToldMoment (C.Clock.tells self.old.clock) (λ now.

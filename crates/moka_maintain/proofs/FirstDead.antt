@@ -41,11 +41,11 @@ cause-dead info at = go info.is_hidden (has_come info.deadline at)
     go false false = refl
 
 module _ {K V : Type 0} where
-  -- A row that keeps its deadline under these lives lives where these say so.
+  -- If a row has the deadline that these lives give it, its metadata and these lives agree on whether it is alive.
   pub alive-dated : (lives : Lives) (at : ℕ) → at < 2 ^ 64 → (p : ℕ × Row K V) → IsDated lives p.1.info → not (is_dead at p) ≡ is_alive lives at p
   alive-dated lives at is_moment p dated = sym (alive-kept lives p.1.info dated at is_moment)
 
-  -- So do all of them, and they are dead where these say so.
+  -- The same holds for all rows, alive or dead.
   pub living-dated : (lives : Lives) (at : ℕ) → at < 2 ^ 64 → (rows : List (ℕ × Row K V)) → AreDated lives rows → living_at at rows ≡ living lives at rows
   living-dated lives at is_moment [] dated = refl
   living-dated lives at is_moment (p ∷ ps) dated =
@@ -66,7 +66,7 @@ module _ {K V : Type 0} where
       ∙ ap (λ l. cond (is_dead at p) (p ∷ l) l) (expired-shown at ps shown.1)
 
 module _ {K V : Type 0} (at : ℕ) where
-  -- a row's share of the living and of the dead
+  -- whether a row is among the living or among the dead
   pub living-alive : (p : ℕ × Row K V) (ps : List (ℕ × Row K V)) → is_dead at p ≡ false → living_at at (p ∷ ps) ≡ p ∷ living_at at ps
   living-alive p ps alive = rw alive refl
 
@@ -136,7 +136,7 @@ module _ {K V : Type 0} (at : ℕ) where
           fewer true eq = let h : 1 + count_under n ps ≤ 1 = rw eq at once in omega arith
           fewer false eq = let h : 0 + count_under n ps ≤ 1 = rw eq at once in omega arith
 
-  -- where none is first, none is dead, and all live
+  -- if there is no first dead row, none is dead, and all live
   pub none-dead : (rows : List (ℕ × Row K V)) → None ≡ first_number (dead_at at rows) → (dead_at at rows ≡ []) × (living_at at rows ≡ rows)
   none-dead [] is = (refl, refl)
   none-dead (p ∷ ps) is = by_life (is_dead at p) refl (λ first. none-dead ps first)

@@ -19,7 +19,7 @@ use Rattle.moka_maintain.specs.Maintain.{is_alive, living, notice_for, notice_de
 use Rattle.moka_maintain.proofs.FirstDead.{alive-dated, living-dated}
 use Rattle.moka_maintain.proofs.Resuming.{Resumes, resumes-first, resumes-behind, resumes-within, resumes-last, does-noticed, does-after}
 
--- what is true of all that would leave is true of all that does
+-- what holds of all rows that the parts would remove holds of all that they do remove within a limit
 all-done : {X : Type 0} (P : X → Type 0) (limit : Option ℕ) (ps : List (Part X)) → AllByRecursion P (evicted_in ps) → AllByRecursion P (evicted_in (done limit ps))
 all-done P None ps all = all
 all-done P (Some limit) [] all = all
@@ -36,7 +36,7 @@ none-cut notice limit ps old new rest is_cut did none =
     (free.left, free.rest_is)
 
 module _ {K V : Type 0} (at : ℕ) where
-  -- what stands after each sweep that is not cut,
+  -- the rows after each sweep that is not cut,
   pub swept-admitted : (limit : Option ℕ) (old new : Contents K V) (rest : Option ℕ) → DoesParts notice_dead limit (dead_admitted (λ p. not (is_dead at p)) [] old.admitted old.waiting) old new rest false
       → (new.admitted ≡ living_at at old.admitted) × (new.waiting ≡ old.waiting)
   swept-admitted limit old new rest did =
@@ -51,7 +51,7 @@ module _ {K V : Type 0} (at : ℕ) where
       does-after notice_dead limit (dead_waiting (λ p. not (is_dead at p)) old.admitted [] old.waiting) old new rest did ∙ after-dead_waiting (λ p. not (is_dead at p)) old.admitted [] old.waiting in
       (ap (λ (q : Queues (ℕ × Row K V)). q.admitted) after, ap (λ (q : Queues (ℕ × Row K V)). q.waiting) after)
 
--- and after what is over the capacity has left
+-- and after the rows over the capacity were evicted
 pub shrunk-rows : {K V : Type 0} (capacity limit : Option ℕ) (old new : Contents K V) (rest : Option ℕ) → DoesParts (notice_for Size) limit (over weight_of capacity old.admitted old.waiting) old new rest false
     → (new.admitted ≡ drop (front weight_of capacity 0 old.admitted) old.admitted) × (new.waiting ≡ old.waiting)
 shrunk-rows {K} {V} capacity limit old new rest did =
@@ -70,7 +70,7 @@ same-resumes notice limit0 ps0 old limit ps table new rows notices on = record {
 }
 
 module _ {K V : Type 0} (lives : Lives) (at : ℕ) where
-  -- the dead are noticed as removed or as expired
+  -- the notices of dead rows have the cause `Explicit` or `Expired`
   noticed-dead : (rows : List (ℕ × Row K V)) → AllByRecursion (λ p. not (is_alive lives at p) ≡ true) rows → map notice_dead rows ≡ map (notice_at lives at) rows
   noticed-dead [] all = refl
   noticed-dead (p ∷ ps) all =
@@ -82,7 +82,7 @@ module _ {K V : Type 0} (lives : Lives) (at : ℕ) where
       as_dead false true e = refl
       as_dead false false e = absurd (true≢false (sym e))
 
-  -- and those that live for size
+  -- and those of live rows have the cause `Size`
   noticed-living : (rows : List (ℕ × Row K V)) → AllByRecursion (λ p. is_alive lives at p ≡ true) rows → map (notice_for Size) rows ≡ map (notice_at lives at) rows
   noticed-living [] all = refl
   noticed-living (p ∷ ps) all =

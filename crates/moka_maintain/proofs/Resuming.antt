@@ -1,5 +1,5 @@
--- Parts that are done within a limit, one after another: what is left to do, and that it makes of the table as it stands
--- what all of them make of the first one.
+-- Parts that are done within a limit, one after another. Doing what is left, from the table as it is now, gives what
+-- doing all of them gives from the first table.
 use Rattle.std.proofs.Common.{◌≡◌, ℕ, ◌+◌, ◌-◌, Bool, true, false, Option, Some, None, List, [], ◌∷◌, ◌++◌, length, map, refl, sym, ap, subst, ◌∙◌, append_assoc, length-append, arith}
 use Rattle.std.proofs.lemmas.Bool.{true≢false}
 use Rattle.std.proofs.lemmas.List.{append-nil, map-append}
@@ -19,7 +19,7 @@ less-none None = refl
 less-none (Some limit) = ap Some (let same : limit - 0 ≡ limit = omega arith in same)
 
 module _ {X : Type 0} where
-  -- no parts are all done
+  -- an empty list of parts is done
   done-nothing : (limit : Option ℕ) → (done {X = X} limit [] ≡ []) × (is_left {X = X} limit [] ≡ false)
   done-nothing None = (refl, refl)
   done-nothing (Some limit) = (refl, refl)
@@ -36,21 +36,21 @@ module _ {X : Type 0} where
   done-out None p ps stops = absurd (true≢false stops)
   done-out (Some limit) p ps stops = (rw stops refl, rw stops refl)
 
-  -- behind parts that are all done
+  -- after parts that are all done
   all-behind : (limit : Option ℕ) (ps rs : List (Part X)) → is_left limit ps ≡ false
       → (done limit ps ≡ ps) × (done limit (ps ++ rs) ≡ ps ++ done (limit_less limit (length (evicted_in ps))) rs)
       × (is_left limit (ps ++ rs) ≡ is_left (limit_less limit (length (evicted_in ps))) rs)
   all-behind None ps rs all = (refl, refl, refl)
   all-behind (Some limit) ps rs all = ((left-exactly limit ps).0 all, done-behind limit ps rs all, left-behind limit ps rs all)
 
-  -- behind parts of which one is left
+  -- after parts of which one is left undone
   cut-behind : (limit : Option ℕ) (ps rs : List (Part X)) → is_left limit ps ≡ true
       → (done limit (ps ++ rs) ≡ done limit ps) × (is_left limit (ps ++ rs) ≡ true)
   cut-behind None ps rs cut = absurd (true≢false (sym cut))
   cut-behind (Some limit) ps rs cut = done-cut limit ps rs cut
 
 module _ {K V : Type 0} (notice : ℕ × Row K V → Notice K V) (limit0 : Option ℕ) (ps0 : List (Part (ℕ × Row K V))) (old : Contents K V) where
-  -- What these parts make of the table within what is left of the limit is what all made of the first one.
+  -- Doing these parts from this table, within the rest of the limit, gives what doing all gives from the first table.
   pub record Resumes (limit : Option ℕ) (ps : List (Part (ℕ × Row K V))) (table : Contents K V) : Type 0 where
     pub orders : after_parts (rows_of table) (done limit ps) ≡ after_parts (rows_of old) (done limit0 ps0)
     pub notices : table.notices ++ map notice (evicted_in (done limit ps)) ≡ old.notices ++ map notice (evicted_in (done limit0 ps0))
@@ -137,7 +137,7 @@ module _ {K V : Type 0} (notice : ℕ × Row K V → Notice K V) (limit0 : Optio
           left = sym cut.1 ∙ on.left;
         }
 
-  -- the last parts
+  -- doing the last parts completes the phase
   pub resumes-last : (limit : Option ℕ) (ps : List (Part (ℕ × Row K V))) (table new : Contents K V) (rest : Option ℕ) (is_cut : Bool)
       → Resumes limit ps table → DoesParts notice limit ps table new rest is_cut → DoesParts notice limit0 ps0 old new rest is_cut
   resumes-last limit ps table new rest is_cut on did = record {
@@ -147,11 +147,11 @@ module _ {K V : Type 0} (notice : ℕ × Row K V → Notice K V) (limit0 : Optio
     left = did.left ∙ on.left;
   }
 
--- before any part
+-- before any part is done
 pub resumes-first : {K V : Type 0} (notice : ℕ × Row K V → Notice K V) (limit : Option ℕ) (ps : List (Part (ℕ × Row K V))) (old : Contents K V) → Resumes notice limit ps old limit ps old
 resumes-first notice limit ps old = record { orders = refl; notices = refl; rest_is = refl; left = refl }
 
--- a phase, by other notices of what leaves in it
+-- a phase, with other notices of the rows that it removes
 pub does-noticed : {K V : Type 0} (notice other : ℕ × Row K V → Notice K V) (limit : Option ℕ) (ps : List (Part (ℕ × Row K V))) (old new : Contents K V) (rest : Option ℕ) (is_cut : Bool)
     → map notice (evicted_in (done limit ps)) ≡ map other (evicted_in (done limit ps)) → DoesParts notice limit ps old new rest is_cut → DoesParts other limit ps old new rest is_cut
 does-noticed notice other limit ps old new rest is_cut same did = record {
@@ -161,7 +161,7 @@ does-noticed notice other limit ps old new rest is_cut same did = record {
   left = did.left;
 }
 
--- what stands after a phase that is not cut
+-- the rows after a phase that is not cut
 pub does-after : {K V : Type 0} (notice : ℕ × Row K V → Notice K V) (limit : Option ℕ) (ps : List (Part (ℕ × Row K V))) (old new : Contents K V) (rest : Option ℕ)
     → DoesParts notice limit ps old new rest false → rows_of new ≡ after_parts (rows_of old) ps
 does-after notice limit ps old new rest did = did.orders ∙ ap (after_parts (rows_of old)) (all-behind limit ps [] (sym did.left)).0

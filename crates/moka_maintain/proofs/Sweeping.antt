@@ -29,7 +29,7 @@ module _ {K V : Type 0} where
     pub rest-shorter : length rest ≡ suc (length back)
     rest-shorter = ap length here.rest_is
 
-    -- what stands where the row has left
+    -- the rows after the removal of the row
     pub row-left : (rows' : List (ℕ × Row K V)) → rows' ≡ without_row n rows → rows' ≡ kept ++ back
     row-left rows' without = without ∙ ap (without_row n) here.whole ∙ without_row-at n row kept back here.absent
 
@@ -94,11 +94,11 @@ module _ {K V : Type 0} (at : ℕ) where
   pub are-waiting : (admitted : List (ℕ × Row K V)) → AreSweepParts at (waiting_parts admitted) (λ l. queues admitted l)
   are-waiting admitted = record { none = λ kept. refl; dead = λ kept back p gone. rw gone refl; alive = λ kept back p lives. rw lives refl }
 
--- where both orders are known
+-- the queues of a table, given both orders
 pub queues-are : {K V : Type 0} (table : Contents K V) (admitted waiting : List (ℕ × Row K V)) → table.admitted ≡ admitted → table.waiting ≡ waiting → rows_of table ≡ queues admitted waiting
 queues-are table admitted waiting a w = ap (λ l. queues l table.waiting) a ∙ ap (λ l. queues admitted l) w
 
--- what the code knows once it has asked the limit
+-- what the code knows after it has tried to take a count from the limit
 module _ (limit rest : Option ℕ) (count : ℕ) (lets : Bool) (is : lets ≡ lets_leave limit count) (left : rest ≡ (if lets then limit_less limit count else limit)) where
   pub spent : lets ≡ true → (lets_leave limit count ≡ true) × (rest ≡ limit_less limit count)
   spent does = (sym is ∙ does, rw does at left)

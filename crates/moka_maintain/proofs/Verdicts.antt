@@ -37,11 +37,11 @@ module _ {K V : Type 0} where
     abbrev wins : ℕ × Row K V → List (ℕ × Row K V) → Bool
     wins = row_wins is_lru frequency_of
 
-    -- what the code asks of a row
+    -- the number of victims that a row needs
     abbrev pub count_of : List (ℕ × Row K V) → Row K V → ℕ
     count_of admitted row = front weight_of capacity row.info.policy_weight admitted
 
-    -- so many are its victims
+    -- this is the number of its victims
     pub victims-many : (admitted : List (ℕ × Row K V)) (row : Row K V) → length (take (count_of admitted row) admitted) ≡ count_of admitted row
     victims-many admitted row = length-take-le (count_of admitted row) admitted (front-le weight_of capacity row.info.policy_weight admitted)
 
@@ -96,7 +96,7 @@ module _ {K V : Type 0} where
             by-wins drops (cond-false wins_here admits drops (ap (λ b. b || wins (n, row) (take (count_of admitted row) admitted)) here ∙ won-is won is ∙ lost))
 
     module _ (old new : Contents K V) (n : ℕ) (row : Row K V) (limit less : Option ℕ) (is_cut : Bool) (apart : NumbersDiffer (entries old)) (first_is : Some n ≡ first_number old.waiting) (there : row_under n (entries old) ≡ Some row) where
-      -- the first row was judged, where what was done is what the verdict says
+      -- the first row was judged, if what was done is what the verdict says
       pub judges-by : (part : List (ℕ × Row K V) → Part (ℕ × Row K V)) → ((rest : List (ℕ × Row K V)) → judge weight_of capacity wins old.admitted (n, row) rest ≡ part rest)
           → ((rest : List (ℕ × Row K V)) → old.waiting ≡ (n, row) ∷ rest → DoesParts (notice_for Size) limit (part rest ∷ []) old new less is_cut)
           → (first : ℕ × Row K V) × (rest : List (ℕ × Row K V)) × JudgesFirst is_lru frequency_of capacity limit first rest old new less is_cut
@@ -110,7 +110,7 @@ module _ {K V : Type 0} where
             },
           )
 
-      -- what an admission leaves, after its victims have left
+      -- the table after an admission, once its victims were evicted
       pub admits-does : (rest : List (ℕ × Row K V)) → old.waiting ≡ (n, row) ∷ rest → (between : Contents K V) → between.admitted ≡ drop (count_of old.admitted row) old.admitted → between.waiting ≡ old.waiting
           → between.notices ≡ old.notices ++ notices_for Size (take (count_of old.admitted row) old.admitted)
           → new.waiting ≡ without_row n between.waiting → IfSome (row_under n between.waiting) (λ r. new.admitted ≡ between.admitted ++ (n, r) ∷ []) → new.notices ≡ between.notices
@@ -124,7 +124,7 @@ module _ {K V : Type 0} where
           does-one (notice_for Size) limit (admitting (count_of old.admitted row) old.admitted (n, row) rest) old less (ap (lets_leave limit) many ∙ lets) (is ∙ ap (limit_less limit) (sym many)) new
           (queues-are new (drop (count_of old.admitted row) old.admitted ++ (n, row) ∷ []) rest (last ∙ ap (λ l. l ++ (n, row) ∷ []) kept) (without ∙ ap (without_row n) waiting ∙ without_row-at n row [] rest refl)) (noticed ∙ gone)
 
-      -- where the limit does not let so many leave
+      -- if the limit does not allow so many removals
       pub admits-not : (rest : List (ℕ × Row K V)) → lets_leave limit (count_of old.admitted row) ≡ false → less ≡ limit
           → DoesParts (notice_for Size) limit (admitting (count_of old.admitted row) old.admitted (n, row) rest ∷ []) old old less true
       admits-not rest stops is = does-not (notice_for Size) limit (admitting (count_of old.admitted row) old.admitted (n, row) rest) old less (ap (lets_leave limit) (victims-many old.admitted row) ∙ stops) is

@@ -1,4 +1,4 @@
--- What a write does that a maintenance may come before.
+-- What a write does that may run a flush first.
 use Rattle.std.specs.Prelude.{⊤, ◌≡◌, ℕ, Bool, Option}
 use Rattle.moka_model.specs.Lives.{Behaviour}
 use Rattle.moka_ways.specs.declared.lives.Lives.{Lives}
@@ -11,12 +11,12 @@ use Rattle.moka_table.specs.Table.{Contents, entries}
 use Rattle.moka_maintain.specs.Maintain.{IsMaintainedUpTo}
 
 module _ {K V : Type 0} where
-  -- the row of a place is there, where no maintenance comes first
+  -- The row of a place is stored, unless a flush comes first.
   abbrev pub HasPlace : Place K → Contents K V → Type 0
   HasPlace (Now target) c = HasTarget target c
   HasPlace (Later lookup key) c = ⊤
 
-  -- A value is written to its place, once a maintenance has run where one comes first.
+  -- A value is written to its place, after a flush if one comes first.
   abbrev pub WritesAt : (K → K → Bool) → Behaviour K V → Lives → (ℕ → ℕ) → Option ℕ → Option ℕ → Place K →
       NewValue V → Contents K V → Contents K V → Bool → Type 0
   WritesAt eq behaviour lives frequency_of capacity limit (Now target) it old new replaced =

@@ -1,4 +1,4 @@
-//! The maintenance of a cache: what it makes of the rows.
+//! The maintenance of a cache: what it evicts, and what it admits.
 #![tactic(auto)]
 
 pub mod maintain;

@@ -1,5 +1,5 @@
-//! The maintenance of a cache: what is hidden or expired leaves, then what is over the capacity, and then each key
-//! that waits is admitted or leaves.
+//! The maintenance of a table. It removes what is invalidated or expired, then shrinks to the
+//! capacity, and then admits or drops each pending row.
 ghost use Rattle.std.specs.Prelude.{◌≡◌, ℕ, ◌+◌, ◌≤◌, false, not, Some, None, List, [], ◌∷◌, ◌++◌, length, take, drop, if◌then◌else◌};
 ghost use Rattle.moka_model.specs.declared.notification.RemovalCause.TheVariants.{Size};
 ghost use Rattle.moka_model.specs.Maintenance.{front, dead_admitted, dead_waiting, over};
@@ -18,16 +18,23 @@ use moka_policy::policy::EvictionPolicy;
 use moka_rows::rows::RowStore;
 use moka_table::table::Table;
 
-/// Runs a maintenance within a limit, if there is one. Every hidden and every expired row leaves,
-/// then the least recently used rows until those that stay admitted are within the capacity, and
-/// then each waiting row is admitted or leaves, as the policy says. A row that leaves by itself is a
-/// part of it, and a row that waits is one with the victims that leave for it. The parts are done in
-/// order, up to the first with which more than the limit would have left; it says whether a part
-/// was left. It takes no memory.
+/// Runs a maintenance within a limit of removals, if there is one. Returns whether a part was left
+/// undone.
 ///
-/// It visits the waiting rows, for each of them the rows that would have to leave for it, and those
-/// that leave; where a row may be hidden, each admitted one. Each step from a row to the one behind
-/// it is counted in `visits`. Where no part was left, no row is hidden after it.
+/// First it removes each invalidated and each expired row. Then it evicts the least recently used
+/// rows until the resident ones are within the capacity. Then it admits or drops each pending row,
+/// as the policy says.
+///
+/// A row that is removed by itself is one part. A pending row is one part too, with the victims
+/// that are evicted for it. The parts are done in order, up to the first that would remove more
+/// rows than the limit still allows. If no part is left undone, no row is invalidated afterwards.
+/// Does not allocate.
+///
+/// # Complexity
+///
+/// Visits the pending rows, the victims of each of them, and the rows that are removed. If a row
+/// may be invalidated, it also visits each resident row. `visits` counts each step from a row to
+/// the next one.
 pub fn maintain_up_to<K: Eq + Drop, V: Drop, R: RowStore<K, V>, F: FrequencySource>(
     table: &mut Table<K, V, R>,
     capacity: Option<u64>,
@@ -37,7 +44,7 @@ pub fn maintain_up_to<K: Eq + Drop, V: Drop, R: RowStore<K, V>, F: FrequencySour
     limit: Option<u64>,
     visits: &mut u128,
 ) -> bool
-    // Whatever the lives are under which the rows have the deadlines that they keep.
+    // For any lives that give the rows the deadlines that they have.
     ensures maintained { (lives : Lives) → AreDated lives (entries table.old) →
         IsMaintainedUpTo lives (is_lru policy) (F.count source.now) capacity now limit
         table.old table.new result }
@@ -61,7 +68,8 @@ pub fn maintain_up_to<K: Eq + Drop, V: Drop, R: RowStore<K, V>, F: FrequencySour
     judge_all(table, capacity, policy, source, &mut limit, visits)
 }
 
-/// Takes so many from a limit, if there is one, where it lets so many leave; else it stays.
+/// Takes `count` from a limit, if it allows that many removals, and returns whether it does.
+#[inline(always)]
 fn spend(limit: &mut Option<u64>, count: usize) -> bool
     ensures lets { result ≡ lets_leave limit.old count }
     ensures rest { limit.new ≡ (if result then limit_less limit.old count else limit.old) }
@@ -77,8 +85,11 @@ fn spend(limit: &mut Option<u64>, count: usize) -> bool
     true
 }
 
-/// Evicts the hidden and the expired admitted rows, in the order of use. Visits no other, but each
-/// where one may be hidden.
+/// Removes the invalidated and the expired resident rows, in access order. Returns `true` if the
+/// limit stopped it.
+///
+/// Visits no other row, unless a row may be invalidated. Then it visits each resident row.
+#[inline(always)]
 fn sweep_admitted<K: Eq + Drop, V: Drop, R: RowStore<K, V>>(
     table: &mut Table<K, V, R>,
     now: u64,
@@ -98,7 +109,9 @@ fn sweep_admitted<K: Eq + Drop, V: Drop, R: RowStore<K, V>>(
     }
 }
 
-/// Evicts the expired admitted rows where none is hidden. Visits no other.
+/// Removes the expired resident rows if none is invalidated. Visits no other. Returns `true` if the
+/// limit stopped it.
+#[inline(always)]
 fn sweep_expired<K: Eq + Drop, V: Drop, R: RowStore<K, V>>(
     table: &mut Table<K, V, R>,
     now: u64,
@@ -119,7 +132,8 @@ fn sweep_expired<K: Eq + Drop, V: Drop, R: RowStore<K, V>>(
     false
 }
 
-/// Evicts the hidden and the expired admitted rows by a walk. Visits each that is admitted.
+/// Removes the invalidated and the expired resident rows by a walk over all of them. Returns `true`
+/// if the limit stopped it.
 fn sweep_each<K: Eq + Drop, V: Drop, R: RowStore<K, V>>(
     table: &mut Table<K, V, R>,
     now: u64,
@@ -134,7 +148,7 @@ fn sweep_each<K: Eq + Drop, V: Drop, R: RowStore<K, V>>(
 {
     let mut cursor = table.first_admitted();
     while let Some(number) = cursor {
-        // The row behind is asked for while this one still stands in the order.
+        // The next row is read while this one is still in the order.
         cursor = table.next(number, visits);
         let kept = table.row(number).info();
         if kept.is_dead(now) {
@@ -147,8 +161,8 @@ fn sweep_each<K: Eq + Drop, V: Drop, R: RowStore<K, V>>(
     false
 }
 
-/// Evicts the hidden and the expired rows that wait, in the order in which they came. Visits each
-/// that waits.
+/// Removes the invalidated and the expired pending rows, in arrival order. Visits each pending row.
+/// Returns `true` if the limit stopped it.
 fn sweep_waiting<K: Eq + Drop, V: Drop, R: RowStore<K, V>>(
     table: &mut Table<K, V, R>,
     now: u64,
@@ -163,7 +177,7 @@ fn sweep_waiting<K: Eq + Drop, V: Drop, R: RowStore<K, V>>(
 {
     let mut cursor = table.first_waiting();
     while let Some(number) = cursor {
-        // The row behind is asked for while this one still stands in the order.
+        // The next row is read while this one is still in the order.
         cursor = table.next(number, visits);
         let info = table.row(number).info();
         if info.is_dead(now) {
@@ -176,8 +190,9 @@ fn sweep_waiting<K: Eq + Drop, V: Drop, R: RowStore<K, V>>(
     false
 }
 
-/// Evicts the least recently used rows until those that stay admitted are within the capacity. It
-/// goes from no row to another.
+/// Evicts the least recently used rows until the resident ones are within the capacity. Takes no
+/// step from row to row. Returns `true` if the limit stopped it.
+#[inline(always)]
 fn shrink<K: Eq + Drop, V: Drop, R: RowStore<K, V>>(
     table: &mut Table<K, V, R>,
     capacity: Option<u64>,
@@ -198,8 +213,10 @@ fn shrink<K: Eq + Drop, V: Drop, R: RowStore<K, V>>(
     false
 }
 
-/// Judges each waiting row, in order, until one of them needs more to leave than the limit lets.
-/// Visits those that are judged, and for each the victims that it would take.
+/// Judges each pending row, in order. Returns `true` if the limit stopped it.
+///
+/// Visits those that are judged, and for each the victims that it would need.
+#[inline(always)]
 fn judge_all<K: Eq + Drop, V: Drop, R: RowStore<K, V>, F: FrequencySource>(
     table: &mut Table<K, V, R>,
     capacity: Option<u64>,
@@ -224,10 +241,12 @@ fn judge_all<K: Eq + Drop, V: Drop, R: RowStore<K, V>, F: FrequencySource>(
     false
 }
 
-/// Judges the first row that waits. One that is heavier than the capacity is evicted. Else its
-/// victims, the least recently used rows that have to leave to make room for it, leave and it is
-/// admitted, if it needs none or wins against them; if it does not win, it is evicted itself. Where
-/// the limit does not let so many leave, all stays, and it says so.
+/// Judges the first pending row. Returns `true` if the limit stopped it; then nothing has changed.
+///
+/// A row that is heavier than the capacity is evicted. The victims of any other are the least
+/// recently used rows that have to be evicted to make room for it. If it has none or wins against
+/// them, they are evicted and it is admitted. Otherwise it is evicted itself.
+#[inline(always)]
 fn judge<K: Eq + Drop, V: Drop, R: RowStore<K, V>, F: FrequencySource>(
     table: &mut Table<K, V, R>,
     capacity: Option<u64>,
@@ -264,7 +283,8 @@ fn judge<K: Eq + Drop, V: Drop, R: RowStore<K, V>, F: FrequencySource>(
     }
 }
 
-/// Evicts a row, where the limit lets one leave. Where it does not, all stays, and it says so.
+/// Evicts the first pending row. Returns `true` if the limit stopped it; then nothing has changed.
+#[inline(always)]
 fn drop_first<K: Eq + Drop, V: Drop, R: RowStore<K, V>>(
     table: &mut Table<K, V, R>,
     number: usize,
@@ -286,8 +306,9 @@ fn drop_first<K: Eq + Drop, V: Drop, R: RowStore<K, V>>(
     false
 }
 
-/// How many of the least recently used rows have to leave to make room for this much more weight.
-/// Visits them.
+/// Returns how many of the least recently used rows have to be evicted to make room for this much
+/// more weight. Visits them.
+#[inline(always)]
 fn victims<K: Eq + Drop, V: Drop, R: RowStore<K, V>>(
     table: &Table<K, V, R>,
     capacity: Option<u64>,
@@ -315,8 +336,11 @@ fn victims<K: Eq + Drop, V: Drop, R: RowStore<K, V>>(
     admitted
 }
 
-/// Whether a row of this hash wins against this many of the least recently used rows: it does under
-/// [`EvictionPolicy::lru`], and else where its hash's estimate is greater than theirs together.
+/// Returns whether a row with this hash wins against this many of the least recently used rows.
+///
+/// It does under [`EvictionPolicy::lru`]. Otherwise it does if the estimate for its hash is greater
+/// than the sum of theirs.
+#[inline(always)]
 fn wins<K: Eq + Drop, V: Drop, R: RowStore<K, V>, F: FrequencySource>(
     table: &Table<K, V, R>,
     policy: EvictionPolicy,
@@ -334,8 +358,9 @@ fn wins<K: Eq + Drop, V: Drop, R: RowStore<K, V>, F: FrequencySource>(
         || frequency_of_first(table, source, count, visits) < u128::from(source.estimate(hash))
 }
 
-/// How often the hashes of this many of the least recently used rows were noted together. Visits
-/// them.
+/// Returns the sum of the estimates for the hashes of this many of the least recently used rows.
+/// Visits them.
+#[inline(always)]
 fn frequency_of_first<K: Eq + Drop, V: Drop, R: RowStore<K, V>, F: FrequencySource>(
     table: &Table<K, V, R>,
     source: &F,
@@ -361,6 +386,7 @@ fn frequency_of_first<K: Eq + Drop, V: Drop, R: RowStore<K, V>, F: FrequencySour
 }
 
 /// Evicts this many of the least recently used rows.
+#[inline(always)]
 fn evict_first<K: Eq + Drop, V: Drop, R: RowStore<K, V>>(table: &mut Table<K, V, R>, count: usize)
     requires { count ≤ length table.old.admitted }
     ensures admitted { table.new.admitted ≡ drop count table.old.admitted }
@@ -375,7 +401,8 @@ fn evict_first<K: Eq + Drop, V: Drop, R: RowStore<K, V>>(table: &mut Table<K, V,
     }
 }
 
-/// Whether this much more weight beside another is within the capacity, if there is one.
+/// Returns whether this much more weight fits beside a weight within the capacity, if there is one.
+#[inline(always)]
 fn fits(capacity: Option<u64>, more: u32, weight: u128) -> bool
     ensures { result ≡ is_within capacity (more + weight) }
 {

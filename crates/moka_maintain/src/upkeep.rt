@@ -1,4 +1,4 @@
-//! What maintenances go by.
+//! What the maintenance of a cache depends on, beside its rows and its policy.
 ghost use Rattle.std.specs.Prelude.{◌≡◌, ◌≤◌, ◌<◌, IsSome, IfSome, false, None};
 ghost use Rattle.moka_policy.specs.Policy.{is_lru};
 ghost use Rattle.moka_table.specs.Table.{entries};
@@ -18,20 +18,19 @@ use moka_ways::lives::Lives;
 use moka_ways::view::BehaviourView;
 use std::hash::Hash;
 
-/// What a maintenance goes by, beside the rows and the policy.
+/// What a maintenance depends on, beside the rows and the policy.
 #[derive(Drop)]
 pub struct Upkeep<F: FrequencySource> {
-    /// How long values live.
+    /// The time to live and the time to idle.
     pub lives: Lives,
-    /// How much may stay stored, by the weights of the rows; none is no bound.
+    /// The bound on the total weight of the resident rows, or `None` if there is no bound.
     pub max_capacity: Option<u64>,
-    /// Estimates how often each key was looked for. It has noted the hash of each key that `get`
-    /// looked for.
+    /// Estimates how often each key was looked up. It has noted the hash of each recorded lookup.
     pub source: F,
 }
 
 impl<F: FrequencySource> Upkeep<F> {
-    /// Runs a whole maintenance of a table. It takes no memory, and none of the room.
+    /// Runs a whole maintenance of a table. Does not allocate, and uses no room.
     pub fn maintain<K: Eq + Drop, V: Drop, R: RowStore<K, V>>(
         &self,
         table: &mut Table<K, V, R>,
@@ -46,8 +45,8 @@ impl<F: FrequencySource> Upkeep<F> {
         self.maintain_up_to(table, policy, now, None);
     }
 
-    /// Runs a maintenance of a table within a limit, and says whether a part was left. It takes no
-    /// memory, and none of the room.
+    /// Runs a maintenance of a table within a limit of removals, if there is one. Returns whether a
+    /// part was left undone. Does not allocate, and uses no room.
     pub fn maintain_up_to<K: Eq + Drop, V: Drop, R: RowStore<K, V>>(
         &self,
         table: &mut Table<K, V, R>,
@@ -61,7 +60,7 @@ impl<F: FrequencySource> Upkeep<F> {
         ensures unlimited { limit ≡ None → result ≡ false }
         ensures room { table.old.room ≤ table.new.room }
     {
-        // Its clause `visited` bounds this count; nothing else asks for it.
+        // The clause `visited` bounds this count. Nothing else reads it.
         let mut visits = 0;
         maintain_up_to(
             table,
@@ -74,8 +73,11 @@ impl<F: FrequencySource> Upkeep<F> {
         )
     }
 
-    /// Writes a value to its place, behind a maintenance within a limit where one comes first, and answers whether a
-    /// live value stood there just before. It takes none of the memory that was not made room for.
+    /// Writes a value to its place, and returns whether a live value was there just before.
+    ///
+    /// If the place says so, a flush within `flush_limit` comes first. The write uses the room that
+    /// was made, and does not allocate.
+    #[inline(always)]
     pub fn write<K: Hash + Drop, V: Clone, C: CacheTypes<K, V>, R: RowStore<K, V>>(
         &self,
         table: &mut Table<K, V, R>,
@@ -101,8 +103,10 @@ impl<F: FrequencySource> Upkeep<F> {
         }
     }
 
-    /// A use of a row whose value is live: the value may get another life of its own, and the hash of
-    /// the key is noted. It takes no memory.
+    /// Applies an access to a row whose value is live, and notes the hash of its key.
+    ///
+    /// The entry may get another lifetime of its own. Does not allocate.
+    #[inline(always)]
     pub fn hit<K: Hash + Drop, V: Clone, C: CacheTypes<K, V>, R: RowStore<K, V>>(
         &mut self,
         table: &mut Table<K, V, R>,

@@ -1,4 +1,4 @@
--- A maintenance depends on the weights of what stands alone.
+-- A maintenance depends only on the weights of the elements in its queues.
 use Rattle.std.proofs.Common.{◌≡◌, ℕ, ◌+◌, ◌||◌, ◌==◌, Bool, cond, nat_le, Option, Some, None, List, [], ◌∷◌, ◌++◌, take, drop, filter, refl, ap, ◌∙◌}
 use Rattle.std.specs.List.{All}
 use Rattle.std.proofs.lemmas.List.Elements.{All-nil, All-head, All-tail, All-push, All-drop, All-filter}

@@ -1,4 +1,4 @@
--- A maintenance asks only who wins: by two rules that say the same, it is the same.
+-- A maintenance depends on its admission rule only by what the rule says: equal rules give equal maintenance.
 use Rattle.std.proofs.Common.{◌≡◌, ℕ, ◌||◌, ◌==◌, Bool, cond, Option, List, [], ◌∷◌, ◌++◌, take, drop, filter, refl, ap, ◌∙◌}
 use Rattle.moka_model.specs.Maintenance.{Queues, Part, fits, front, dead_admitted, dead_waiting, over, judge, judged, parts}
 use Rattle.moka_model.proofs.Maintenance.{admitting, dropping}

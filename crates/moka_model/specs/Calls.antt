@@ -1,4 +1,4 @@
--- Calls: what each answers after a list of accepted steps, which accepted step it is, and when it may be refused.
+-- What each call returns after a list of accepted steps, which step it becomes, and when it may fail.
 use Rattle.std.specs.Prelude.{⊤, ◌≡◌, ◌<◌, ℕ, max, min, Bool, true, false, ◌==◌, if◌then◌else◌, List, [], ◌∷◌, ◌++◌, slice_get}
 use Rattle.std.specs.Prelude.{Option, Some, None, IsSome, IsSomeAnd, is_some, option_map}
 use Rattle.moka_model.specs.declared.turns.Kind.{Kind}
@@ -16,7 +16,8 @@ use Rattle.moka_model.specs.Turns.{is_open_for, is_open_as, has_ticket_as, is_en
 use Rattle.moka_model.specs.Turns as turning
 use Rattle.moka_model.specs.Steps.{AcceptedStep, events_in, turns}
 
-pub data Call (K V E : Type 0) : Type 0 where  -- A call, with what it hands in; the last of that is its moment, if it has one.
+-- A call with its arguments. The last argument is its moment, if it has one.
+pub data Call (K V E : Type 0) : Type 0 where
   Get : K → ℕ → Call K V E
   ContainsKey : K → ℕ → Call K V E
   Insert : K → V → ℕ → Call K V E
@@ -25,26 +26,28 @@ pub data Call (K V E : Type 0) : Type 0 where  -- A call, with what it hands in;
   InvalidateAll : Call K V E
   InvalidateIf : (K → V → Bool) → Call K V E
   RunPendingTasks : ℕ → Call K V E
-  RunPendingTasksUpTo : ℕ → ℕ → Call K V E  -- a limit, and a moment
+  RunPendingTasksUpTo : ℕ → ℕ → Call K V E  -- at most so many evictions, and a moment
   EntryCount : Call K V E
   WeightedSize : Call K V E
   TakeNotice : Call K V E
   OrInsert : K → V → ℕ → Call K V E
-  Begin : K → Kind → Option Bool → ℕ → Call K V E  -- with what the caller says of a live value, whether to replace it, if it does
-  BeginCompute : K → Bool → ℕ → Call K V E  -- with whether a copy of the live value is to be kept aside
+  -- with the caller's verdict on a live value, if there is one: `true` replaces it
+  Begin : K → Kind → Option Bool → ℕ → Call K V E
+  BeginCompute : K → Bool → ℕ → Call K V E  -- with whether the turn keeps a clone of the live value
   Finish : Name K → Outcome V E → ℕ → Call K V E
   Abandon : Name K → Call K V E
   Collect : Name K → Call K V E
   Leave : Name K → Call K V E
 
--- A value that is handed out under a key, whether the call wrote it, and whether over a live one.
+-- An entry as a call returns it: `fresh` if this call stored the value, `replaced` if it overwrote a live value.
 pub record Entry (K V : Type 0) : Type 0 where
   pub key : K
   pub value : V
   pub fresh : Bool
   pub replaced : Bool
 
-pub data Answer (K V E : Type 0) : Type 0 where  -- An answer, with the values themselves. What a call hands out is a copy of them.
+-- A result, with the stored values themselves. A call returns clones of them.
+pub data Answer (K V E : Type 0) : Type 0 where
   Found : Option V → Answer K V E
   Contains : Bool → Answer K V E
   Done : Answer K V E
@@ -52,7 +55,7 @@ pub data Answer (K V E : Type 0) : Type 0 where  -- An answer, with the values t
   Left : Bool → Answer K V E
   Noticed : Option (Removal K V) → Answer K V E
   Entered : Entry K V → Answer K V E
-  Run : Name K → Option (Entry K V) → Answer K V E  -- a turn was opened, with the live entry that a compute is shown
+  Run : Name K → Option (Entry K V) → Answer K V E  -- a turn was opened; with the live entry that a compute is shown
   Wait : Name K → Answer K V E
   GaveNothing : Answer K V E
   GaveError : E → Answer K V E
@@ -65,12 +68,12 @@ pub data Answer (K V E : Type 0) : Type 0 where  -- An answer, with the values t
   WasAbandoned : Answer K V E
   HasEnded : Answer K V E
 
-pub data Refusal : Type 0 where  -- Why a call is not accepted.
+pub data Refusal : Type 0 where  -- Why a call is rejected: it fails whatever memory there is, and is no step.
   UnknownTurn : Refusal
   UnknownTicket : Refusal
   ClosuresUnsupported : Refusal
 
--- the refusal that is due where a call is not accepted; none of a call that is always accepted
+-- The reason for which a call can be rejected, or none if it is always accepted.
 abbrev pub refusal_due : {K V E : Type 0} → Call K V E → Option Refusal
 refusal_due (InvalidateIf test) = Some ClosuresUnsupported
 refusal_due (Finish name outcome at) = Some UnknownTurn
@@ -79,54 +82,63 @@ refusal_due (Collect name) = Some UnknownTicket
 refusal_due (Leave name) = Some UnknownTicket
 refusal_due call = None
 
-abbrev pub IsWait : {K V E : Type 0} → Answer K V E → Type 0  -- it tells the caller to wait for another's turn
+-- The result says that another caller's turn is open, which the caller has to wait for.
+abbrev pub IsWait : {K V E : Type 0} → Answer K V E → Type 0
 IsWait (Wait name) = ⊤
 IsWait answer = ⊥
 
-pub record Accepted (K V E : Type 0) : Type 0 where  -- What an accepted call answers, and the step that it is.
+-- What an accepted call returns, and the step that it adds to the history.
+pub record Accepted (K V E : Type 0) : Type 0 where
   pub answer : Answer K V E
   pub step : AcceptedStep K V E
 
-abbrev pub without_move : {K V E : Type 0} → Answer K V E → List (Event K V) → Accepted K V E  -- an accepted call that moves no turn
+-- An accepted call with this result and these events that does nothing to turns.
+abbrev pub without_move : {K V E : Type 0} → Answer K V E → List (Event K V) → Accepted K V E
 without_move answer events = record { answer = answer; step = record { events = events; move = None } }
 
+-- An accepted call with this result and these events that makes this move of a turn.
 abbrev pub with_move : {K V E : Type 0} → Answer K V E → List (Event K V) → Move K V E → Accepted K V E
 with_move answer events move = record { answer = answer; step = record { events = events; move = Some move } }
 
 module _ {K V : Type 0} where
+  -- The entry that a call returns for a stored one.
   abbrev pub entry_of : Write K V → Entry K V
   entry_of w = record { key = w.key; value = w.value; fresh = false; replaced = false }
 
+  -- An entry that was found, not stored by the call.
   abbrev pub entry_under : K → V → Entry K V
   entry_under k v = record { key = k; value = v; fresh = false; replaced = false }
 
+  -- An entry that the call stored itself; `replaced` if it overwrote a live value.
   abbrev pub fresh_entry : K → V → Bool → Entry K V
   fresh_entry k v replaced = record { key = k; value = v; fresh = true; replaced = replaced }
 
-  abbrev pub acceptable : Option Bool → Option (Write K V) → Option (Write K V)  -- a live value, unless the caller turned it down
+  -- The live entry, unless the caller turned it down.
+  abbrev pub acceptable : Option Bool → Option (Write K V) → Option (Write K V)
   acceptable None w = w
   acceptable (Some false) w = w
   acceptable (Some true) w = None
 
+  -- The event of a recorded lookup. It is a miss if the caller turned the value down.
   abbrev pub look_event : Option Bool → K → ℕ → Event K V
   look_event None k at = Looked k at
   look_event (Some false) k at = Looked k at
   look_event (Some true) k at = TurnedDown k at
 
 module _ {K V : Type 0} (eq : K → K → Bool) (settings : Settings K V) where
-  -- the live write of a key where a call looks at a moment: at the greater of that and the latest recorded one
+  -- The live entry of a key for a call at a moment: as of the latest recorded moment, if that is later.
   abbrev pub live_at : K → ℕ → List (Event K V) → Option (Write K V)
   live_at k at h = live eq settings k (max (latest h) at) h
 
-  abbrev pub flush : ℕ → List (Event K V) → List (Event K V)  -- the maintenance before a write, where one is due
+  abbrev pub flush : ℕ → List (Event K V) → List (Event K V)  -- The flush before a write, if one is due.
   flush at h = if is_flush_due eq settings h then Maintained settings.flush_limit at ∷ [] else []
 
-  -- the events of a write, the newest first; where the capacity is 0 just its moment is recorded
+  -- The events of a write, the newest first. At a capacity of 0 a write only records its moment.
   abbrev pub write_events : K → V → ℕ → List (Event K V) → List (Event K V)
   write_events k v at h = if stores_nothing settings.max_capacity then Passed at ∷ [] else Written k v at ∷ flush at h
 
 module _ {K V E : Type 0} where
-  -- what a ticket of a turn is answered, by the end of the turn
+  -- What the ticket of a turn gets, by how the turn ended. The entry has the ticket's key.
   abbrev pub answer_by : Name K → End V E → Answer K V E
   answer_by name (turning.Value v replaced) = Entered (record { key = name.key; value = v; fresh = false; replaced = replaced })
   answer_by name turning.Nothing = GaveNothing
@@ -134,33 +146,40 @@ module _ {K V E : Type 0} where
   answer_by name turning.Computed = HasEnded
   answer_by name turning.Abandoned = WasAbandoned
 
-  abbrev pub waits_for : Turn K V E → K → List (Event K V) → Accepted K V E  -- a ticket has the key of the call that is told to wait
+  -- The call has to wait for this turn. Its ticket has the key that the call was given.
+  abbrev pub waits_for : Turn K V E → K → List (Event K V) → Accepted K V E
   waits_for t k events = with_move (Wait (record t.name { key = k })) events (Waited t.name.number)
 
-  abbrev pub collected : Name K → ℕ → Option (End V E) → Accepted K V E  -- a ticket of an open turn stays unspent
+  -- Collecting a ticket: `NotYet` while the turn is open, and the ticket stays unspent; else its result, and it is
+  -- spent.
+  abbrev pub collected : Name K → ℕ → Option (End V E) → Accepted K V E
   collected name number None = without_move NotYet []
   collected name number (Some end) = with_move (answer_by name end) [] (Spent number)
 
+  -- A ticket of the turn with this number is spent, without a result.
   abbrev pub spends : ℕ → Accepted K V E
   spends number = with_move Done [] (Spent number)
 
+  -- The turn with this number is abandoned.
   abbrev pub abandons : ℕ → Accepted K V E
   abandons number = with_move Done [] (Ended number turning.Abandoned)
 
-  -- what a compute that puts, removes or does nothing is answered: presence is that at its begin, but that of a removal
+  -- What a compute that puts a value returns. `shown` says whether its begin found a live value.
   abbrev pub put_by : Name K → V → Bool → Answer K V E
   put_by name v shown = if shown then ReplacedWith (fresh_entry name.key v true) else Inserted (fresh_entry name.key v false)
 
+  -- What a compute that removes returns, by the live entry at its finish.
   abbrev pub removed_by : Name K → Option (Write K V) → Answer K V E
   removed_by name None = StillNone name.key
   removed_by name (Some w) = Removed (entry_under name.key w.value)
 
+  -- What a compute that does nothing returns, by the value that was kept at its begin.
   abbrev pub kept_by : Name K → Option V → Answer K V E
   kept_by name None = StillNone name.key
   kept_by name (Some v) = Unchanged (entry_under name.key v)
 
 module _ {V E : Type 0} where
-  -- what a turn ends with, where its finish hands in an outcome, and whether a live value stood at its write
+  -- How a turn ends that is finished with this outcome. `replaced` says whether its write overwrote a live value.
   abbrev pub end_by : Outcome V E → Bool → End V E
   end_by (outcomes.Value v) replaced = turning.Value v replaced
   end_by outcomes.Nothing replaced = turning.Nothing
@@ -168,14 +187,15 @@ module _ {V E : Type 0} where
   end_by (outcomes.Op op) replaced = turning.Computed
 
 module _ {K V : Type 0} (eq : K → K → Bool) (settings : Settings K V) (h : List (Event K V)) where
-  abbrev pub new_name : Kind → K → Name K  -- the name of a turn that is opened after these events
+  -- The name of a turn that is opened after these events: it draws the next sequence number.
+  abbrev pub new_name : Kind → K → Name K
   new_name kind k = record { number = next_number settings h; kind = kind; key = k }
 
-  abbrev pub is_replacing : K → ℕ → Bool  -- whether a live value stands just before a write, behind its flush
+  abbrev pub is_replacing : K → ℕ → Bool  -- Whether a live value is stored just before a write, after its flush.
   is_replacing k at = is_some (live eq settings k (max (latest h) at) (flush eq settings at h ++ h))
 
 module _ {K V E : Type 0} (eq : K → K → Bool) (settings : Settings K V) (h : List (Event K V)) where
-  -- a begin of an initializer, by the acceptable live value and the open turn, if there are such
+  -- The begin of an initializer, by the live value that the caller accepts and by the open turn, if they exist.
   abbrev pub begun : K → Kind → Option Bool → ℕ → Option (Write K V) → Option (Turn K V E) → Accepted K V E
   begun k kind replace at (Some w) turn = without_move (Entered (entry_of w)) (look_event replace k at ∷ [])
   begun k kind replace at None (Some t) = waits_for t k (look_event replace k at ∷ [])
@@ -183,7 +203,7 @@ module _ {K V E : Type 0} (eq : K → K → Bool) (settings : Settings K V) (h :
       with_move (Run (new_name eq settings h kind k) None) (Drawn ∷ look_event replace k at ∷ [])
       (Opened (new_name eq settings h kind k) false None)
 
-  -- a begin of a compute, by the open turn, if there is one
+  -- The begin of a compute, by the open turn of the key, if there is one.
   abbrev pub begun_compute : K → Bool → ℕ → Option (Turn K V E) → Accepted K V E
   begun_compute k keep at (Some t) = waits_for t k (Passed at ∷ [])
   begun_compute k keep at None =
@@ -191,11 +211,13 @@ module _ {K V E : Type 0} (eq : K → K → Bool) (settings : Settings K V) (h :
       (Opened (new_name eq settings h Compute k) (is_some (live_at eq settings k at h))
       (if keep then option_map (λ w. w.value) (live_at eq settings k at h) else None))
 
+  -- An `or_insert`, by the live entry, if there is one: a lookup, and a write if that finds nothing.
   abbrev pub or_inserted : K → V → ℕ → Option (Write K V) → Accepted K V E
   or_inserted k v at (Some w) = without_move (Entered (entry_of w)) (Looked k at ∷ [])
   or_inserted k v at None =
       without_move (Entered (fresh_entry k v false)) (write_events eq settings k v at (Looked k at ∷ h) ++ Looked k at ∷ [])
 
+  -- What the finish of a turn returns, by the outcome.
   abbrev pub finish_answer : Turn K V E → ℕ → Outcome V E → Name K → Answer K V E
   finish_answer t at (outcomes.Value v) name = Entered (fresh_entry name.key v (is_replacing eq settings h name.key at))
   finish_answer t at outcomes.Nothing name = GaveNothing
@@ -204,24 +226,27 @@ module _ {K V E : Type 0} (eq : K → K → Bool) (settings : Settings K V) (h :
   finish_answer t at (outcomes.Op ops.Remove) name = removed_by name (live_at eq settings name.key at h)
   finish_answer t at (outcomes.Op ops.Nop) name = kept_by name t.kept
 
+  -- The events of the finish of a turn, by the outcome.
   abbrev pub finish_events : K → ℕ → Outcome V E → List (Event K V)
   finish_events k at (outcomes.Value v) = write_events eq settings k v at h
   finish_events k at (outcomes.Op (ops.Put v)) = write_events eq settings k v at h
   finish_events k at (outcomes.Op ops.Remove) = Invalidated k at ∷ []
   finish_events k at outcome = Passed at ∷ []
 
+  -- The finish of an open turn.
   abbrev pub finished : Name K → Outcome V E → ℕ → Turn K V E → Accepted K V E
   finished name outcome at t =
       with_move (finish_answer t at outcome name) (finish_events name.key at outcome)
       (Ended t.name.number (end_by outcome (is_replacing eq settings h name.key at)))
 
 module _ {K V E : Type 0} (eq : K → K → Bool) (settings : Settings K V) (h : List (Event K V)) (ts : List (Turn K V E)) where
+  -- A begin: a compute's, or an initializer's.
   abbrev pub begun_by : K → Kind → Option Bool → ℕ → Accepted K V E
   begun_by k Compute replace at = begun_compute eq settings h k false at (found (is_open_for eq Compute k) ts)
   begun_by k kind replace at =
       begun eq settings h k kind replace at (acceptable replace (live_at eq settings k at h)) (found (is_open_for eq kind k) ts)
 
-  -- What a call answers and which step it is, after these events and beside these turns; none where it is refused by its name.
+  -- What a call returns and which step it becomes, after these events and with these turns. None if it is rejected.
   abbrev pub accepted_beside : Call K V E → Option (Accepted K V E)
   accepted_beside (Get k at) = Some (without_move (Found (option_map (λ w. w.value) (live_at eq settings k at h))) (Looked k at ∷ []))
   accepted_beside (ContainsKey k at) = Some (without_move (Contains (is_some (live_at eq settings k at h))) [])
@@ -247,78 +272,89 @@ module _ {K V E : Type 0} (eq : K → K → Bool) (settings : Settings K V) (h :
   accepted_beside (Leave name) = option_map (λ t. spends t.name.number) (found (has_ticket_as eq name) ts)
 
 module _ {K V E : Type 0} (eq : K → K → Bool) (settings : Settings K V) (steps : List (AcceptedStep K V E)) where
-  -- What a call answers and which step it is, after these steps.
+  -- What a call returns and which step it becomes, after these steps. None if it is rejected.
   abbrev pub accepted : Call K V E → Option (Accepted K V E)
   accepted call = accepted_beside eq settings (events_in steps) (turns steps) call
 
 module _ {K V E : Type 0} where
-  -- an accepted step on top of others, where there is one
+  -- The steps, with that of an accepted call on top.
   abbrev pub with_step : Option (Accepted K V E) → List (AcceptedStep K V E) → List (AcceptedStep K V E)
   with_step None steps = steps
   with_step (Some it) steps = it.step ∷ steps
 
-  abbrev pub drawn_by : Option (Accepted K V E) → ℕ  -- how many numbers an accepted call draws
+  abbrev pub drawn_by : Option (Accepted K V E) → ℕ  -- How many sequence numbers an accepted call draws.
   drawn_by None = 0
   drawn_by (Some it) = drawn_in it.step.events
 
-  abbrev pub answer_of : Option (Accepted K V E) → Option (Answer K V E)  -- what is answered, if a call is accepted
+  abbrev pub answer_of : Option (Accepted K V E) → Option (Answer K V E)  -- What a call returns, if it is accepted.
   answer_of it = option_map (λ a. a.answer) it
 
-  abbrev pub IfAnswered : (Answer K V E → Type 0) → Option (Accepted K V E) → Type 0  -- a call is accepted with such an answer
+  -- The call is accepted, and `P` holds of its result.
+  abbrev pub IfAnswered : (Answer K V E → Type 0) → Option (Accepted K V E) → Type 0
   IfAnswered P None = ⊥
   IfAnswered P (Some it) = P it.answer
 
-  -- a step with these events and this move wants a number that is not there
+  -- The step needs a number that does not exist. Either it draws one and the greatest is next, or the turn that it
+  -- waits for has as many unspent tickets as a `u64` can count.
   abbrev pub WantsNumberBy : ℕ → List (Turn K V E) → List (Event K V) → Option (Move K V E) → Type 0
   WantsNumberBy next ts events (Some (Waited number)) =
       (t : Turn K V E) × (found (λ u. u.name.number == number) ts ≡ Some t) × (t.unspent ≡ greatest_number)
   WantsNumberBy next ts events move = (0 < drawn_in events) × (next ≡ greatest_number)
 
+  -- The same of a call. It does not hold of a rejected one.
   abbrev pub WantsNumber : ℕ → List (Turn K V E) → Option (Accepted K V E) → Type 0
   WantsNumber next ts None = ⊥
   WantsNumber next ts (Some it) = WantsNumberBy next ts it.step.events it.step.move
 
 module _ {K V E : Type 0} (eq : K → K → Bool) (settings : Settings K V) where
-  -- the accepted steps after a call: one more, and the same ones where it is refused by its name
+  -- The history after a call: one step more, or the same if the call is rejected.
   abbrev pub after : Call K V E → List (AcceptedStep K V E) → List (AcceptedStep K V E)
   after call steps = with_step (accepted eq settings steps call) steps
 
-  -- A call is not accepted after these steps, and this refusal is due.
+  -- The call is rejected after these steps, for this reason.
   abbrev pub IsRefusedAs : Refusal → List (AcceptedStep K V E) → Call K V E → Type 0
   IsRefusedAs refusal steps call = (accepted eq settings steps call ≡ None) × (refusal_due call ≡ Some refusal)
 
-  -- A list of accepted steps: each is what the definitions give for some call, after those before it.
+  -- The history is legal: each step is that of some call, accepted after the steps before it.
   abbrev pub IsLegal : List (AcceptedStep K V E) → Type 0
   IsLegal [] = ⊤
   IsLegal (step ∷ steps) =
       ((call : Call K V E) × (it : Accepted K V E) × (accepted eq settings steps call ≡ Some it) × (it.step ≡ step)) × IsLegal steps
 
-  -- A call is refused for want of numbers exactly where it would draw one and none is left, or would wait for a turn whose
-  -- tickets are as many as can be counted.
+  -- When a call runs out of numbers, and so fails. It would draw a sequence number and none is left, or it would wait
+  -- for a turn whose unspent tickets cannot be counted any further.
   abbrev pub IsOutOfNumbers : List (AcceptedStep K V E) → Call K V E → Type 0
   IsOutOfNumbers steps call = WantsNumber (next_number settings (events_in steps)) (turns steps) (accepted eq settings steps call)
 
--- The values' type says of which values copies never fail.
-abbrev pub AnswerMayFail : {K V E : Type 0} → (V → Type 0) → Answer K V E → Type 0  -- What is handed out is a copy, which can fail.
+-- The type of the values says of which values clones never fail (`is_infallible`).
+-- Returning this result needs a clone that can fail.
+abbrev pub AnswerMayFail : {K V E : Type 0} → (V → Type 0) → Answer K V E → Type 0
 AnswerMayFail is_infallible (Found (Some v)) = ¬ (is_infallible v)
-AnswerMayFail is_infallible (Entered e) = ⊤  -- what a turn gave is kept as a copy, and copied again
+AnswerMayFail is_infallible (Entered e) = ⊤  -- the turn keeps a clone, which is cloned again
 AnswerMayFail is_infallible (GaveError e) = ⊤
 AnswerMayFail is_infallible answer = ⊥
 
 module _ {K V E : Type 0} (eq : K → K → Bool) (is_infallible : V → Type 0) (settings : Settings K V)
     (steps : List (AcceptedStep K V E)) where
-  -- A look copies what it finds: there is a live value, and its copy can fail.
+  -- A lookup at this moment finds a live value, and cloning that can fail.
   abbrev pub CopyMayFail : K → ℕ → Type 0
   CopyMayFail k at = IsSomeAnd (live_at eq settings k at (events_in steps)) (λ w. ¬ (is_infallible w.value))
 
-  abbrev pub FinishMayFail : Name K → ℕ → Outcome V E → Type 0  -- The end of a turn copies what is handed out, or grows.
+  -- When finishing a turn may fail for lack of memory. It stores a value, or clones a value or an error that it
+  -- returns, or removes a live value whose clone can fail.
+  abbrev pub FinishMayFail : Name K → ℕ → Outcome V E → Type 0
   FinishMayFail name at outcomes.Nothing = ⊥
   FinishMayFail name at (outcomes.Op ops.Nop) = ⊥
   FinishMayFail name at (outcomes.Op ops.Remove) = CopyMayFail name.key at
   FinishMayFail name at outcome = ⊤
 
-  -- A look may be refused memory where its copy may fail, a write where something is stored, a begin always, since a turn may
-  -- be opened, and a ticket where the copy of its outcome may fail. No other call may.
+  -- When a call may fail with `OutOfMemory`. No other call may.
+  --
+  -- - A lookup or a removal, if cloning what it finds can fail.
+  -- - An insert, if something is stored.
+  -- - An `or_insert` and a begin always. A begin may open a turn.
+  -- - A finish as `FinishMayFail` says.
+  -- - A collect, if cloning its result can fail.
   abbrev pub MayTakeMemory : Call K V E → Type 0
   MayTakeMemory (Get k at) = CopyMayFail k at
   MayTakeMemory (Insert k v at) = stores_nothing settings.max_capacity ≡ false
@@ -331,20 +367,23 @@ module _ {K V E : Type 0} (eq : K → K → Bool) (is_infallible : V → Type 0)
   MayTakeMemory call = ⊥
 
 module _ {V : Type 0} (is_clone : V → V → Type 0) where
-  abbrev pub IsCopyOf : Option V → Option V → Type 0  -- One value is there where the other is, and is a copy of it.
+  abbrev pub IsCopyOf : Option V → Option V → Type 0  -- Both are absent, or the second is a clone of the first.
   IsCopyOf None None = ⊤
   IsCopyOf (Some v) (Some w) = is_clone v w
   IsCopyOf v w = ⊥
 
-  abbrev pub IsCopiedEntry : {K : Type 0} → Entry K V → Entry K V → Type 0  -- an entry whose value is a copy of another's
+  -- The second entry is the first with a clone of its value.
+  abbrev pub IsCopiedEntry : {K : Type 0} → Entry K V → Entry K V → Type 0
   IsCopiedEntry a b = (b.key ≡ a.key) × is_clone a.value b.value × (b.fresh ≡ a.fresh) × (b.replaced ≡ a.replaced)
 
+  -- Both are absent, or the second entry is the first with a clone of its value.
   abbrev pub IsEntryOf : {K : Type 0} → Option (Entry K V) → Option (Entry K V) → Type 0
   IsEntryOf None None = ⊤
   IsEntryOf (Some a) (Some b) = IsCopiedEntry a b
   IsEntryOf a b = ⊥
 
-  -- An answer that is handed out: a value is a copy of the definition's, and all else is the definition's own.
+  -- What a call really returns (the second) for a result of the definitions: its values are clones, all else is the
+  -- same.
   abbrev pub IsAnswer : {K E : Type 0} → Answer K V E → Answer K V E → Type 0
   IsAnswer (Found v) (Found w) = IsCopyOf v w
   IsAnswer (Entered a) (Entered b) = IsCopiedEntry a b
@@ -355,26 +394,28 @@ module _ {V : Type 0} (is_clone : V → V → Type 0) where
   IsAnswer (Removed a) (Removed b) = IsCopiedEntry a b
   IsAnswer a b = b ≡ a
 
+  -- The second end is the first, with a clone of its value.
   abbrev pub IsCopiedEnd : {E : Type 0} → Option (End V E) → Option (End V E) → Type 0
   IsCopiedEnd (Some (turning.Value v marked)) (Some (turning.Value w replaced)) = is_clone v w × (replaced ≡ marked)
   IsCopiedEnd a b = b ≡ a
 
-  -- What is kept of an open turn, which is found by its kind and its key: the value that was kept aside is a copy.
+  -- What a state keeps of an open turn, which it finds by kind and key: the kept value is a clone.
   pub record IsOpenTurnOf {K E : Type 0} (t row : Turn K V E) : Type 0 where
     pub number : row.name.number ≡ t.name.number
     pub shown : row.shown ≡ t.shown
     pub kept : IsCopyOf t.kept row.kept
     pub unspent : row.unspent ≡ t.unspent
 
--- What is kept of an ended turn, which is found by its number: its kind, an equal key, and its end, whose value is a copy.
+-- What a state keeps of an ended turn, which it finds by number: the kind, an equal key, and the end. A value in that
+-- is a clone.
 pub record IsEndedTurnOf {K V E : Type 0} (eq : K → K → Bool) (is_clone : V → V → Type 0) (t row : Turn K V E) : Type 0 where
   pub kind : row.name.kind ≡ t.name.kind
   pub key : eq t.name.key row.name.key ≡ true
   pub end : IsCopiedEnd is_clone t.end row.end
   pub unspent : row.unspent ≡ t.unspent
 
--- What is kept of some turns: for each kind and key the open turn, and for each number the ended turn that has unspent tickets;
--- no other ended turn is kept.
+-- What a state keeps of all turns: the open turn of each kind and key, and each ended turn that has unspent tickets, by
+-- its number. It keeps no other ended turn.
 pub record Holds {K V E : Type 0} (eq : K → K → Bool) (is_clone : V → V → Type 0) (ts rows : List (Turn K V E)) : Type 0 where
   pub opened : (kind : Kind) (k : K) → Agree (IsOpenTurnOf is_clone) (found (is_open_for eq kind k) ts) (found (is_open_for eq kind k) rows)
   pub ended : (number : ℕ) → Agree (IsEndedTurnOf eq is_clone) (found (is_ended_as number) ts) (found (has_ended_as number) rows)

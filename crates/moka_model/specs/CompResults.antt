@@ -1,4 +1,4 @@
--- What the result of a compute is to the definitions.
+-- What the result of a compute means in the definitions.
 use Rattle.std.specs.Prelude.{Option, Some, None}
 use Rattle.std.specs.Arc.{arc_value}
 use Rattle.moka_model.specs.declared.entry.Entry.{Entry}
@@ -7,7 +7,7 @@ use Rattle.moka_model.specs.declared.comp_result.CompResult.TheVariants as resul
 use Rattle.moka_model.specs.Calls as calls
 use Rattle.moka_model.specs.Entries.{entry_of}
 
--- the entry of a result, if it has one
+-- The entry of a result, if it has one.
 abbrev pub entry_in : {K V : Type 0} → CompResult K V → Option (Entry K V)
 entry_in (results.StillNone key) = None
 entry_in (results.Unchanged entry) = Some entry
@@ -15,7 +15,7 @@ entry_in (results.Inserted entry) = Some entry
 entry_in (results.ReplacedWith entry) = Some entry
 entry_in (results.Removed entry) = Some entry
 
--- the answer that it is
+-- The result as a result of the definitions.
 abbrev pub of_computed : {K V E : Type 0} → CompResult K V → calls.Answer K V E
 of_computed (results.StillNone key) = calls.StillNone (arc_value key)
 of_computed (results.Unchanged entry) = calls.Unchanged (entry_of entry)

@@ -1,8 +1,9 @@
--- What an entry is to the definitions.
+-- What an entry of the code means in the definitions.
 use Rattle.std.specs.Arc.{arc_value}
 use Rattle.moka_model.specs.declared.entry.Entry.{Entry}
 use Rattle.moka_model.specs.Calls as calls
 
+-- An entry of the code, with the key that its `Arc` holds.
 abbrev pub entry_of : {K V : Type 0} → Entry K V → calls.Entry K V
 entry_of e = record {
   key = arc_value e.key;

@@ -1,49 +1,55 @@
--- A maintenance of two queues, as the list of its parts, over anything that has a weight and may be dead.
+-- Maintenance of two queues as a list of its parts, over any elements that have a weight and may be dead (not live).
 use Rattle.std.specs.Prelude.{ℕ, ◌+◌, ◌-◌, Bool, true, false, ◌||◌, ◌==◌, if◌then◌else◌, nat_le, Option, Some, None, List, [], ◌∷◌, ◌++◌}
 use Rattle.std.specs.Prelude.{length, take, drop, filter}
 
--- Two orders: the admitted, the least recently used first, and those that wait for admission, in the order in which they came.
+-- The two queues: the resident elements, the least recently used first, and the pending ones in arrival order.
 pub record Queues (X : Type 0) : Type 0 where
   pub admitted : List X
   pub waiting : List X
 
-pub record Part (X : Type 0) : Type 0 where  -- One part of a maintenance: what leaves in it, in order, and how the queues stand after it.
+-- One part of a maintenance: what it evicts, in order, and the queues after it.
+pub record Part (X : Type 0) : Type 0 where
   pub evicted : List X
   pub after : Queues X
 
 module _ {X : Type 0} (weight : X → ℕ) where
-  abbrev pub total : List X → ℕ  -- the weight of all
+  abbrev pub total : List X → ℕ  -- The total weight of a list.
   total [] = 0
   total (x ∷ xs) = weight x + total xs
 
-  abbrev pub fits : Option ℕ → ℕ → List X → Bool  -- more fits beside these within the capacity, if there is one
+  -- Whether `more` weight fits beside the elements within the capacity. Everything fits without a capacity.
+  abbrev pub fits : Option ℕ → ℕ → List X → Bool
   fits None more xs = true
   fits (Some capacity) more xs = nat_le (more + total xs) capacity
 
-  abbrev pub front : Option ℕ → ℕ → List X → ℕ  -- the length of the shortest front whose leaving makes room for more
+  -- The length of the shortest prefix whose eviction makes room for `more` weight, or of the whole list if none does.
+  abbrev pub front : Option ℕ → ℕ → List X → ℕ
   front capacity more [] = 0
   front capacity more (x ∷ xs) = if fits capacity more (x ∷ xs) then 0 else front capacity more xs + 1
 
 module _ {X : Type 0} (is_live : X → Bool) where
-  abbrev pub dead_admitted : List X → List X → List X → List (Part X)  -- what is dead leaves, one by one: first among the admitted,
+  -- Evicts the dead residents, one by one, each in a part. `kept` are the live ones passed so far.
+  abbrev pub dead_admitted : List X → List X → List X → List (Part X)
   dead_admitted kept [] waiting = []
   dead_admitted kept (x ∷ xs) waiting = if is_live x then dead_admitted (kept ++ x ∷ []) xs waiting
       else record { evicted = x ∷ []; after = record { admitted = kept ++ xs; waiting = waiting } } ∷ dead_admitted kept xs waiting
 
-  abbrev pub dead_waiting : List X → List X → List X → List (Part X)  -- and then among those that wait
+  -- Then evicts the dead pending ones, one by one, each in a part. `kept` are the live ones passed so far.
+  abbrev pub dead_waiting : List X → List X → List X → List (Part X)
   dead_waiting admitted kept [] = []
   dead_waiting admitted kept (x ∷ xs) = if is_live x then dead_waiting admitted (kept ++ x ∷ []) xs
       else record { evicted = x ∷ []; after = record { admitted = admitted; waiting = kept ++ xs } } ∷ dead_waiting admitted kept xs
 
 module _ {X : Type 0} (weight : X → ℕ) (capacity : Option ℕ) where
-  -- where the admitted weight passes the capacity, the shortest front that brings it within leaves, one by one
+  -- If the residents weigh more than the capacity, evicts the shortest prefix that brings them within it, one by one.
   abbrev pub over : List X → List X → List (Part X)
   over [] waiting = []
   over (x ∷ xs) waiting = if fits weight capacity 0 (x ∷ xs) then []
       else record { evicted = x ∷ []; after = record { admitted = xs; waiting = waiting } } ∷ over xs waiting
 
-  -- The first that waits is dropped where it is heavier than the capacity. Else its victims are the shortest front that makes
-  -- room for it: they leave and it is admitted where it needs none or wins against them, and else it is dropped.
+  -- Judges the first pending element. Heavier than the capacity, it is dropped. Else its victims are the shortest
+  -- prefix of the residents that makes room for it. If it needs none or wins against them, they are evicted and it is
+  -- admitted; else it is dropped.
   abbrev pub judge : (X → List X → Bool) → List X → X → List X → Part X
   judge wins admitted x waiting =
       let victims = front weight capacity (weight x) admitted in
@@ -52,11 +58,13 @@ module _ {X : Type 0} (weight : X → ℕ) (capacity : Option ℕ) where
       else record { evicted = x ∷ []; after = record { admitted = admitted; waiting = waiting } })
       else record { evicted = x ∷ []; after = record { admitted = admitted; waiting = waiting } }
 
-  abbrev pub judged : (X → List X → Bool) → List X → List X → List (Part X)  -- each that waits is judged, in order
+  -- Judges each pending element, in order, each in a part.
+  abbrev pub judged : (X → List X → Bool) → List X → List X → List (Part X)
   judged wins admitted [] = []
   judged wins admitted (x ∷ xs) = judge wins admitted x xs ∷ judged wins (judge wins admitted x xs).after.admitted xs
 
-  -- The parts of a maintenance, in order: what is dead leaves, then what is over the capacity, and each that waits is judged.
+  -- The parts of a maintenance, in order: evict the dead, then what exceeds the capacity, then judge each pending
+  -- element.
   abbrev pub parts : (X → Bool) → (X → List X → Bool) → Queues X → List (Part X)
   parts is_live wins q =
       let admitted = filter is_live q.admitted in
@@ -66,21 +74,21 @@ module _ {X : Type 0} (weight : X → ℕ) (capacity : Option ℕ) where
       ++ (over admitted waiting ++ judged wins (drop (front weight capacity 0 admitted) admitted) waiting))
 
 module _ {X : Type 0} where
-  -- the longest front of the parts in which no more leave than a limit allows, if there is one
+  -- The parts that are done: the longest prefix of the parts that evicts no more than the limit, if there is one.
   abbrev pub done : Option ℕ → List (Part X) → List (Part X)
   done None ps = ps
   done (Some limit) [] = []
   done (Some limit) (p ∷ ps) = if nat_le (length p.evicted) limit then p ∷ done (Some (limit - length p.evicted)) ps else []
 
-  abbrev pub is_left : Option ℕ → List (Part X) → Bool  -- whether a limit leaves a part undone
+  abbrev pub is_left : Option ℕ → List (Part X) → Bool  -- Whether a limit leaves a part undone.
   is_left None ps = false
   is_left (Some limit) [] = false
   is_left (Some limit) (p ∷ ps) = if nat_le (length p.evicted) limit then is_left (Some (limit - length p.evicted)) ps else true
 
-  abbrev pub evicted_in : List (Part X) → List X  -- all that leaves in these parts, in order
+  abbrev pub evicted_in : List (Part X) → List X  -- All that these parts evict, in order.
   evicted_in [] = []
   evicted_in (p ∷ ps) = p.evicted ++ evicted_in ps
 
-  abbrev pub after_parts : Queues X → List (Part X) → Queues X  -- the queues after these parts
+  abbrev pub after_parts : Queues X → List (Part X) → Queues X  -- The queues after these parts.
   after_parts q [] = q
   after_parts q (p ∷ ps) = after_parts p.after ps

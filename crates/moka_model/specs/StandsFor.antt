@@ -1,4 +1,4 @@
--- What it means that a state stands for a list of accepted steps.
+-- What it means that a history belongs to a state (the state "stands for" it). A history is a list of accepted steps.
 use Rattle.std.specs.Prelude.{◌≡◌, ℕ, Bool, Option, Some, None, List, ◌++◌}
 use Rattle.moka_model.specs.Maintenance.{Queues}
 use Rattle.moka_model.specs.Lives.{Settings, Write}
@@ -11,31 +11,33 @@ use Rattle.moka_model.specs.Turns.{Turn}
 use Rattle.moka_model.specs.Steps.{AcceptedStep, events_in, turns}
 use Rattle.moka_model.specs.Calls.{Call, Answer, Accepted, accepted, after, IsLegal, IsAnswer, Holds}
 
--- The books of a cache: what it stores, the notices not taken yet, the latest moment, and the number that is drawn next.
+-- What changes with each event: the stored entries, the queued notices, the latest moment, and the next sequence
+-- number.
 pub record Books (K V : Type 0) : Type 0 where
   pub orders : Queues (Write K V)
   pub notices : List (Removal K V)
   pub latest : ℕ
   pub next_number : ℕ
 
-abbrev pub books_of : {K V : Type 0} → (K → K → Bool) → Settings K V → List (Event K V) → Books K V  -- the books after a list of events
+-- The books after a list of events.
+abbrev pub books_of : {K V : Type 0} → (K → K → Bool) → Settings K V → List (Event K V) → Books K V
 books_of eq settings h =
     record { orders = orders eq settings h; notices = notices_left eq settings h; latest = latest h; next_number = next_number settings h }
 
--- What the values of a state are to the definitions. The frequency is what its source estimates of a hash once it has noted
--- these hashes more.
+-- A state without its turns, as the definitions see it. `frequency` is what its source estimates for a hash once it has
+-- noted some more hashes.
 pub record View (K V : Type 0) : Type 0 where
   pub settings : Settings K V
   pub books : Books K V
   pub frequency : List ℕ → ℕ → ℕ
 
-pub record WholeView (K V E : Type 0) : Type 0 where  -- What a state is to the definitions: its values, and its turns.
+pub record WholeView (K V E : Type 0) : Type 0 where  -- A state as the definitions see it: its values and its turns.
   pub values : View K V
   pub turns : List (Turn K V E)
 
--- A state stands for a list of accepted steps under these settings where the list is legal, the state was built with the
--- settings, its books are those of the list, its source has noted the hashes of all recorded looks, in order, and it keeps the
--- turns that are open, and the ended ones that have unspent tickets.
+-- A state stands for a history under these settings if the history is legal and the state was built with the settings.
+-- Moreover its books are those of the history, and its source has noted the hashes of all recorded lookups, in order.
+-- It keeps exactly the turns that are open and the ended ones that have unspent tickets.
 pub record StandsFor {K V E : Type 0} (eq : K → K → Bool) (is_clone : V → V → Type 0) (given : Settings K V) (view : WholeView K V E)
     (steps : List (AcceptedStep K V E)) : Type 0 where
   pub legal : IsLegal eq given steps
@@ -46,21 +48,21 @@ pub record StandsFor {K V E : Type 0} (eq : K → K → Bool) (is_clone : V → 
   pub turns : Holds eq is_clone (turns steps) view.turns
 
 module _ {K V E : Type 0} (eq : K → K → Bool) (is_clone : V → V → Type 0) where
-  -- P holds of whatever settings and steps the state stands for.
+  -- `P` holds of all settings and histories that the state stands for.
   abbrev pub AtEachHistory : WholeView K V E → (Settings K V → List (AcceptedStep K V E) → Type 0) → Type 0
   AtEachHistory view P =
       (settings : Settings K V) (steps : List (AcceptedStep K V E)) → StandsFor eq is_clone settings view steps → P settings steps
 
-  -- Whatever steps the old state stood for, the new one stands for those followed by the call.
+  -- For each history that the old state stands for, the new state stands for that history followed by the call.
   abbrev pub Follows : WholeView K V E → Call K V E → WholeView K V E → Type 0
   Follows old call new = AtEachHistory old (λ settings steps. StandsFor eq is_clone settings new (after eq settings call steps))
 
 module _ {K V E : Type 0} (is_clone : V → V → Type 0) where
-  abbrev pub IsAnswerOf : Option (Accepted K V E) → Answer K V E → Type 0  -- an answer that is handed out where a call is accepted
+  abbrev pub IsAnswerOf : Option (Accepted K V E) → Answer K V E → Type 0  -- A result that an accepted call may return.
   IsAnswerOf None answer = ⊥
   IsAnswerOf (Some it) answer = IsAnswer is_clone it.answer answer
 
--- What is handed out is the answer to the call, after whatever steps the state stands for.
+-- The result is that of the call, after each history that the state stands for.
 abbrev pub Answers : {K V E : Type 0} → (K → K → Bool) → (V → V → Type 0) → WholeView K V E → Call K V E → Answer K V E → Type 0
 Answers eq is_clone view call answer =
     AtEachHistory eq is_clone view (λ settings steps. IsAnswerOf is_clone (accepted eq settings steps call) answer)

@@ -1,11 +1,13 @@
-//! A value that a call hands out under its key.
+//! The entry that selectors, loaders and computes return.
 ghost use Rattle.std.specs.Prelude.{◌≡◌};
 ghost use Rattle.std.specs.Arc.{arc_value};
 ghost use Rattle.moka_model.specs.Entries.{entry_of};
 
 use std::sync::Arc;
 
-/// A value under its key, and how it came to stand there.
+/// A key with a clone of its value, and two flags that say how the value came to be stored.
+///
+/// Returned by selectors, loaders and computes.
 #[derive(Debug, Drop)]
 pub struct Entry<K, V> {
     key: Arc<K>,
@@ -15,7 +17,7 @@ pub struct Entry<K, V> {
 }
 
 impl<K, V> Entry<K, V> {
-    /// An entry of a key and a value, with its two marks.
+    /// Creates an entry from its key, its value and its two flags.
     pub fn new(key: Arc<K>, value: V, is_fresh: bool, is_old_value_replaced: bool) -> Self
         ensures { entry_of result ≡ record {
           key = arc_value key;
@@ -32,28 +34,28 @@ impl<K, V> Entry<K, V> {
         }
     }
 
-    /// The key.
+    /// Returns the key.
     pub fn key(&self) -> &K
         ensures { result.now ≡ (entry_of self.now).key }
     {
         &*self.key
     }
 
-    /// The value.
+    /// Returns the value.
     pub fn value(&self) -> &V
         ensures { result.now ≡ (entry_of self.now).value }
     {
         &self.value
     }
 
-    /// Whether the call that hands it out wrote the value.
+    /// Returns whether the call that returned this entry also stored its value.
     pub fn is_fresh(&self) -> bool
         ensures { result ≡ (entry_of self.now).fresh }
     {
         self.is_fresh
     }
 
-    /// Whether a live value stood for the key when this one was written.
+    /// Returns whether the value overwrote a live value when it was stored.
     pub fn is_old_value_replaced(&self) -> bool
         ensures { result ≡ (entry_of self.now).replaced }
     {
@@ -62,7 +64,7 @@ impl<K, V> Entry<K, V> {
 }
 
 impl<K: Drop, V> Entry<K, V> {
-    /// The value itself.
+    /// Returns the value, without the key.
     pub fn into_value(self) -> V
         ensures { result ≡ (entry_of self).value }
     {

@@ -1,5 +1,7 @@
-//! What a cache means: the definitions over the list of its events that every contract cites, with
-//! what they need of code, and the lemmas that the crates above use (`proofs/Callers.antt`).
+//! The specification of a cache: definitions over its history, cited by every contract (`specs/`).
+//!
+//! Also the public types that the definitions name, and the lemmas that the crates above use
+//! (`proofs/Callers.antt`).
 #![tactic(auto)]
 
 pub mod comp_result;

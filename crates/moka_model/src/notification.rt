@@ -1,24 +1,24 @@
-//! What is said of a value that has left the cache.
+//! Removal notifications.
 ghost use Rattle.std.specs.Prelude.{◌≡◌};
 ghost use Rattle.moka_model.specs.Removals.{is_evicting};
 
 use std::sync::Arc;
 
-/// Why a value left the cache.
+/// Why an entry was removed.
 #[derive(Clone, Copy, Debug, PartialEq, Eq)]
 pub enum RemovalCause {
-    /// Its time to live or its time to idle had passed.
+    /// The entry had passed its time to live, its time to idle or its own lifetime.
     Expired,
-    /// A caller removed it.
+    /// A caller invalidated or removed the entry.
     Explicit,
-    /// A caller wrote another value for its key.
+    /// The value was overwritten.
     Replaced,
-    /// It left to keep the cache within its capacity.
+    /// The entry was evicted, or not admitted, to keep the cache within its capacity.
     Size,
 }
 
 impl RemovalCause {
-    /// Whether the cache let the value go by itself: it had expired, or it left for the capacity.
+    /// Returns whether the cache evicted the entry itself: the cause is `Expired` or `Size`.
     pub fn was_evicted(&self) -> bool
         ensures { result ≡ is_evicting self.now }
     {
@@ -29,13 +29,13 @@ impl RemovalCause {
     }
 }
 
-/// One value that has left the cache, with the key that it was stored under and the cause.
+/// A removal notification: the removed value, the key it was stored under, and the cause.
 #[derive(Debug, Drop)]
 pub struct Notice<K, V> {
-    /// The stored key: the one of the write that found the key not stored.
+    /// The stored key: the key object of the insert that created the entry. Overwrites keep it.
     pub key: Arc<K>,
-    /// The value that left.
+    /// The removed value.
     pub value: V,
-    /// Why it left.
+    /// Why the value was removed.
     pub cause: RemovalCause,
 }

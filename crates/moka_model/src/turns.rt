@@ -1,46 +1,46 @@
-//! What a turn is for, and what it may end with.
+//! The kinds of turns (single-flight permits), and what a turn may be finished with.
 ghost use Rattle.std.specs.Prelude.{◌≡◌};
 ghost use Rattle.moka_model.specs.Turns.{fits};
 
-/// What a turn is for. Turns of one key and of different kinds never mix.
+/// Which family of calls a turn belongs to. Turns of different kinds never share a computation.
 #[derive(Clone, Copy, Debug, PartialEq, Eq)]
 pub enum Kind {
-    /// It gives a value.
+    /// The computation returns a value: `get_with` and its relatives.
     With,
-    /// It may give a value.
+    /// The computation returns a value or nothing: `optionally_get_with` and its relatives.
     Optionally,
-    /// It gives a value, or an error.
+    /// The computation returns a value or an error: `try_get_with` and its relatives.
     Try,
-    /// It writes, removes or leaves the value of its key.
+    /// The computation writes, removes or keeps the value of its key: `and_compute_with`.
     Compute,
 }
 
-/// What is to be done with the value of a key.
+/// An operation: what a compute does to the value of its key.
 #[derive(Clone, Debug, PartialEq, Eq, Drop)]
 pub enum Op<V> {
-    /// Nothing.
+    /// Leaves the value unchanged.
     Nop,
-    /// A value is written.
+    /// Writes this value.
     Put(V),
-    /// The value is removed.
+    /// Removes the value.
     Remove,
 }
 
-/// What a turn ends with.
+/// What a turn is finished with.
 #[derive(Debug, Drop)]
 pub enum Outcome<V, E> {
-    /// A value, which is written.
+    /// A value, which is stored.
     Value(V),
-    /// There is no value.
+    /// No value. Nothing is stored.
     Nothing,
-    /// There is an error in place of a value.
+    /// An error. Nothing is stored.
     Failed(E),
-    /// What is to be done, where the turn is a compute.
+    /// The operation of a compute.
     Op(Op<V>),
 }
 
 impl Kind {
-    /// Whether a turn of this kind may end with an outcome.
+    /// Returns whether a turn of this kind may be finished with `outcome`.
     pub fn accepts<V, E>(self, outcome: &Outcome<V, E>) -> bool
         ensures { result ≡ fits self outcome.now }
     {

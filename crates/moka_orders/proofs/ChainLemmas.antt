@@ -37,7 +37,7 @@ module _ (same : ℕ → Option ℕ) where
   chase-few (suc n) None = omega arith
   chase-few (suc n) (Some k) = let few = chase-few n (same k) in omega arith
 
-  -- a chain from a number goes on behind it
+  -- a chain from a number continues after it
   pub record Behind (n at : ℕ) : Type 0 where
     pub rest : List ℕ
     pub is : chase same n (Some at) ≡ at ∷ rest
@@ -56,18 +56,18 @@ module _ (same : ℕ → Option ℕ) where
           let onward = subst (λ t. IsLine same (same t) ks) here line.1 in
           record { rest = ks; is = is ∙ ap (λ t. t ∷ ks) here; line = onward; chased = line-chase n (same at) ks (omega (arith, few, len)) onward }
 
-  -- a number of a chain leads to the one behind it
+  -- a number of a chain links to the one after it
   pub line-leads : (first : Option ℕ) (front back : List ℕ) (k : ℕ) → IsLine same first (front ++ k ∷ back) → IsLine same (same k) back
   line-leads first [] back k h = h.1
   line-leads first (x ∷ xs) back k h = line-leads (same x) xs back k h.1
 
 module _ (same same' : ℕ → Option ℕ) where
-  -- links that changed elsewhere alone leave a chain
+  -- links that changed only elsewhere keep a chain
   pub line-frame : (first : Option ℕ) (ks : List ℕ) → ((k : ℕ) → IsAmong k ks → same' k ≡ same k) → IsLine same first ks → IsLine same' first ks
   line-frame first [] agree h = h
   line-frame first (k ∷ ks) agree h = (h.0, subst (λ t. IsLine same' t ks) (sym (agree k (inl refl))) (line-frame (same k) ks (λ j q. agree j (inr q)) h.1))
 
-  -- a number that leads to another leads past it now
+  -- a number that linked to another one now links past it
   pub line-passed : (first : Option ℕ) (front back : List ℕ) (p n : ℕ) → same' p ≡ same n → ((k : ℕ) → k ≢ p → same' k ≡ same k) → IsApart (front ++ p ∷ n ∷ back)
       → IsLine same first (front ++ p ∷ n ∷ back) → IsLine same' first (front ++ p ∷ back)
   line-passed first [] back p n past others apart h = (
@@ -83,7 +83,7 @@ module _ (same same' : ℕ → Option ℕ) where
       among-middle k p [] zs e = inl e
       among-middle k p (y ∷ ys) zs e = inr (among-middle k p ys zs e)
 
--- the number behind another is taken out
+-- the number after another one is removed
 pub without-behind : (front back : List ℕ) (p n : ℕ) → IsApart (front ++ p ∷ n ∷ back) → without n (front ++ p ∷ n ∷ back) ≡ front ++ p ∷ back
 without-behind [] back p n apart = without-there n p (n ∷ back) (λ e. apart.0 (inl (sym e))) ∙ ap (λ t. p ∷ t) (without-here n n back refl)
 without-behind (x ∷ xs) back p n apart =

@@ -1,14 +1,14 @@
 -- Nodes whose neighbours lead back, before and after one of them is taken out or put in.
-use Rattle.std.proofs.Common.{◌≡◌, ◌≢◌, ℕ, ◌+◌, ◌^◌, ◌<◌, ◌≤◌, List, [], ◌∷◌, ◌++◌, length, slice_index_or, sym, ap, ◌∙◌, arith, rules, ⊎_elim, length-append}
+use Rattle.std.proofs.Common.{◌≡◌, ◌≢◌, ℕ, ◌+◌, ◌^◌, ◌<◌, ◌≤◌, List, [], ◌∷◌, ◌++◌, length, slice_index_or, set, refl, sym, ap, ◌∙◌, arith, rules, ⊎_elim, length-append}
 use Rattle.std.proofs.lemmas.Bool.{cases_eq, cases_lt}
-use Rattle.std.proofs.lemmas.List.{get_or_past, get_or_default, get_or_append_left, get_or_at}
-use Rattle.moka_orders.specs.Nodes.{node_at, next_of, prev_of, alone, IsMutual, SetsNext, SetsPrev, KeepsRest, Grows, Unlinks, LinksBefore}
+use Rattle.std.proofs.lemmas.List.{get_or_past, get_or_default, get_or_append_left, get_or_at, get_or-set_same, get_or-set_other, length-set}
+use Rattle.moka_orders.specs.Nodes.{node_at, next_of, prev_of, alone, IsMutual, SetsNext, SetsPrev, KeepsRest, Grows, Unlinks, LinksBefore, Relinks}
 use Rattle.moka_orders.specs.declared.nodes.Node.{Node}
 
 pub node_at-past : (nodes : List Node) (k : ℕ) → length nodes ≤ k → node_at nodes k ≡ alone k
 node_at-past nodes k past = search (rules, get_or_past)
 
--- a node that was read is the one that is meant
+-- a node that is read at an index is the node of that number
 pub node_at-read : (nodes : List Node) (k : ℕ) (node : Node) → k < length nodes → node ≡ slice_index_or nodes k node → node_at nodes k ≡ node
 node_at-read nodes k node within read = search (rules, get_or_default)
 
@@ -41,7 +41,7 @@ unlinks o a b c d x m s1 s2 s3 s4 = record {
   rest = keeps-then o c d (keeps-then o b c (keeps-then o a b s1.rest s2.rest) s3.rest) s4.rest;
 }
 
--- four changes put a number that is alone before another
+-- four changes insert an isolated number before another
 pub links : (o a b c d : List Node) (x e : ℕ) → IsMutual o → next_of o x ≡ x → x ≢ e → SetsNext o a (prev_of o e) x → SetsNext a b x e
     → SetsPrev b c x (prev_of o e) → SetsPrev c d e x → LinksBefore o d x e
 links o a b c d x e m alone other s1 s2 s3 s4 = record {
@@ -54,7 +54,7 @@ links o a b c d x e m alone other s1 s2 s3 s4 = record {
   rest = keeps-then o c d (keeps-then o b c (keeps-then o a b s1.rest s2.rest) s3.rest) s4.rest;
 }
 
--- where g undoes f, it still does once x is taken out of both
+-- if g is the inverse of f, it still is after x was unlinked in both
 unlinked-inverse : (f g f' g' : ℕ → ℕ) (x : ℕ) → ((k : ℕ) → g (f k) ≡ k) → f' x ≡ x → g' x ≡ x
     → ((k : ℕ) → k ≢ x → f k ≡ x → f' k ≡ f x) → ((k : ℕ) → k ≢ x → f k ≢ x → f' k ≡ f k)
     → ((k : ℕ) → k ≢ x → g k ≡ x → g' k ≡ g x) → ((k : ℕ) → k ≢ x → g k ≢ x → g' k ≡ g k) → (k : ℕ) → g' (f' k) ≡ k
@@ -105,7 +105,79 @@ mutual-linked o d x e m alone other u = record {
         ap (next_of d) (u.others_back k q h)
         ∙ u.others_forth (prev_of o k) (λ t. q (sym (m.back k) ∙ ap (next_of o) t ∙ alone)) (λ t. h (sym (m.back k) ∙ t)) ∙ m.back k
 
--- one more node, which is alone
+-- the nodes with one of them isolated
+abbrev closed : List Node → ℕ → List Node
+closed b x = set b x (record (node_at b x) { prev = x; next = x })
+
+-- six changes move a number before another, as if it had been isolated in between
+module _ (o a b : List Node) (x e : ℕ) (within : x < length o) (m : IsMutual o) (other : x ≢ e)
+    (s1 : SetsNext o a (prev_of o x) (next_of o x)) (s2 : SetsPrev a b (next_of o x) (prev_of o x)) where
+  closed-here : node_at (closed b x) x ≡ record (node_at b x) { prev = x; next = x }
+  closed-here = get_or-set_same b x (record (node_at b x) { prev = x; next = x }) (alone x) (rw (s2.rest.len, s1.rest.len) within)
+
+  closed-there : (k : ℕ) → k ≢ x → node_at (closed b x) k ≡ node_at b k
+  closed-there k ne = get_or-set_other b x k (record (node_at b x) { prev = x; next = x }) (alone k) ne
+
+  closed-field : {A : Type 0} (p : Node → A) → p (record (node_at b x) { prev = x; next = x }) ≡ p (node_at b x) → (k : ℕ) → p (node_at (closed b x) k) ≡ p (node_at b k)
+  closed-field p is k =
+      ⊎_elim (λ q. ap (λ t. p (node_at (closed b x) t)) q ∙ ap p closed-here ∙ is ∙ ap (λ t. p (node_at b t)) (sym q)) (λ ne. ap p (closed-there k ne)) (cases_eq k x)
+
+  closed-keeps : KeepsRest b (closed b x)
+  closed-keeps = record {
+    same = closed-field (λ n. n.same) refl;
+    hash = closed-field (λ n. n.hash) refl;
+    order = closed-field (λ n. n.is_admitted) refl;
+    len = length-set b x (record (node_at b x) { prev = x; next = x });
+  }
+
+  closed-unlinks : Unlinks o (closed b x) x
+  closed-unlinks = record {
+    next = ap (λ n. n.next) closed-here;
+    prev = ap (λ n. n.prev) closed-here;
+    forth = λ k ne h. ap (λ n. n.next) (closed-there k ne) ∙ s2.next k ∙ ap (next_of a) (sym (m.forth k) ∙ ap (prev_of o) h) ∙ s1.changed;
+    others_forth = λ k ne h. ap (λ n. n.next) (closed-there k ne) ∙ s2.next k ∙ s1.others k (λ q. h (ap (next_of o) q ∙ m.back x));
+    back = λ k ne h. ap (λ n. n.prev) (closed-there k ne) ∙ ap (prev_of b) (sym (m.back k) ∙ ap (next_of o) h) ∙ s2.changed;
+    others_back = λ k ne h. ap (λ n. n.prev) (closed-there k ne) ∙ s2.others k (λ q. h (ap (prev_of o) q ∙ m.forth x)) ∙ s1.prev k;
+    rest = keeps-then o b (closed b x) (keeps-then o a b s1.rest s2.rest) closed-keeps;
+  }
+
+  closed-mutual : IsMutual (closed b x)
+  closed-mutual = mutual-unlinked o (closed b x) x m closed-unlinks
+
+  closed-last : prev_of (closed b x) e ≡ prev_of b e
+  closed-last = ap (λ n. n.prev) (closed-there e (λ q. other (sym q)))
+
+  pub last-within : e < length o → prev_of b e < length b
+  last-within inside =
+      let far = prev-within (closed b x) e closed-mutual (rw (closed-keeps.len, s2.rest.len, s1.rest.len) inside) in
+      let len = closed-keeps.len in
+      let last = closed-last in
+      omega arith
+
+  closed-links : (c d f g : List Node) → SetsNext b c (prev_of b e) x → SetsNext c d x e → SetsPrev d f x (prev_of b e) → SetsPrev f g e x → LinksBefore (closed b x) g x e
+  closed-links c d f g s3 s4 s5 s6 =
+      let rest = keeps-then b f g (keeps-then b d f (keeps-then b c d s3.rest s4.rest) s5.rest) s6.rest in
+      record {
+        next = s6.next x ∙ s5.next x ∙ s4.changed;
+        prev = s6.others x other ∙ s5.changed ∙ sym closed-last;
+        forth = λ k away h. s6.next k ∙ s5.next k ∙ s4.others k away ∙ ap (next_of c) (sym (closed-mutual.forth k) ∙ ap (prev_of (closed b x)) h ∙ closed-last) ∙ s3.changed;
+        others_forth = λ k away h.
+            s6.next k ∙ s5.next k ∙ s4.others k away ∙ s3.others k (λ q. h (ap (next_of (closed b x)) (q ∙ sym closed-last) ∙ closed-mutual.back e))
+            ∙ sym (ap (λ n. n.next) (closed-there k away));
+        back = s6.changed;
+        others_back = λ k away far. s6.others k far ∙ s5.others k away ∙ s4.prev k ∙ s3.prev k ∙ sym (ap (λ n. n.prev) (closed-there k away));
+        rest = record {
+          same = λ k. rest.same k ∙ sym (closed-keeps.same k);
+          hash = λ k. rest.hash k ∙ sym (closed-keeps.hash k);
+          order = λ k. rest.order k ∙ sym (closed-keeps.order k);
+          len = rest.len ∙ sym closed-keeps.len;
+        };
+      }
+
+  pub relinks : (c d f g : List Node) → SetsNext b c (prev_of b e) x → SetsNext c d x e → SetsPrev d f x (prev_of b e) → SetsPrev f g e x → Relinks o g x e
+  relinks c d f g s3 s4 s5 s6 = record { between = closed b x; left = closed-unlinks; joined = closed-links c d f g s3 s4 s5 s6 }
+
+-- one more node, which is isolated
 pub node_at-push : (nodes : List Node) (k : ℕ) → node_at (nodes ++ alone (length nodes) ∷ []) k ≡ node_at nodes k
 node_at-push nodes k = ⊎_elim (λ within. get_or_append_left nodes (alone (length nodes) ∷ []) (alone k) k within) (λ past. beyond past) (cases_lt k (length nodes))
   where

@@ -1,18 +1,18 @@
--- What the orders are once a number has left or come.
+-- The orders after a number was removed or added.
 use Rattle.std.proofs.Common.{◌≡◌, ◌≢◌, ℕ, suc, ◌+◌, ◌-◌, ◌^◌, ◌<◌, ◌≤◌, Bool, true, false, List, [], ◌∷◌, ◌++◌, length, sym, ap, subst, ◌∙◌, arith, inl, ⊎_elim, length-append}
 use Rattle.std.specs.Prelude.{◌⊎◌}
 use Rattle.std.proofs.lemmas.Bool.{cases_eq}
 use Rattle.moka_orders.specs.Paths.{IsAmong, IsAbsent, without, steps, first_of, number_behind}
-use Rattle.moka_orders.specs.Nodes.{node_at, next_of, prev_of, row_of, IsMutual, Unlinks, LinksBefore, SetsOrder}
+use Rattle.moka_orders.specs.Nodes.{node_at, next_of, prev_of, row_of, IsMutual, Unlinks, LinksBefore, Relinks, SetsOrder}
 use Rattle.moka_orders.specs.Rings.{order, IsOrder, IsRinged}
 use Rattle.moka_orders.specs.declared.nodes.Node.{Node}
 use Rattle.moka_orders.proofs.NodeLemmas.{mutual-unlinked, mutual-linked}
-use Rattle.moka_orders.proofs.PathLemmas.{IsPath, apart-counted, counted-apart, path-ring, ring-path, among-without, among-others, apart-without, length-without, without-absent, among-front, among-back, among-push, apart-push, few-below, path-steps, steps-same, length-steps, path-frame, path-left, path-joined, path-first, path-behind}
+use Rattle.moka_orders.proofs.PathLemmas.{IsPath, apart-counted, counted-apart, path-ring, ring-path, among-without, among-others, apart-without, absent-without, length-without, without-absent, among-front, among-back, among-push, apart-push, few-below, path-steps, steps-same, length-steps, path-frame, path-left, path-joined, path-first, path-behind}
 
 pub order_path : {o : List Node} {e : ℕ} {f : Bool} {zs : List ℕ} → IsOrder o e f zs → IsPath (next_of o) e zs e
 order_path {o} {e} {f} {zs} h = path-ring (next_of o) e e zs h.ring
 
--- an order of as many numbers is the one that the nodes have
+-- an order with this many numbers is the one that the nodes form
 pub order-is : (o : List Node) (e : ℕ) (f : Bool) (zs : List ℕ) (n : ℕ) → IsOrder o e f zs → n ≡ length zs → order o e n ≡ zs
 order-is o e f zs n h len = ap (λ t. order o e t) len ∙ path-steps (next_of o) e e zs (order_path h)
 
@@ -32,7 +32,7 @@ order-left o d x e f zs ne u h = record {
   flagged = λ k q. u.rest.order k ∙ h.flagged k (among-without x k zs q);
 }
 
--- a number left
+-- a number was removed
 pub ringed-left : (o d : List Node) (x : ℕ) (xs ys : List ℕ) → 2 ≤ x → Unlinks o d x → IsRinged o xs ys → IsRinged d (without x xs) (without x ys)
 ringed-left o d x xs ys above u h = record {
   neighbours = mutual-unlinked o d x h.neighbours u;
@@ -47,7 +47,7 @@ ringed-left o d x xs ys above u h = record {
         let was : next_of o k ≡ k = h.alone k up (λ q. ax (among-others x k xs not q)) (λ q. ay (among-others x k ys not q)) in
         u.others_forth k not (λ q. not (sym was ∙ q)) ∙ was
 
--- what a removal makes of orders of so many numbers
+-- the orders after a removal, with their lengths
 pub record Moved (d : List Node) (xs ys : List ℕ) (a w : ℕ) : Type 0 where
   pub ringed : IsRinged d (order d 0 a) (order d 1 w)
   pub admitted : order d 0 a ≡ xs
@@ -60,14 +60,14 @@ moved d xs ys a w h la lw = record {
   waiting = order-is d 1 false ys w h.second lw;
 }
 
--- what stands is a row's number, and has a node
+-- a number in an order is that of a row, and has a node
 pub stands-within : (o : List Node) (xs ys : List ℕ) (k : ℕ) → IsRinged o xs ys → IsAmong k xs ⊎ IsAmong k ys → k < length o
 stands-within o xs ys k h q = ⊎_elim (h.first.within k) (h.second.within k) q
 
 pub stands-above : (o : List Node) (xs ys : List ℕ) (k : ℕ) → IsRinged o xs ys → IsAmong k xs ⊎ IsAmong k ys → 2 ≤ k
 stands-above o xs ys k h q = ⊎_elim (h.first.above k) (h.second.above k) q
 
--- a number stands in one order alone
+-- a number is in only one order
 pub not-both : (o : List Node) (xs ys : List ℕ) (k : ℕ) → IsRinged o xs ys → IsAmong k xs → IsAmong k ys → ⊥
 not-both o xs ys k h p q = let differ : true ≡ false = sym (h.first.flagged k p) ∙ h.second.flagged k q in cc
 
@@ -94,7 +94,7 @@ left-waiting o d x a w h there u =
     let same : without x xs ≡ xs = without-absent x xs (λ q. not-both o xs ys x h q there) in
     moved d (without x xs) (without x ys) a (w - 1) (ringed-left o d x xs ys (h.second.above x there) u h) (rw same (sym (length-order o 0 a))) (omega arith)
 
--- a node that says in which order it is, where it stands nowhere
+-- setting the order of a number that is in none
 order-flagged : (o d : List Node) (x e : ℕ) (f g : Bool) (zs : List ℕ) → IsAbsent x zs → SetsOrder o d x g → IsOrder o e f zs → IsOrder d e f zs
 order-flagged o d x e f g zs absent s h = record {
   ring = ap (steps (next_of d) (suc (length zs))) (s.next e) ∙ steps-same (next_of o) (next_of d) (suc (length zs)) (next_of o e) s.next ∙ h.ring;
@@ -119,7 +119,7 @@ ringed-flagged o d x g xs ys ax ay s h = record {
   few = rw s.len h.few;
 }
 
--- a number comes at the end of an order
+-- a number is appended to an order
 order-joined : (o d : List Node) (x e : ℕ) (f : Bool) (zs : List ℕ) → e < 2 → 2 ≤ x → x < length o → IsAbsent x zs → (node_at o x).is_admitted ≡ f → LinksBefore o d x e
     → IsOrder o e f zs → IsOrder d e f (zs ++ x ∷ [])
 order-joined o d x e f zs end above within absent flag u h = record {
@@ -186,14 +186,31 @@ joined-waiting o b d x a w h above within ax ay s u =
     moved d xs (ys ++ x ∷ []) a (w + 1)
     (ringed-waiting b d x xs ys above (rw s.len within) ax ay s.changed u (ringed-flagged o b x false xs ys ax ay s h)) (sym (length-order o 0 a)) (omega arith)
 
--- one more can be counted
+-- a resident number moves after all others
+pub moved-last : (o g : List Node) (x a w : ℕ) → IsRinged o (order o 0 a) (order o 1 w) → IsAmong x (order o 0 a) → Relinks o g x 0
+    → Moved g (without x (order o 0 a) ++ x ∷ []) (without x (order o 1 w)) a w
+moved-last o g x a w h there r =
+    let xs = order o 0 a in
+    let ys = order o 1 w in
+    let above = h.first.above x there in
+    let less = length-without x xs there in
+    let len = length-order o 0 a in
+    let more : length (without x xs ++ x ∷ []) ≡ length (without x xs) + 1 = length-append (without x xs) (x ∷ []) in
+    let same : without x ys ≡ ys = without-absent x ys (λ q. not-both o xs ys x h there q) in
+    moved g (without x xs ++ x ∷ []) (without x ys) a w
+    (ringed-admitted r.between g x (without x xs) (without x ys) above (rw r.left.rest.len (h.first.within x there))
+    (absent-without x xs (apart-counted xs h.first.apart)) (λ q. not-both o xs ys x h there (among-without x x ys q))
+    (r.left.rest.order x ∙ h.first.flagged x there) r.joined (ringed-left o r.between x xs ys above r.left h))
+    (omega arith) (rw same (sym (length-order o 1 w)))
+
+-- each order has at most 2^32 numbers, so that one more can be counted
 pub few-admitted : (o : List Node) (a w : ℕ) → IsRinged o (order o 0 a) (order o 1 w) → a ≤ 2 ^ 32
 few-admitted o a w h = let few = few-ordered o 0 true (order o 0 a) h.first in let len = length-order o 0 a in omega (arith, h.few)
 
 pub few-waiting : (o : List Node) (a w : ℕ) → IsRinged o (order o 0 a) (order o 1 w) → w ≤ 2 ^ 32
 few-waiting o a w h = let few = few-ordered o 1 false (order o 1 w) h.second in let len = length-order o 1 w in omega (arith, h.few)
 
--- which order a number stands in, by what its node says
+-- the order of a number, by the mark in its node
 pub in-admitted : (xs ys : List ℕ) (k : ℕ) (said : Bool) → IsAmong k xs ⊎ IsAmong k ys → (IsAmong k ys → said ≡ false) → said ≡ true → IsAmong k xs
 in-admitted xs ys k said stands waits is = ⊎_elim (λ q. q) (λ q. let both : true ≡ false = sym is ∙ waits q in absurd cc) stands
 
@@ -227,7 +244,7 @@ kept o d a w next prev flags more few h =
       few = few;
     }) (sym (length-order o 0 a)) (sym (length-order o 1 w))
 
--- what comes first in an order, and behind a number
+-- the first number of an order, and the one after a number
 pub ordered-first : (o : List Node) (e : ℕ) (f : Bool) (zs : List ℕ) → e < 2 → IsOrder o e f zs → row_of (next_of o e) ≡ first_of zs
 ordered-first o e f zs end h = path-first (next_of o) e e zs end h.above (order_path h)
 

@@ -15,7 +15,7 @@ abbrev pub IsPath : (ℕ → ℕ) → ℕ → List ℕ → ℕ → Type 0
 IsPath next a [] e = next a ≡ e
 IsPath next a (x ∷ xs) e = (next a ≡ x) × IsPath next x xs e
 
--- what comes, and how often
+-- whether a number is in a list, and how often
 count-here : (k x : ℕ) (xs : List ℕ) → x ≡ k → count_of k (x ∷ xs) ≡ 1 + count_of k xs
 count-here k x xs is = search (rules, is)
 
@@ -69,7 +69,7 @@ without-here x z zs is = search (rules, is)
 pub without-there : (x : ℕ) (z : ℕ) (zs : List ℕ) → z ≢ x → without x (z ∷ zs) ≡ z ∷ without x zs
 without-there x z zs not = rw (ne_eqb z x not) refl
 
--- what is among the others, and what of them
+-- which numbers are in a list without one of its numbers
 pub among-without : (x k : ℕ) (zs : List ℕ) → IsAmong k (without x zs) → IsAmong k zs
 among-without x k [] h = h
 among-without x k (z ∷ zs) h = ⊎_elim (λ e. inr (subst (IsAmong k) (without-here x z zs e) h)) (λ ne. ⊎_elim (λ q. inl q) (λ q. inr (among-without x k zs q)) (subst (IsAmong k) (without-there x z zs ne) h)) (cases_eq z x)
@@ -102,7 +102,7 @@ pub without-absent : (x : ℕ) (zs : List ℕ) → IsAbsent x zs → without x z
 without-absent x [] h = refl
 without-absent x (z ∷ zs) h = without-there x z zs (λ e. h (inl e)) ∙ ap (λ t. z ∷ t) (without-absent x zs (λ q. h (inr q)))
 
--- a number with none behind it is the last: put behind all others it stands where it stood
+-- a number with none after it is the last one: moved after all others, it keeps its place
 first_of-none : (xs : List ℕ) → first_of xs ≡ None → xs ≡ []
 first_of-none [] none = refl
 first_of-none (x ∷ xs) none = absurd cc
@@ -123,7 +123,7 @@ last-stays k (x ∷ xs) h none = ⊎_elim here (λ ne. there ne (λ later last. 
         let later : IsAmong k xs = ⊎_elim (λ e. absurd (ne e)) (λ q. q) h in
         ap (λ t. x ∷ t) (rest later (rw is at none)) ∙ ap (λ t. t ++ k ∷ []) (sym (without-there k x xs ne))
 
--- one more at the end
+-- a list with more numbers at its end
 pub among-front : (k : ℕ) (xs ys : List ℕ) → IsAmong k xs → IsAmong k (xs ++ ys)
 among-front k [] ys h = absurd h
 among-front k (x ∷ xs) ys h = ⊎_elim (λ e. inl e) (λ q. inr (among-front k xs ys q)) h
@@ -143,7 +143,7 @@ pub apart-push : (x : ℕ) (xs : List ℕ) → IsApart xs → IsAbsent x xs → 
 apart-push x [] h a = ((λ q. q), tt)
 apart-push x (y ∷ ys) h a = ((λ q. ⊎_elim (λ t. h.0 t) (λ e. a (inl (sym e))) (among-push y x ys q)), apart-push x ys h.1 (λ q. a (inr q)))
 
--- numbers that are apart and all among others are no more than these
+-- a list of different numbers that are all in another list is not longer than that
 pub no-more : (xs ys : List ℕ) → IsApart xs → ((k : ℕ) → IsAmong k xs → IsAmong k ys) → length xs ≤ length ys
 no-more [] ys h all = omega arith
 no-more (x ∷ xs) ys h all =
@@ -182,7 +182,7 @@ pub steps-same : (next next' : ℕ → ℕ) (n a : ℕ) → ((k : ℕ) → next'
 steps-same next next' zero a same = refl
 steps-same next next' (suc n) a same = ap (λ t. a ∷ t) (ap (steps next' n) (same a) ∙ steps-same next next' n (next a) same)
 
--- what comes first in a path, and behind one of its numbers, where it ends at no row
+-- the first number of a path, and the one after a number, if the path ends at no row
 pub row_of-row : (k : ℕ) → 2 ≤ k → row_of k ≡ Some k
 row_of-row k h = search (rules, arith)
 
@@ -205,7 +205,7 @@ path-behind next a e k (x ∷ xs) end above h q =
     behind-there : x ≢ k → number_behind k (x ∷ xs) ≡ number_behind k xs
     behind-there not = rw (ne_eqb x k not) refl
 
--- links that changed elsewhere alone leave a path
+-- links that changed only elsewhere keep a path
 module _ (next next' : ℕ → ℕ) (x : ℕ) where
   pub path-frame : (t a e : ℕ) (xs : List ℕ) → ((k : ℕ) → k ≢ x → next k ≢ t → next' k ≡ next k) → a ≢ x → e ≢ t → IsAbsent t xs → IsAbsent x xs → IsPath next a xs e → IsPath next' a xs e
   path-frame t a e [] others ax et absent away h = others a ax (λ q. et (sym h ∙ q)) ∙ h

@@ -1,43 +1,43 @@
--- What a contract says of `Orders`.
+-- The terms in which contracts describe `Orders`.
 use Rattle.std.specs.Prelude.{◌≡◌, ◌⊎◌, ℕ, Option, List, ◌++◌, ◌∷◌, length}
 use Rattle.moka_orders.specs.Paths.{IsAmong, chase}
 use Rattle.moka_orders.specs.Nodes.{same_of, hash_of}
 use Rattle.moka_orders.specs.Rings.{order}
 use Rattle.moka_orders.specs.declared.orders.Orders.{Orders}
 
--- the admitted numbers, the least recently used first
+-- The resident numbers, the least recently used first.
 abbrev pub admitted_in : Orders → List ℕ
 admitted_in o = order o.nodes.items 0 o.admitted_len
 
--- the numbers that wait, the first to come first
+-- The pending numbers, in arrival order.
 abbrev pub waiting_in : Orders → List ℕ
 waiting_in o = order o.nodes.items 1 o.waiting_len
 
--- the number stands in one of the orders
+-- The number is in one of the orders.
 abbrev pub Stands : Orders → ℕ → Type 0
 Stands o k = IsAmong k (admitted_in o) ⊎ IsAmong k (waiting_in o)
 
--- how many nodes there are: each number below has one
+-- The number of nodes; each number below it has one.
 abbrev pub places_in : Orders → ℕ
 places_in o = length o.nodes.items
 
--- what the nodes say of hashes stays, and so does their number
+-- The hashes, the links of hashes and the number of nodes stay the same.
 pub record KeepsHashes (old new : Orders) : Type 0 where
   pub same : (k : ℕ) → same_of new.nodes.items k ≡ same_of old.nodes.items k
   pub hash : (k : ℕ) → hash_of new.nodes.items k ≡ hash_of old.nodes.items k
   pub places : places_in new ≡ places_in old
 
--- both orders stay, and so does the number of nodes
+-- Both orders and the number of nodes stay the same.
 pub record KeepsOrders (old new : Orders) : Type 0 where
   pub admitted : admitted_in new ≡ admitted_in old
   pub waiting : waiting_in new ≡ waiting_in old
   pub places : places_in new ≡ places_in old
 
--- the numbers that a link leads to, one after another
+-- The numbers that a link leads to, one after another.
 abbrev pub chain_from : Orders → Option ℕ → List ℕ
 chain_from o first = chase (same_of o.nodes.items) (places_in o) first
 
--- this number leads to that one in the chain
+-- The first of these numbers links to the second in the chain.
 pub record LeadsTo (chain : List ℕ) (at to : ℕ) : Type 0 where
   pub front : List ℕ
   pub back : List ℕ

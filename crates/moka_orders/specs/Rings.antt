@@ -4,11 +4,11 @@ use Rattle.moka_orders.specs.Paths.{IsAmong, IsAbsent, IsRing, count_of, steps}
 use Rattle.moka_orders.specs.Nodes.{node_at, next_of, IsMutual}
 use Rattle.moka_orders.specs.declared.nodes.Node.{Node}
 
--- so many numbers, from the one behind an end on
+-- The first n numbers of the order with this end.
 abbrev pub order : List Node → ℕ → ℕ → List ℕ
 order nodes end n = steps (next_of nodes) n (next_of nodes end)
 
--- the nodes behind an end are those of these numbers, and lead back to it
+-- The nodes form the order with this end and these numbers, without repetition, and mark each number with its order.
 pub record IsOrder (nodes : List Node) (end : ℕ) (is_admitted : Bool) (numbers : List ℕ) : Type 0 where
   pub ring : IsRing (next_of nodes) end numbers
   pub apart : (k : ℕ) → count_of k numbers ≤ 1
@@ -16,7 +16,7 @@ pub record IsOrder (nodes : List Node) (end : ℕ) (is_admitted : Bool) (numbers
   pub within : (k : ℕ) → IsAmong k numbers → k < length nodes
   pub flagged : (k : ℕ) → IsAmong k numbers → (node_at nodes k).is_admitted ≡ is_admitted
 
--- the nodes have these two orders, and what stands in neither is alone
+-- The nodes form these two orders, and each number that is in neither is isolated.
 pub record IsRinged (nodes : List Node) (admitted waiting : List ℕ) : Type 0 where
   pub neighbours : IsMutual nodes
   pub first : IsOrder nodes 0 true admitted

@@ -1,16 +1,18 @@
-//! Two orders of numbers: those that wait, and those that are admitted.
+//! Two orders of numbers: the pending ones and the resident ones.
 ghost use Rattle.std.specs.Prelude.{◌≡◌, ◌≢◌, ◌⊎◌, ℕ, ◌+◌, ◌<◌, ◌≤◌, ◌^◌, [], ◌∷◌, ◌++◌, true, false, length, OnOk, Some};
 ghost use Rattle.moka_orders.specs.Paths.{IsAmong, IsAbsent, IsChain, without, first_of, number_behind};
 ghost use Rattle.moka_orders.specs.Nodes.{hash_of, same_of, row_of};
 ghost use Rattle.moka_orders.specs.Rings.{order, IsRinged};
 
-use crate::nodes::{Node, first, grow, link_before, read, row, set_order, set_same, unlink};
+use crate::nodes::{
+    Node, first, grow, link_before, read, relink, row, set_order, set_same, unlink,
+};
 use std::alloc::{AllocError, Global};
 
-/// The number of the node that is the end of the admitted numbers.
+/// The node that is the end of the resident numbers.
 const ADMITTED: u32 = 0;
 
-/// The number of the node that is the end of those that wait.
+/// The node that is the end of the pending numbers.
 const WAITING: u32 = 1;
 
 /// Two orders of numbers, each a ring of nodes with an end of its own.
@@ -26,7 +28,7 @@ impl Orders {
     ghost use Rattle.moka_orders.specs.Orders.{chain_from, LeadsTo};
     ghost use Rattle.moka_orders.specs.Orders.{admitted_in, waiting_in, places_in, Stands, KeepsHashes, KeepsOrders};
 
-    /// Orders of no numbers. They take no memory.
+    /// Creates two orders without numbers. Does not allocate.
     pub fn new(alloc: Global) -> Self
         ensures admitted { admitted_in result ≡ [] }
         ensures waiting { waiting_in result ≡ [] }
@@ -38,7 +40,8 @@ impl Orders {
         }
     }
 
-    /// How many numbers are admitted, and how many wait.
+    /// Returns how many numbers are resident, and how many are pending.
+    #[inline(always)]
     pub fn lens(&self) -> (usize, usize)
         ensures admitted { result.0 ≡ length (admitted_in self.now) }
         ensures waiting { result.1 ≡ length (waiting_in self.now) }
@@ -46,21 +49,24 @@ impl Orders {
         (self.admitted_len, self.waiting_len)
     }
 
-    /// The first admitted number.
+    /// Returns the first resident number, if there is one.
+    #[inline(always)]
     pub fn first_admitted(&self) -> Option<usize>
         ensures { result ≡ first_of (admitted_in self.now) }
     {
         first(&self.nodes, ADMITTED)
     }
 
-    /// The first number that waits.
+    /// Returns the first pending number, if there is one.
+    #[inline(always)]
     pub fn first_waiting(&self) -> Option<usize>
         ensures { result ≡ first_of (waiting_in self.now) }
     {
         first(&self.nodes, WAITING)
     }
 
-    /// The number behind one that stands.
+    /// Returns the number after one that is in an order, if there is one.
+    #[inline(always)]
     pub fn next(&self, number: u32) -> Option<usize>
         requires { Stands self.now number }
         ensures admitted { IsAmong number (admitted_in self.now) → result ≡ number_behind number (admitted_in self.now) }
@@ -69,7 +75,8 @@ impl Orders {
         row(read(&self.nodes, number).next)
     }
 
-    /// The hash of a number.
+    /// Returns the hash of a number.
+    #[inline(always)]
     pub fn hash(&self, number: u32) -> u64
         requires { number < places_in self.now }
         ensures { result ≡ hash_of self.now.nodes.items number }
@@ -77,7 +84,8 @@ impl Orders {
         read(&self.nodes, number).hash
     }
 
-    /// The next number of the same hash.
+    /// Returns the next number with the same hash, if there is one.
+    #[inline(always)]
     pub fn same(&self, number: u32) -> Option<usize>
         requires { number < places_in self.now }
         ensures { result ≡ same_of self.now.nodes.items number }
@@ -85,7 +93,8 @@ impl Orders {
         row(read(&self.nodes, number).same)
     }
 
-    /// The link to the next number of the same hash, which is below 2 where there is none.
+    /// Returns the link to the next number with the same hash. It is below 2 if there is none.
+    #[inline(always)]
     pub fn same_link(&self, number: u32) -> u32
         requires { number < places_in self.now }
         ensures { row_of result ≡ same_of self.now.nodes.items number }
@@ -94,7 +103,12 @@ impl Orders {
         node.same
     }
 
-    /// Makes the nodes of all numbers below this many. Numbers have 32 bits.
+    /// Makes the nodes of all numbers below `places`. The orders and the hashes stay as they were,
+    /// also if it fails.
+    ///
+    /// # Errors
+    ///
+    /// - `AllocError`: an allocation failed, or `places` has more than 32 bits.
     pub fn reserve(&mut self, places: usize) -> Result<(), AllocError>
         ensures made { OnOk result (places ≤ places_in self.new) }
         ensures admitted { admitted_in self.new ≡ admitted_in self.old }
@@ -109,7 +123,8 @@ impl Orders {
         grow(&mut self.nodes, places)
     }
 
-    /// Sets a number's hash, and which number of that hash comes behind it.
+    /// Sets the hash of a number, and the next number with that hash.
+    #[inline(always)]
     pub fn set_same(&mut self, number: u32, hash: u64, same: u32)
         requires { number < places_in self.old }
         ensures kept { KeepsOrders self.old self.new }
@@ -121,7 +136,8 @@ impl Orders {
         set_same(&mut self.nodes, number, hash, same);
     }
 
-    /// Whether a number that stands is admitted.
+    /// Returns whether a number that is in an order is resident.
+    #[inline(always)]
     pub fn is_admitted(&self, number: u32) -> bool
         requires { Stands self.now number }
         ensures admitted { IsAmong number (admitted_in self.now) → result ≡ true }
@@ -130,7 +146,9 @@ impl Orders {
         read(&self.nodes, number).is_admitted
     }
 
-    /// The number that leads to this one in its chain, where this one is not the first.
+    /// Returns the number that links to this one in the chain from `first`. This one is not
+    /// `first`. Visits the chain up to it.
+    #[inline(always)]
     pub fn before(&self, first: u32, number: u32) -> u32
         requires linked { IsChain (same_of self.now.nodes.items) (Some first) (chain_from self.now (Some first)) }
         requires places { (k : ℕ) → IsAmong k (chain_from self.now (Some first)) → k < places_in self.now }
@@ -147,7 +165,8 @@ impl Orders {
         at
     }
 
-    /// Takes a number out of the order in which it stands, and answers whether it was admitted.
+    /// Removes a number from its order, and returns whether it was resident.
+    #[inline(always)]
     pub fn leave(&mut self, number: u32) -> bool
         requires { Stands self.old number }
         ensures was_admitted { IsAmong number (admitted_in self.old) → result ≡ true }
@@ -166,7 +185,8 @@ impl Orders {
         is_admitted
     }
 
-    /// Puts a number that stands nowhere behind all that are admitted.
+    /// Appends a number that is in no order to the resident ones.
+    #[inline(always)]
     pub fn admit(&mut self, number: u32)
         requires above { 2 ≤ number }
         requires within { number < places_in self.old }
@@ -180,7 +200,19 @@ impl Orders {
         self.admitted_len += 1;
     }
 
-    /// Puts a number that stands nowhere behind all that wait.
+    /// Moves a resident number after all other resident ones.
+    #[inline(always)]
+    pub fn move_last(&mut self, number: u32)
+        requires { IsAmong number (admitted_in self.old) }
+        ensures admitted { admitted_in self.new ≡ without number (admitted_in self.old) ++ number ∷ [] }
+        ensures waiting { waiting_in self.new ≡ without number (waiting_in self.old) }
+        ensures kept { KeepsHashes self.old self.new }
+    {
+        relink(&mut self.nodes, number, ADMITTED);
+    }
+
+    /// Appends a number that is in no order to the pending ones.
+    #[inline(always)]
     pub fn wait(&mut self, number: u32)
         requires above { 2 ≤ number }
         requires within { number < places_in self.old }

@@ -1,4 +1,4 @@
--- The hash that leaves a number as it is.
+-- The hash function that maps a number to itself.
 use Rattle.std.proofs.Common.{◌≡◌, ℕ, ◌+◌, ◌*◌, ◌/◌, ◌%◌, ◌^◌, ◌<◌, [], ◌∷◌, ap, ◌∙◌, arith}
 use Rattle.std.specs.Hash.{le_bytes}
 use Rattle.moka_policy.specs.NumberHash.{byte_hash, number_hash}
@@ -7,7 +7,7 @@ use Rattle.moka_policy.specs.NumberHash.{byte_hash, number_hash}
 moved : (rest low byte : ℕ) → byte_hash (rest + 256 * low) byte ≡ rest / 256 + (low + byte * 2 ^ 56)
 moved rest low byte = omega arith
 
--- what a hash was before is gone after eight bytes, and each byte is worth its place
+-- after eight bytes nothing is left of the hash before, and each byte has the weight of its place
 eight_bytes : (hash a b c d e f g h : ℕ) → hash < 2 ^ 64
     → number_hash hash (a ∷ b ∷ c ∷ d ∷ e ∷ f ∷ g ∷ h ∷ []) ≡ a + b * 2 ^ 8 + c * 2 ^ 16 + d * 2 ^ 24 + e * 2 ^ 32 + f * 2 ^ 40 + g * 2 ^ 48 + h * 2 ^ 56
 eight_bytes hash a b c d e f g h small =
@@ -27,12 +27,12 @@ eight_bytes hash a b c d e f g h small =
     let x7 : number_hash hash (a ∷ b ∷ c ∷ d ∷ e ∷ f ∷ g ∷ []) ≡ h7 + 256 * (a + b * 2 ^ 8 + c * 2 ^ 16 + d * 2 ^ 24 + e * 2 ^ 32 + f * 2 ^ 40 + g * 2 ^ 48) = ap (λ x. byte_hash x g) x6 ∙ moved h6 (a * 2 ^ 8 + b * 2 ^ 16 + c * 2 ^ 24 + d * 2 ^ 32 + e * 2 ^ 40 + f * 2 ^ 48) g ∙ omega arith in
     ap (λ x. byte_hash x h) x7 ∙ moved h7 (a + b * 2 ^ 8 + c * 2 ^ 16 + d * 2 ^ 24 + e * 2 ^ 32 + f * 2 ^ 40 + g * 2 ^ 48) h ∙ omega arith
 
--- the eight bytes of a number, the least first, leave its remainder, whatever the hash was before
+-- the eight bytes of a number, the least significant first, give its remainder, whatever the hash was before
 pub number_hash-remainder : (hash number : ℕ) → hash < 2 ^ 64 → number_hash hash (le_bytes 8 number) ≡ number % 2 ^ 64
 unfolding le_bytes
 number_hash-remainder hash number small =
     eight_bytes hash (number % 256) (number / 2 ^ 8 % 256) (number / 2 ^ 16 % 256) (number / 2 ^ 24 % 256) (number / 2 ^ 32 % 256) (number / 2 ^ 40 % 256) (number / 2 ^ 48 % 256) (number / 2 ^ 56 % 256) small ∙ omega arith
 
--- so they leave the number, where it has no more bytes
+-- so they give the number, if it has no more bytes
 pub number_hash-le_bytes : (hash number : ℕ) → hash < 2 ^ 64 → number < 2 ^ 64 → number_hash hash (le_bytes 8 number) ≡ number
 number_hash-le_bytes hash number small fits = number_hash-remainder hash number small ∙ omega (arith, fits)

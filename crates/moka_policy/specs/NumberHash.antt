@@ -1,10 +1,10 @@
--- The hash that leaves a number as it is.
+-- The hash function that maps a number to itself.
 use Rattle.std.specs.Prelude.{ℕ, ◌+◌, ◌*◌, ◌/◌, ◌^◌, List, fold}
 
--- the hash after one byte
+-- The hash after one more byte.
 abbrev pub byte_hash : ℕ → ℕ → ℕ
 byte_hash hash byte = hash / 256 + byte * 2 ^ 56
 
--- the hash after these bytes, in order
+-- The hash after these bytes, in order.
 abbrev pub number_hash : ℕ → List ℕ → ℕ
 number_hash hash bytes = fold byte_hash hash bytes

@@ -1,4 +1,4 @@
--- What the types mean that a cache's user gives to it.
+-- The meaning of the types that the user of a cache gives it.
 use Rattle.std.specs.Prelude.{◌≡◌, ℕ, Bool, true, false, Option, option_map}
 use Rattle.std.specs.Duration.{as_nanos}
 use Rattle.std.specs.declared.time.Duration.{Duration}
@@ -6,30 +6,30 @@ use Rattle.moka_policy.specs.declared.policy.EvictionPolicy.{EvictionPolicy}
 use Rattle.moka_policy.specs.declared.policy.Kind.{Kind}
 use Rattle.moka_policy.specs.declared.policy.Kind.TheVariants.{Lru, TinyLfu}
 
--- of a kind of policy
+-- Whether a kind of policy is least recently used.
 abbrev pub is_lru_kind : Kind → Bool
 is_lru_kind Lru = true
 is_lru_kind TinyLfu = false
 
--- whether a policy is least recently used
+-- Whether a policy is least recently used.
 abbrev pub is_lru : EvictionPolicy → Bool
 is_lru policy = is_lru_kind policy.kind
 
--- A closure answers a weight for each key and value: it can be called with references to them, and then answers it.
+-- A closure computes a weight: it can be called with references to any key and value, and returns their weight.
 abbrev pub IsWeighing : {K V KeyRef ValueRef : Type 0} → (KeyRef → K) → (ValueRef → V) → (KeyRef → ValueRef → Type 0) →
     (KeyRef → ValueRef → ℕ → Type 0) → (K → V → ℕ) → Type 0
 IsWeighing {K} {V} {KeyRef} {ValueRef} key_of value_of can_call answers weight =
     ((key : KeyRef) (value : ValueRef) → can_call key value)
     × ((key : KeyRef) (value : ValueRef) (answer : ℕ) → answers key value answer → answer ≡ weight (key_of key) (value_of value))
 
--- A closure answers a test of each key and value: it can be called with references to them, and then answers it.
+-- A closure computes a test: it can be called with references to any key and value, and returns what the test says.
 abbrev pub IsTesting : {K V KeyRef ValueRef : Type 0} → (KeyRef → K) → (ValueRef → V) → (KeyRef → ValueRef → Type 0) →
     (KeyRef → ValueRef → Bool → Type 0) → (K → V → Bool) → Type 0
 IsTesting {K} {V} {KeyRef} {ValueRef} key_of value_of can_call answers test =
     ((key : KeyRef) (value : ValueRef) → can_call key value)
     × ((key : KeyRef) (value : ValueRef) (answer : Bool) → answers key value answer → answer ≡ test (key_of key) (value_of value))
 
--- A closure answers the life of a value that is created, for each key, value and moment.
+-- A closure computes the lifetime of a created entry, for each key, value and moment.
 abbrev pub IsCreating : {K V KeyRef ValueRef : Type 0} → (KeyRef → K) → (ValueRef → V) → (KeyRef → ValueRef → ℕ → Type 0) →
     (KeyRef → ValueRef → ℕ → Option Duration → Type 0) → (K → V → ℕ → Option ℕ) → Type 0
 IsCreating {K} {V} {KeyRef} {ValueRef} key_of value_of can_call answers created =
@@ -37,7 +37,7 @@ IsCreating {K} {V} {KeyRef} {ValueRef} key_of value_of can_call answers created 
     × ((key : KeyRef) (value : ValueRef) (at : ℕ) (life : Option Duration) → answers key value at life →
     option_map as_nanos life ≡ created (key_of key) (value_of value) at)
 
--- A closure answers the life of a value that is read, for each key, value, moment, rest and moment of writing.
+-- A closure computes the lifetime of an entry that is read, for each key, value, moment, rest and moment of writing.
 abbrev pub IsReading : {K V KeyRef ValueRef : Type 0} → (KeyRef → K) → (ValueRef → V) →
     (KeyRef → ValueRef → ℕ → Option Duration → ℕ → Type 0) → (KeyRef → ValueRef → ℕ → Option Duration → ℕ → Option Duration → Type 0) →
     (K → V → ℕ → Option ℕ → ℕ → Option ℕ) → Type 0
@@ -47,7 +47,7 @@ IsReading {K} {V} {KeyRef} {ValueRef} key_of value_of can_call answers read =
     answers key value at rest written life →
     option_map as_nanos life ≡ read (key_of key) (value_of value) at (option_map as_nanos rest) written)
 
--- A closure answers the life of a value that is updated, for each key, value, moment and rest.
+-- A closure computes the lifetime of an updated entry, for each key, value, moment and rest.
 abbrev pub IsUpdating : {K V KeyRef ValueRef : Type 0} → (KeyRef → K) → (ValueRef → V) →
     (KeyRef → ValueRef → ℕ → Option Duration → Type 0) → (KeyRef → ValueRef → ℕ → Option Duration → Option Duration → Type 0) →
     (K → V → ℕ → Option ℕ → Option ℕ) → Type 0

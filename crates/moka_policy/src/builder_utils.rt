@@ -1,4 +1,4 @@
-//! What a cache is not built with, and why.
+//! The errors of cache builders, and the checks of their settings.
 ghost use Rattle.std.specs.Prelude.{◌≡◌, Some, None, option_map, OnOk, IfErr};
 ghost use Rattle.std.specs.Duration.{as_nanos};
 ghost use Rattle.moka_policy.specs.Building.{longest_life, is_too_long, too_long_of, flush_refused_of};
@@ -6,37 +6,42 @@ ghost use Rattle.moka_policy.specs.Building.{longest_life, is_too_long, too_long
 use std::time::Duration;
 use thiserror::Error;
 
-/// Why a cache was not built.
+/// The error of a cache builder: why it built no cache.
 #[derive(Clone, Copy, Debug, PartialEq, Eq, Error)]
 pub enum BuildError {
-    /// It was to have no segment.
+    /// The number of segments is 0.
     #[error("NoSegments")]
     NoSegments,
-    /// It was to have more than 2^63 segments.
+    /// The number of segments is greater than 2^63.
     #[error("TooManySegments")]
     TooManySegments,
-    /// Its time to live is longer than 1000 years.
+    /// The time to live is longer than 1000 years of 365 days.
     #[error("TimeToLiveTooLong")]
     TimeToLiveTooLong,
-    /// Its time to idle is longer than 1000 years.
+    /// The time to idle is longer than 1000 years of 365 days.
     #[error("TimeToIdleTooLong")]
     TimeToIdleTooLong,
-    /// Memory was refused.
+    /// An allocation failed.
     #[error("OutOfMemory")]
     OutOfMemory,
-    /// Its flush limit is 0.
+    /// The flush limit is 0.
     #[error("ZeroFlushLimit")]
     ZeroFlushLimit,
-    /// It was to have a weigher beside its flush limit.
+    /// Both a flush limit and a weigher are set.
     #[error("FlushLimitWithWeigher")]
     FlushLimitWithWeigher,
 }
 
-// 1000 years of 365 days, in nanoseconds.
+// The longest time to live or to idle: 1000 years of 365 days, in nanoseconds.
 const LONGEST_LIFE: u128 = 1_000 * 365 * 24 * 3_600 * 1_000_000_000;
 
-/// Whether a cache may be built with these lives: a time to live or to idle of exactly 1000 years of 365 days is the
-/// longest one. Where both are longer, the time to live is named.
+/// Checks that neither the time to live nor the time to idle is longer than 1000 years of 365 days.
+/// Exactly that long is allowed, and so is `None`.
+///
+/// # Errors
+///
+/// - `TimeToLiveTooLong`: the time to live is longer. Also returned if both are.
+/// - `TimeToIdleTooLong`: only the time to idle is longer.
 pub fn ensure_expirations(
     time_to_live: Option<Duration>,
     time_to_idle: Option<Duration>,
@@ -55,8 +60,13 @@ pub fn ensure_expirations(
     Ok(())
 }
 
-/// Whether a cache may be built with this flush limit, beside a weigher if `has_weigher`: a limit is
-/// not 0, and stands beside no weigher. Where neither is so, the 0 is named.
+/// Checks that a flush limit, in entries, is not 0, and that none is set beside a weigher.
+/// `has_weigher` is whether a weigher is set.
+///
+/// # Errors
+///
+/// - `ZeroFlushLimit`: the limit is 0, with or without a weigher.
+/// - `FlushLimitWithWeigher`: the limit is not 0, and a weigher is set.
 pub fn ensure_flush_limit(flush_limit: Option<u64>, has_weigher: bool) -> Result<(), BuildError>
     ensures accepted { OnOk result (flush_refused_of flush_limit has_weigher ≡ None) }
     ensures refused { IfErr result (λ cause. flush_refused_of flush_limit has_weigher ≡ Some cause) }
@@ -68,7 +78,7 @@ pub fn ensure_flush_limit(flush_limit: Option<u64>, has_weigher: bool) -> Result
     }
 }
 
-// Whether a life is longer than any may be.
+// Returns whether a time to live or to idle is longer than the longest one.
 fn is_too_long(life: Option<Duration>) -> bool
     ensures { result ≡ is_too_long (option_map as_nanos life) }
 {

@@ -1,22 +1,24 @@
-//! Where a shared cache takes its moments from.
+//! Clocks, from which shared caches read the moments of their calls.
 ghost use Rattle.std.specs.Prelude.{◌≡◌, ℕ, ⊤};
 ghost use Rattle.std.specs.Arc.{arc_value};
 
 use std::sync::Arc;
 use std::sync::atomic::{AtomicU64, Ordering};
 
-/// Tells the moment. A shared cache asks once in each call, under its lock.
+/// A source of moments. A shared cache reads it once in each step that has a moment, under its
+/// lock.
 pub trait Clock {
-    /// It may tell this moment.
+    /// Whether `now` may return this moment.
     ghost tells: { Self → ℕ → Type 0 } = { λ _ _. ⊤ };
 
-    /// The moment, in nanoseconds since any beginning. It may go back: a cache takes a moment that is earlier than its
-    /// latest one for that one.
+    /// Returns the moment, in nanoseconds since an origin that the clock chooses.
+    ///
+    /// It may go back: a cache treats a moment before its latest one as the latest one.
     fn now(&self) -> u64
         ensures { tells self.now result };
 }
 
-/// Whoever shares a clock can still set it after a cache was given it.
+/// Shares a clock, so that it can still be set after a cache was given it.
 impl<C: Clock> Clock for Arc<C> {
     ghost tells = { λ clock. C.tells (arc_value clock) };
 
@@ -25,21 +27,21 @@ impl<C: Clock> Clock for Arc<C> {
     }
 }
 
-/// A clock that stands still until it is set.
+/// A clock whose moment changes only when it is set.
 #[derive(Debug, Drop)]
 pub struct ManualClock {
     moment: AtomicU64,
 }
 
 impl ManualClock {
-    /// A clock that stands at this moment.
+    /// Creates a clock at this moment, in nanoseconds.
     pub fn new(moment: u64) -> Self {
         ManualClock {
             moment: AtomicU64::new(moment),
         }
     }
 
-    /// Sets it to a moment, which may be an earlier one.
+    /// Sets the clock to a moment, in nanoseconds. It may be an earlier one.
     pub fn set(&self, moment: u64) {
         self.moment.store(moment, Ordering::SeqCst);
     }

@@ -1,4 +1,4 @@
-//! The lives of single values.
+//! Expiries, which give single entries lifetimes of their own.
 ghost use Rattle.std.specs.Prelude.{◌≡◌, ℕ, option_map};
 ghost use Rattle.std.specs.Duration.{as_nanos};
 ghost use Rattle.moka_model.specs.Lives.{Lifetimes, no_lifetimes};
@@ -6,13 +6,17 @@ ghost use Rattle.moka_policy.specs.Policy.{IsCreating, IsReading, IsUpdating};
 
 use std::time::Duration;
 
-/// Gives the values of a cache lives of their own. It is asked after a write where no live value stood, after a
-/// recorded look that found a live value, and after a write over a live value, and at no other event. A life counts
-/// from the moment of the event, and takes the place of the one before; `None` is a life without an end. The key is the
-/// stored one, and the value is the one that stands after the event. Moments are nanoseconds.
+/// Gives single entries of a cache lifetimes of their own.
 ///
-/// What most caches want where they have no rule of their own: `None` after a creation, and `rest` after the other two,
-/// which leaves the value's own life as it was. [`NoExpiry`] answers so.
+/// A cache calls it after three events: a write where no live value was, an access by a recorded
+/// lookup, and a write over a live value. It is called after no other event.
+///
+/// The result replaces the entry's own lifetime, and counts from the moment of the event. `None` is
+/// a lifetime without an end. The key is the stored one, and the value is the one after the event.
+/// Moments are in nanoseconds.
+///
+/// An expiry without a rule for an event can return `None` after a creation and `rest` after the
+/// other two. Returning `rest` leaves the entry's own lifetime as it was. [`NoExpiry`] does so.
 ///
 /// ```
 /// impl Expiry<u64, String> for OneMinute {
@@ -23,16 +27,19 @@ use std::time::Duration;
 ///     }
 /// ```
 pub trait Expiry<K, V> {
-    /// What it is to answer these lives.
+    /// Whether this expiry computes these lifetimes: the methods return what these functions
+    /// return.
     ghost gives: { Self → Lifetimes K V → Type 0 };
 
-    /// The life of a value that was written at a moment where no live value stood.
+    /// Returns the lifetime of a value that was written at `created_at` where no live value was.
     fn expire_after_create(&self, key: &K, value: &V, created_at: u64) -> Option<Duration>
         requires { (lives : Lifetimes K V) × gives self.now lives }
         ensures { (lives : Lifetimes K V) → gives self.now lives → option_map as_nanos result ≡ lives.created key.now value.now created_at };
 
-    /// The life of a value that a recorded look found at a moment, where `rest` is left of the one that it has, and
-    /// where it was written at `written_at`.
+    /// Returns the lifetime of a value that a recorded lookup found at `read_at`.
+    ///
+    /// `rest` is what is left of the entry's own lifetime. `written_at` is when the value was
+    /// written.
     fn expire_after_read(
         &self,
         key: &K,
@@ -44,7 +51,9 @@ pub trait Expiry<K, V> {
         requires { (lives : Lifetimes K V) × gives self.now lives }
         ensures { (lives : Lifetimes K V) → gives self.now lives → option_map as_nanos result ≡ lives.read key.now value.now read_at (option_map as_nanos rest) written_at };
 
-    /// The life of a value that was written at a moment over a live one, which had `rest` left.
+    /// Returns the lifetime of a value that was written at `updated_at` over a live value.
+    ///
+    /// `rest` is what was left of the own lifetime of the value before.
     fn expire_after_update(
         &self,
         key: &K,
@@ -56,7 +65,7 @@ pub trait Expiry<K, V> {
         ensures { (lives : Lifetimes K V) → gives self.now lives → option_map as_nanos result ≡ lives.updated key.now value.now updated_at (option_map as_nanos rest) };
 }
 
-/// Leaves each value without a life of its own: the type of a cache's expiry where it is given none.
+/// An expiry that gives no entry a lifetime: the type of a cache's expiry if none is set.
 #[derive(Clone, Copy, Debug, Default)]
 pub struct NoExpiry;
 
@@ -89,7 +98,7 @@ impl<K, V> Expiry<K, V> for NoExpiry {
     }
 }
 
-/// Gives lives by three closures, which are asked with what [`Expiry`]'s calls are.
+/// An expiry that calls three closures. They take the arguments of the methods of [`Expiry`].
 #[derive(Clone, Copy, Debug)]
 pub struct ExpireBy<C, R, U> {
     create: C,
@@ -98,7 +107,8 @@ pub struct ExpireBy<C, R, U> {
 }
 
 impl<C, R, U> ExpireBy<C, R, U> {
-    /// An expiry that asks the first closure after a creation, the second after a look and the third after an update.
+    /// Creates an expiry that calls `create` after a creation, `read` after a recorded lookup, and
+    /// `update` after an update.
     pub fn new(create: C, read: R, update: U) -> Self
         ensures create { result.create ≡ create }
         ensures read { result.read ≡ read }

@@ -1,4 +1,4 @@
-//! How often hashes were noted, and a table of counters that estimates it.
+//! Frequency sources, which estimate how often hashes were noted, and a table of counters as one.
 ghost use Rattle.std.specs.Prelude.{◌≡◌, ℕ, ◌/◌, ◌%◌, ◌^◌, ◌<◌, map, IfOk, IfErr};
 ghost use Rattle.moka_policy.specs.declared.policy.Refused.{Refused};
 ghost use Rattle.moka_policy.specs.Frequency.{Counts, IsTable, counter_of, none_noted, noted, estimated};
@@ -7,7 +7,7 @@ use crate::policy::Refused;
 use std::alloc::Global;
 use std::marker::Model;
 
-/// Estimates how often each hash was noted. A cache notes the hash of each key that is looked for.
+/// Estimates how often each hash was noted. A cache notes the key's hash at each recorded lookup.
 pub trait FrequencySource: Drop + Sized {
     /// The source that has noted nothing.
     ghost opened: { Self };
@@ -15,38 +15,47 @@ pub trait FrequencySource: Drop + Sized {
     /// The source after one more note of a hash.
     ghost noted: { Self → ℕ → Self };
 
-    /// The estimate of a hash.
+    /// The estimate for a hash.
     ghost count: { Self → ℕ → ℕ };
 
-    /// A source that has noted nothing. All memory that it needs is taken here; refused with `OutOfMemory` alone.
+    /// Creates a source that has noted nothing. Allocates all memory that the source needs.
+    ///
+    /// # Errors
+    ///
+    /// - `OutOfMemory`: an allocation failed.
     fn opening(alloc: Global) -> Result<Self, Refused>
         ensures opened { IfOk result (λ source. source ≡ opened) }
         ensures cause { IfErr result (λ cause. cause ≡ Refused.OutOfMemory) };
 
-    /// Notes a hash. It cannot be refused.
+    /// Notes a hash. Cannot fail.
     fn note(&mut self, hash: u64)
         ensures { self.new ≡ noted self.old hash };
 
-    /// How often this hash was noted, as this source estimates it. It notes nothing.
+    /// Returns this source's estimate of how often the hash was noted. Does not note it.
     fn estimate(&self, hash: u64) -> u8
         ensures { result ≡ count self.now hash };
 }
 
-/// The count that no counter passes.
+/// The greatest value of a counter.
 const GREATEST_COUNT: u8 = 15;
 
-/// How many notes for each counter come before all counters are halved.
+/// The number of notes per counter after which all counters are halved.
 const NOTES_FOR_A_COUNTER: usize = 10;
 
-/// How many bits of a hash are used at most.
+/// The greatest number of bits of a hash that are used.
 const GREATEST_BITS: u32 = 20;
 
-/// Counts notes in `2^min(BITS, 20)` counters from 0 to 15, all 0 at first. A hash uses the counter that its lowest
-/// `min(BITS, 20)` bits number. A note adds one to it, and 15 stays 15. With each ten notes for a counter all
-/// counters are halved, rounded down, and the note itself counts first.
+/// A frequency source of `2^min(BITS, 20)` counters from 0 to 15, all 0 at first.
 ///
-/// `opening` takes one byte for each counter. `note` and `estimate` take no memory and constant time, but for the
-/// notes that halve, which take time in the number of the counters.
+/// The lowest `min(BITS, 20)` bits of a hash choose its counter. A note adds 1 to it, up to 15.
+/// Every ten notes per counter halve all counters, rounded down. The note itself is counted before
+/// that.
+///
+/// `opening` allocates one byte for each counter. `note` and `estimate` do not allocate.
+///
+/// # Complexity
+///
+/// `note` and `estimate` take constant time. A note that halves visits all counters.
 #[derive(Debug, Drop)]
 pub struct CountTable<const BITS: u32> {
     counters: Vec<u8>,
@@ -75,6 +84,7 @@ impl<const BITS: u32> FrequencySource for CountTable<BITS> {
         Ok(CountTable { counters, notes: 0 })
     }
 
+    #[inline(always)]
     fn note(&mut self, hash: u64) {
         let place = place_of(hash, self.counters.len());
         self.counters[place] = (self.counters[place] + 1).min(GREATEST_COUNT);
@@ -85,12 +95,14 @@ impl<const BITS: u32> FrequencySource for CountTable<BITS> {
         }
     }
 
+    #[inline(always)]
     fn estimate(&self, hash: u64) -> u8 {
         self.counters[place_of(hash, self.counters.len())]
     }
 }
 
-/// The place of a hash among so many counters, a power of two: its lowest bits.
+/// Returns the index of a hash's counter: the hash's lowest bits. `counters` is a power of two.
+#[inline(always)]
 fn place_of(hash: u64, counters: usize) -> usize
     requires { (bits : ℕ) × (counters ≡ 2 ^ bits) }
     ensures place { result ≡ hash % counters }

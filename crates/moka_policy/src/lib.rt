@@ -1,5 +1,5 @@
-//! The types that a cache is made of: its policy, weigher, expiry, source of frequencies, listener, clock and
-//! hasher of numbers, and what it is not built with.
+//! The types that a cache is made of: its policy, weigher, expiry, predicate, frequency source,
+//! listener, clock and hasher of numbers. Also the errors of cache builders.
 #![tactic(auto)]
 
 pub mod builder_utils;

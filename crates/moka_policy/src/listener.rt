@@ -1,4 +1,4 @@
-//! Who is told of the values that leave a cache.
+//! Listeners, the callbacks of shared caches for removals.
 ghost use Rattle.std.specs.Prelude.{◌≡◌, ⊤};
 ghost use Rattle.std.specs.Arc.{arc_value};
 ghost use Rattle.std.specs.declared.alloc.Global.{Global};
@@ -8,24 +8,24 @@ ghost use Rattle.moka_model.specs.declared.notification.RemovalCause.{RemovalCau
 use moka_model::notification::RemovalCause;
 use std::sync::Arc;
 
-/// Is told of the values that leave a shared cache.
+/// The callback of a shared cache for removals.
 pub trait Listener<K, V> {
-    /// It may be told of this key with this value.
+    /// Whether the listener may be called with this key and value.
     ghost hears: { Self → K → V → Type 0 };
 
-    /// This value of this key has left for this cause.
+    /// Receives one removal: the stored key, its value and the cause.
     fn removed(&self, key: Arc<K>, value: V, cause: RemovalCause)
         requires { hears self.now (arc_value key) value };
 }
 
-/// Listens by a closure.
+/// A listener that calls a closure.
 #[derive(Clone, Copy, Debug)]
 pub struct ListenBy<F> {
     listen: F,
 }
 
 impl<F> ListenBy<F> {
-    /// A listener that calls this closure.
+    /// Creates a listener that calls this closure.
     pub fn new(listen: F) -> Self
         ensures { result.listen ≡ listen }
     {
@@ -36,14 +36,16 @@ impl<F> ListenBy<F> {
 impl<K, V, F: Fn(Arc<K>, V, RemovalCause)> Listener<K, V> for ListenBy<F> {
     ghost hears = { λ by key value. (shared : Arc K Global) (cause : RemovalCause) → arc_value shared ≡ key → F.pre by.listen shared value cause };
 
+    // Calls the closure with exactly these arguments.
     fn removed(&self, key: Arc<K>, value: V, cause: RemovalCause)
         requires { (shared : Arc K Global) (cause : RemovalCause) → arc_value shared ≡ arc_value key → F.pre self.now.listen shared value cause }
+        ensures { F.post self.now.listen key value cause result }
     {
         (self.listen)(key, value, cause)
     }
 }
 
-/// Is told and does nothing: the type of a cache's listener where it is given none.
+/// A listener that does nothing: the type of a cache's listener if none is set.
 #[derive(Clone, Copy, Debug, Default)]
 pub struct NoListener;
 

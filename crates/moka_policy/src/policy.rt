@@ -1,4 +1,4 @@
-//! The types that a cache is made of, the hasher of number keys, and the refusals.
+//! The types that a cache is made of, the hasher of number keys, and the errors of a cache's calls.
 ghost use Rattle.std.specs.Prelude.{◌≡◌, ℕ, Bool, true, false, not};
 ghost use Rattle.moka_model.specs.Lives.{Lifetimes};
 ghost use Rattle.moka_policy.specs.NumberHash.{number_hash};
@@ -14,83 +14,86 @@ use std::hash::{BuildHasher, Hasher};
 use std::time::Duration;
 use thiserror::Error;
 
-/// The types of one kind of cache, and the relation in which it keeps its keys and values.
+/// The types of one kind of cache, and the value invariant between its keys and values.
 pub trait CacheTypes<K: Eq, V: Clone> {
-    /// Makes the hasher of the cache's keys.
+    /// Builds the hasher of the cache's keys.
     type Hasher: BuildHasher + Drop;
 
-    /// Weighs what is stored, where the cache is given a weigher.
+    /// Weighs the entries, if the cache is given a weigher.
     type Weigher: Weigher<K, V> + Drop;
 
-    /// Gives values lives of their own, where the cache is given an expiry.
+    /// Gives entries lifetimes of their own, if the cache is given an expiry.
     type Expiry: Expiry<K, V> + Drop;
 
-    /// Says which of the stored values a mass invalidation hides.
+    /// Selects the stored entries that a mass invalidation invalidates.
     type Predicate: Predicate<K, V> + Drop;
 
-    /// Estimates how often each key was looked for.
+    /// Estimates how often each key was looked up.
     type Frequency: FrequencySource;
 
-    /// Is told of what leaves a shared cache, where it is given a listener.
+    /// Receives the removals of a shared cache, if the cache is given a listener.
     type Listener: Listener<K, V> + Drop;
 
-    /// Tells a shared cache the moments of its calls.
+    /// Returns the moments of the calls of a shared cache.
     type Clock: Clock + Drop;
 
-    /// What a computation of a value may fail with.
+    /// The error with which computing a value may fail.
     type Error: Drop;
 
-    /// The weight of a key with a value, by the weigher that the cache is given, which answers it.
+    /// The weight of a key with a value, as the cache's weigher computes it.
     ghost weight: { Self.Weigher → K → V → ℕ };
 
-    /// Equal keys weigh alike.
+    /// Equal keys have the same weight with the same value.
     ghost equal_keys_weigh: { (weigher : Self.Weigher) (a b : K) (v : V) → K.eq a b ≡ true → weight weigher a v ≡ weight weigher b v };
 
-    /// The lives that values have of their own, by the expiry that the cache is given, which answers them.
+    /// The lifetimes of single entries, as the cache's expiry computes them.
     ghost lifetimes: { Self.Expiry → Lifetimes K V };
 
-    /// The test of each key and value that a predicate answers.
+    /// The test of keys and values that a predicate computes.
     ghost test: { Self.Predicate → K → V → Bool };
 
-    /// Holds of each key and value that the cache stores. Every writer owes it.
+    /// The value invariant: holds of each key and value that the cache stores. Every writer must
+    /// prove it.
     ghost keeps: { K → V → Type 0 };
 
-    /// It does not tell equal keys apart.
+    /// The value invariant does not distinguish equal keys.
     ghost equal_keys_keep: { (a b : K) (v : V) → K.eq a b ≡ true → keeps a v → keeps b v };
 
-    /// It does not tell a value from its copies.
+    /// The value invariant holds of each clone of a value of which it holds.
     ghost copies_keep: { (k : K) (v w : V) → V.is_clone v w → keeps k v → keeps k w };
 
-    /// A copy of a copy is a copy.
+    /// A clone of a clone is a clone.
     ghost copies_compose: { (u v w : V) → V.is_clone u v → V.is_clone v w → V.is_clone u w };
 }
 
-/// Why a step was refused. A refused step changes nothing.
+/// Why a step failed. A failed step leaves the cache unchanged.
 #[derive(Clone, Copy, Debug, PartialEq, Eq, Error)]
 pub enum Refused {
-    /// Memory for a growth or a copy was refused.
+    /// An allocation failed: for growing the cache or for a clone.
     #[error("OutOfMemory")]
     OutOfMemory,
-    /// The step would have drawn a number, and all are used up; or it would have waited for a turn
-    /// for which as many callers wait as can be counted.
+    /// No sequence number is left for the step to draw. Or it would have waited for a turn that
+    /// already has as many waiting callers as can be counted.
     #[error("NumbersUsedUp")]
     NumbersUsedUp,
-    /// No open turn has the name that the step gave, or the outcome is none of its kind.
+    /// No open turn has the given name, or the outcome does not fit its kind.
     #[error("UnknownTurn")]
     UnknownTurn,
-    /// No turn of the name that the step gave has an unspent ticket.
+    /// No turn with the given name has an unspent ticket.
     #[error("UnknownTicket")]
     UnknownTicket,
     /// A turn of the key is open, so the call would have to wait for it.
     #[error("TurnIsOpen")]
     TurnIsOpen,
-    /// The call has waited for as many turns of other callers as it may, and each was abandoned.
+    /// The call waited for as many turns of other callers as it may, and each was abandoned.
     #[error("WaitsAbandoned")]
     WaitsAbandoned,
 }
 
-/// Which keys leave where a cache has passed its capacity, and which new ones are admitted. The default is
-/// [`EvictionPolicy::tiny_lfu`].
+/// Which entries are evicted when a cache exceeds its capacity, and which pending ones are
+/// admitted. An entry heavier than the capacity is never admitted.
+///
+/// The default is [`EvictionPolicy::tiny_lfu`].
 #[derive(Clone, Copy, Debug)]
 pub struct EvictionPolicy {
     kind: Kind,
@@ -103,15 +106,18 @@ enum Kind {
 }
 
 impl EvictionPolicy {
-    /// The least recently used keys leave, and each new key is admitted.
+    /// Creates the policy that evicts the least recently used entries and admits each pending one.
     pub fn lru() -> Self
         ensures { is_lru result ≡ true }
     {
         EvictionPolicy { kind: Kind::Lru }
     }
 
-    /// The least recently used keys leave too, but only for a new key whose frequency, as the cache's source of
-    /// frequencies estimates it, is greater than theirs together; any other key is not admitted.
+    /// Creates the policy that admits a pending entry only if it is more frequent than its victims.
+    ///
+    /// It is admitted if it has no victims, or if its frequency is greater than the sum of theirs.
+    /// Then the victims are evicted: the least recently used entries, as many as make room for it.
+    /// The cache's frequency source estimates the frequencies.
     pub fn tiny_lfu() -> Self
         ensures { is_lru result ≡ false }
     {
@@ -120,7 +126,8 @@ impl EvictionPolicy {
         }
     }
 
-    /// Whether it is [`EvictionPolicy::tiny_lfu`].
+    /// Returns whether this is [`EvictionPolicy::tiny_lfu`].
+    #[inline(always)]
     pub fn is_tiny_lfu(&self) -> bool
         ensures { result ≡ not (is_lru self.now) }
     {
@@ -139,7 +146,7 @@ impl Default for EvictionPolicy {
     }
 }
 
-/// How much a cache may store and how long its values live, as it was built.
+/// The capacity, the number of segments and the times that a cache was built with.
 #[derive(Clone, Copy, Debug, PartialEq, Eq)]
 pub struct Policy {
     max_capacity: Option<u64>,
@@ -149,7 +156,7 @@ pub struct Policy {
 }
 
 impl Policy {
-    /// A policy of these four.
+    /// Creates a policy of these four settings.
     pub fn new(
         max_capacity: Option<u64>,
         num_segments: usize,
@@ -171,28 +178,30 @@ impl Policy {
         }
     }
 
-    /// How much may stay stored, by the weights of the values; none is no bound.
+    /// Returns the bound on the total weight of the resident entries, or `None` if there is no
+    /// bound.
     pub fn max_capacity(&self) -> Option<u64>
         ensures { result ≡ self.now.max_capacity }
     {
         self.max_capacity
     }
 
-    /// How many segments the cache has.
+    /// Returns the number of segments of the cache.
     pub fn num_segments(&self) -> usize
         ensures { result ≡ self.now.num_segments }
     {
         self.num_segments
     }
 
-    /// How long a value lives after its write.
+    /// Returns how long an entry lives after it was written, or `None` if that has no limit.
     pub fn time_to_live(&self) -> Option<Duration>
         ensures { result ≡ self.now.time_to_live }
     {
         self.time_to_live
     }
 
-    /// How long a value lives after its last use.
+    /// Returns how long an entry lives after its last access or write, or `None` if that has no
+    /// limit.
     pub fn time_to_idle(&self) -> Option<Duration>
         ensures { result ≡ self.now.time_to_idle }
     {
@@ -200,8 +209,10 @@ impl Policy {
     }
 }
 
-/// A hasher by which a `u64` key hashes to that number: each byte `b` that is written sets the hash to
-/// `hash / 256 + b * 2^56`, so that the eight bytes of a number, the least first, leave the number.
+/// A hasher that hashes a `u64` key to that number.
+///
+/// Each byte `b` that is written sets the hash to `hash / 256 + b * 2^56`. So the eight bytes of a
+/// number, the least significant first, leave the number.
 #[derive(Clone, Copy, Debug, Default, PartialEq, Eq)]
 pub struct NumberHash {
     hash: u64,

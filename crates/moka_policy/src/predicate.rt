@@ -1,27 +1,28 @@
-//! Which of the stored values a mass invalidation hides.
+//! Predicates, which select the entries that a mass invalidation invalidates.
 ghost use Rattle.std.specs.Prelude.{◌≡◌, Bool, false};
 ghost use Rattle.moka_policy.specs.Policy.{IsTesting};
 
-/// Says of each stored value, under its key, whether a mass invalidation hides it.
+/// Selects the stored entries that a mass invalidation invalidates.
 pub trait Predicate<K, V> {
-    /// What it is to answer a test of each key and value.
+    /// Whether this predicate computes this test of keys and values.
     ghost tests: { Self → (K → V → Bool) → Type 0 };
 
-    /// Whether it holds of a value under a key. It is asked once of each value that is stored when
-    /// the invalidation comes.
+    /// Returns whether the predicate holds of a stored key and its value.
+    ///
+    /// It is called once for each entry that is stored when the invalidation comes.
     fn holds(&self, key: &K, value: &V) -> bool
         requires { (test : K → V → Bool) × tests self.now test }
         ensures { (test : K → V → Bool) → tests self.now test → result ≡ test key.now value.now };
 }
 
-/// Asks a closure.
+/// A predicate that calls a closure.
 #[derive(Clone, Copy, Debug)]
 pub struct HoldsIf<F> {
     holds: F,
 }
 
 impl<F> HoldsIf<F> {
-    /// A predicate that asks this closure.
+    /// Creates a predicate that calls this closure.
     pub fn new(holds: F) -> Self
         ensures { result.holds ≡ holds }
     {
@@ -37,7 +38,7 @@ impl<K, V, F: Fn(&K, &V) -> bool> Predicate<K, V> for HoldsIf<F> {
     }
 }
 
-/// Holds of nothing: the type of a cache's predicates where it has none.
+/// A predicate that holds of nothing: the type of a cache's predicates if it has none.
 #[derive(Clone, Copy, Debug, Default)]
 pub struct NoPredicate;
 

@@ -1,8 +1,8 @@
-//! How heavy stored values are.
+//! Weighers, which compute the weights of entries.
 ghost use Rattle.std.specs.Prelude.{◌≡◌, ℕ};
 ghost use Rattle.moka_policy.specs.Policy.{IsWeighing};
 
-/// Weighs the values of a cache, under their keys.
+/// Weighs the entries of a cache.
 ///
 /// ```
 /// impl Weigher<u64, String> for ByLength {
@@ -14,16 +14,17 @@ ghost use Rattle.moka_policy.specs.Policy.{IsWeighing};
 /// }
 /// ```
 pub trait Weigher<K, V> {
-    /// What it is to answer a weight for each key and value.
+    /// Whether this weigher computes this weight for each key and value.
     ghost weighs: { Self → (K → V → ℕ) → Type 0 };
 
-    /// The weight of a value under a key. It is asked once for each write, and the answer is kept.
+    /// Returns the weight of a value under a key. It is called once for each write, and the cache
+    /// keeps the result.
     fn weigh(&self, key: &K, value: &V) -> u32
         requires { (weight : K → V → ℕ) × weighs self.now weight }
         ensures { (weight : K → V → ℕ) → weighs self.now weight → result ≡ weight key.now value.now };
 }
 
-/// Weighs by a closure.
+/// A weigher that calls a closure.
 ///
 /// ```
 /// WeighBy::new(|_key: &u64, name: &String| u32::try_from(name.len()).unwrap_or(u32::MAX)),
@@ -34,7 +35,7 @@ pub struct WeighBy<F> {
 }
 
 impl<F> WeighBy<F> {
-    /// A weigher that asks this closure.
+    /// Creates a weigher that calls this closure.
     pub fn new(weigh: F) -> Self
         ensures { result.weigh ≡ weigh }
     {
@@ -50,7 +51,7 @@ impl<K, V, F: Fn(&K, &V) -> u32> Weigher<K, V> for WeighBy<F> {
     }
 }
 
-/// Weighs each value as one: the type of a cache's weigher where it is given none.
+/// A weigher that returns 1 for each entry: the type of a cache's weigher if none is set.
 #[derive(Clone, Copy, Debug, Default)]
 pub struct NoWeigher;
 

@@ -1,4 +1,4 @@
--- Texts that have not the form of an id.
+-- Texts that do not have the form of an id.
 use Rattle.std.proofs.Common.{◌≡◌, ℕ, zero, suc, ◌==◌, ◌||◌, Bool, true, false, List, [], ◌∷◌, drop, refl, arith}
 use Rattle.std.specs.Prelude.{Contains}
 use Rattle.std.specs.List.{AllZip, list_any}
@@ -8,13 +8,13 @@ neither : (a b : Bool) → (a || b) ≡ false → (a ≡ false) × (b ≡ false)
 neither true b is = cc
 neither false b is = (refl, is)
 
--- what no number of a list equals is not in it
+-- a number that equals none of a list is not in it
 pub absent : (xs : List ℕ) (x : ℕ) → list_any (λ y. y == x) xs ≡ false → ¬ (Contains xs x)
 absent [] x none (k, less, is) = omega arith
 absent (y ∷ xs) x none (zero, less, is) = let here = (neither (y == x) _ none).0 in absurd (grind (arith, nat_tests))
 absent (y ∷ xs) x none (suc k, less, is) = absent xs x (neither (y == x) _ none).1 (k, omega arith, is)
 
--- what stands in a relation place by place does so from a place on
+-- if two lists are related at each place, so are the rests of them from a place on
 pub AllZip-drop : {A B : Type 0} (R : A → B → Type 0) (n : ℕ) (xs : List A) (ys : List B) → AllZip R xs ys → AllZip R (drop n xs) (drop n ys)
 AllZip-drop R zero xs ys all = all
 AllZip-drop R (suc n) [] [] all = tt

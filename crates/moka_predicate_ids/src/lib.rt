@@ -1,4 +1,4 @@
-//! What a mass invalidation by a predicate answers: an id, or why it was refused.
+//! What a mass invalidation by a predicate returns: its id, or an error.
 #![tactic(auto)]
 
 pub mod predicate_error;

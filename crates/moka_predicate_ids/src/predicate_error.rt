@@ -1,14 +1,15 @@
-//! Why a mass invalidation by a predicate was refused.
+//! The errors of a mass invalidation by a predicate.
 use thiserror::Error;
 
-/// Why a mass invalidation by a predicate was refused. It has hidden nothing then.
+/// Why a mass invalidation by a predicate failed. It has invalidated nothing then.
 #[derive(Clone, Copy, Debug, PartialEq, Eq, Error)]
 pub enum PredicateError {
-    /// The cache was built without support for invalidation closures. No generator was asked.
+    /// The cache was built without support for invalidation closures. The random generator was not
+    /// used.
     #[error("InvalidationClosuresDisabled")]
     InvalidationClosuresDisabled,
-    /// Memory for the id's text, or for the predicate, was refused. The generator may have been
-    /// asked.
+    /// An allocation failed, for the id's text or for the predicate. The random generator may have
+    /// been used.
     #[error("OutOfMemory")]
     OutOfMemory,
 }

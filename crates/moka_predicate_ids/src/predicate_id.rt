@@ -9,14 +9,17 @@ use uuid::Uuid;
 
 /// The id of a mass invalidation by a predicate: the text of a version 4 UUID.
 ///
-/// It has 36 characters, lower-case hexadecimal digits with hyphens behind the 8th, 12th, 16th and
-/// 20th of them; the first of the third group is a `4`, that of the fourth one of `8`, `9`, `a` and
-/// `b`. The rest comes from the generator that was handed in: one that repeats itself gives the
-/// same id again, which harms nothing.
+/// It has 36 characters: 32 lower-case hexadecimal digits, with hyphens after the 8th, the 12th,
+/// the 16th and the 20th. The third group begins with `4`, and the fourth with `8`, `9`, `a` or
+/// `b`. The rest comes from the caller's random generator. A generator that repeats itself gives
+/// the same id again, which does no harm.
 pub type PredicateId = String;
 
-/// An id from a generator's next sixteen bytes. Refused where memory for its text is; the bytes are
-/// drawn then too.
+/// Creates an id from the next sixteen bytes of a random generator.
+///
+/// # Errors
+///
+/// - `AllocError`: allocating the text failed. The sixteen bytes are drawn then too.
 #[tactic(auto, using(crate::proofs::Form::is_id_text))]
 pub fn new_predicate_id<R: Rng>(alloc: Global, generator: &mut R) -> Result<PredicateId, AllocError>
     ensures id { IfOk result (λ id. string_bytes id ≡ id_by (R.stream generator.old)) }

@@ -1,5 +1,7 @@
-//! Ready-made types of caches, so that a cache of plain values is made without a line for the prover.
+//! Ready-made types of caches: with them a cache of plain values needs no line for the prover.
 #![tactic(auto)]
 
+pub mod clock;
 pub mod copies;
+pub mod meant;
 pub mod ready;

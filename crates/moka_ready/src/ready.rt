@@ -2,6 +2,7 @@
 ghost use Rattle.std.specs.Prelude.{◌≡◌, ℕ, Bool, true, false, refl};
 ghost use Rattle.moka_model.specs.Lives.{Lifetimes, no_lifetimes};
 
+pub use crate::clock::RunningClock;
 use crate::copies::CopiesCompose;
 use moka_policy::policy::{
     CacheTypes, Clock, Expiry, Listener, ManualClock, NoExpiry, NoListener, NoPredicate, NoWeigher,
@@ -12,9 +13,9 @@ use std::convert::Infallible;
 use std::hash::{BuildHasher, BuildHasherDefault, FoldHasher, RandomState};
 use std::marker::PhantomData;
 
-/// A weigher of which its value alone says what it answers.
+/// A weigher whose value determines what it returns.
 pub trait SteadyWeigher<K: Eq, V>: Weigher<K, V> {
-    /// The weight that it answers for a key and a value.
+    /// The weight that it returns for a key and a value.
     ghost weight: { Self → K → V → ℕ };
 
     /// Equal keys weigh alike.
@@ -27,9 +28,9 @@ impl<K: Eq, V> SteadyWeigher<K, V> for NoWeigher {
     ghost equal_keys_weigh = { λ _ _ _ _ _. refl };
 }
 
-/// An expiry of which its value alone says what it answers.
+/// An expiry whose value determines what it returns.
 pub trait SteadyExpiry<K, V>: Expiry<K, V> {
-    /// The lives that it answers.
+    /// The lifetimes that it returns.
     ghost lifetimes: { Self → Lifetimes K V };
 }
 
@@ -37,9 +38,9 @@ impl<K, V> SteadyExpiry<K, V> for NoExpiry {
     ghost lifetimes = { λ _. no_lifetimes };
 }
 
-/// A predicate of which its value alone says what it answers.
+/// A predicate whose value determines what it returns.
 pub trait SteadyPredicate<K, V>: Predicate<K, V> {
-    /// The test that it answers.
+    /// The test that it computes.
     ghost test: { Self → K → V → Bool };
 }
 
@@ -47,10 +48,16 @@ impl<K, V> SteadyPredicate<K, V> for NoPredicate {
     ghost test = { λ _ _ _. false };
 }
 
-/// The types of a cache of any keys and values: hashed by an `S`, weighed by a `W`, with lives of their own by an `E`, at
-/// the moments of a `T` where it is shared, whose mass invalidations ask a `P`, whose initializers may fail with an `F`, and
-/// which tells an `L` of what leaves where it is shared. It keeps whatever is written. Its source of frequencies is a sketch
-/// of 256 KiB.
+/// The types of a cache of any keys and values, without a value invariant. Its frequency source is
+/// a sketch of 256 KiB.
+///
+/// - `S`: the hasher.
+/// - `W`: the weigher.
+/// - `E`: the expiry.
+/// - `T`: the clock of a shared cache.
+/// - `P`: the predicate of mass invalidations.
+/// - `F`: the error of initializers that may fail.
+/// - `L`: the listener of a shared cache.
 pub struct ReadyTypes<
     S,
     W = NoWeigher,
@@ -108,33 +115,36 @@ where
     ghost copies_compose = { V.copies_compose };
 }
 
-/// Makes the hashers of keys that nobody picks to collide. It is always the same: whoever picks the keys can make all of
-/// one hash, and then each call reads them all.
+/// Makes the hashers of keys that no attacker picks.
+///
+/// It is always the same. So whoever picks the keys can give them all one hash, and then each call
+/// visits them all.
 pub type FoldState = BuildHasherDefault<FoldHasher>;
 
-/// A cache without a weigher or an expiry, of keys that nobody picks to collide.
+/// A cache without a weigher or an expiry, for keys that no attacker picks.
 ///
 /// ```
 /// type Sessions = CacheState<u64, String, Plain>;
 /// ```
 pub type Plain<T = ManualClock> = ReadyTypes<FoldState, NoWeigher, NoExpiry, T>;
 
-/// A cache without a weigher or an expiry, of keys that an attacker may pick.
+/// A cache without a weigher or an expiry, for keys that an attacker may pick.
 pub type PlainRandom<T = ManualClock> = ReadyTypes<RandomState, NoWeigher, NoExpiry, T>;
 
-/// A cache with a weigher, of keys that nobody picks to collide.
+/// A cache with a weigher, for keys that no attacker picks.
 pub type Weighed<W, T = ManualClock> = ReadyTypes<FoldState, W, NoExpiry, T>;
 
-/// A cache with an expiry, of keys that nobody picks to collide.
+/// A cache with an expiry, for keys that no attacker picks.
 pub type Expiring<E, T = ManualClock> = ReadyTypes<FoldState, NoWeigher, E, T>;
 
-/// A cache with a weigher and an expiry, of keys that nobody picks to collide.
+/// A cache with a weigher and an expiry, for keys that no attacker picks.
 pub type WeighedExpiring<W, E, T = ManualClock> = ReadyTypes<FoldState, W, E, T>;
 
-/// A cache whose mass invalidations ask a predicate.
+/// A cache whose mass invalidations use a predicate, for keys that no attacker picks.
 pub type Hiding<P, T = ManualClock> = ReadyTypes<FoldState, NoWeigher, NoExpiry, T, P>;
 
-/// A cache without a weigher or an expiry, whose initializers may fail with an `F`, of keys that nobody picks to collide.
+/// A cache without a weigher or an expiry, whose initializers may fail with an `F`, for keys that
+/// no attacker picks.
 pub type Fallible<F, T = ManualClock> = ReadyTypes<
     FoldState,
     NoWeigher,
@@ -144,7 +154,24 @@ pub type Fallible<F, T = ManualClock> = ReadyTypes<
     F,
 >;
 
-/// A relation of keys and values that a cache keeps: whoever writes owes it, and whoever reads gets it.
+/// A cache without a weigher or an expiry, which calls an `L` for removed entries if it is shared,
+/// for keys that no attacker picks.
+///
+/// ```
+/// let names: Cache<u64, String, Listening<L>, R> = builder.build_with_hasher(
+/// ```
+pub type Listening<L, T = ManualClock> = ReadyTypes<
+    FoldState,
+    NoWeigher,
+    NoExpiry,
+    T,
+    NoPredicate,
+    Infallible,
+    L,
+>;
+
+/// A value invariant: a relation between the keys and the values of a cache. Writers have to prove
+/// it, readers get it.
 ///
 /// ```
 /// impl Keeps<u32, u64> for Triangles {
@@ -154,49 +181,75 @@ pub trait Keeps<K: Eq, V: Clone> {
     /// The relation.
     ghost keeps: { K → V → Type 0 };
 
-    /// It does not tell equal keys apart.
+    /// The relation does not distinguish equal keys.
     ghost equal_keys_keep: { (a b : K) (v : V) → K.eq a b ≡ true → keeps a v → keeps b v };
 
-    /// Nor a value from its copies.
+    /// The relation does not distinguish a value from its clones.
     ghost copies_keep: { (k : K) (v w : V) → V.is_clone v w → keeps k v → keeps k w };
 }
 
-/// The types of a cache that keeps the relation of an `R`, without a weigher or an expiry, of keys that nobody picks to
-/// collide.
-pub struct Keeping<R, S = FoldState> {
-    types: PhantomData<(R, S)>,
+/// The types of a cache with the value invariant of an `R`.
+///
+/// - `S`: the hasher. Its default is for keys that no attacker picks.
+/// - `T`: the clock of a shared cache.
+/// - `L`: the listener of a shared cache.
+/// - `F`: the error of initializers that may fail.
+/// - `W`: the weigher.
+/// - `E`: the expiry.
+/// - `P`: the predicate of mass invalidations.
+///
+/// ```
+/// type Numbers<R> = Cache<u32, u64, Keeping<Triangles, FoldState, RunningClock<R>>, R>;
+/// ```
+pub struct Keeping<
+    R,
+    S = FoldState,
+    T = ManualClock,
+    L = NoListener,
+    F = Infallible,
+    W = NoWeigher,
+    E = NoExpiry,
+    P = NoPredicate,
+> {
+    types: PhantomData<(R, S, T, L, F, W, E, P)>,
 }
 
-impl<K, V, R, S> CacheTypes<K, V> for Keeping<R, S>
+impl<K, V, R, S, T, L, F, W, E, P> CacheTypes<K, V> for Keeping<R, S, T, L, F, W, E, P>
 where
     K: Eq + Drop,
     V: CopiesCompose,
     R: Keeps<K, V>,
     S: BuildHasher + Drop,
+    T: Clock + Drop,
+    L: Listener<K, V> + Drop,
+    F: Drop,
+    W: SteadyWeigher<K, V> + Drop,
+    E: SteadyExpiry<K, V> + Drop,
+    P: SteadyPredicate<K, V> + Drop,
 {
     type Hasher = S;
 
-    type Weigher = NoWeigher;
+    type Weigher = W;
 
-    type Expiry = NoExpiry;
+    type Expiry = E;
 
-    type Predicate = NoPredicate;
+    type Predicate = P;
 
     type Frequency = FrequencySketch<16>;
 
-    type Listener = NoListener;
+    type Listener = L;
 
-    type Clock = ManualClock;
+    type Clock = T;
 
-    type Error = Infallible;
+    type Error = F;
 
-    ghost weight = { λ _ _ _. 1 };
+    ghost weight = { W.weight };
 
-    ghost equal_keys_weigh = { λ _ _ _ _ _. refl };
+    ghost equal_keys_weigh = { W.equal_keys_weigh };
 
-    ghost lifetimes = { λ _. no_lifetimes };
+    ghost lifetimes = { E.lifetimes };
 
-    ghost test = { λ _ _ _. false };
+    ghost test = { P.test };
 
     ghost keeps = { R.keeps };
 

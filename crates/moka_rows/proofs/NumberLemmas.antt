@@ -1,4 +1,4 @@
--- How often a number stands, rows with numbers of their own, and the place of a row.
+-- How often a number occurs, rows with different numbers, and the place of a row.
 use Rattle.std.proofs.Common.{◌≡◌, ℕ, suc, zero, ◌+◌, ◌<◌, ◌≤◌, ◌≢◌, ◌==◌, Bool, true, false, Option, Some, None, List, [], ◌∷◌, ◌++◌, length, take, get_or, set, if◌then◌else◌, refl, sym, ap, ◌∙◌, add-one, arith}
 use Rattle.std.specs.List.{find, filter, remove}
 use Rattle.std.specs.Option.{option_map, option_or, IfSome, IfNone, IsSome}
@@ -48,7 +48,7 @@ module _ {R : Type 0} where
   row_under-place n [] place at = let within = at.within in absurd (omega arith)
   row_under-place n (p ∷ ps) place at = ((get_or (p ∷ ps) place p).1, at.row (get_or (p ∷ ps) place p) (get_or_default (p ∷ ps) place p _ at.within))
 
-  -- one row more before which no row has the number
+  -- if neither the first rows nor the next one have the number, the first rows and the next one do not
   pub row_under-take_more : (n : ℕ) (rows : List (ℕ × R)) (place : ℕ) (d : ℕ × R) → place < length rows → (get_or rows place d).0 ≢ n → row_under n (take place rows) ≡ None → row_under n (take (place + 1) rows) ≡ None
   row_under-take_more n rows place d within other before =
       rw (take_more rows place d within)
@@ -79,7 +79,7 @@ module _ {R : Type 0} where
       go true test later = rw (without_row-here n p ps test) (ap (λ k. (if k == m then 1 else 0) + count_under m ps) (eqb-true p.0 n test))
       go false test later = rw (without_row-there n p ps test) (let rest = later (sym (row_under-there n p ps test) ∙ found) in omega arith)
 
-  -- no row stands under a number that does not occur, and one stands under a number that does
+  -- there is no row with a number that does not occur, and there is one with a number that does
   pub row_under-none : (n : ℕ) (xs : List (ℕ × R)) → count_under n xs ≡ 0 → row_under n xs ≡ None
   row_under-none n [] zero_times = refl
   row_under-none n (p ∷ ps) zero_times =
@@ -96,16 +96,16 @@ module _ {R : Type 0} where
         | false ↦ λ later. let rest = count_under-some n ps r later in omega arith
       ] found
 
-  -- where the numbers differ, the number of a row in front is that of none behind
+  -- if the numbers differ, no row of the second part has the number of a row of the first part
   pub absent-behind : (n : ℕ) (front back : List (ℕ × R)) (r : R) → NumbersDiffer (front ++ back) → row_under n front ≡ Some r → row_under n back ≡ None
   absent-behind n front back r apart found =
       row_under-none n back (let once = apart n in let here = count_under-some n front r found in let parts = count_under-append n front back in omega (arith, once, here, parts))
 
-  -- no row stands under the next number
+  -- no row has the next number
   pub row_under-next : (next : ℕ) (rows : List (ℕ × R)) → IsNumbered next rows → row_under next rows ≡ None
   row_under-next next rows numbered = row_under-none next rows (numbered.below next (omega arith))
 
-  -- lists in which each number stands as often as before, and which are not longer
+  -- lists in which no number occurs more often than before, and which are not longer
   IsNumbered-same : (next : ℕ) (xs ys : List (ℕ × R)) → ((m : ℕ) → count_under m ys ≤ count_under m xs) → length ys ≤ length xs → IsNumbered next xs → IsNumbered next ys
   IsNumbered-same next xs ys fewer shorter numbered = record {
     apart = λ m. let once = numbered.apart m in let le = fewer m in omega arith;

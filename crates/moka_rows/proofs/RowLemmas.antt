@@ -4,7 +4,7 @@ use Rattle.std.specs.Option.{option_or}
 use Rattle.std.proofs.lemmas.Bool.{eq-eqb, eqb-true, ne_eqb}
 use Rattle.moka_rows.specs.Rows.{row_under, with_row, without_row}
 
--- a number that is n is not another one
+-- a number that equals n does not equal another number
 eqb-other : (k m n : ℕ) → (k == n) ≡ true → m ≢ n → (k == m) ≡ false
 eqb-other k m n is other = ne_eqb k m (λ same. other (sym same ∙ eqb-true k n is))
 

@@ -1,4 +1,4 @@
-//! The rows of a cache: what a store of rows does, and the stores that there are.
+//! The rows of a cache: the trait of row stores, and one plain store.
 #![tactic(auto)]
 
 pub mod list_rows;

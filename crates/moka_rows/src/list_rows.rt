@@ -9,17 +9,20 @@ use crate::shelf::Shelved;
 use crate::visits::step;
 use std::alloc::{AllocError, Global};
 
-/// Where a row stands: at a place among the admitted, or among those that wait.
+/// Where a row is: at an index of the resident or of the pending rows.
 enum Place {
     Admitted(usize),
     Waiting(usize),
 }
 
-/// Rows in two lists, each in its order, with numbers that are given out in turn.
+/// A row store of two lists, one for each order. Row numbers are given out in turn.
 ///
-/// Each call on a row searches for it from the front, so it takes time linear in the number of rows. To add a row
-/// takes constant time. The admitted rows' list has places for all rows, so that a row that waits is admitted
-/// without memory.
+/// The list of resident rows has capacity for all rows, so that admitting one does not allocate.
+///
+/// # Complexity
+///
+/// Each call on a row searches for it from the front: linear in the number of rows. `add` takes
+/// constant time.
 #[derive(Drop)]
 pub struct ListRows<K, V> {
     waiting: Vec<(usize, Shelved<Row<K, V>>)>,
@@ -29,7 +32,8 @@ pub struct ListRows<K, V> {
     ghost can_admit: { vec_len admitted + vec_len waiting ≤ vec_capacity admitted },
 }
 
-/// The number of the first of these rows that is the key's. Adds one to `reads` for each row that it reads.
+/// Returns the number of the first of these rows with the key. Adds 1 to `reads` for each row it
+/// reads.
 fn number_of<K: Eq, V>(
     rows: &[(usize, Shelved<Row<K, V>>)],
     key: &K,
@@ -51,7 +55,7 @@ fn number_of<K: Eq, V>(
     None
 }
 
-/// The place of the first row under a number.
+/// Returns the index of the first row with this number.
 fn place_of<K, V>(rows: &[(usize, Shelved<Row<K, V>>)], number: usize) -> Option<usize>
     ensures { MatchOption result (row_under number rows.now ≡ None) (λ place. IsPlaceOf number rows.now place) }
 {
@@ -63,7 +67,7 @@ fn place_of<K, V>(rows: &[(usize, Shelved<Row<K, V>>)], number: usize) -> Option
     None
 }
 
-/// The number of the first of these rows whose deadline has come at a moment.
+/// Returns the number of the first of these rows whose deadline has come at `now`.
 fn expired_in<K, V>(rows: &[(usize, Shelved<Row<K, V>>)], now: u64) -> Option<usize>
     ensures { result ≡ first_number (expired_at now rows.now) }
 {
@@ -75,7 +79,7 @@ fn expired_in<K, V>(rows: &[(usize, Shelved<Row<K, V>>)], now: u64) -> Option<us
     None
 }
 
-/// The number of the row at a place, where the list goes that far.
+/// Returns the number of the row at an index, or `None` past the end.
 fn number_at<K, V>(rows: &[(usize, Shelved<Row<K, V>>)], place: usize) -> Option<usize>
     ensures { result ≡ first_number (drop place rows.now) }
 {
@@ -85,7 +89,7 @@ fn number_at<K, V>(rows: &[(usize, Shelved<Row<K, V>>)], place: usize) -> Option
 
 #[tactic(auto, using(crate::proofs::RowLemmas::joins))]
 impl<K, V> ListRows<K, V> {
-    /// Where the row under a number stands.
+    /// Returns where the row with this number is.
     fn place(&self, number: usize) -> Place
         requires { IsSome (row_under number (self.now.admitted.items ++ self.now.waiting.items)) }
         ensures { IsPlaceIn number self.now.admitted.items self.now.waiting.items result }
@@ -146,8 +150,12 @@ impl<K: Eq + Drop, V: Drop> RowStore<K, V> for ListRows<K, V> {
         }
     }
 
-    /// The numbers that were given out are never given out again: once they are used up, which would take 2^64 rows,
-    /// this is refused.
+    /// Makes room for `more` more rows. No number is ever given out twice.
+    ///
+    /// # Errors
+    ///
+    /// - `AllocError`: an allocation failed, or fewer than `more` numbers are left. The latter
+    ///   takes 2^64 rows.
     fn reserve(&mut self, more: usize) -> Result<(), AllocError> {
         if usize::MAX - self.next < more {
             return Err(AllocError);

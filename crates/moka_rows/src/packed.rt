@@ -1,14 +1,15 @@
-//! What a row keeps of its value, in few bytes.
+//! The metadata of a row's value, packed into few bytes.
 ghost use Rattle.std.specs.Prelude.{◌≡◌, true, if◌then◌else◌, Some, None};
+ghost use Rattle.moka_rows.specs.Rows.{used_at};
 
-use crate::rows::{EntryInfo, OwnLife};
+use crate::rows::{EntryInfo, OwnLife, Touch};
 use std::marker::Model;
 use std::time::Duration;
 
-/// What a row keeps of its value.
+/// The metadata of a row's value, packed.
 ///
-/// A contract sees the `EntryInfo` itself. The fields are private, and without the room that an
-/// `Option` takes to say whether there is one.
+/// A contract sees it as an `EntryInfo`. The private fields do without the room that each `Option`
+/// takes to say whether it has a value.
 #[derive(Drop)]
 pub struct PackedInfo {
     last_modified: u64,
@@ -38,7 +39,8 @@ impl Model for PackedInfo {
     } };
 }
 
-/// Whether there is a value, and the value, or else the other one.
+/// Returns whether there is a value, and the value or else `otherwise`.
+#[inline(always)]
 fn flagged<T: Copy>(value: Option<T>, otherwise: T) -> (bool, T)
     ensures { (if result.0 then Some result.1 else None) ≡ value }
 {
@@ -48,7 +50,8 @@ fn flagged<T: Copy>(value: Option<T>, otherwise: T) -> (bool, T)
     }
 }
 
-/// The value, where there is one.
+/// Returns the value if `is_there`, and else `None`.
+#[inline(always)]
 fn unflagged<T: Copy>(is_there: bool, value: T) -> Option<T>
     ensures { result ≡ (if is_there then Some value else None) }
 {
@@ -56,7 +59,8 @@ fn unflagged<T: Copy>(is_there: bool, value: T) -> Option<T>
 }
 
 impl PackedInfo {
-    /// What is kept of a value, packed.
+    /// Packs the metadata of a value.
+    #[inline(always)]
     pub fn new(info: EntryInfo) -> Self
         ensures { result ≡ info }
     {
@@ -79,7 +83,8 @@ impl PackedInfo {
         }
     }
 
-    /// What is kept of the value.
+    /// Returns the metadata, unpacked.
+    #[inline(always)]
     pub fn info(&self) -> EntryInfo
         ensures { result ≡ self.now }
     {
@@ -97,7 +102,26 @@ impl PackedInfo {
         }
     }
 
-    /// Hides the value.
+    /// Applies an access. An absent lifetime or deadline only clears its flag, and leaves the
+    /// fields of its value unwritten.
+    #[inline(always)]
+    pub fn touch(&mut self, touch: Touch)
+        ensures { self.new ≡ used_at touch self.old }
+    {
+        self.last_accessed = touch.last_accessed;
+        self.has_own_life = touch.own_life.is_some();
+        if let Some(own) = touch.own_life {
+            self.from = own.from;
+            self.life = own.life;
+        }
+        self.has_deadline = touch.deadline.is_some();
+        if let Some(deadline) = touch.deadline {
+            self.deadline = deadline;
+        }
+    }
+
+    /// Marks the value invalidated.
+    #[inline(always)]
     pub fn hide(&mut self)
         ensures { self.new ≡ record self.old { is_hidden = true } }
     {

@@ -1,7 +1,8 @@
-//! The rows of a cache, and what a store of rows does.
+//! The rows of a cache, and the trait of stores of rows.
 //!
-//! A row has a number, which stays its own as long as it is stored. The store keeps two orders of rows: those that
-//! wait for admission, in the order in which their keys came, and those that are admitted, in the order of use.
+//! A row is a stored key with its value. A number identifies it as long as it is stored. A store
+//! keeps two orders of rows: the pending ones (`waiting`) in arrival order, and the resident ones
+//! (`admitted`) in access order.
 ghost use Rattle.std.specs.Prelude.{◌≡◌, true, false, ◌||◌, ℕ, ◌+◌, ◌<◌, ◌≤◌, List, [], ◌∷◌, ◌++◌, length, IsSome, IfSome, IfNone, OnOk, OnErr, OnSome, Some, None, MatchOption};
 ghost use Rattle.moka_model.specs.Lives.{has_come};
 ghost use Rattle.moka_rows.specs.Rows.{row_under, with_row, without_row, used_at, touched, overwritten, hidden, cause_at, first_number, number_after, expired_at};
@@ -15,48 +16,48 @@ use std::mem;
 use std::sync::Arc;
 use std::time::Duration;
 
-/// A life that a value has of its own.
+/// A lifetime that an entry has of its own.
 #[derive(Clone, Copy, Debug, PartialEq, Eq)]
 pub struct OwnLife {
     /// The moment from which it counts, in nanoseconds.
     pub from: u64,
-    /// How long it is.
+    /// Its length.
     pub life: Duration,
 }
 
-/// What a row keeps of its value: its moments, in nanoseconds, its life and its weight.
+/// The metadata of a row's value.
 #[derive(Clone, Copy, Debug, PartialEq, Eq)]
 pub struct EntryInfo {
-    /// When the value was written.
+    /// When the value was written, in nanoseconds.
     pub last_modified: u64,
-    /// When it was written or last found by a recorded look.
+    /// When it was written or last accessed, in nanoseconds.
     pub last_accessed: u64,
-    /// The life of its own, if it has one.
+    /// The entry's own lifetime, if it has one.
     pub own_life: Option<OwnLife>,
-    /// The moment from which it is expired, in nanoseconds; without one it never is. One past the
-    /// last moment never comes, so none is kept.
+    /// The moment from which the value is expired, in nanoseconds. Without one it never expires. A
+    /// deadline past the last moment never comes, so `None` is kept for it.
     pub deadline: Option<u64>,
-    /// How heavy it is.
+    /// The weight of the entry.
     pub policy_weight: u32,
-    /// Whether a mass invalidation has hidden it.
+    /// Whether a mass invalidation has invalidated it.
     pub is_hidden: bool,
 }
 
-/// What a use changes of that: when it was, in nanoseconds, and the life of its own that the value
-/// has from then on.
+/// What an access changes in an `EntryInfo`.
 #[derive(Clone, Copy, Debug, PartialEq, Eq)]
 pub struct Touch {
-    /// When the value was used.
+    /// When the access was, in nanoseconds.
     pub last_accessed: u64,
-    /// The life of its own, if it has one.
+    /// The entry's own lifetime from then on, if it has one.
     pub own_life: Option<OwnLife>,
-    /// The moment from which it is expired, in nanoseconds; without one it never is. One past the
-    /// last moment never comes, so none is kept.
+    /// The moment from which the value is expired, in nanoseconds. Without one it never expires. A
+    /// deadline past the last moment never comes, so `None` is kept for it.
     pub deadline: Option<u64>,
 }
 
 impl EntryInfo {
-    /// Whether the value is expired at a moment: it is from its deadline on.
+    /// Returns whether the value is expired at `now`: it is from its deadline on.
+    #[inline(always)]
     pub fn is_expired(self, now: u64) -> bool
         ensures { result ≡ has_come self.deadline now }
     {
@@ -66,15 +67,17 @@ impl EntryInfo {
         }
     }
 
-    /// Whether the value is dead at a moment: it is where it is hidden, or expired.
+    /// Returns whether the value is invalidated, or expired at `now`.
+    #[inline(always)]
     pub fn is_dead(self, now: u64) -> bool
         ensures { result ≡ (self.is_hidden || has_come self.deadline now) }
     {
         self.is_hidden || self.is_expired(now)
     }
 
-    /// The cause under which the value leaves at a moment: a caller's wish where it is hidden,
-    /// expired where it is that alone, and else the caller's own.
+    /// Returns the cause of a removal of the value at `now`. It is `Explicit` if the value is
+    /// invalidated, else `Expired` if its deadline has come, and else `own`.
+    #[inline(always)]
     pub fn cause(self, now: u64, own: RemovalCause) -> RemovalCause
         ensures { result ≡ cause_at own self now }
     {
@@ -87,7 +90,8 @@ impl EntryInfo {
         }
     }
 
-    /// What is kept of the value after a use.
+    /// Returns the metadata after an access.
+    #[inline(always)]
     pub fn used_at(self, touch: Touch) -> EntryInfo
         ensures { result ≡ used_at touch self }
     {
@@ -103,61 +107,63 @@ impl EntryInfo {
 /// One of the two orders of rows.
 #[derive(Clone, Copy, Debug, PartialEq, Eq)]
 pub enum Order {
-    /// The admitted rows, in the order of use.
+    /// The resident rows, in access order.
     Admitted,
-    /// Those that wait for admission, in the order in which they came.
+    /// The pending rows, in arrival order.
     Waiting,
 }
 
-/// What stood in a row before another value took its place.
+/// What an overwrite replaced in a row.
 #[derive(Debug, Drop)]
 pub struct Before<V> {
-    /// The value.
+    /// The old value.
     pub value: V,
-    /// What was kept of it.
+    /// The metadata of the old value.
     pub info: EntryInfo,
-    /// The order in which the row stood, and still does.
+    /// The order of the row, before the overwrite and after it.
     pub order: Order,
 }
 
 /// One stored key with its value.
 #[derive(Drop)]
 pub struct Row<K, V> {
-    /// The key of the write that found it not stored.
+    /// The stored key: the one of the write that inserted the entry.
     pub key: Arc<K>,
-    /// The key's hash.
+    /// The hash of the key.
     pub hash: u64,
     /// The value of the last write.
     pub value: V,
-    /// What is kept of that value.
+    /// The metadata of that value.
     pub info: PackedInfo,
 }
 
 impl<K, V> Row<K, V> {
-    /// What is kept of the value.
+    /// Returns the metadata of the value.
+    #[inline(always)]
     pub fn info(&self) -> EntryInfo
         ensures { result ≡ self.now.info }
     {
         self.info.info()
     }
 
-    /// Makes a use of the row. It keeps its weight, the moment of its last write, and whether it is
-    /// hidden.
+    /// Applies an access. Keeps the weight, the moment of the last write and the mark `is_hidden`.
+    #[inline(always)]
     pub fn touch(&mut self, touch: Touch)
         ensures { self.new ≡ touched touch self.old }
     {
-        self.info = PackedInfo::new(self.info().used_at(touch));
+        self.info.touch(touch);
     }
 
-    /// Hides the row. All else of it stays.
+    /// Marks the row invalidated. Everything else stays.
+    #[inline(always)]
     pub fn hide(&mut self)
         ensures { self.new ≡ hidden self.old }
     {
         self.info.hide();
     }
 
-    /// Gives the row another value with its moments, its life and its weight, and answers what was
-    /// there.
+    /// Replaces the value and its metadata, and returns the old ones.
+    #[inline(always)]
     pub fn overwrite(&mut self, value: V, info: EntryInfo) -> (V, EntryInfo)
         ensures value { result.0 ≡ self.old.value }
         ensures info { result.1 ≡ self.old.info }
@@ -168,30 +174,32 @@ impl<K, V> Row<K, V> {
     }
 }
 
-/// A store of rows.
+/// A store of rows in two orders, by which a cache keeps its entries.
 pub trait RowStore<K: Eq, V>: Drop {
     ghost use Rattle.moka_rows.specs.declared.rows.Row.{Row};
 
-    /// The rows that wait for admission, each with its number, in the order in which they were added.
+    /// The pending rows with their numbers, in arrival order.
     ghost waiting: { Self → List (ℕ × Row K V) };
 
-    /// The admitted rows, each with its number, the least recently used first.
+    /// The resident rows with their numbers, the least recently used first.
     ghost admitted: { Self → List (ℕ × Row K V) };
 
-    /// How many rows can be added without memory.
+    /// How many rows can be added without an allocation.
     ghost room: { Self → ℕ };
 
-    /// A store without rows. It takes no memory.
+    /// Creates a store without rows. Does not allocate.
     fn new(alloc: Global) -> Self
         ensures waiting { waiting result ≡ [] }
         ensures admitted { admitted result ≡ [] };
 
-    /// How many rows there are, in either order.
+    /// Returns how many rows there are in both orders.
     fn len(&self) -> usize
         ensures { result ≡ length (admitted self.now ++ waiting self.now) };
 
-    /// The number of the row of a key, given the key's hash. Adds one to `reads` for each row that it reads, and so at
-    /// least one where it finds a row.
+    /// Returns the number of the row with a key, given the key's hash.
+    ///
+    /// Adds 1 to `reads` for each row that it reads: at least 1 if it finds a row, and at most 1
+    /// for each row of the store. `reads` is 0 before.
     fn find(&self, key: &K, hash: u64, reads: &mut u64) -> Option<usize>
         requires { reads.old ≡ 0 }
         ensures found { IfSome result (λ number. IfSome (row_under number (admitted self.now ++ waiting self.now)) (IsRowOf K.eq key.now hash)) }
@@ -200,35 +208,40 @@ pub trait RowStore<K: Eq, V>: Drop {
         ensures counted { reads.new ≤ length (admitted self.now ++ waiting self.now) }
         ensures read { OnSome result (0 < reads.new) };
 
-    /// The row under a number. No two rows have one number.
+    /// Returns the row with this number. No two rows have the same number.
     fn row(&self, number: usize) -> &Row<K, V>
         requires { IsSome (row_under number (admitted self.now ++ waiting self.now)) }
         ensures row { row_under number (admitted self.now ++ waiting self.now) ≡ Some result.now }
         ensures apart { NumbersDiffer (admitted self.now ++ waiting self.now) };
 
-    /// The hash of the row under a number. It comes from where the row is linked, where that is cheaper than to read
-    /// the row.
+    /// Returns the hash of the row with this number. It comes from the row's link, if reading that
+    /// is cheaper than reading the row.
     fn hash(&self, number: usize) -> u64
         requires { IsSome (row_under number (admitted self.now ++ waiting self.now)) }
         ensures { IfSome (row_under number (admitted self.now ++ waiting self.now)) (λ row. result ≡ row.hash) };
 
-    /// No two rows have one number. It does nothing.
+    /// Does nothing. Its contract says that no two rows have the same number.
     fn numbers_differ(&self)
         ensures { NumbersDiffer (admitted self.now ++ waiting self.now) };
 
-    /// Whether the row under a number is admitted.
+    /// Returns whether the row with this number is resident.
     fn is_admitted(&self, number: usize) -> bool
         requires { IsSome (row_under number (admitted self.now ++ waiting self.now)) }
         ensures { MatchOption (row_under number (admitted self.now)) (result ≡ false) (λ _. result ≡ true) };
 
-    /// Makes room for this many more rows. Where memory is refused, every row stays as it was.
+    /// Makes room for this many more rows. Every row stays as it was, also if the call fails.
+    ///
+    /// # Errors
+    ///
+    /// - `AllocError`: an allocation failed, or the store cannot number so many rows.
     fn reserve(&mut self, more: usize) -> Result<(), AllocError>
         ensures room { OnOk result (more ≤ room self.new) }
         ensures more { OnOk result (room self.old ≤ room self.new) }
         ensures waiting { waiting self.new ≡ waiting self.old }
         ensures admitted { admitted self.new ≡ admitted self.old };
 
-    /// Adds a row as the last of those that wait, under a number that no stored row has. It takes the room of one row.
+    /// Adds a row as the last pending one, and returns its number. No stored row has that number.
+    /// Uses the room of one row.
     fn add(&mut self, row: Row<K, V>) -> usize
         requires { 0 < room self.old }
         ensures fresh { row_under result (admitted self.old ++ waiting self.old) ≡ None }
@@ -236,8 +249,10 @@ pub trait RowStore<K: Eq, V>: Drop {
         ensures admitted { admitted self.new ≡ admitted self.old }
         ensures room { room self.old ≤ room self.new + 1 };
 
-    /// A use of a row, which keeps its weight, the moment of its last write, and whether it is hidden. Where it is
-    /// admitted it becomes the most recently used. It takes none of the room.
+    /// Applies an access to a row. A resident row becomes the most recently used; a pending one
+    /// keeps its place.
+    ///
+    /// Keeps the weight, the moment of the last write and the mark `is_hidden`. Uses no room.
     fn touch(&mut self, number: usize, touch: Touch)
         requires { IsSome (row_under number (admitted self.old ++ waiting self.old)) }
         ensures after { MatchOption (row_under number (admitted self.old))
@@ -245,7 +260,11 @@ pub trait RowStore<K: Eq, V>: Drop {
             (λ row. (admitted self.new ≡ without_row number (admitted self.old) ++ (number, touched touch row) ∷ []) × (waiting self.new ≡ waiting self.old)) }
         ensures room { room self.old ≤ room self.new };
 
-    /// A use of a row that gives it another value, and answers what was there before. It takes none of the room.
+    /// Replaces the value of a row and its metadata, and returns what was there before. Uses no
+    /// room.
+    ///
+    /// It is an access: a resident row becomes the most recently used, and a pending one keeps its
+    /// place.
     fn overwrite(&mut self, number: usize, value: V, info: EntryInfo) -> Before<V>
         requires { IsSome (row_under number (admitted self.old ++ waiting self.old)) }
         ensures before { IfSome (row_under number (admitted self.old ++ waiting self.old))
@@ -256,32 +275,35 @@ pub trait RowStore<K: Eq, V>: Drop {
             (λ row. (admitted self.new ≡ without_row number (admitted self.old) ++ (number, overwritten value info row) ∷ []) × (waiting self.new ≡ waiting self.old)) }
         ensures room { room self.old ≤ room self.new };
 
-    /// Hides a row, in its place. It moves no row, takes no memory, and takes none of the room.
+    /// Marks a row invalidated. The row keeps its place. Does not allocate, and uses no room.
     fn hide(&mut self, number: usize)
         requires { IsSome (row_under number (admitted self.old ++ waiting self.old)) }
         ensures admitted { admitted self.new ≡ with_row number hidden (admitted self.old) }
         ensures waiting { waiting self.new ≡ with_row number hidden (waiting self.old) }
         ensures room { room self.old ≤ room self.new };
 
-    /// How many rows wait.
+    /// Returns how many rows are pending.
     fn waiting_len(&self) -> usize
         ensures { result ≡ length (waiting self.now) };
 
-    /// The number of the least recently used admitted row.
+    /// Returns the number of the least recently used resident row, if there is one.
     fn first_admitted(&self) -> Option<usize>
         ensures { result ≡ first_number (admitted self.now) };
 
-    /// The number of the first admitted row, in the order of use, whose deadline has come.
+    /// Returns the number of the first resident row, in access order, whose deadline has come at
+    /// `now`.
     fn first_expired(&self, now: u64) -> Option<usize>
         ensures { result ≡ first_number (expired_at now (admitted self.now)) };
 
-    /// The number of the row that has waited longest. No two rows have one number.
+    /// Returns the number of the row that has been pending longest. No two rows have the same
+    /// number.
     fn first_waiting(&self) -> Option<usize>
         ensures first { result ≡ first_number (waiting self.now) }
         ensures apart { NumbersDiffer (admitted self.now ++ waiting self.now) };
 
-    /// The number of the row behind this one, in the order in which this one stands. No two rows have one number.
-    /// Counts one step in `visits`.
+    /// Returns the number of the next row in the order of this row, if there is one.
+    ///
+    /// Counts one step in `visits`. No two rows have the same number.
     fn next(&self, number: usize, visits: &mut u128) -> Option<usize>
         requires { IsSome (row_under number (admitted self.now ++ waiting self.now)) }
         ensures behind { MatchOption (row_under number (admitted self.now))
@@ -290,14 +312,14 @@ pub trait RowStore<K: Eq, V>: Drop {
         ensures visited { visits.new ≡ one_more visits.old }
         ensures apart { NumbersDiffer (admitted self.now ++ waiting self.now) };
 
-    /// Admits a row that waits, as the most recently used. It takes no memory.
+    /// Makes a pending row resident, as the most recently used. Does not allocate.
     fn admit(&mut self, number: usize)
         requires { IsSome (row_under number (waiting self.old)) }
         ensures waiting { waiting self.new ≡ without_row number (waiting self.old) }
         ensures admitted { IfSome (row_under number (waiting self.old)) (λ row. admitted self.new ≡ admitted self.old ++ (number, row) ∷ []) }
         ensures room { room self.old ≤ room self.new };
 
-    /// Takes a row out, and answers it with the order in which it stood. It takes none of the room.
+    /// Removes a row, and returns it with its order. Uses no room.
     fn remove(&mut self, number: usize) -> (Row<K, V>, Order)
         requires { IsSome (row_under number (admitted self.old ++ waiting self.old)) }
         ensures row { row_under number (admitted self.old ++ waiting self.old) ≡ Some result.0 }
@@ -307,7 +329,7 @@ pub trait RowStore<K: Eq, V>: Drop {
             (λ _. (admitted self.new ≡ without_row number (admitted self.old)) × (waiting self.new ≡ waiting self.old)) }
         ensures room { room self.old ≤ room self.new };
 
-    /// Takes the least recently used admitted row out, where there is one. It takes none of the room.
+    /// Removes and returns the least recently used resident row, if there is one. Uses no room.
     fn take_first_admitted(&mut self) -> Option<Row<K, V>>
         ensures admitted { TakesFirst result (admitted self.old) (admitted self.new) }
         ensures waiting { waiting self.new ≡ waiting self.old }

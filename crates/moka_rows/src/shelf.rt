@@ -1,14 +1,15 @@
-//! Rows as a store keeps them. A look-up comes to a row only by a call that counts it.
+//! Rows as a store keeps them. A lookup reaches a row only by a call that counts it.
 ghost use Rattle.std.specs.Prelude.{◌≡◌, ◌+◌, ◌-◌, ◌<◌, ◌^◌};
 ghost use Rattle.moka_rows.specs.Rows.{touched, overwritten, hidden};
 
 use crate::rows::{EntryInfo, Row, Touch};
 use std::marker::Model;
 
-/// A row as it stands in a store.
+/// A row in a store.
 ///
-/// A contract sees the row itself. The field is private: a look-up comes to a row, its key or its
-/// hash by `look`, which counts it, and the other calls are for a row whose number is known already.
+/// A contract sees the row itself. The field is private, so that a lookup reaches a row, its key or
+/// its hash only by `look`, which counts it. The other calls are for a row whose number is known
+/// already.
 #[derive(Drop)]
 pub struct Shelved<R> {
     row: R,
@@ -21,14 +22,16 @@ impl<R> Model for Shelved<R> {
 }
 
 impl<R> Shelved<R> {
-    /// A row on its way into a store.
+    /// Wraps a row for a store.
+    #[inline(always)]
     pub fn new(row: R) -> Self
         ensures { result ≡ row }
     {
         Shelved { row }
     }
 
-    /// Reads the row for a look-up, and adds one to `reads`.
+    /// Returns the row to a lookup, and adds 1 to `reads`.
+    #[inline(always)]
     pub fn look(&self, reads: &mut u64) -> &R
         requires { reads.old < 2 ^ 64 - 1 }
         ensures row { result.now ≡ self.now }
@@ -38,14 +41,16 @@ impl<R> Shelved<R> {
         &self.row
     }
 
-    /// The row that was found.
+    /// Returns the row, whose number is known already.
+    #[inline(always)]
     pub fn row(&self) -> &R
         ensures { result.now ≡ self.now }
     {
         &self.row
     }
 
-    /// The row as it leaves its store.
+    /// Returns the row itself, for its removal from the store.
+    #[inline(always)]
     pub fn into_row(self) -> R
         ensures { result ≡ self }
     {
@@ -54,15 +59,16 @@ impl<R> Shelved<R> {
 }
 
 impl<K, V> Shelved<Row<K, V>> {
-    /// Makes a use of the row.
+    /// Applies an access to the row.
+    #[inline(always)]
     pub fn touch(&mut self, touch: Touch)
         ensures { self.new ≡ touched touch self.old }
     {
         self.row.touch(touch);
     }
 
-    /// Gives the row another value with its moments, its life and its weight, and answers what was
-    /// there.
+    /// Replaces the value and its metadata, and returns the old ones.
+    #[inline(always)]
     pub fn overwrite(&mut self, value: V, info: EntryInfo) -> (V, EntryInfo)
         ensures value { result.0 ≡ self.old.value }
         ensures info { result.1 ≡ self.old.info }
@@ -71,7 +77,8 @@ impl<K, V> Shelved<Row<K, V>> {
         self.row.overwrite(value, info)
     }
 
-    /// Hides the row.
+    /// Marks the row invalidated.
+    #[inline(always)]
     pub fn hide(&mut self)
         ensures { self.new ≡ hidden self.old }
     {

@@ -1,4 +1,4 @@
-//! The calls of a store of rows as data, and what they answer.
+//! The calls of a row store as data, and their results.
 ghost use Rattle.std.specs.Prelude.{◌≡◌, true, ◌++◌, IsSome, IfSome};
 ghost use Rattle.moka_rows.specs.Rows.{row_under};
 
@@ -9,36 +9,36 @@ use moka_slab::slab_rows::SlabRows;
 use std::alloc::{AllocError, Global};
 use std::sync::Arc;
 
-/// The store of the caches: rows in a slab, and the deadlines of the admitted ones.
+/// The store of the caches: rows in a slab, and the deadlines of the resident ones.
 pub type DueSlab = DueRows<u64, u64>;
 
-/// Which hash a key has.
+/// How keys are hashed.
 #[derive(Clone, Copy)]
 pub enum Hashes {
-    /// All keys have one.
+    /// All keys have one hash.
     One,
-    /// There are three.
+    /// There are three hashes.
     Three,
-    /// Each key has its own.
+    /// Each key has its own hash.
     Own,
 }
 
-/// A call of a store of rows; most are about the row of a key.
+/// A call of a row store. Most are about the row of a key.
 #[derive(Clone, Copy)]
 pub enum Call {
     Len,
     WaitingLen,
     FirstAdmitted,
     FirstWaiting,
-    /// The first admitted row whose deadline has come at a moment.
+    /// Returns the first resident row whose deadline has come at a moment.
     FirstExpired(u64),
-    /// Admits the row that has waited longest.
+    /// Admits the row that has been pending longest.
     AdmitFirst,
-    /// Takes the least recently used admitted row out.
+    /// Removes the least recently used resident row.
     TakeFirst,
     /// Makes room for so many more rows.
     Reserve(usize),
-    /// A row of this key and value, where there is none of the key.
+    /// Adds a row of this key and value, if there is none of the key.
     Add(u64, u64),
     Of(u64, Use),
 }
@@ -48,41 +48,42 @@ pub enum Call {
 pub enum Use {
     Find,
     Read,
-    /// Whether its hash is the one that the row has.
+    /// Returns whether its stored hash is that of the row.
     Hash,
     IsAdmitted,
     IsHidden,
-    /// Whether it is dead at a moment.
+    /// Returns whether it is expired or invalidated at a moment.
     IsDead(u64),
     Next,
-    /// Admits it, where it waits.
+    /// Admits it if it is pending.
     Admit,
-    /// A use at a moment.
+    /// Accesses it at a moment.
     Touch(u64),
-    /// Another value, at a moment.
+    /// Overwrites it with another value at a moment.
     Overwrite(u64, u64),
     Hide,
     Remove,
 }
 
-/// What a call answers. Stores number their rows as they like, so a number is answered as its row's
-/// key.
+/// The result of a call. Stores number their rows as they like, so a row number is shown as the key
+/// of its row.
 #[derive(Clone, Copy, Debug, PartialEq)]
 pub enum Answer {
     Done,
     Counted(usize),
     Is(bool),
     Key(u64),
-    /// A row's value, and when it was written and used.
+    /// The value of a row, and the moments of its last write and its last access.
     Value(u64, u64, u64),
-    /// What a row held before: its value, when that was written, and the row's order.
+    /// What a row held before: its value, the moment of its write, and its order.
     Before(u64, u64, Order),
-    /// A row that left, and the order in which it stood.
+    /// A removed row, and the order in which it was.
     Left(u64, u64, u64, Order),
     Absent,
 }
 
-/// The deadline of a value that was used at a moment: fifty later, but none for each third moment.
+/// Returns the deadline of a row that was used at a moment: 50 later, but none for each third
+/// moment.
 fn due_at(moment: u64) -> Option<u64> {
     if moment % 3 == 0 {
         None
@@ -91,7 +92,7 @@ fn due_at(moment: u64) -> Option<u64> {
     }
 }
 
-/// The moments of a write.
+/// Returns the data of a row that was written at a moment.
 pub fn written_at(moment: u64) -> EntryInfo {
     EntryInfo {
         last_modified: moment,
@@ -103,7 +104,7 @@ pub fn written_at(moment: u64) -> EntryInfo {
     }
 }
 
-/// The hash of a key.
+/// Returns the hash of a key.
 fn hash_of(hashes: Hashes, key: u64) -> u64 {
     match hashes {
         Hashes::One => 7,
@@ -112,8 +113,8 @@ fn hash_of(hashes: Hashes, key: u64) -> u64 {
     }
 }
 
-/// The row of a number, by the numbers that were given out, the last one first, since numbers may
-/// come again.
+/// Returns the key of a row number by the numbers that were given out. Takes the last one first,
+/// since numbers may come again.
 fn row_of(given: &[(usize, u64)], number: Option<usize>) -> Answer {
     for (at, key) in given.iter().rev() {
         if number == Some(*at) {
@@ -123,7 +124,7 @@ fn row_of(given: &[(usize, u64)], number: Option<usize>) -> Answer {
     Answer::Absent
 }
 
-/// The number of a key, and how many rows were read for it.
+/// Returns the row number of a key, and how many rows were read for it.
 pub fn number_of<R: RowStore<u64, u64>>(rows: &R, hashes: Hashes, key: u64) -> (Option<usize>, u64)
     ensures { IfSome result.0 (λ number. IsSome (row_under number (R.admitted rows.now ++ R.waiting rows.now))) }
 {
@@ -132,14 +133,14 @@ pub fn number_of<R: RowStore<u64, u64>>(rows: &R, hashes: Hashes, key: u64) -> (
     (number, reads)
 }
 
-/// The number of the row that has waited longest.
+/// Returns the row number of the row that has been pending longest.
 fn first_waiting<R: RowStore<u64, u64>>(rows: &R) -> Option<usize>
     ensures { IfSome result (λ number. IsSome (row_under number (R.waiting rows.now))) }
 {
     rows.first_waiting()
 }
 
-/// Whether a row waits.
+/// Returns whether a row is pending.
 fn waits<R: RowStore<u64, u64>>(rows: &R, number: usize) -> bool
     requires { IsSome (row_under number (R.admitted rows.now ++ R.waiting rows.now)) }
     ensures { result ≡ true → IsSome (row_under number (R.waiting rows.now)) }
@@ -147,13 +148,13 @@ fn waits<R: RowStore<u64, u64>>(rows: &R, number: usize) -> bool
     !rows.is_admitted(number)
 }
 
-/// What a row holds.
+/// Returns what a row holds.
 fn held(row: &Row<u64, u64>) -> Answer {
     let info = row.info();
     Answer::Value(row.value, info.last_modified, info.last_accessed)
 }
 
-/// Makes a use of the row under a number.
+/// Does something with the row of a number.
 fn used<R: RowStore<u64, u64>>(
     rows: &mut R,
     given: &[(usize, u64)],
@@ -202,7 +203,7 @@ fn used<R: RowStore<u64, u64>>(
     }
 }
 
-/// Adds a row, and answers its number.
+/// Adds a row, and returns its number.
 pub fn add<R: RowStore<u64, u64>>(
     alloc: Global,
     rows: &mut R,
@@ -221,7 +222,7 @@ pub fn add<R: RowStore<u64, u64>>(
     }))
 }
 
-/// Makes a call.
+/// Makes a call and returns its result.
 fn made<R: RowStore<u64, u64>>(
     alloc: Global,
     rows: &mut R,
@@ -265,7 +266,7 @@ fn made<R: RowStore<u64, u64>>(
     })
 }
 
-/// What a new store answers to some calls, in turn.
+/// Returns the results of some calls of a new store.
 pub fn answers<R: RowStore<u64, u64>>(
     alloc: Global,
     hashes: Hashes,

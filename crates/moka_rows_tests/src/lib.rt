@@ -1,4 +1,4 @@
-//! The stores of rows against what their trait says, by tables of calls, and against each other.
+//! The tests of the row stores: by tables of calls, and against each other.
 #![tactic(auto)]
 
 #[cfg(test)]

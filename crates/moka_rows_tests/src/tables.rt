@@ -1,4 +1,4 @@
-//! Tables of calls with their answers, for each store and each way to hash.
+//! Tables of calls with their results, for each store and each way to hash.
 use crate::calls::{Answer, Call, DueSlab, Hashes, Use, answers};
 use moka_rows::list_rows::ListRows;
 use moka_rows::rows::{Order, RowStore};
@@ -7,7 +7,7 @@ use std::alloc::Global;
 use std::process::Abort;
 use std::test::Fail;
 
-/// Each call answers what the table says, whichever hashes the keys have.
+/// Checks that each call returns what the table says, whichever hashes the keys have.
 fn answers_table<R: RowStore<u64, u64>>(
     rt: &impl Abort,
     alloc: Global,
@@ -26,7 +26,7 @@ fn answers_table<R: RowStore<u64, u64>>(
     Ok(())
 }
 
-/// Rows that come, change and leave. Keys 1, 4 and 7 have one hash where there are three.
+/// Rows that are added, changed and removed. Keys 1, 4 and 7 have one hash if there are three.
 const KEPT: [(Call, Answer); 26] = [
     (Call::Len, Answer::Counted(0)),
     (Call::Of(1, Use::Find), Answer::Absent),
@@ -71,7 +71,7 @@ const KEPT: [(Call, Answer); 26] = [
     (Call::Len, Answer::Counted(0)),
 ];
 
-/// Rows that are admitted and used, and their orders.
+/// Rows that are admitted and accessed, and their orders.
 const ADMITTED: [(Call, Answer); 39] = [
     (Call::AdmitFirst, Answer::Absent),
     (Call::TakeFirst, Answer::Absent),
@@ -84,7 +84,7 @@ const ADMITTED: [(Call, Answer); 39] = [
     (Call::WaitingLen, Answer::Counted(4)),
     (Call::Of(2, Use::Next), Answer::Key(3)),
     (Call::Of(2, Use::IsAdmitted), Answer::Is(false)),
-    // A use leaves a row that waits where it stands.
+    // An access leaves a pending row in its place.
     (Call::Of(1, Use::Touch(50)), Answer::Done),
     (Call::FirstWaiting, Answer::Key(1)),
     (Call::AdmitFirst, Answer::Done),
@@ -98,7 +98,7 @@ const ADMITTED: [(Call, Answer); 39] = [
     (Call::Of(3, Use::Next), Answer::Absent),
     (Call::Of(2, Use::Next), Answer::Key(4)),
     (Call::Of(3, Use::IsAdmitted), Answer::Is(true)),
-    // A use of an admitted row makes it the most recently used.
+    // An access makes a resident row the most recently used.
     (Call::Of(1, Use::Touch(60)), Answer::Done),
     (Call::FirstAdmitted, Answer::Key(3)),
     (
@@ -107,7 +107,7 @@ const ADMITTED: [(Call, Answer); 39] = [
     ),
     (Call::FirstAdmitted, Answer::Key(1)),
     (Call::Of(1, Use::Next), Answer::Key(3)),
-    // Those that leave from the middle are passed by.
+    // A row that is removed from the middle is no longer the next of another.
     (Call::AdmitFirst, Answer::Done),
     (
         Call::Of(3, Use::Remove),
@@ -121,18 +121,18 @@ const ADMITTED: [(Call, Answer); 39] = [
     (Call::WaitingLen, Answer::Counted(0)),
     (Call::FirstWaiting, Answer::Absent),
     (Call::Len, Answer::Counted(2)),
-    // The least recently used one leaves first.
+    // The least recently used row is taken first.
     (Call::TakeFirst, Answer::Value(10, 10, 60)),
     (Call::FirstAdmitted, Answer::Key(2)),
     (Call::Len, Answer::Counted(1)),
 ];
 
-/// The first expired one of the admitted rows.
+/// The first expired one of the resident rows.
 const DUE: [(Call, Answer); 25] = [
     (Call::Add(1, 10), Answer::Done),
     (Call::Add(2, 20), Answer::Done),
     (Call::Add(3, 31), Answer::Done),
-    // One that waits does not count.
+    // A pending row does not count.
     (Call::FirstExpired(100), Answer::Absent),
     (Call::AdmitFirst, Answer::Done),
     (Call::AdmitFirst, Answer::Done),
@@ -140,7 +140,7 @@ const DUE: [(Call, Answer); 25] = [
     // A row is expired from its deadline on.
     (Call::FirstExpired(59), Answer::Absent),
     (Call::FirstExpired(60), Answer::Key(1)),
-    // A use gives it another one, and another place.
+    // An access gives it another deadline, and another place.
     (Call::Of(1, Use::Touch(40)), Answer::Done),
     (Call::FirstExpired(69), Answer::Absent),
     (Call::FirstExpired(90), Answer::Key(2)),
@@ -156,24 +156,24 @@ const DUE: [(Call, Answer); 25] = [
     ),
     (Call::FirstExpired(89), Answer::Absent),
     (Call::FirstExpired(100), Answer::Key(1)),
-    // Without a deadline it never is.
+    // Without a deadline it never expires.
     (Call::Of(1, Use::Touch(60)), Answer::Done),
     (Call::FirstExpired(100), Answer::Key(2)),
     (Call::TakeFirst, Answer::Value(21, 50, 50)),
     (Call::FirstExpired(u64::MAX), Answer::Absent),
-    // The last moment of all can be one.
+    // The last moment of all can be a deadline.
     (Call::Of(1, Use::Touch(u64::MAX - 50)), Answer::Done),
     (Call::FirstExpired(u64::MAX - 1), Answer::Absent),
     (Call::FirstExpired(u64::MAX), Answer::Key(1)),
 ];
 
-/// Rows that are hidden.
+/// Rows that are invalidated.
 const HIDDEN: [(Call, Answer); 45] = [
     (Call::Add(1, 10), Answer::Done),
     (Call::Add(2, 20), Answer::Done),
     (Call::Add(3, 31), Answer::Done),
     (Call::Add(4, 40), Answer::Done),
-    // One that waits stays in its place, and is admitted as it is.
+    // A pending row keeps its place, and stays invalidated when it is admitted.
     (Call::Of(2, Use::Hide), Answer::Done),
     (Call::Of(2, Use::IsHidden), Answer::Is(true)),
     (Call::Of(1, Use::IsHidden), Answer::Is(false)),
@@ -186,12 +186,12 @@ const HIDDEN: [(Call, Answer); 45] = [
     (Call::AdmitFirst, Answer::Done),
     (Call::AdmitFirst, Answer::Done),
     (Call::Of(2, Use::IsHidden), Answer::Is(true)),
-    // An admitted one stays in its place, too.
+    // A resident row keeps its place, too.
     (Call::Of(1, Use::Hide), Answer::Done),
     (Call::FirstAdmitted, Answer::Key(1)),
     (Call::Of(1, Use::Next), Answer::Key(2)),
     (Call::Of(2, Use::Next), Answer::Key(3)),
-    // It is dead before its deadline, which stays as it was.
+    // It is dead before its deadline, which is unchanged.
     (Call::Of(1, Use::IsDead(11)), Answer::Is(true)),
     (Call::Of(3, Use::IsDead(80)), Answer::Is(false)),
     (Call::Of(3, Use::IsDead(81)), Answer::Is(true)),
@@ -199,7 +199,7 @@ const HIDDEN: [(Call, Answer); 45] = [
     (Call::FirstExpired(60), Answer::Key(1)),
     (Call::Of(1, Use::Hide), Answer::Done),
     (Call::Of(1, Use::IsHidden), Answer::Is(true)),
-    // A use leaves it hidden, and another value is not.
+    // An access leaves it invalidated, and an overwrite does not.
     (Call::Of(1, Use::Touch(50)), Answer::Done),
     (Call::Of(1, Use::IsHidden), Answer::Is(true)),
     (Call::FirstAdmitted, Answer::Key(2)),
@@ -210,7 +210,7 @@ const HIDDEN: [(Call, Answer); 45] = [
     ),
     (Call::Of(1, Use::IsHidden), Answer::Is(false)),
     (Call::Of(1, Use::IsDead(102)), Answer::Is(false)),
-    // It leaves as others do, and the next row under its number is not hidden.
+    // It is removed as others are, and the next row with its number is not invalidated.
     (
         Call::Of(2, Use::Remove),
         Answer::Left(20, 20, 20, Order::Admitted),
@@ -230,6 +230,7 @@ const HIDDEN: [(Call, Answer); 45] = [
     (Call::Len, Answer::Counted(2)),
 ];
 
+/// The plain store returns what the tables say.
 #[test]
 fn lists_answer_the_tables(rt: HostRuntime) -> Result<(), Fail> {
     answers_table::<ListRows<u64, u64>>(&rt, rt.alloc(), &KEPT)?;
@@ -238,6 +239,7 @@ fn lists_answer_the_tables(rt: HostRuntime) -> Result<(), Fail> {
     answers_table::<ListRows<u64, u64>>(&rt, rt.alloc(), &HIDDEN)
 }
 
+/// The slab returns what the tables say.
 #[test]
 fn a_slab_answers_the_tables(rt: HostRuntime) -> Result<(), Fail> {
     answers_table::<SlabRows<u64, u64>>(&rt, rt.alloc(), &KEPT)?;
@@ -246,6 +248,7 @@ fn a_slab_answers_the_tables(rt: HostRuntime) -> Result<(), Fail> {
     answers_table::<SlabRows<u64, u64>>(&rt, rt.alloc(), &HIDDEN)
 }
 
+/// The slab with deadlines returns what the tables say.
 #[test]
 fn a_slab_with_deadlines_answers_the_tables(rt: HostRuntime) -> Result<(), Fail> {
     answers_table::<DueSlab>(&rt, rt.alloc(), &KEPT)?;

@@ -1,4 +1,4 @@
-//! Long runs of calls, which all stores answer alike, and how many rows their look-ups read.
+//! Long lists of calls to which all stores reply alike, and how many rows their lookups read.
 use crate::calls::{Call, DueSlab, Hashes, Use, add, answers, number_of};
 use moka_rows::list_rows::ListRows;
 use moka_rows::rows::RowStore;
@@ -6,12 +6,12 @@ use moka_slab::slab_rows::SlabRows;
 use std::alloc::{AllocError, Global};
 use std::test::Fail;
 
-/// How many keys there are in a run, and how many calls.
+/// The number of keys in a list, and below it the number of calls.
 const KEYS: u64 = 40;
 
 const TURNS: u64 = 3_000;
 
-/// The call that a number stands for, at a moment.
+/// Returns the call of a number, at a moment.
 fn call_of(number: u64, moment: u64) -> Call {
     let key = number % KEYS;
     match number / KEYS % 16 {
@@ -55,7 +55,7 @@ fn call_of(number: u64, moment: u64) -> Call {
     }
 }
 
-/// Calls in no order that means anything.
+/// Returns pseudorandom calls.
 fn turns(alloc: Global) -> Result<Vec<Call>, AllocError> {
     let mut calls = Vec::new(alloc);
     let mut seed: u64 = 1;
@@ -68,6 +68,7 @@ fn turns(alloc: Global) -> Result<Vec<Call>, AllocError> {
     Ok(calls)
 }
 
+/// All stores give the same results for a long list of calls.
 #[test]
 fn all_stores_answer_alike(rt: HostRuntime) -> Result<(), Fail> {
     let calls = turns(rt.alloc())?;
@@ -83,8 +84,8 @@ fn all_stores_answer_alike(rt: HostRuntime) -> Result<(), Fail> {
     Ok(())
 }
 
-/// How many rows a look-up of each key reads, where the first ten are stored, and the next ten are
-/// not.
+/// Returns how many rows a lookup of a key reads at most. First of the ten keys that are stored,
+/// and then of the ten next ones, which are not.
 fn most_reads<R: RowStore<u64, u64>>(
     alloc: Global,
     hashes: Hashes,
@@ -105,6 +106,7 @@ fn most_reads<R: RowStore<u64, u64>>(
     Ok(most)
 }
 
+/// A lookup in the slab reads only rows with the key's hash; in the plain store it may read all.
 #[test]
 fn a_slab_reads_the_rows_of_one_hash(rt: HostRuntime) -> Result<(), Fail> {
     for (hashes, most) in [

@@ -1,4 +1,4 @@
--- A form on the state of a key's segment is that form on all segments.
+-- A loader on the state of a key's segment is that loader on all segments.
 use Rattle.std.proofs.Common.{◌≡◌, ℕ, ◌==◌, Bool, true, false, Option, Some, None, Result, Ok, Err, List, ◌∷◌, refl, sym, ap, ◌∙◌, subst, fold, set}
 use Rattle.moka_policy.specs.declared.policy.Refused.{Refused}
 use Rattle.moka_policy.specs.declared.policy.Refused.TheVariants as causes
@@ -22,7 +22,7 @@ use Rattle.moka_segmented.specs.Forms.{EndsTurnIn, IsFormIn}
 use Rattle.moka_segmented.specs.Turns.{GivesIn}
 use Rattle.moka_segmented.proofs.Routed.{Routing, here-view, index-is, routed-stands}
 
--- what holds of a form that is refused unasked follows from what held before
+-- what holds for a loader that fails before its closure runs follows from what held before
 pub unasked-by : {K V E G : Type 0} {P Q : Type 0} (given : Option G) (answer : Result (Answer K V E) Refused) → (P → Q) → IfRefusedUnasked P given answer → IfRefusedUnasked Q given answer
 unasked-by None (Ok a) implies is = tt
 unasked-by None (Err cause) implies is = implies is
@@ -135,7 +135,7 @@ module _ {K V H W X F : Type 0} (E : Type 0) (eq : K → K → Bool) (behaviour 
     form-in None (Err causes.WaitsAbandoned) is = begins (Err causes.WaitsAbandoned) is
     form-in (Some outcome) result is = (is.0, begins (Ok (Run is.0 None)) is.1, ends is.0 outcome result (opened-key eq is_clone is_infallible share is.0 steps k kind said now is.1) is.2)
 
-  -- a form on the state is that form on all segments
+  -- a loader on the state is that loader on all segments
   pub routed-form : (o : Option (Outcome V E)) (answer : Result (Answer K V E) Refused)
       → ((s : Settings K V) (steps : List (AcceptedStep K V E)) → StandsFor eq is_clone s (view_by behaviour frequency opened here) steps → IsForm eq is_clone is_infallible s steps the_begin now o answer (StandsNew s))
       → AtEachList eq is_clone (segmented_view_by behaviour frequency opened cache) (λ given calls. IsFormIn eq is_clone is_infallible given calls the_begin now o answer (StandNew given))

@@ -36,7 +36,7 @@ counted-more f i count more new is was e =
     capped : (a b c : ℕ) → c ≡ min a greatest_number → min (c + b) greatest_number ≡ min (a + b) greatest_number
     capped a b c e = omega (arith, e)
 
--- one more that is capped already
+-- a capped sum to which one more is added
 pub counted-capped : (f : ℕ → ℕ) (i count one more new : ℕ) → one ≡ f i → more ≡ min one greatest_number → count ≡ min (sum_below f i) greatest_number → new ≡ min (count + more) greatest_number
     → new ≡ min (sum_below f (i + 1)) greatest_number
 counted-capped f i count one more new is capped was e =

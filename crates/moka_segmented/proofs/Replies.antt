@@ -1,4 +1,4 @@
--- What a step of a key replies, and what the states stand for then.
+-- What a step of a key replies, and the calls that the states could have come from afterwards.
 use Rattle.std.proofs.Common.{◌≡◌, ℕ, true, false, cond, arith, Bool, Option, Some, None, option_map, List, [], ◌∷◌, refl, sym, ap, subst, set}
 use Rattle.moka_model.specs.Lives.{Behaviour, Settings}
 use Rattle.moka_model.specs.Steps.{AcceptedStep, events_in, turns}
@@ -40,7 +40,7 @@ module _ {K V C H W X P F L T S : Type 0} (E : Type 0) (eq : K → K → Bool) {
       (subst (λ place. IsReplyTo eq is_clone is_infallible (share_settings given) (steps_in E eq given calls (asked place)) call reply) (sym it.place)
       (routed-history E eq behaviour frequency opened cache here index k routing (λ s steps. IsReplyTo eq is_clone is_infallible s steps call reply) replies given calls stand))
 
-  -- where that state stands for what its reply leaves, so do all
+  -- if that state could have come from its own steps with this one, all could have come from the calls with it
   pub routed-stood : (new : StateData K V H W X F E)
       → ((s : Settings K V) (steps : List (AcceptedStep K V E)) → StandsFor eq is_clone s (view_by behaviour frequency opened here) steps → StandsFor eq is_clone s (view_by behaviour frequency opened new) (after_reply eq s call reply steps))
       → AtEachList eq is_clone (segmented_view_by behaviour frequency opened cache) (λ given calls. AllStandFor eq is_clone given (segmented_view_by behaviour frequency opened (record cache { segments = set cache.segments index new })) (after_reply_in call reply calls))

@@ -13,7 +13,7 @@ use Rattle.moka_segments.specs.Segments.{SegmentedSettings, One, segment_of_key,
 use Rattle.moka_segments.proofs.Callers.{routed, answer-at, answer-asked, hash-at, stand-set, stand-one, stand-here}
 use Rattle.moka_segmented.specs.SegmentedData.{SegmentedData, segmented_settings_by, segmented_view_by}
 
--- what an answer gives, by what is promised of it
+-- what an answer gives, by what its contract says
 pub IfOk-by : {A E : Type 0} {P Q : A → Type 0} (r : Result A E) → ((x : A) → P x → Q x) → IfOk r P → IfOk r Q
 IfOk-by (Ok x) more is = more x is
 IfOk-by (Err e) more is = tt

@@ -1,4 +1,4 @@
--- Runs that go on by one step.
+-- Runs with one more step.
 use Rattle.std.proofs.Common.{◌≡◌, Bool, List, [], ◌∷◌, ◌++◌, suc, length, drop, refl, sym, ap, subst, arith}
 use Rattle.moka_model.specs.Calls.{Call}
 use Rattle.moka_state.specs.declared.step.Step.{Step}
@@ -16,7 +16,7 @@ module _ {K V C H W X P F L T E S : Type 0} (eq : K → K → Bool) (test : P �
   IsRunIn-more before (s ∷ ss) [] step reply run is = absurd run
   IsRunIn-more before (s ∷ ss) (r ∷ rs) step reply run is = (run.0, IsRunIn-more (after_reply_in (call_of test s) r before) ss rs step reply run.1 is)
 
-  -- and leaves what that step accepts too
+  -- and its calls are those with that step, if it was accepted
   after_all_in-more : (before : List (Call K V E)) (steps : List (Step K V C H W X P F L T E S)) (replies : List (Reply K V C H W X P F L T E S)) (step : Step K V C H W X P F L T E S) (reply : Reply K V C H W X P F L T E S)
       → IsRunIn test eq is_clone is_infallible given before steps replies → after_all_in test (steps ++ step ∷ []) (replies ++ reply ∷ []) before ≡ after_reply_in (call_of test step) reply (after_all_in test steps replies before)
   after_all_in-more before [] [] step reply run = refl
@@ -24,7 +24,7 @@ module _ {K V C H W X P F L T E S : Type 0} (eq : K → K → Bool) (test : P �
   after_all_in-more before (s ∷ ss) [] step reply run = absurd run
   after_all_in-more before (s ∷ ss) (r ∷ rs) step reply run = after_all_in-more (after_reply_in (call_of test s) r before) ss rs step reply run.1
 
-  -- so what the states stand for after that step they stand for after the longer run
+  -- so the calls after that step are those after the longer run
   pub all-stand-more : (view : SegmentedView K V E) (before : List (Call K V E)) (steps : List (Step K V C H W X P F L T E S)) (replies : List (Reply K V C H W X P F L T E S)) (step : Step K V C H W X P F L T E S) (reply : Reply K V C H W X P F L T E S)
       → IsRunIn test eq is_clone is_infallible given before steps replies → AllStandFor eq is_clone given view (after_reply_in (call_of test step) reply (after_all_in test steps replies before)) → AllStandFor eq is_clone given view (after_all_in test (steps ++ step ∷ []) (replies ++ reply ∷ []) before)
   all-stand-more view before steps replies step reply run stand = subst (AllStandFor eq is_clone given view) (sym (after_all_in-more before steps replies step reply run)) stand

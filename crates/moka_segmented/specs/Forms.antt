@@ -1,4 +1,4 @@
--- How a form of an initializer goes where there are several segments.
+-- What a loader does if there are several segments.
 use Rattle.std.specs.Prelude.{ℕ, Bool, Option, Some, None, List, ◌∷◌, Result, Ok, Err}
 use Rattle.moka_policy.specs.declared.policy.Refused.{Refused}
 use Rattle.moka_policy.specs.declared.policy.Refused.TheVariants as causes
@@ -11,16 +11,17 @@ use Rattle.moka_segmented.specs.Turns.{GivesIn}
 
 module _ {K V E : Type 0} (eq : K → K → Bool) (is_clone : V → V → Type 0) (is_infallible : V → Type 0)
     (settings : SegmentedSettings K V) where
-  -- A turn ends with an outcome: its finish is given so by the segment that it asks, and then each segment stands for its own
-  -- list of the calls with the finish. Or the finish is refused, and they stand for the calls with an abandon.
+  -- A turn ends with an outcome: the segment of its key gives this answer to the finish. The segments could then have
+  -- come from the calls with the finish or, if it failed, with an abandon in its place.
   abbrev pub EndsTurnIn : List (Call K V E) → Name K → Outcome V E → ℕ → Result (Answer K V E) Refused →
       (List (Call K V E) → Type 0) → Type 0
   EndsTurnIn calls name outcome now answer Stand =
       GivesIn eq is_clone is_infallible settings calls (Finish name outcome now) answer
       × Stand (end_call name outcome now answer ∷ calls)
 
-  -- A form is its begin, in the segment that this asks, and where that opens a turn, the end of the turn with what the closure
-  -- gave. `given` is what it gave, none where it was not asked; `Stand` says for which calls the segments stand then.
+  -- A loader is its begin and, if that opens a turn, the end of the turn with what the closure returned, in the key's
+  -- segment. `given` is what the closure returned, none if it did not run. `Stand` says which calls the segments could
+  -- have come from afterwards.
   abbrev pub IsFormIn : List (Call K V E) → Call K V E → ℕ → Option (Outcome V E) → Result (Answer K V E) Refused →
       (List (Call K V E) → Type 0) → Type 0
   IsFormIn calls begin now None (Ok answer) Stand =

@@ -1,4 +1,4 @@
--- The definitions of this crate, and those of the crates below that its public clauses cite.
+-- The definitions of this crate, and those of lower crates that its public clauses cite.
 pub use Rattle.moka_segments.specs.Segments
 pub use Rattle.moka_state.specs.State
 pub mod Forms

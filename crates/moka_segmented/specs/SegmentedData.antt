@@ -1,4 +1,4 @@
--- What a cache of several segments keeps, and what this means.
+-- The data of a cache of several segments, and what it means.
 use Rattle.std.specs.Prelude.{◌≡◌, ℕ, Bool, false, not, List, map, length, slice_get, option_map, Option, Some, None}
 use Rattle.std.specs.Arc.{arc_value}
 use Rattle.std.specs.List.{AllByRecursion}
@@ -13,14 +13,14 @@ use Rattle.moka_state.specs.declared.state.Settings.{Settings}
 use Rattle.moka_segments.specs.Segments.{SegmentedSettings, SegmentedView, is_empty, sum_below}
 use Rattle.moka_segments.specs.Segments.{AllStandFor, AtEachList, FollowsIn, AnswersIn}
 
--- What a cache of several segments keeps, as data: how many bits of a hash name a segment, the settings of the whole, and the
--- state of each segment.
+-- What a cache of several segments keeps: how many bits choose a segment, the settings of the whole, and the segments'
+-- states.
 pub record SegmentedData (K V H W X F E : Type 0) : Type 0 where
   pub bits : ℕ
   pub settings : SettingsData H W X
   pub segments : List (StateData K V H W X F E)
 
--- the settings that a cache is made from, as data
+-- The settings that a cache is made from, as data.
 abbrev pub data_of : {K V C H W X P F L T E S : Type 0} → Settings K V C H W X P F L T E S → SettingsData H W X
 data_of settings =
     settings_of settings.name settings.time_to_live settings.time_to_idle settings.max_capacity settings.first_number settings.closures
@@ -32,36 +32,40 @@ data_of settings =
     })
 
 module _ {K V H W X : Type 0} (behaviour_in : BehaviourData H W X → Behaviour K V) where
-  -- what it is built with, by the behaviour that its settings mean, and by what a new source estimates
+  -- What the cache is built with, given the behaviour that its settings mean and what a new frequency source estimates.
   abbrev pub segmented_settings_by : {F E : Type 0} → (List ℕ → ℕ → ℕ) → SegmentedData K V H W X F E → SegmentedSettings K V
   segmented_settings_by frequency it = record { bits = it.bits; whole = settings_by behaviour_in frequency it.settings }
 
-  -- its view, by those of its states
+  -- The cache's view, made of the views of its states.
   abbrev pub segmented_view_by : {F E : Type 0} → (F → List ℕ → ℕ → ℕ) → F → SegmentedData K V H W X F E → SegmentedView K V E
   segmented_view_by frequency_in opened it = record {
     settings = segmented_settings_by (frequency_in opened) it;
     segments = map (view_by behaviour_in frequency_in opened) it.segments;
   }
 
--- The relations of caches of several segments, by what the view of each is.
+-- The relations of caches of several segments, over the view of each.
 module _ {K V E S : Type 0} (eq : K → K → Bool) (is_clone : V → V → Type 0) (view : S → SegmentedView K V E) where
+  -- The cache could have come from these calls.
   abbrev pub AllStandForBy : SegmentedSettings K V → S → List (Call K V E) → Type 0
   AllStandForBy settings it calls = AllStandFor eq is_clone settings (view it) calls
 
+  -- This holds for all settings and calls that the cache could have come from.
   abbrev pub AtEachListBy : S → (SegmentedSettings K V → List (Call K V E) → Type 0) → Type 0
   AtEachListBy it P = AtEachList eq is_clone (view it) P
 
+  -- The new cache could have come from the calls of the old one followed by this one.
   abbrev pub FollowsInBy : S → Call K V E → S → Type 0
   FollowsInBy old call new = FollowsIn eq is_clone (view old) call (view new)
 
+  -- This is what the call returns, whatever calls the cache could have come from.
   abbrev pub AnswersInBy : S → Call K V E → Answer K V E → Type 0
   AnswersInBy it call answer = AnswersIn eq is_clone (view it) call answer
 
--- each state hashes by this hasher
+-- Each state hashes by this hasher.
 abbrev pub AllHashBy : {K V H W X F E : Type 0} → H → List (StateData K V H W X F E) → Type 0
 AllHashBy hasher states = AllByRecursion (λ state. state.settings.behaviour.hasher ≡ hasher) states
 
--- what is said of the state at a place, and something else where there is none
+-- What a function gives for the state at a place, or else a default if there is none.
 abbrev pub state_at : {S Y : Type 0} → (S → Y) → Y → Option S → Y
 state_at f other None = other
 state_at f other (Some state) = f state
@@ -70,14 +74,14 @@ module _ {K V H W X F E : Type 0} (states : List (StateData K V H W X F E)) wher
   abbrev pub has_notice : ℕ → Bool  -- whether the state at a place has a notice
   has_notice i = state_at (λ state. not (is_empty state.books.notices)) false (slice_get states i)
 
-  abbrev pub stored_at : ℕ → ℕ  -- how many writes it stores
+  abbrev pub stored_at : ℕ → ℕ  -- how many entries it stores
   stored_at i = state_at (λ state. length (all_writes state)) 0 (slice_get states i)
 
-  abbrev pub weight_at : ℕ → ℕ  -- and what they weigh
+  abbrev pub weight_at : ℕ → ℕ  -- their total weight
   weight_at i = state_at (λ state. total (λ w. w.policy_weight) (all_writes state)) 0 (slice_get states i)
 
   abbrev pub notices_at : ℕ → ℕ  -- how many notices it has
   notices_at i = state_at (λ state. length state.books.notices) 0 (slice_get states i)
 
-  abbrev pub notices_kept : ℕ  -- how many notices they all have
+  abbrev pub notices_kept : ℕ  -- how many notices all states have
   notices_kept = sum_below notices_at (length states)

@@ -1,4 +1,4 @@
-//! The calls that go to all segments, and the questions that ask all of them.
+//! The calls that go to all segments.
 ghost use Rattle.std.specs.Prelude.{◌≡◌, ◌↔◌, ℕ, true, min, length, slice_get, IsOk, IfErr, IfSome, OnOk, OnErr};
 ghost use Rattle.std.specs.Arc.{arc_value};
 ghost use Rattle.moka_model.specs.Calls.{InvalidateAll, InvalidateIf, RunPendingTasks, RunPendingTasksUpTo, EntryCount, WeightedSize, Counted, Left};
@@ -15,8 +15,12 @@ use std::hash::Hash;
 use std::sync::Arc;
 
 impl<K: Hash + Drop, V: Clone, C: CacheTypes<K, V>, R: RowStore<K, V>> Segmented<K, V, C, R> {
-    /// Removes all keys of all segments. From then on no value that stood is found; each is noticed
-    /// once it leaves. It has no moment, and takes no memory. Visits each row.
+    /// Invalidates all entries of all segments: no lookup finds a value that was stored before.
+    /// Each is noticed once it is removed. Has no moment, and does not allocate.
+    ///
+    /// # Complexity
+    ///
+    /// Visits every entry.
     pub fn invalidate_all(&mut self)
         ensures { ⟦<C as SegmentedStateView<K, V>>⟧.follows_in self.old InvalidateAll self.new }
     {
@@ -25,7 +29,11 @@ impl<K: Hash + Drop, V: Clone, C: CacheTypes<K, V>, R: RowStore<K, V>> Segmented
         }
     }
 
-    /// Runs a maintenance in each segment, in order. It takes no memory.
+    /// Runs maintenance in each segment, in order. Does not allocate.
+    ///
+    /// # Complexity
+    ///
+    /// That of a state's `run_pending_tasks`, in each segment.
     pub fn run_pending_tasks(&mut self, now: u64)
         ensures { ⟦<C as SegmentedStateView<K, V>>⟧.follows_in
             self.old (RunPendingTasks now) self.new }
@@ -35,9 +43,12 @@ impl<K: Hash + Drop, V: Clone, C: CacheTypes<K, V>, R: RowStore<K, V>> Segmented
         }
     }
 
-    /// Runs a maintenance within a limit in each segment, in order, at one moment: in each of them at
-    /// most as many values leave as the limit says. Answers whether some segment left a part of it
-    /// undone. It takes no memory.
+    /// Runs maintenance in each segment, in order, but evicts at most `limit` entries in each.
+    /// Returns whether any segment left something to do. Does not allocate.
+    ///
+    /// # Complexity
+    ///
+    /// That of a state's `run_pending_tasks_up_to`, in each segment.
     pub fn run_pending_tasks_up_to(&mut self, limit: u64, now: u64) -> bool
         ensures reply { ⟦<C as SegmentedStateView<K, V>>⟧.answers_in
             self.old (RunPendingTasksUpTo limit now) (Left result) }
@@ -51,8 +62,8 @@ impl<K: Hash + Drop, V: Clone, C: CacheTypes<K, V>, R: RowStore<K, V>> Segmented
         is_left
     }
 
-    /// How many keys are stored in all segments together, with those that wait and those whose
-    /// values are expired; where that is more than `u64::MAX`, this is `u64::MAX`.
+    /// Returns the number of stored entries in all segments, with those that are pending or
+    /// expired. It is at most `u64::MAX`.
     pub fn entry_count(&self) -> u64
         ensures counted { result ≡ min
             (sum_below (stored_at self.now.segments) (length self.now.segments)) greatest_number }
@@ -67,8 +78,8 @@ impl<K: Hash + Drop, V: Clone, C: CacheTypes<K, V>, R: RowStore<K, V>> Segmented
         count
     }
 
-    /// How heavy all that is stored is, in all segments together, with what waits and what is
-    /// expired; where that is more than `u64::MAX`, this is `u64::MAX`.
+    /// Returns the total weight of the stored entries in all segments, with those that are pending
+    /// or expired. It is at most `u64::MAX`.
     pub fn weighted_size(&self) -> u64
         ensures counted { result ≡ min
             (sum_below (weight_at self.now.segments) (length self.now.segments)) greatest_number }
@@ -84,8 +95,8 @@ impl<K: Hash + Drop, V: Clone, C: CacheTypes<K, V>, R: RowStore<K, V>> Segmented
         weight
     }
 
-    /// How many notices of all segments have not been taken; where that is more than `usize::MAX`,
-    /// this is `usize::MAX`.
+    /// Returns the number of notices in all segments that were not taken. It is at most
+    /// `usize::MAX`.
     pub fn notice_count(&self) -> usize
         ensures { result ≡ min (notices_kept self.now.segments) greatest_number }
     {
@@ -96,11 +107,19 @@ impl<K: Hash + Drop, V: Clone, C: CacheTypes<K, V>, R: RowStore<K, V>> Segmented
         count
     }
 
-    /// Hides each value of which a predicate holds, in all segments, or, where the cache was built
-    /// without support for closures, in none. What is written later is not hidden. The call has no
-    /// moment, and takes no memory. Asks the predicate once of each stored value.
+    /// Invalidates each entry of which `predicate` holds, in all segments. Has no moment, and does
+    /// not allocate.
     ///
-    /// Refused with `InvalidationClosuresDisabled` alone, exactly where closures are not supported.
+    /// Calls the predicate once for each stored entry. Entries that are written later are not
+    /// affected.
+    ///
+    /// # Errors
+    ///
+    /// - `InvalidationClosuresDisabled`: the cache was built without support for closures.
+    ///
+    /// # Complexity
+    ///
+    /// Visits every entry.
     pub fn invalidate_entries_if(&mut self, predicate: C::Predicate) -> Result<(), PredicateError>
         requires tests { C.Predicate.tests predicate (C.test predicate) }
         ensures stands { OnOk result (⟦<C as SegmentedStateView<K, V>>⟧.follows_in
@@ -116,7 +135,15 @@ impl<K: Hash + Drop, V: Clone, C: CacheTypes<K, V>, R: RowStore<K, V>> Segmented
         Ok(())
     }
 
-    /// As [`Segmented::invalidate_entries_if`] for a predicate that is shared already.
+    /// Invalidates as [`Segmented::invalidate_entries_if`] does, by a shared predicate.
+    ///
+    /// # Errors
+    ///
+    /// - `InvalidationClosuresDisabled`: the cache was built without support for closures.
+    ///
+    /// # Complexity
+    ///
+    /// Visits every entry.
     pub fn invalidate_entries_with_arc_fun(
         &mut self,
         predicate: Arc<C::Predicate>,
@@ -135,7 +162,7 @@ impl<K: Hash + Drop, V: Clone, C: CacheTypes<K, V>, R: RowStore<K, V>> Segmented
         Ok(())
     }
 
-    // Whether all segments would accept a predicate. Nothing changes.
+    // Checks that every segment supports closures. Changes nothing.
     fn room_in_all(&mut self) -> Result<(), PredicateError>
         ensures accepted { IsOk result ↔ ((i : ℕ) → IfSome (slice_get self.old.segments i)
             (λ state. state.settings.supports_closures ≡ true)) }
@@ -149,7 +176,7 @@ impl<K: Hash + Drop, V: Clone, C: CacheTypes<K, V>, R: RowStore<K, V>> Segmented
         Ok(())
     }
 
-    // Hides what a predicate holds of, where all segments support that.
+    // Invalidates by a predicate in all segments, each of which supports closures.
     fn hide_in_all(&mut self, predicate: &C::Predicate)
         requires tests { C.Predicate.tests predicate.now (C.test predicate.now) }
         requires supported { (i : ℕ) → IfSome (slice_get self.old.segments i)

@@ -1,5 +1,4 @@
-//! The begin of a turn and the forms of initializers with a closure, for who lends the key, each in the
-//! segment of the key.
+//! The begin of a turn and the loaders for a key by reference, each in the segment of the key.
 ghost use Rattle.std.specs.Prelude.{◌≡◌, ◌≢◌, Bool, Option, None, Result, true, option_map, IfOk, IfSome, OnOk, OnErr};
 ghost use Rattle.moka_model.specs.Calls as calls;
 ghost use Rattle.moka_model.specs.Calls.{Begin};
@@ -24,11 +23,16 @@ impl<K: Hash + Clone + Drop, V: Clone, C: CacheTypes<K, V>, R: RowStore<K, V>> S
     C,
     R,
 > {
-    /// As [`Segmented::begin`], for who lends the key. Where a turn is opened or waited for, it is that of
-    /// a copy of the key, which is of the same segment; a look that finds an acceptable value copies none.
+    /// Does what [`Segmented::begin`] does, for a key by reference.
     ///
-    /// It asks that a copy of a key equals it. Refused as [`Segmented::begin`], and with `OutOfMemory` for
-    /// the copy of the key and its share.
+    /// If no acceptable value is live, clones the key. The turn or the ticket is of that clone,
+    /// which has the same segment. The prover asks that a clone of a key equals it.
+    ///
+    /// # Errors
+    ///
+    /// As [`Segmented::begin`], and
+    ///
+    /// - `OutOfMemory`: cloning the key failed.
     pub fn begin_by_ref<F: FnMut(&V) -> bool + Drop>(
         &mut self,
         key: &K,
@@ -54,10 +58,16 @@ impl<K: Hash + Clone + Drop, V: Clone, C: CacheTypes<K, V>, R: RowStore<K, V>> S
         self.segments[place.index].begin_by_ref(key, kind, replace_if, now)
     }
 
-    /// As [`Segmented::get_with`], for who lends the key. What is written stands under a copy of the key,
-    /// which is of the same segment; where a live value is found no key is copied.
+    /// Does what [`Segmented::get_with`] does, for a key by reference. Clones the key on a miss,
+    /// and stores the value under the clone, in the same segment.
     ///
-    /// It asks that a copy of a key equals it.
+    /// The prover asks that a clone of a key equals it.
+    ///
+    /// # Errors
+    ///
+    /// As [`Segmented::get_with`], and
+    ///
+    /// - `OutOfMemory`: cloning the key failed.
     pub fn get_with_by_ref<F: FnOnce() -> V + Drop>(
         &mut self,
         key: &K,
@@ -81,7 +91,8 @@ impl<K: Hash + Clone + Drop, V: Clone, C: CacheTypes<K, V>, R: RowStore<K, V>> S
         self.segments[place.index].get_with_by_ref(key, init, now)
     }
 
-    /// As [`Segmented::optionally_get_with`], for who lends the key, as [`Segmented::get_with_by_ref`].
+    /// Does what [`Segmented::optionally_get_with`] does, for a key by reference, as
+    /// [`Segmented::get_with_by_ref`].
     pub fn optionally_get_with_by_ref<F: FnOnce() -> Option<V> + Drop>(
         &mut self,
         key: &K,
@@ -105,7 +116,8 @@ impl<K: Hash + Clone + Drop, V: Clone, C: CacheTypes<K, V>, R: RowStore<K, V>> S
         self.segments[place.index].optionally_get_with_by_ref(key, init, now)
     }
 
-    /// As [`Segmented::try_get_with`], for who lends the key, as [`Segmented::get_with_by_ref`].
+    /// Does what [`Segmented::try_get_with`] does, for a key by reference, as
+    /// [`Segmented::get_with_by_ref`].
     pub fn try_get_with_by_ref<F: FnOnce() -> Result<V, C::Error> + Drop>(
         &mut self,
         key: &K,

@@ -1,5 +1,4 @@
-//! The forms of initializers with a closure, each in the segment of its key: begin, closure and finish at
-//! one moment.
+//! Loaders, each in the segment of its key: a begin, the closure and a finish at one moment.
 ghost use Rattle.std.specs.Prelude.{◌≡◌, Bool, Option, None, Some, Result, option_map, IfOk, IfSome};
 ghost use Rattle.moka_model.specs.Calls as calls;
 ghost use Rattle.moka_model.specs.Calls.{Begin};
@@ -17,14 +16,24 @@ use std::hash::Hash;
 use std::sync::Arc;
 
 impl<K: Hash + Drop, V: Clone, C: CacheTypes<K, V>, R: RowStore<K, V>> Segmented<K, V, C, R> {
-    /// The live value of a key, in its segment; where there is none, what the closure gives, which is
-    /// written. It is a begin of the kind `With`, and where that opens a turn, its finish with what the
-    /// closure gave, all at one moment. The closure is asked where a turn is opened, and once.
+    /// Returns a clone of the live value for `key`, in its segment. If there is none, runs `init`,
+    /// inserts its result and returns a clone of that.
     ///
-    /// Refused with `TurnIsOpen` where a turn of the key and the kind is open, since it would have to
-    /// wait for that; and as [`Segmented::begin`], which then changes nothing. Where the finish is
-    /// refused, as [`Segmented::finish`] may be, the turn is abandoned. It costs the form of the
-    /// segment's state, and hashes the key once more.
+    /// It is a begin of the kind `With` and, if that opens a turn, a finish with what `init`
+    /// returned, at one moment. `init` runs only if a turn is opened, and once.
+    ///
+    /// # Errors
+    ///
+    /// If the finish fails, the turn is abandoned; the begin stays recorded. Otherwise a failed
+    /// call leaves the cache unchanged.
+    ///
+    /// - `TurnIsOpen`: a turn of the key and the kind is open, so the call would have to wait.
+    /// - Those of [`Segmented::begin`] and [`Segmented::finish`].
+    ///
+    /// # Complexity
+    ///
+    /// Visits the entries that have the key's hash, and hashes the key once more than the segment's
+    /// state. With 64 or more entries pending, a miss also runs a maintenance of the segment.
     pub fn get_with<F: FnOnce() -> V + Drop>(
         &mut self,
         key: K,
@@ -46,9 +55,9 @@ impl<K: Hash + Drop, V: Clone, C: CacheTypes<K, V>, R: RowStore<K, V>> Segmented
         self.segments[place.index].get_with(key, init, now)
     }
 
-    /// As [`Segmented::get_with`], for a caller who is shown the live value and says whether to replace
-    /// it. One that is to be replaced is taken for none: the look is then a miss, and the closure's value
-    /// is written over it.
+    /// Does what [`Segmented::get_with`] does, but treats a live value as absent if `replace_if`
+    /// returns true for it. The lookup is then a miss, and the result of `init` overwrites the
+    /// value.
     pub fn get_with_if<F: FnOnce() -> V + Drop, P: FnMut(&V) -> bool + Drop>(
         &mut self,
         key: K,
@@ -74,8 +83,8 @@ impl<K: Hash + Drop, V: Clone, C: CacheTypes<K, V>, R: RowStore<K, V>> Segmented
         self.segments[place.index].get_with_if(key, init, replace_if, now)
     }
 
-    /// As [`Segmented::get_with`], for a closure that may give no value; then nothing is written, and
-    /// none is answered. Its begin is of the kind `Optionally`.
+    /// Does what [`Segmented::get_with`] does, for an `init` that may return `None`. Then it stores
+    /// nothing and returns `None`. Its begin is of the kind `Optionally`.
     pub fn optionally_get_with<F: FnOnce() -> Option<V> + Drop>(
         &mut self,
         key: K,
@@ -98,9 +107,14 @@ impl<K: Hash + Drop, V: Clone, C: CacheTypes<K, V>, R: RowStore<K, V>> Segmented
         self.segments[place.index].optionally_get_with(key, init, now)
     }
 
-    /// As [`Segmented::get_with`], for a closure that may fail; then nothing is written, and its error is
-    /// answered, shared. Its begin is of the kind `Try`. Where the error finds no memory to be shared, the
-    /// turn is abandoned and the call refused with `OutOfMemory`.
+    /// Does what [`Segmented::get_with`] does, for an `init` that may fail. Then it stores nothing
+    /// and returns the error in an `Arc`. Its begin is of the kind `Try`.
+    ///
+    /// # Errors
+    ///
+    /// The outer error is the cache's own: as [`Segmented::get_with`], and
+    ///
+    /// - `OutOfMemory`: allocating the `Arc` of the error failed. The turn is abandoned.
     pub fn try_get_with<F: FnOnce() -> Result<V, C::Error> + Drop>(
         &mut self,
         key: K,

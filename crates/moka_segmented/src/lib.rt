@@ -1,4 +1,4 @@
-//! The cache of several segments as a plain value: its segments, its calls, and runs of them.
+//! The owned cache of several segments: its segments, its calls, and runs of steps.
 #![tactic(auto)]
 
 pub mod all_segments;

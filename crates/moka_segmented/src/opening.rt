@@ -1,4 +1,4 @@
-//! Opens the segments of a cache.
+//! Opens the segments of a cache, each with its share of the settings.
 ghost use Rattle.std.specs.Prelude.{◌≡◌, ◌≢◌, ◌<◌, ◌≤◌, ◌^◌, [], Some, None, option_map, IfSome, IfOk, IfErr, IsSome};
 ghost use Rattle.std.specs.Arc.{arc_value};
 ghost use Rattle.std.specs.List.{AllByRecursion};
@@ -14,9 +14,15 @@ use std::alloc::{AllocError, Global};
 use std::hash::Hash;
 use std::sync::Arc;
 
-/// A cache without values of `2 ^ bits` segments, each with its share of the capacity and of the
-/// initial capacity. The weigher and the expiry, where they are given, do what the cache's types say
-/// of them. Refused for want of memory alone, and then nothing is left of it.
+/// Opens an empty cache of `2 ^ bits` segments, each with its share of the capacity and of the
+/// initial capacity.
+///
+/// `bits` is below 64. The weigher and the expiry have to compute what the cache's types name. The
+/// flush limit is not 0, and there is no weigher beside it.
+///
+/// # Errors
+///
+/// - `OutOfMemory`: an allocation failed. Everything is dropped.
 pub fn opened<K: Hash + Drop, V: Clone, C: CacheTypes<K, V>, R: RowStore<K, V>>(
     alloc: Global,
     settings: Settings<K, V, C>,
@@ -55,7 +61,8 @@ pub fn opened<K: Hash + Drop, V: Clone, C: CacheTypes<K, V>, R: RowStore<K, V>>(
     })
 }
 
-/// How many bits of a hash name one of so many segments: the fewest that name as many, and 63 at most.
+/// Returns how many bits of a hash choose one of so many segments: the fewest that name as many,
+/// and 63 at most.
 pub fn bits_for(segments: usize) -> u32
     ensures bits { result ≡ bits_for segments }
     ensures few { result < 64 }
@@ -68,7 +75,7 @@ pub fn bits_for(segments: usize) -> u32
     63
 }
 
-/// How many segments so many bits name.
+/// Returns how many segments so many bits name: `2 ^ bits`. `bits` is below 64.
 pub fn count_of(bits: u32) -> usize
     requires { bits < 64 }
     ensures { result ≡ 2 ^ bits }
@@ -76,10 +83,14 @@ pub fn count_of(bits: u32) -> usize
     1 << bits
 }
 
-/// What one of so many segments is made from: all that the whole is, but the name, with its share of
-/// the capacity and of the initial capacity. The weigher, the expiry and the hasher are shared.
+/// Makes the settings of one of `count` segments: those of the whole, without the name, and with
+/// its share of both capacities.
 ///
-/// It asks that there is a segment. Refused for want of memory alone, of those three.
+/// The weigher, the expiry and the hasher are shared. `count` is at least 1.
+///
+/// # Errors
+///
+/// - `AllocError`: sharing one of these three failed.
 pub fn share_of<K: Hash + Drop, V: Clone, C: CacheTypes<K, V>>(
     settings: &Settings<K, V, C>,
     count: usize,
@@ -123,7 +134,7 @@ pub fn share_of<K: Hash + Drop, V: Clone, C: CacheTypes<K, V>>(
     })
 }
 
-// The share of a capacity, if there is one.
+// Returns the share of a capacity, if there is one.
 fn share_of_capacity(capacity: Option<u64>, count: u64) -> Option<u64>
     requires { 0 < count }
     ensures { result ≡ option_map (share count) capacity }
@@ -134,7 +145,11 @@ fn share_of_capacity(capacity: Option<u64>, count: u64) -> Option<u64>
     }
 }
 
-/// Shares once more what is shared already, where there is something. Refused for want of memory alone.
+/// Shares an `Arc` once more, if there is one.
+///
+/// # Errors
+///
+/// - `AllocError`: sharing it failed.
 pub fn shared_again<T: Drop>(value: &Option<Arc<T>>) -> Result<Option<Arc<T>>, AllocError>
     ensures { IfOk result (λ copy. option_map arc_value copy ≡ option_map arc_value value.now) }
 {

@@ -1,4 +1,4 @@
-//! The calls that answer the live value of a key, in its segment, and write one where there is none.
+//! Calls that return the live value of a key, in its segment, or else write one.
 ghost use Rattle.std.specs.Prelude.{◌≡◌, IfOk, IfErr, OnOk, OnErr};
 ghost use Rattle.std.specs.Arc.{arc_value};
 ghost use Rattle.moka_model.specs.Calls.{OrInsert};
@@ -16,15 +16,24 @@ use std::hash::Hash;
 use std::sync::Arc;
 
 impl<K: Hash + Drop, V: Clone, C: CacheTypes<K, V>, R: RowStore<K, V>> Segmented<K, V, C, R> {
-    /// Answers the live value of a key, in its segment; where there is none, writes this one, and
-    /// answers a copy of it. It is one look at the key, as by [`Segmented::get`], and where that finds
-    /// nothing, one write, as by [`Segmented::insert`], at the same moment. The entry is fresh where it
-    /// was written, and never marked as replacing. A value that is found stands under the stored key.
+    /// Returns the live entry of `key`, in its segment. If there is none, inserts `value` and
+    /// returns an entry with a clone of that value.
     ///
-    /// Where the capacity is 0 nothing is stored and no number drawn, and the entry is fresh. Refused
-    /// with `NumbersUsedUp` exactly where a number is to be drawn and none is left in the key's
-    /// segment, and else with `OutOfMemory` alone. A refused call hands back the value and changes
-    /// nothing. It costs the `or_insert` of the segment's state.
+    /// It is one lookup, as by [`Segmented::get`], and on a miss one write, as by
+    /// [`Segmented::insert`], at the same moment. The entry is fresh if it was written, and never
+    /// marked as replacing. A value that is found comes with the stored key. At a capacity of 0
+    /// nothing is stored, no sequence number is drawn, and the entry is fresh.
+    ///
+    /// # Errors
+    ///
+    /// Hands back the value.
+    ///
+    /// - `NumbersUsedUp`: a sequence number is needed, and none is left in the key's segment.
+    /// - `OutOfMemory`: an allocation or a clone failed.
+    ///
+    /// # Complexity
+    ///
+    /// That of the `or_insert` of the segment's state.
     pub fn or_insert(
         &mut self,
         key: &Arc<K>,
@@ -50,10 +59,14 @@ impl<K, V: Clone + Default, C: CacheTypes<K, V>, R: RowStore<K, V>> Segmented<K,
 where
     K: Hash + Drop,
 {
-    /// As [`Segmented::or_insert`], of the default value, for who hands in the key: it is shared where
-    /// nothing is live. The default value is made before the look.
+    /// Does what [`Segmented::or_insert`] does, with the default value, which is made before the
+    /// lookup. Shares the key on a miss.
     ///
-    /// It asks that the key keeps whatever value is the default. A refused call drops the key.
+    /// The prover asks that every default value satisfies `keeps` with the key.
+    ///
+    /// # Errors
+    ///
+    /// Drops the key. As [`Segmented::or_insert`].
     pub fn or_default(&mut self, key: K, now: u64) -> Result<Entry<K, V>, Refused>
         requires { (value : V) → V.is_default value → C.keeps key value }
         ensures ends { (value : V) × V.is_default value

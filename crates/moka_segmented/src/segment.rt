@@ -1,5 +1,5 @@
-//! A cache of several segments as a plain value: each key is of one of them, by the highest bits of
-//! its hash, and each is a cache of its share.
+//! The owned cache of several segments. The highest bits of a key's hash choose its segment, and
+//! each segment is a cache with a share of the capacity.
 ghost use Rattle.std.specs.Prelude.{◌≡◌, ◌⊎◌, ◌+◌, ◌<◌, ◌^◌, ◌↔◌, true, None, length, option_map, IsNone, IsOk, IfOk, IfErr, IfSome, OnOk, OnErr, IsErrAnd};
 ghost use Rattle.std.specs.Arc.{arc_value};
 ghost use Rattle.std.specs.Duration.{as_nanos};
@@ -23,7 +23,11 @@ use std::alloc::Global;
 use std::hash::{BuildHasher, Hash, Hasher};
 use std::marker::Model;
 
-/// A cache of several segments over a store of rows.
+/// A cache of several segments over a store of rows, called through `&mut`.
+///
+/// `now` is the moment of a call, in nanoseconds. A moment before the latest one of a segment
+/// counts there as the latest. A failed call leaves the cache unchanged, except a loader whose
+/// finish fails.
 #[derive(Drop)]
 pub struct Segmented<K: Hash + Drop, V: Clone, C: CacheTypes<K, V>, R: RowStore<K, V>> {
     pub(crate) settings: Settings<K, V, C>,
@@ -32,11 +36,15 @@ pub struct Segmented<K: Hash + Drop, V: Clone, C: CacheTypes<K, V>, R: RowStore<
     pub(crate) alloc: Global,
 }
 
-/// A cache of several segments, each of which is a [`CacheState`](moka_state::state::CacheState)
-/// with its share of the capacity. What happens in one changes no answer of another.
+/// A cache of several segments, each a [`CacheState`](moka_state::state::CacheState) with its share
+/// of the capacity. What happens in one segment does not change what another one returns.
+///
+/// # Complexity
+///
+/// A call on one key visits the entries of its segment that have the key's hash.
 pub type SegmentedState<K, V, C> = Segmented<K, V, C, DueRows<K, V>>;
 
-// Where a key belongs: its hash, and the number of the segment that the hash's highest bits name.
+// Where a key belongs: its hash, and the number of the segment that the hash's highest bits choose.
 #[derive(Clone, Copy)]
 pub(crate) struct Place {
     pub(crate) hash: u64,
@@ -59,10 +67,12 @@ impl<K: Hash + Drop, V: Clone, C: CacheTypes<K, V>, R: RowStore<K, V>> Model
 }
 
 impl<K: Hash + Drop, V: Clone, C: CacheTypes<K, V>, R: RowStore<K, V>> Segmented<K, V, C, R> {
-    /// The live value of a key, which is then used at this moment, in its segment: a recorded look,
-    /// as that of a state.
+    /// Returns a clone of the live value for `key`, or `None`, in the key's segment. Counts as an
+    /// access, and notes the key's hash.
     ///
-    /// Refused for want of memory for the value's copy alone.
+    /// # Errors
+    ///
+    /// - `OutOfMemory`: cloning the value failed.
     pub fn get(&mut self, key: &K, now: u64) -> Result<Option<V>, Refused>
         ensures reply { IfOk result (λ found.
             ⟦<C as SegmentedStateView<K, V>>⟧.answers_in self.old (Get key.now now) (Found found)) }
@@ -70,11 +80,11 @@ impl<K: Hash + Drop, V: Clone, C: CacheTypes<K, V>, R: RowStore<K, V>> Segmented
             (⟦<C as SegmentedStateView<K, V>>⟧.follows_in self.old (Get key.now now) self.new) }
         ensures kept { IfOk result (λ found. IfSome found (C.keeps key.now)) }
 
-        // Only the copy can be refused, and then nothing has changed.
+        // Only the clone can fail, and then nothing has changed.
         ensures refused { OnErr result (self.new ≡ self.old) }
         ensures cause { IfErr result (λ cause. cause ≡ Refused.OutOfMemory) }
 
-        // It is not where nothing is live, nor where the copies of the live value never fail.
+        // It cannot fail if nothing is live, or if clones of the live value never fail.
         ensures miss { ⟦<C as SegmentedStateView<K, V>>⟧.at_each_list self.old (λ settings calls.
             live_in C.Error K.eq settings calls key.now now ≡ None → IsOk result) }
         ensures copied { ⟦<C as SegmentedStateView<K, V>>⟧.at_each_list self.old (λ settings calls.
@@ -85,8 +95,8 @@ impl<K: Hash + Drop, V: Clone, C: CacheTypes<K, V>, R: RowStore<K, V>> Segmented
         self.segments[place.index].get_with_hash(key, place.hash, now)
     }
 
-    /// Whether a key has a live value at a moment, in its segment. It is no use of the value, and
-    /// records nothing.
+    /// Returns whether `key` has a live value at a moment, in its segment. Does not count as an
+    /// access, and records nothing.
     pub fn contains_key(&self, key: &K, now: u64) -> bool
         ensures reply { ⟦<C as SegmentedStateView<K, V>>⟧.answers_in self.now
             (ContainsKey key.now now) (Contains result) }
@@ -97,11 +107,19 @@ impl<K: Hash + Drop, V: Clone, C: CacheTypes<K, V>, R: RowStore<K, V>> Segmented
         self.segments[place.index].contains_key_with_hash(key, place.hash, now)
     }
 
-    /// Writes a value for a key, in its segment.
+    /// Inserts `value` under `key` in the key's segment, or overwrites the value that is stored
+    /// there. At a capacity of 0 nothing is stored, and the call succeeds without allocating.
     ///
-    /// Refused with `NumbersUsedUp` exactly where a number is to be drawn and none is left in the
-    /// key's segment, and else with `OutOfMemory` alone. A refused write hands back the key and the
-    /// value, and changes nothing. Where the capacity is 0 it succeeds without memory.
+    /// # Errors
+    ///
+    /// Hands back the key and the value.
+    ///
+    /// - `NumbersUsedUp`: a sequence number is needed, and none is left in the key's segment.
+    /// - `OutOfMemory`: an allocation failed.
+    ///
+    /// # Complexity
+    ///
+    /// With 64 or more entries pending in the segment, also runs maintenance there.
     pub fn insert(&mut self, key: K, value: V, now: u64) -> Result<(), InsertRefused<K, V>>
         requires { C.keeps key value }
         ensures stands { OnOk result
@@ -123,7 +141,8 @@ impl<K: Hash + Drop, V: Clone, C: CacheTypes<K, V>, R: RowStore<K, V>> Segmented
         self.segments[place.index].insert_with_hash(key, place.hash, value, now)
     }
 
-    /// Removes a key, in its segment. Its value, live or expired, is noticed. It takes no memory.
+    /// Removes the entry of `key`, live or expired, from its segment. The value is noticed. Does
+    /// not allocate.
     pub fn invalidate(&mut self, key: &K, now: u64)
         ensures { ⟦<C as SegmentedStateView<K, V>>⟧.follows_in
             self.old (Invalidate key.now now) self.new }
@@ -132,10 +151,12 @@ impl<K: Hash + Drop, V: Clone, C: CacheTypes<K, V>, R: RowStore<K, V>> Segmented
         self.segments[place.index].invalidate_with_hash(key, place.hash, now);
     }
 
-    /// Removes a key, in its segment, and answers its live value. What stood for the key, live or
-    /// not, is noticed.
+    /// Removes the entry of `key`, live or expired, from its segment, and returns a clone of its
+    /// live value. The value is noticed.
     ///
-    /// Refused for want of memory for the value's copy alone.
+    /// # Errors
+    ///
+    /// - `OutOfMemory`: cloning the value failed.
     pub fn remove(&mut self, key: &K, now: u64) -> Result<Option<V>, Refused>
         ensures reply { IfOk result (λ found. ⟦<C as SegmentedStateView<K, V>>⟧.answers_in
             self.old (Remove key.now now) (Found found)) }
@@ -143,11 +164,11 @@ impl<K: Hash + Drop, V: Clone, C: CacheTypes<K, V>, R: RowStore<K, V>> Segmented
             self.old (Remove key.now now) self.new) }
         ensures kept { IfOk result (λ found. IfSome found (C.keeps key.now)) }
 
-        // Only the copy can be refused, and then nothing has changed.
+        // Only the clone can fail, and then nothing has changed.
         ensures refused { OnErr result (self.new ≡ self.old) }
         ensures cause { IfErr result (λ cause. cause ≡ Refused.OutOfMemory) }
 
-        // It is not where nothing is live, nor where the copies of the live value never fail.
+        // It cannot fail if nothing is live, or if clones of the live value never fail.
         ensures miss { ⟦<C as SegmentedStateView<K, V>>⟧.at_each_list self.old (λ settings calls.
             live_in C.Error K.eq settings calls key.now now ≡ None → IsOk result) }
         ensures copied { ⟦<C as SegmentedStateView<K, V>>⟧.at_each_list self.old (λ settings calls.
@@ -158,8 +179,8 @@ impl<K: Hash + Drop, V: Clone, C: CacheTypes<K, V>, R: RowStore<K, V>> Segmented
         self.segments[place.index].remove_with_hash(key, place.hash, now)
     }
 
-    /// The first notice of the first segment that has one; none exactly where no segment has one. It
-    /// takes no memory.
+    /// Takes the oldest notice of the first segment that has one; returns `None` exactly if no
+    /// segment has a notice. Does not allocate.
     pub fn take_notice(&mut self) -> Option<Notice<K, V>>
         ensures reply { ⟦<C as SegmentedStateView<K, V>>⟧.answers_in self.old TakeNotice
             (Noticed (option_map removal_of result)) }
@@ -177,15 +198,15 @@ impl<K: Hash + Drop, V: Clone, C: CacheTypes<K, V>, R: RowStore<K, V>> Segmented
         }
     }
 
-    /// What it is called.
+    /// Returns the cache's name, or `None` if it has none.
     pub fn name(&self) -> Option<&str>
         ensures { option_map (λ name. name.now) result ≡ self.now.settings.name }
     {
         self.settings.name.as_deref()
     }
 
-    /// How much it may store and how long its values live, as it was built, and how many segments it
-    /// has: the number that was wanted, or the next power of two.
+    /// Returns the capacity, the lifetimes and the number of segments that the cache was built
+    /// with. The number is the one that was asked for, or the next power of two.
     pub fn policy(&self) -> Policy
         ensures max_capacity { result.max_capacity ≡ self.now.settings.max_capacity }
         ensures num_segments { result.num_segments ≡ 2 ^ self.now.bits }
@@ -202,21 +223,21 @@ impl<K: Hash + Drop, V: Clone, C: CacheTypes<K, V>, R: RowStore<K, V>> Segmented
         )
     }
 
-    /// The segments, in order. The capacity of each is its share.
+    /// Returns the segments, in order. The capacity of each is its share.
     pub fn segments(&self) -> &[State<K, V, C, R>]
         ensures { result.now ≡ self.now.segments }
     {
         &self.segments
     }
 
-    // The allocator that it keeps. Its flush limit, if there is one, is not 0.
+    // Returns the allocator. The contract adds that the flush limit, if there is one, is not 0.
     pub(crate) fn alloc(&self) -> Global
         ensures { LimitsSome self.now.settings.flush_limit }
     {
         self.alloc
     }
 
-    // The segment of a key, and its hash, which is that in each segment.
+    // Returns the segment of a key, and the key's hash, which is the same in each segment.
     pub(crate) fn place_of(&self, key: &K) -> Place
         ensures is { result.index ≡ segment_of_key
             (⟦<C as SegmentedStateView<K, V>>⟧.segmented_settings self.now) key.now }
@@ -234,7 +255,7 @@ impl<K: Hash + Drop, V: Clone, C: CacheTypes<K, V>, R: RowStore<K, V>> Segmented
         }
     }
 
-    // The first segment that has a notice.
+    // Returns the number of the first segment that has a notice.
     fn first_noticed(&self) -> Option<usize>
         ensures { result ≡ first_from (has_notice self.now.segments) 0 (length self.now.segments) }
     {
@@ -247,7 +268,8 @@ impl<K: Hash + Drop, V: Clone, C: CacheTypes<K, V>, R: RowStore<K, V>> Segmented
     }
 }
 
-/// The number of the segment of a hash, of `2 ^ bits` segments: what the hash's highest bits are.
+/// Returns the number of a hash's segment, of `2 ^ bits` segments: the number that the hash's
+/// highest bits are. `bits` is below 64.
 pub fn number_of_segment(bits: u32, hash: u64) -> usize
     requires { bits < 64 }
     ensures is { result ≡ segment_of bits hash }

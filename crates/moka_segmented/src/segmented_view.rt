@@ -1,40 +1,41 @@
-//! What the data means that a cache of several segments keeps.
+//! What the data of a cache of several segments means to the specification.
 use moka_policy::policy::CacheTypes;
 use moka_ways::view::BehaviourView;
 use std::hash::Hash;
 
-/// What a cache of several segments of these types is, by the data that it keeps, and the relations
-/// in which its calls stand. It follows from the types, and nothing more is to be said of them.
+/// What the data of a cache of several segments of these types means, and the relations between its
+/// states. It follows from the types: every `CacheTypes` has it.
 pub trait SegmentedStateView<K: Hash, V: Clone>: CacheTypes<K, V> {
     ghost use Rattle.std.specs.Prelude.{List};
     ghost use Rattle.moka_model.specs.Calls.{Call, Answer};
     ghost use Rattle.moka_segments.specs.Segments.{SegmentedSettings};
     ghost use Rattle.moka_segmented.specs.SegmentedData.{SegmentedData};
 
-    /// What the cache was built with, as the definitions speak of it.
+    /// What the cache was built with, in the specification's terms.
     ghost segmented_settings: { SegmentedData K V Self.Hasher Self.Weigher Self.Expiry Self.Frequency Self.Error
         → SegmentedSettings K V };
 
-    /// The segments stand for these calls, each for its own list of them, as a cache of its share
-    /// under these settings.
+    /// The cache could have come from these calls under these settings. Each segment has its own
+    /// list of them as its history, as a cache with its share.
     ghost all_stand_for: { SegmentedSettings K V
         → SegmentedData K V Self.Hasher Self.Weigher Self.Expiry Self.Frequency Self.Error
         → List (Call K V Self.Error)
         → Type 0 };
 
-    /// Whatever settings and calls the segments stand for, this holds of them.
+    /// This holds for all settings and calls that the cache could have come from.
     ghost at_each_list: { SegmentedData K V Self.Hasher Self.Weigher Self.Expiry Self.Frequency Self.Error
         → (SegmentedSettings K V → List (Call K V Self.Error) → Type 0)
         → Type 0 };
 
-    /// Whatever calls the first ones stand for, the others stand for those followed by this one.
+    /// Whatever calls the first cache could have come from, the second one could have come from
+    /// those followed by this one.
     ghost follows_in: { SegmentedData K V Self.Hasher Self.Weigher Self.Expiry Self.Frequency Self.Error
         → Call K V Self.Error
         → SegmentedData K V Self.Hasher Self.Weigher Self.Expiry Self.Frequency Self.Error
         → Type 0 };
 
-    /// This, when it is handed out, is the answer to the call, after whatever calls the segments
-    /// stand for.
+    /// Whatever calls the cache could have come from, this is what the call returns after them, up
+    /// to cloning.
     ghost answers_in: { SegmentedData K V Self.Hasher Self.Weigher Self.Expiry Self.Frequency Self.Error
         → Call K V Self.Error
         → Answer K V Self.Error

@@ -1,4 +1,4 @@
-//! Runs of calls as data, over several segments.
+//! Steps and runs of steps over several segments.
 ghost use Rattle.std.specs.Prelude.{◌≡◌, ◌+◌, ◌≤◌, None, length, map, option_map, IfOk, IfErr, IfSome, OnErr};
 ghost use Rattle.std.specs.Arc.{arc_value};
 ghost use Rattle.std.specs.List.{AllByRecursion};
@@ -17,9 +17,10 @@ use std::collections::VecDeque;
 use std::hash::Hash;
 
 impl<K: Hash + Drop, V: Clone, C: CacheTypes<K, V>, R: RowStore<K, V>> Segmented<K, V, C, R> {
-    /// Does one step: of a key in its segment, one of a turn in that of the key of its name, and any
-    /// other in all. A step and the call that it stands for answer the same. A refused step has
-    /// changed nothing, and what it carried is dropped.
+    /// Makes the call that a step describes, and returns its reply.
+    ///
+    /// A step of a key goes to the key's segment. One of a turn goes to the segment of its name's
+    /// key, and any other to all. A failed step drops what it carried.
     pub fn step(&mut self, step: Step<K, V, C>) -> Reply<K, V, C>
         requires { StepKeeps C.keeps C.Predicate.tests C.test step }
         ensures reply { ⟦<C as SegmentedStateView<K, V>>⟧.at_each_list self.old (λ settings calls.
@@ -37,7 +38,7 @@ impl<K: Hash + Drop, V: Clone, C: CacheTypes<K, V>, R: RowStore<K, V>> Segmented
         self.segments[place.index].step_with_hash(step, place.hash)
     }
 
-    // A step without a key.
+    // Makes a step that has no key.
     fn step_of_all(&mut self, step: Step<K, V, C>) -> Reply<K, V, C>
         requires keeps { StepKeeps C.keeps C.Predicate.tests C.test step }
         requires keyless { key_in (call_of C.test step) ≡ None }
@@ -85,10 +86,15 @@ impl<K: Hash + Drop, V: Clone, C: CacheTypes<K, V>, R: RowStore<K, V>> Segmented
         }
     }
 
-    /// Does steps in order, and answers their replies. Each segment stands then for its own list of
-    /// calls, a filter of the whole one, as a cache of its share, and each reply is that of such a
-    /// cache. With a capacity and without a weigher no more keys are stored in a segment then than
-    /// its share allows, and 64. Where the list of replies finds no room, no step was done.
+    /// Makes steps in order, and returns their replies.
+    ///
+    /// Afterwards each segment has its own history, a filter of the list of all calls. Each reply
+    /// is that of a cache with the segment's share. With a capacity and without a weigher, each
+    /// segment then stores at most its share plus 64 entries.
+    ///
+    /// # Errors
+    ///
+    /// - `OutOfMemory`: allocating the list of replies failed. No step was made.
     pub fn run(&mut self, steps: Vec<Step<K, V, C>>) -> Result<Vec<Reply<K, V, C>>, Refused>
         requires { AllByRecursion (StepKeeps C.keeps C.Predicate.tests C.test) steps.items }
         ensures replies { IfOk result (λ replies.
@@ -120,7 +126,7 @@ impl<K: Hash + Drop, V: Clone, C: CacheTypes<K, V>, R: RowStore<K, V>> Segmented
     }
 }
 
-// The key of a step, if it has one.
+// Returns the key of a step, if it has one.
 fn key_of<'a, K: Hash + Drop, V: Clone, C: CacheTypes<K, V>>(
     step: &'a Step<K, V, C>,
 ) -> Option<&'a K>

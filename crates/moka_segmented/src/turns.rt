@@ -1,5 +1,5 @@
-//! The calls of turns, each in the segment of the turn's key: one caller works out a value for a key,
-//! while others wait for what comes of it.
+//! Single flight by hand, each call in the segment of the turn's key: one caller computes a value,
+//! others wait for the outcome.
 ghost use Rattle.std.specs.Prelude.{◌≡◌, ◌≢◌, Bool, Option, true, IfOk, IfErr, IfSome, OnOk, OnErr};
 ghost use Rattle.std.specs.Arc.{arc_value};
 ghost use Rattle.moka_model.specs.Calls.{Abandon, Begin, BeginCompute, Collect, Finish, Leave};
@@ -24,16 +24,23 @@ use std::hash::Hash;
 use std::sync::Arc;
 
 impl<K: Hash + Drop, V: Clone, C: CacheTypes<K, V>, R: RowStore<K, V>> Segmented<K, V, C, R> {
-    /// Begins to work out a value for a key, in its segment, as an initializer of this kind: answers
-    /// the live value, where there is one and the caller, who is shown it, does not ask to replace it;
-    /// else a ticket for the open turn of the kind and the key, where there is one; and else a turn
-    /// that is opened for the caller to end. In each case the key is looked for at this moment, as by
-    /// [`Segmented::get`].
+    /// Begins a computation of the value for `key`, of this kind, in the key's segment.
     ///
-    /// It asks for a kind other than `Compute`. Refused with `NumbersUsedUp` where a turn would be
-    /// opened and no number is left in the key's segment, or would be waited for by more callers than
-    /// can be counted, and with `OutOfMemory`; then nothing has changed. It costs the begin of the
-    /// segment's state, and hashes the key once more.
+    /// Looks the key up, as [`Segmented::get`] does. Returns `Found` with the live entry, unless
+    /// `replace_if` returns true for its value. Otherwise returns `Wait` with a ticket if a turn of
+    /// this key and kind is open. Else returns `Run` with a turn, which the caller has to end.
+    ///
+    /// The kind is not `Compute`.
+    ///
+    /// # Errors
+    ///
+    /// - `OutOfMemory`: an allocation or a clone failed.
+    /// - `NumbersUsedUp`: no sequence number is left in the segment for a turn, or the open turn
+    ///   has 2^64 - 1 unspent tickets.
+    ///
+    /// # Complexity
+    ///
+    /// That of the begin of the segment's state. Hashes the key once more.
     pub fn begin<F: FnMut(&V) -> bool + Drop>(
         &mut self,
         key: &Arc<K>,
@@ -59,14 +66,22 @@ impl<K: Hash + Drop, V: Clone, C: CacheTypes<K, V>, R: RowStore<K, V>> Segmented
         self.segments[place.index].begin(key, kind, replace_if, now)
     }
 
-    /// Begins a compute of a key, in its segment. Where another's is open, it answers a ticket for that,
-    /// and does not look: only the moment is recorded. Else a turn is opened for the caller to end, and
-    /// the key is looked for at this moment, as by [`Segmented::get`]: the caller is shown the entry of
-    /// the live value, if there is one; and where it asks to keep it, a second copy is kept aside.
+    /// Begins a compute of `key`, in its segment.
     ///
-    /// Refused with `NumbersUsedUp` where a turn would be opened and no number is left in the key's
-    /// segment, or would be waited for by more callers than can be counted, and with `OutOfMemory`; then
-    /// nothing has changed. It costs the begin of the segment's state, and hashes the key once more.
+    /// If another compute of the key is open, returns `Wait` with a ticket, and records only the
+    /// moment. Otherwise looks the key up, as by [`Segmented::get`], and returns `Run` with a turn
+    /// and the live entry, if there is one. With `keep`, the cache keeps a second clone of that
+    /// value.
+    ///
+    /// # Errors
+    ///
+    /// - `OutOfMemory`: an allocation or a clone failed.
+    /// - `NumbersUsedUp`: no sequence number is left in the segment for a turn, or the open turn
+    ///   has 2^64 - 1 unspent tickets.
+    ///
+    /// # Complexity
+    ///
+    /// That of the begin of the segment's state. Hashes the key once more.
     pub fn begin_compute(
         &mut self,
         key: &Arc<K>,
@@ -86,19 +101,26 @@ impl<K: Hash + Drop, V: Clone, C: CacheTypes<K, V>, R: RowStore<K, V>> Segmented
         self.segments[place.index].begin_compute(key, keep, now)
     }
 
-    /// Ends a turn with what its initializer gave, in the segment of its key. A value is written as by
-    /// [`Segmented::insert`]: its entry is fresh, and marked as replacing where a live value stood just
-    /// before the write. What came of the turn is kept for those who wait for it, until the last of
-    /// them has collected it.
+    /// Ends a turn with an outcome, in the segment of its key.
     ///
-    /// A compute ends with what is to be done, and only its caller is answered what became of the value.
+    /// A value is written as by [`Segmented::insert`]. Its entry is fresh, and marked as replacing
+    /// if a value was live just before the write. The outcome is kept until the last waiting caller
+    /// has collected it. Only the caller of a compute gets what became of the value.
     ///
-    /// It asks for an outcome that fits the turn's kind. Refused with `UnknownTurn` exactly where it
-    /// is no open turn of this cache, with `NumbersUsedUp` exactly where a value is to be written and
-    /// no number is left in the segment, and else with `OutOfMemory`; no outcome but a value, an error
-    /// or the removal of a live value takes memory. A refused finish hands back the turn and the
-    /// outcome, and changes nothing. It costs the finish of the segment's state, and hashes the key
-    /// once more.
+    /// The outcome has to fit the turn's kind. Allocates only for a value, an error, or the removal
+    /// of a live value.
+    ///
+    /// # Errors
+    ///
+    /// Hands back the turn and the outcome.
+    ///
+    /// - `UnknownTurn`: it is no open turn of this cache.
+    /// - `NumbersUsedUp`: a value is to be written and no sequence number is left in the segment.
+    /// - `OutOfMemory`: an allocation or a clone failed.
+    ///
+    /// # Complexity
+    ///
+    /// That of the finish of the segment's state. Hashes the key once more.
     pub fn finish(
         &mut self,
         turn: Turn<K>,
@@ -122,11 +144,13 @@ impl<K: Hash + Drop, V: Clone, C: CacheTypes<K, V>, R: RowStore<K, V>> Segmented
         self.segments[place.index].finish(turn, outcome, now)
     }
 
-    /// Ends a turn without an outcome, in the segment of its key: those who wait for it are told that
-    /// it was abandoned. The turn is spent in any case.
+    /// Ends a turn without an outcome, in the segment of its key: the callers that wait for it find
+    /// that it was abandoned. Spends the turn in any case. Does not allocate, and takes constant
+    /// time.
     ///
-    /// Refused with `UnknownTurn` exactly where it is no open turn of this cache; then nothing has
-    /// changed. It takes no memory, and constant time.
+    /// # Errors
+    ///
+    /// - `UnknownTurn`: it is no open turn of this cache.
     pub fn abandon(&mut self, turn: Turn<K>) -> Result<(), Refused>
         ensures reply { ⟦<C as SegmentedStateView<K, V>>⟧.at_each_list self.old (λ settings calls.
             GivesIn K.eq V.is_clone V.is_infallible settings calls (Abandon (turn_name turn))
@@ -140,13 +164,17 @@ impl<K: Hash + Drop, V: Clone, C: CacheTypes<K, V>, R: RowStore<K, V>> Segmented
         self.segments[place.index].abandon(turn)
     }
 
-    /// Asks what came of a turn, in the segment of its key. The ticket of an ended turn is spent, and
-    /// answered a copy of its outcome; that of an open one is handed back.
+    /// Returns what came of a ticket's turn, in the segment of its key.
     ///
-    /// Refused with `UnknownTicket` exactly where no turn of this cache has its name and an unspent
-    /// ticket, and else with `OutOfMemory`, for the copy of a value or the share of an error alone. A
-    /// refused ticket is handed back unspent, and nothing has changed. It takes constant time, but for
-    /// the copy.
+    /// If the turn has ended, spends the ticket and returns a clone of the outcome. If the turn is
+    /// open, returns the ticket. Takes constant time, except for the clone.
+    ///
+    /// # Errors
+    ///
+    /// Hands back the ticket, unspent.
+    ///
+    /// - `UnknownTicket`: no turn of this cache has the ticket's name and an unspent ticket.
+    /// - `OutOfMemory`: cloning the value or sharing the error failed.
     pub fn collect(
         &mut self,
         ticket: Ticket<K>,
@@ -166,11 +194,12 @@ impl<K: Hash + Drop, V: Clone, C: CacheTypes<K, V>, R: RowStore<K, V>> Segmented
         self.segments[place.index].collect(ticket)
     }
 
-    /// Spends a ticket and asks nothing, in the segment of its turn's key. The ticket is spent in any
-    /// case.
+    /// Spends a ticket and collects nothing, in the segment of its turn's key. The ticket is spent
+    /// in any case. Does not allocate, and takes constant time.
     ///
-    /// Refused with `UnknownTicket` exactly where no turn of this cache has its name and an unspent
-    /// ticket; then nothing has changed. It takes no memory, and constant time.
+    /// # Errors
+    ///
+    /// - `UnknownTicket`: no turn of this cache has the ticket's name and an unspent ticket.
     pub fn leave(&mut self, ticket: Ticket<K>) -> Result<(), Refused>
         ensures reply { ⟦<C as SegmentedStateView<K, V>>⟧.at_each_list self.old (λ settings calls.
             GivesIn K.eq V.is_clone V.is_infallible settings calls (Leave (ticket_name ticket))

@@ -12,7 +12,7 @@ use Rattle.moka_model.specs.StandsFor.{Books, WholeView, StandsFor}
 use Rattle.moka_segments.specs.Segments.{SegmentedSettings, SegmentedView, share_settings, segments_of, One, Nowhere, asked, at_first, place_of, answer_in, sum_below, first_from, first_noticed, notices_after, is_empty, list_of, events_of, entries_in, weight_in, notices_in, steps_in, AllStandFor}
 use Rattle.moka_segments.proofs.Lists.{there, at_or}
 
--- a sum depends on what is below alone
+-- a sum depends only on what is below the number
 pub sum_below-same : (f g : ℕ → ℕ) (n : ℕ) → ((i : ℕ) → i < n → f i ≡ g i) → sum_below f n ≡ sum_below g n
 sum_below-same f g zero same = refl
 sum_below-same f g (suc n) same =

@@ -1,4 +1,4 @@
--- What the states of segments stand for after a call, and what they answer.
+-- What calls the states of segments could have come from after one more call, and what they return.
 use Rattle.std.proofs.Common.{◌≡◌, ℕ, ◌==◌, Bool, true, false, cond, Option, Some, None, IfSome, List, ◌∷◌, length, refl, sym, ap, ◌∙◌, subst, ⊎_elim, set}
 use Rattle.std.specs.List.{slice_get}
 use Rattle.std.proofs.lemmas.Bool.Decides.{eqb_tells}
@@ -101,7 +101,7 @@ module _ {K V : Type 0} (E : Type 0) (eq : K → K → Bool) {is_clone : V → V
   answer-at view calls j v call answer here answers stand =
       answered-of is_clone (accepted eq (share_settings given) (steps_in E eq given calls j) call) answer (answers _ _ (stand-here view calls j v here stand))
 
--- A call of a key goes to the segment of its key, which answers it alone.
+-- A call of a key goes only to the segment of its key.
 pub record IsRouted {K V : Type 0} (E : Type 0) (eq : K → K → Bool) (given : SegmentedSettings K V) (k : K) (call : Call K V E) (calls : List (Call K V E)) : Type 0 where
   pub place : place_of E eq given calls call ≡ One (segment_of_key given k)
   pub joint : joint_in E eq given calls call ≡ None

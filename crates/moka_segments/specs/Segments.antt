@@ -1,4 +1,4 @@
--- A cache of several segments: where each call goes, what list each segment so has, and what is answered.
+-- A cache of several segments: where each call goes, which list of calls each segment has, and what is returned.
 use Rattle.std.specs.Prelude.{◌≡◌, ◌==◌, ℕ, zero, suc, ◌+◌, ◌-◌, ◌/◌, ◌^◌, min, Bool, true, false, not, ◌||◌, if◌then◌else◌}
 use Rattle.std.specs.Prelude.{Option, Some, None}
 use Rattle.std.specs.Prelude.{IfSome, List, [], ◌∷◌, length, option_map, unwrap_or, nat_le, slice_get}
@@ -13,11 +13,11 @@ use Rattle.moka_model.specs.Calls.{RunPendingTasksUpTo, OrInsert, Begin, BeginCo
 use Rattle.moka_model.specs.Calls.{Answer, Counted, Left, accepted, answer_of, after, live_at, IsAnswer}
 use Rattle.moka_model.specs.StandsFor.{WholeView, StandsFor}
 
--- the segment of a hash, of 2 ^ bits segments: the number that the hash's highest bits are
+-- The segment of a hash, of 2 ^ bits segments: the number that the hash's highest bits are.
 abbrev pub segment_of : ℕ → ℕ → ℕ
 segment_of bits hash = hash / 2 ^ (64 - bits)
 
--- one segment's share of a whole: the least number that, taken once for each segment, is at least the whole
+-- One segment's share of a whole: the least number that, times the number of segments, is at least the whole.
 abbrev pub share : ℕ → ℕ → ℕ
 share segments whole = (whole + (segments - 1)) / segments
 
@@ -29,12 +29,12 @@ pub record SegmentedSettings (K V : Type 0) : Type 0 where
 abbrev pub segments_of : {K V : Type 0} → SegmentedSettings K V → ℕ  -- how many segments it has
 segments_of settings = 2 ^ settings.bits
 
--- what one segment is built with: the settings of the whole, with its share of the capacity
+-- What one segment is built with: the settings of the whole, with its share of the capacity.
 abbrev pub share_settings : {K V : Type 0} → SegmentedSettings K V → Settings K V
 share_settings settings =
     record settings.whole { max_capacity = option_map (share (segments_of settings)) settings.whole.max_capacity }
 
--- the key of a call, if it has one: that of a turn's name, where it has a name
+-- The key of a call, if it has one; for a call with a turn's name, the key of that name.
 abbrev pub key_in : {K V E : Type 0} → Call K V E → Option K
 key_in (Get k at) = Some k
 key_in (ContainsKey k at) = Some k
@@ -50,62 +50,65 @@ key_in (Collect name) = Some name.key
 key_in (Leave name) = Some name.key
 key_in call = None
 
--- where a call goes: to one segment, to each, or to none, where it changes nothing
+-- Where a call goes: to one segment, to each, or to none if it changes nothing.
 pub data Place : Type 0 where
   One : ℕ → Place
   Each : Place
   Nowhere : Place
 
+-- Whether a call with this place goes to a segment.
 abbrev pub goes_to : ℕ → Place → Bool
 goes_to i (One j) = i == j
 goes_to i Each = true
 goes_to i Nowhere = false
 
-abbrev pub at_first : Option ℕ → Place  -- at the first segment of some kind, where there is one
+abbrev pub at_first : Option ℕ → Place  -- the place at a segment, if there is one
 at_first None = Nowhere
 at_first (Some i) = One i
 
--- the segment that is asked; where a call goes to each or to none, all of them answer alike, or they answer together
+-- The segment of a call. If a call goes to each or to none, all segments return the same, or they return something
+-- together.
 abbrev pub asked : Place → ℕ
 asked (One i) = i
 asked Each = 0
 asked Nowhere = 0
 
--- what all segments answer together: the total of a count, or whether any of them left a part of a maintenance undone
+-- What all segments return together: the total of a count, or whether any of them left a part of a maintenance undone.
 pub data Joint : Type 0 where
   Total : ℕ → Joint
   AnyLeft : Bool → Joint
 
--- the answer to what they answer together, and to any other call another one
+-- The answer to a call: what the segments return together or, for any other call, what is given.
 abbrev pub answer_by : {K V E : Type 0} → Option Joint → Option (Answer K V E) → Option (Answer K V E)
 answer_by (Some (Total total)) other = Some (Counted total)
 answer_by (Some (AnyLeft left)) other = Some (Left left)
 answer_by None other = other
 
--- the sum of what a function gives for each number below another
+-- The sum of a function over all numbers below another.
 abbrev pub sum_below : (ℕ → ℕ) → ℕ → ℕ
 sum_below f zero = 0
 sum_below f (suc n) = sum_below f n + f n
 
--- whether a test holds of any number below another
+-- Whether a test holds for any number below another.
 abbrev pub any_below : (ℕ → Bool) → ℕ → Bool
 any_below test zero = false
 any_below test (suc n) = any_below test n || test n
 
--- the first of so many numbers, from one on, that passes a test
+-- The first of so many numbers, from `i` on, that passes a test.
 abbrev pub first_from : (ℕ → Bool) → ℕ → ℕ → Option ℕ
 first_from test i zero = None
 first_from test i (suc more) = if test i then Some i else first_from test (suc i) more
 
+-- Whether a list is empty.
 abbrev pub is_empty : {X : Type 0} → List X → Bool
 is_empty [] = true
 is_empty (x ∷ xs) = false
 
--- how many bits of a hash name one of so many segments: the fewest that name as many, and 63 at most
+-- How many bits of a hash choose one of so many segments: the fewest that name as many, and 63 at most.
 abbrev pub bits_for : ℕ → ℕ
 bits_for segments = unwrap_or (first_from (λ bits. nat_le segments (2 ^ bits)) 0 63) 63
 
--- the accepted steps that calls are, each after those before it
+-- The accepted steps that calls are, each after those before it.
 abbrev pub steps_after : {K V E : Type 0} → (K → K → Bool) → Settings K V → List (Call K V E) → List (AcceptedStep K V E)
 steps_after eq settings [] = []
 steps_after eq settings (call ∷ calls) = after eq settings call (steps_after eq settings calls)
@@ -113,28 +116,29 @@ steps_after eq settings (call ∷ calls) = after eq settings call (steps_after e
 abbrev pub segment_of_key : {K V : Type 0} → SegmentedSettings K V → K → ℕ  -- the segment of a key
 segment_of_key settings k = segment_of settings.bits (settings.whole.behaviour.hash k)
 
--- where a call goes by its key: to the key's segment, and to each where it has none
+-- Where a call goes by its key: to the key's segment, or to each if it has no key.
 abbrev pub place_of_key : {K V : Type 0} → SegmentedSettings K V → Option K → Place
 place_of_key settings None = Each
 place_of_key settings (Some k) = One (segment_of_key settings k)
 
 module _ {K V : Type 0} (E : Type 0) (eq : K → K → Bool) (settings : SegmentedSettings K V) where
-  abbrev pub notices_after : List (Call K V E) → List (Removal K V)  -- the notices of a segment that were not taken, after its list
+  -- a segment's notices that were not taken, after its list
+  abbrev pub notices_after : List (Call K V E) → List (Removal K V)
   notices_after calls = notices_left eq (share_settings settings) (events_in {E = E} (steps_after eq (share_settings settings) calls))
 
-  -- the first segment that has a notice, by the list of each
+  -- The first segment that has a notice, given the list of each.
   abbrev pub first_noticed : (ℕ → List (Call K V E)) → Option ℕ
   first_noticed lists = first_from (λ i. not (is_empty (notices_after (lists i)))) 0 (segments_of settings)
 
-  -- Where a call goes, by the list of each segment: to none, where it counts; to the first that has a notice, where it takes
-  -- one; and else to the segment of its key, or to each where it has none.
+  -- Where a call goes, given the list of each segment. A count goes to none, and a `TakeNotice` to the first segment
+  -- that has a notice. Any other call goes to the segment of its key, or to each if it has no key.
   abbrev pub place_by : (ℕ → List (Call K V E)) → Call K V E → Place
   place_by lists EntryCount = Nowhere
   place_by lists WeightedSize = Nowhere
   place_by lists TakeNotice = at_first (first_noticed lists)
   place_by lists call = place_of_key settings (key_in call)
 
-  -- A segment's list: a filter of the list of all calls, both read from the newest.
+  -- A segment's list: a filter of the list of all calls. Both are read from the newest.
   abbrev pub list_of : List (Call K V E) → ℕ → List (Call K V E)
   list_of [] i = []
   list_of (call ∷ calls) i =
@@ -143,42 +147,43 @@ module _ {K V : Type 0} (E : Type 0) (eq : K → K → Bool) (settings : Segment
   abbrev pub place_of : List (Call K V E) → Call K V E → Place  -- where a call goes, after others
   place_of calls call = place_by (list_of calls) call
 
-  -- the accepted steps of a segment: those of its own list, under its own settings
+  -- The accepted steps of a segment: those of its own list, under its own settings.
   abbrev pub steps_in : List (Call K V E) → ℕ → List (AcceptedStep K V E)
   steps_in calls i = steps_after eq (share_settings settings) (list_of calls i)
 
   abbrev pub events_of : List (Call K V E) → ℕ → List (Event K V)  -- the events of a segment
   events_of calls i = events_in (steps_in calls i)
 
-  -- the live write of a key where a call looks at a moment: that of the key's segment
+  -- The live write of a key at a moment: that of the key's segment.
   abbrev pub live_in : List (Call K V E) → K → ℕ → Option (Write K V)
   live_in calls k at = live_at eq (share_settings settings) k at (events_of calls (segment_of_key settings k))
 
-  -- How many stand in all segments, and their weight.
+  -- How many entries are stored in all segments.
   abbrev pub entries_in : List (Call K V E) → ℕ
   entries_in calls = sum_below (λ i. entry_count eq (share_settings settings) (events_of calls i)) (segments_of settings)
 
+  -- Their total weight.
   abbrev pub weight_in : List (Call K V E) → ℕ
   weight_in calls = sum_below (λ i. weighted_size eq (share_settings settings) (events_of calls i)) (segments_of settings)
 
   abbrev pub notices_in : List (Call K V E) → ℕ  -- how many notices of all segments were not taken
   notices_in calls = sum_below (λ i. length (notices_after (list_of calls i))) (segments_of settings)
 
-  -- whether a maintenance in which so many may leave each segment would leave a part undone in any of them
+  -- Whether a maintenance in which each segment may evict so many would leave a part undone in any of them.
   abbrev pub left_in : List (Call K V E) → ℕ → ℕ → Bool
   left_in calls limit at =
       any_below (λ i. is_left_at eq (share_settings settings) (Some limit) at (events_of calls i)) (segments_of settings)
 
-  -- What all segments answer together: to a count a sum, at most the greatest number, and to a maintenance within a limit
-  -- whether any of them leaves a part; none for any other call.
+  -- What all segments return together: to a count the sum, at most the greatest number. To a maintenance with a limit
+  -- it is whether any of them leaves a part undone. Any other call has no such result.
   abbrev pub joint_in : List (Call K V E) → Call K V E → Option Joint
   joint_in calls EntryCount = Some (Total (min (entries_in calls) greatest_number))
   joint_in calls WeightedSize = Some (Total (min (weight_in calls) greatest_number))
   joint_in calls (RunPendingTasksUpTo limit at) = Some (AnyLeft (left_in calls limit at))
   joint_in calls call = None
 
-  -- What a call answers after others, none where it is refused by its name: what all segments answer together, and else what
-  -- the segment that is asked answers, as a cache of its share that was given its own list alone.
+  -- What a call returns after others, none if it fails by its name. It is what all segments return together, if they
+  -- do. Else it is what the call's segment returns, as a cache with its share and its own list.
   abbrev pub answer_in : List (Call K V E) → Call K V E → Option (Answer K V E)
   answer_in calls call =
       answer_by (joint_in calls call)
@@ -189,8 +194,8 @@ pub record SegmentedView (K V E : Type 0) : Type 0 where
   pub settings : SegmentedSettings K V
   pub segments : List (WholeView K V E)
 
--- They stand for a list of calls under these settings where the cache was built with them, and each segment's state stands for
--- its own list, under its share.
+-- The cache could have come from a list of calls under these settings. It was built with them, and each segment's state
+-- could have come from its own list, under its share.
 pub record AllStandFor {K V E : Type 0} (eq : K → K → Bool) (is_clone : V → V → Type 0) (given : SegmentedSettings K V)
     (view : SegmentedView K V E) (calls : List (Call K V E)) : Type 0 where
   pub settings : view.settings ≡ given
@@ -199,20 +204,21 @@ pub record AllStandFor {K V E : Type 0} (eq : K → K → Bool) (is_clone : V �
       IfSome (slice_get view.segments i) (λ one. StandsFor eq is_clone (share_settings given) one (steps_in E eq given calls i))
 
 module _ {K V E : Type 0} (eq : K → K → Bool) (is_clone : V → V → Type 0) where
-  -- P holds of whatever settings and calls the states stand for.
+  -- P holds for all settings and calls that the states could have come from.
   abbrev pub AtEachList : SegmentedView K V E → (SegmentedSettings K V → List (Call K V E) → Type 0) → Type 0
   AtEachList view P =
       (settings : SegmentedSettings K V) (calls : List (Call K V E)) → AllStandFor eq is_clone settings view calls → P settings calls
 
-  -- Whatever calls the old states stood for, the new ones stand for those followed by this one.
+  -- Whatever calls the old states could have come from, the new ones could have come from those followed by this one.
   abbrev pub FollowsIn : SegmentedView K V E → Call K V E → SegmentedView K V E → Type 0
   FollowsIn old call new = AtEachList old (λ settings calls. AllStandFor eq is_clone settings new (call ∷ calls))
 
-abbrev pub IsAnswerIn : {K V E : Type 0} → (V → V → Type 0) → Option (Answer K V E) → Answer K V E → Type 0  -- an answer that is handed out
+-- an answer, up to cloning
+abbrev pub IsAnswerIn : {K V E : Type 0} → (V → V → Type 0) → Option (Answer K V E) → Answer K V E → Type 0
 IsAnswerIn is_clone None answer = ⊥
 IsAnswerIn is_clone (Some it) answer = IsAnswer is_clone it answer
 
--- What is handed out is the answer to the call, after whatever calls the states stand for.
+-- This is what the call returns, whatever calls the states could have come from.
 abbrev pub AnswersIn : {K V E : Type 0} → (K → K → Bool) → (V → V → Type 0) → SegmentedView K V E → Call K V E →
     Answer K V E → Type 0
 AnswersIn {E} eq is_clone view call answer =

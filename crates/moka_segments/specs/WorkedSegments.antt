@@ -1,4 +1,5 @@
--- The settings and the calls of the worked cases of segments. Keys and values are numbers, and each key is its own hash.
+-- The settings and the calls of the worked cases of segments. Keys and values are numbers, and each key is its own
+-- hash.
 use Rattle.std.specs.Prelude.{ℕ, ◌*◌, ◌^◌, true, Option, Some, None, List, [], ◌∷◌, nat_eq}
 use Rattle.moka_model.specs.declared.turns.Kind.TheVariants.{With}
 use Rattle.moka_model.specs.declared.turns.Outcome.TheVariants.{Value}
@@ -8,11 +9,11 @@ use Rattle.moka_model.specs.Calls.{Call, Answer, Get, Insert, Invalidate, Invali
 use Rattle.moka_model.specs.Calls.{RunPendingTasks, RunPendingTasksUpTo, EntryCount, TakeNotice, Begin, Finish, Abandon, Collect}
 use Rattle.moka_segments.specs.Segments.{SegmentedSettings, answer_in}
 
--- some seconds, in nanoseconds
+-- Some seconds, in nanoseconds.
 abbrev pub seconds : ℕ → ℕ
 seconds n = n * 1_000_000_000
 
--- Least recently used, each weight one, ten seconds to live; of 2 ^ bits segments, at a capacity.
+-- LRU, each entry weighs 1, ten seconds to live; 2 ^ bits segments with this capacity together.
 abbrev pub of_segments : ℕ → ℕ → SegmentedSettings ℕ ℕ
 of_segments bits capacity = record {
   bits = bits;
@@ -28,42 +29,44 @@ of_segments bits capacity = record {
   };
 }
 
--- a key of the upper half of two segments
+-- A key of the upper half of two segments.
 abbrev pub upper : ℕ
 upper = 2 ^ 63
 
--- what calls are answered, in order, after some calls
+-- What calls return, in order, after some calls.
 abbrev pub answers_in : SegmentedSettings ℕ ℕ → List (Call ℕ ℕ ℕ) → List (Call ℕ ℕ ℕ) → List (Option (Answer ℕ ℕ ℕ))
 answers_in settings [] before = []
 answers_in settings (call ∷ calls) before = answer_in ℕ nat_eq settings before call ∷ answers_in settings calls (call ∷ before)
 
--- two keys come into the lower segment of two, and one into the upper; of the lower ones one leaves
+-- Two keys enter the lower segment of two, and one the upper. Of the lower ones one is evicted.
 abbrev pub two_and_one : List (Call ℕ ℕ ℕ)
 two_and_one =
     Insert 1 10 0 ∷ Insert upper 20 0 ∷ Insert 2 30 0 ∷ RunPendingTasks 0 ∷ TakeNotice ∷ TakeNotice ∷ EntryCount
     ∷ Get upper (seconds 10) ∷ Get 2 (seconds 9) ∷ []
 
--- the upper segment gives its notice behind the lower one's, whichever came first
+-- The upper segment gives its notice after the lower one's, whichever came first.
 abbrev pub upper_first : List (Call ℕ ℕ ℕ)
 upper_first = Insert upper 20 0 ∷ Insert 1 10 0 ∷ Invalidate upper 1 ∷ Invalidate 1 2 ∷ TakeNotice ∷ TakeNotice ∷ TakeNotice ∷ []
 
--- all is hidden, in both
+-- All entries are invalidated, in both segments.
 abbrev pub both_hidden : List (Call ℕ ℕ ℕ)
 both_hidden = Insert 1 10 0 ∷ Insert upper 20 0 ∷ InvalidateAll ∷ Get 1 0 ∷ Get upper 0 ∷ EntryCount ∷ []
 
--- all is hidden, and leaves by maintenances within a limit of one
+-- All entries are invalidated, and evicted by maintenances with a limit of 1.
 abbrev pub one_by_one : List (Call ℕ ℕ ℕ)
 one_by_one =
     Insert 1 10 0 ∷ Insert 2 20 0 ∷ Insert upper 30 0 ∷ InvalidateAll ∷ RunPendingTasksUpTo 1 0 ∷ EntryCount
     ∷ RunPendingTasksUpTo 1 0 ∷ EntryCount ∷ []
 
--- a turn in each, with the same number; one is waited for and ended, and the other is abandoned
+-- A turn in each segment, both with the number 0.
 abbrev pub lower_name : Name ℕ
 lower_name = record { number = 0; kind = With; key = 1 }
 
+-- The turn of the upper segment.
 abbrev pub upper_name : Name ℕ
 upper_name = record { number = 0; kind = With; key = upper }
 
+-- The lower turn is waited for and finished, the upper one is abandoned.
 abbrev pub two_turns : List (Call ℕ ℕ ℕ)
 two_turns =
     Begin 1 With None 0 ∷ Begin upper With None 0 ∷ Begin 1 With None 0 ∷ Finish lower_name (Value 7) 0 ∷ Collect upper_name

@@ -1,4 +1,4 @@
-//! The definitions of a cache of several segments, and their laws. It has no code.
+//! The definitions of a cache of several segments, and their laws. This crate has no code.
 #![tactic(auto)]
 
 pub mod segment_laws;

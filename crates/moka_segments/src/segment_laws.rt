@@ -1,5 +1,5 @@
-//! The laws of segments: what each is given, that it answers as a cache of its own, and that none
-//! depends on another.
+//! The laws of segments: each segment has its own keys and its share, behaves as a cache of its
+//! own, and depends on no other.
 ghost use Rattle.std.specs.Prelude.{◌≡◌, ◌≢◌, ◌⊎◌, ℕ, ◌*◌, ◌^◌, ◌-◌, ◌≤◌, ◌<◌, ◌+◌, ◌&&◌, not, if◌then◌else◌, true, false, Bool, Some, None, List, [], ◌∷◌};
 ghost use Rattle.std.specs.List.{AllByRecursion};
 ghost use Rattle.moka_model.specs.Calls.{Call, Insert, InvalidateAll, InvalidateIf, RunPendingTasks, RunPendingTasksUpTo, TakeNotice, Done, Left, Noticed, accepted, answer_of, IsLegal};
@@ -12,8 +12,11 @@ ghost use Rattle.moka_conserved.specs.Conserved.{SeesKeysAlike};
 ghost use Rattle.moka_segments.specs.Segments.{SegmentedSettings, segments_of, bits_for, share, share_settings, segment_of, segment_of_key, key_in, One, Each, Nowhere, goes_to, place_of, list_of, steps_after, steps_in, events_of, joint_in, answer_in};
 ghost use Rattle.moka_segments.specs.SegmentLaws.{pairs_written, pairs_standing, pairs_waiting, pairs_given};
 
-/// A share, taken as many times as there are segments, is at least the whole, and no smaller number is. The share of
-/// one segment is the whole, and the share of nothing is nothing, and of no other whole.
+/// The share of a segment is the least number that, times the number of segments, is at least the
+/// whole.
+///
+/// The share of the only segment is the whole (`alone`). The share of 0 is 0 (`nothing`), and no
+/// other share is 0 (`something`).
 pub fn a_share_is_the_least()
     ensures enough { (segments whole : ℕ) → 0 < segments → whole ≤ share segments whole * segments }
     ensures least { (segments whole less : ℕ) → 0 < segments → whole ≤ less * segments → share segments whole ≤ less }
@@ -22,8 +25,10 @@ pub fn a_share_is_the_least()
     ensures something { (segments whole : ℕ) → 0 < segments → 0 < whole → 0 < share segments whole }
 {}
 
-/// A hash is of one of the segments. They part the hashes by their highest bits: into as many runs
-/// of hashes, in order, each as long as the others. Of one segment are all.
+/// Each hash belongs to one segment, which its highest bits name.
+///
+/// The segments divide the hashes, in order, into ranges of equal length (`from`, `to`). A single
+/// segment has all hashes (`one`).
 pub fn a_segment_has_the_hashes_of_its_highest_bits()
     ensures within { (bits hash : ℕ) → bits < 64 → hash < 2 ^ 64 → segment_of bits hash < 2 ^ bits }
     ensures from { (bits hash : ℕ) → segment_of bits hash * 2 ^ (64 - bits) ≤ hash }
@@ -31,21 +36,24 @@ pub fn a_segment_has_the_hashes_of_its_highest_bits()
     ensures one { (hash : ℕ) → hash < 2 ^ 64 → segment_of 0 hash ≡ 0 }
 {}
 
-/// A wanted number of segments is rounded up to a power of two, and no further than need be.
+/// A number of segments is rounded up to a power of two, and no further than needed.
 pub fn segments_are_rounded_up_to_a_power_of_two()
     ensures enough { (segments : ℕ) → segments ≤ 2 ^ 63 → segments ≤ 2 ^ bits_for segments }
     ensures least { (segments bits : ℕ) → bits < 64 → segments ≤ 2 ^ bits → bits_for segments ≤ bits }
     ensures few { (segments : ℕ) → bits_for segments < 64 }
 {}
 
-/// A segment's list of accepted steps is legal: those of a cache of its share.
+/// A segment's list of accepted steps is legal: it is one of a cache with the segment's share.
 pub fn a_segments_list_is_legal<K: Eq, V, E>()
     ensures { (settings : SegmentedSettings K V) (calls : List (Call K V E)) (i : ℕ)
         → IsLegal K.eq (share_settings settings) (steps_in E K.eq settings calls i) }
 {}
 
-/// What one segment does changes no reply of another: a call of a key is answered alike whether or
-/// not calls to another segment came before it, since they stand in no other list.
+/// What one segment does changes no reply of another. A call on a key returns the same, whether or
+/// not calls to another segment came before it.
+///
+/// The calls to another segment are not in the segment's list (`list`), and a call on a key depends
+/// only on that list (`by_its_list`).
 pub fn what_one_segment_does_changes_no_reply_of_another<K: Eq, V, E>()
     ensures list { (settings : SegmentedSettings K V) (calls : List (Call K V E)) (between : Call K V E) (i j : ℕ)
         → place_of E K.eq settings calls between ≡ One j → i ≢ j
@@ -58,8 +66,8 @@ pub fn what_one_segment_does_changes_no_reply_of_another<K: Eq, V, E>()
         → answer_in E K.eq settings calls call ≡ answer_in E K.eq settings others call }
 {}
 
-/// A call that goes to each segment is answered alike by all of them, where they do not answer it
-/// together, and so is a taking that finds no notice.
+/// A call that goes to each segment returns the same in all of them, unless they return something
+/// together (`each`). A `take_notice` that finds no notice returns none (`none`).
 pub fn all_segments_answer_a_broadcast_alike<K: Eq, V, E>()
     ensures each { (settings : SegmentedSettings K V) (calls : List (Call K V E)) (call : Call K V E) (i : ℕ)
         → place_of E K.eq settings calls call ≡ Each → joint_in E K.eq settings calls call ≡ None
@@ -68,8 +76,8 @@ pub fn all_segments_answer_a_broadcast_alike<K: Eq, V, E>()
         → answer_in E K.eq settings calls TakeNotice ≡ Some (Noticed None) }
 {}
 
-/// A maintenance within a limit runs in each segment with the whole limit, and answers that a part
-/// is left undone exactly where one of the segments, by itself, answers so.
+/// A maintenance with a limit runs in each segment with the whole limit. It returns that something
+/// is left exactly if one of the segments, by itself, would return so.
 pub fn a_maintenance_within_a_limit_leaves_what_any_segment_leaves<K: Eq, V, E>()
     ensures each { (settings : SegmentedSettings K V) (calls : List (Call K V E)) (limit at : ℕ)
         → place_of E K.eq settings calls (RunPendingTasksUpTo limit at) ≡ Each }
@@ -82,9 +90,11 @@ pub fn a_maintenance_within_a_limit_leaves_what_any_segment_leaves<K: Eq, V, E>(
         → answer_in E K.eq settings calls (RunPendingTasksUpTo limit at) ≡ Some (Left false) }
 {}
 
-/// A cache of one segment answers as a state: its share is the whole, and each call is answered as a
-/// state does that was given the same list. Calls that count, and takings that find no notice, are
-/// left out of it, since they change nothing.
+/// A cache of one segment behaves as a state.
+///
+/// Its share is the whole (`settings`), and each call returns what a state with the same list
+/// returns (`answer`). The list leaves out counts and each `take_notice` that finds no notice,
+/// since they change nothing (`list`).
 pub fn one_segment_answers_as_a_state<K: Eq, V, E>()
     ensures settings { (settings : SegmentedSettings K V) → settings.bits ≡ 0 → share_settings settings ≡ settings.whole }
     ensures list { (settings : SegmentedSettings K V) (calls : List (Call K V E)) (call : Call K V E)
@@ -95,8 +105,8 @@ pub fn one_segment_answers_as_a_state<K: Eq, V, E>()
         → answer_in E K.eq settings calls call ≡ answer_of (accepted K.eq settings.whole (steps_after K.eq settings.whole (list_of E K.eq settings calls 0)) call) }
 {}
 
-/// Where equal keys hash alike, each key that stands in a segment is of that segment: so no key
-/// stands in two.
+/// If equal keys hash alike, each key that is stored in a segment belongs to that segment. So no
+/// key is stored in two.
 pub fn each_key_stands_in_its_own_segment<K: Eq, V, E>()
     ensures { (settings : SegmentedSettings K V) (calls : List (Call K V E)) (i : ℕ)
         → ((k q : K) → K.eq k q ≡ true → settings.whole.behaviour.hash k ≡ settings.whole.behaviour.hash q)
@@ -104,9 +114,11 @@ pub fn each_key_stands_in_its_own_segment<K: Eq, V, E>()
         (all_standing K.eq (share_settings settings) (events_of E K.eq settings calls i)) }
 {}
 
-/// With a capacity, and where each key weighs one, at most its share and the flush point stand in
-/// each segment, where a flush limit is not 0; after a maintenance no more than its share, by weight in any case, and all of it is
-/// live.
+/// With a capacity, each segment stays within its share.
+///
+/// If each entry weighs 1 and the flush limit is not 0, a segment never stores more than its share
+/// plus the flush point (`always`). After maintenance its weight is within its share, by number too
+/// if each entry weighs 1 (`weight`, `count`). Then all that is stored is live (`live`).
 pub fn each_segment_stays_within_its_share<K: Eq, V, E>()
     ensures always { (settings : SegmentedSettings K V) (calls : List (Call K V E)) (i capacity : ℕ)
         → WeighsOnes settings.whole → LimitsSome settings.whole.flush_limit → settings.whole.max_capacity ≡ Some capacity
@@ -121,8 +133,8 @@ pub fn each_segment_stays_within_its_share<K: Eq, V, E>()
         → is_live (share_settings settings) w (latest (events_of E K.eq settings (RunPendingTasks at ∷ calls) i)) ≡ true }
 {}
 
-/// What a call writes is under its own key, and a call without a key writes nothing. An insert writes
-/// its pair exactly where something is stored.
+/// A call writes only under its own key, and a call without a key writes nothing (`own`). An insert
+/// writes its pair exactly if the capacity is not 0 (`insert`).
 pub fn a_call_writes_under_its_own_key<K: Eq, V, E>()
     ensures own { (settings : SegmentedSettings K V) (calls : List (Call K V E)) (call : Call K V E) (test : K → V → Bool)
         → ((k : K) (v : V) → key_in call ≡ Some k → test k v ≡ false)
@@ -132,9 +144,10 @@ pub fn a_call_writes_under_its_own_key<K: Eq, V, E>()
         ≡ (if not (stores_nothing settings.whole.max_capacity) && test k v then 1 else 0) + pairs_written E K.eq settings test calls }
 {}
 
-/// Over all segments nothing is lost or doubled: of the pairs that were written as many pass each test
-/// that does not tell equal keys apart as of those that stand, whose notices wait, and whose notices
-/// were taken.
+/// Over all segments nothing is lost or doubled.
+///
+/// Take any test of pairs that does not distinguish equal keys. As many of the written pairs pass
+/// it as of those that are stored, whose notice is queued, or whose notice was taken, together.
 pub fn no_segment_loses_or_doubles_a_pair<K: Eq, V, E>()
     ensures { (settings : SegmentedSettings K V) (calls : List (Call K V E)) (test : K → V → Bool)
         → settings.bits < 64 → ((k : K) → settings.whole.behaviour.hash k < 2 ^ 64) → SeesKeysAlike K.eq test

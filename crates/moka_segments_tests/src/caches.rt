@@ -1,4 +1,5 @@
-//! The caches under test: texts by numbers, each of which is its own hash, so its highest bits name its segment.
+//! The caches under test: texts by numbers. A number is its own hash, so its highest bits choose
+//! its segment.
 ghost use Rattle.std.specs.Prelude.{◌≡◌, ◌%◌, nat_eq};
 
 use moka::PredicateError;
@@ -43,15 +44,15 @@ pub(crate) type Builder = CacheBuilder<u64, String, Types, Single>;
 
 pub(crate) const SECOND: u64 = 1_000_000_000;
 
-/// The first key of the upper half: of two segments it is in the second, of four in the third.
+/// The first key of the upper half: in the second of two segments, and in the third of four.
 pub(crate) const UPPER: u64 = 1 << 63;
 
-/// The builder of a cache in which the least recently used leave.
+/// Returns a builder of caches with the policy LRU.
 pub(crate) fn builder(capacity: u64) -> Builder {
     CacheBuilder::new(capacity).eviction_policy(EvictionPolicy::lru())
 }
 
-/// A cache of so many segments, of a builder's settings.
+/// Builds a cache of so many segments, with the settings of a builder.
 pub(crate) fn opened(alloc: Global, builder: Builder, segments: usize) -> Result<Texts, Fail> {
     Ok(
         builder
@@ -60,18 +61,19 @@ pub(crate) fn opened(alloc: Global, builder: Builder, segments: usize) -> Result
     )
 }
 
+/// Creates a text.
 pub(crate) fn text(alloc: Global, text: &str) -> Result<String, AllocError> {
     String::from_str(alloc, text)
 }
 
-// A call of a cache is dear to prove wherever it is written: so each is written once, and all tests ask by these functions.
+// A call of a cache is slow to prove wherever it is made: so each is made once, in one of these.
 
-/// What a look finds that uses the text.
+/// Returns what `get` finds.
 pub(crate) fn look(cache: &mut Texts, key: u64, now: u64) -> Result<Option<String>, Refused> {
     cache.get(&key, now)
 }
 
-/// Whether a key is live.
+/// Returns whether a key is live.
 pub(crate) fn is_live(cache: &Texts, key: u64, now: u64) -> bool {
     cache.contains_key(&key, now)
 }
@@ -88,7 +90,7 @@ pub(crate) fn invalidate_all(cache: &mut Texts) {
     cache.invalidate_all();
 }
 
-/// Hides the texts of odd keys, by a predicate that is shared.
+/// Invalidates the texts of odd keys, by a predicate in an `Arc`.
 pub(crate) fn hide_odd(cache: &mut Texts, shared: Arc<Odd>) -> Result<(), PredicateError> {
     cache.invalidate_entries_with_arc_fun(shared)
 }
@@ -97,7 +99,7 @@ pub(crate) fn run_pending_tasks(cache: &mut Texts, now: u64) {
     cache.run_pending_tasks(now);
 }
 
-/// A maintenance up to a limit, and whether it leaves a part undone.
+/// Runs a maintenance with a limit at moment 0. Returns whether work is left.
 pub(crate) fn run_up_to(cache: &mut Texts, limit: u64) -> bool {
     cache.run_pending_tasks_up_to(limit, 0)
 }
@@ -118,7 +120,7 @@ pub(crate) fn take_notice(cache: &mut Texts) -> Option<Notice<u64, String>> {
     cache.take_notice()
 }
 
-/// So many keys are stored, and so many notices wait.
+/// Checks the numbers of stored entries and of queued notices.
 pub(crate) fn holds(rt: &impl Abort, cache: &Texts, entries: u64, notices: usize) {
     assert_eq!(rt; entry_count(cache), entries);
     assert_eq!(rt; notice_count(cache), notices);
@@ -130,7 +132,7 @@ pub(crate) fn segments(cache: &Texts) -> &[Segment] {
     cache.segments()
 }
 
-/// Whether a segment has this key.
+/// Returns whether a segment has this key live.
 pub(crate) fn has(segment: &Segment, key: u64) -> bool {
     segment.contains_key(&key, 0)
 }
@@ -139,7 +141,7 @@ pub(crate) fn name(cache: &Texts) -> Option<&str> {
     cache.name()
 }
 
-/// Writes a text that is made already.
+/// Inserts a text that was created before.
 pub(crate) fn write(
     cache: &mut Texts,
     key: u64,
@@ -149,7 +151,7 @@ pub(crate) fn write(
     cache.insert(key, value, now)
 }
 
-/// Writes a text.
+/// Creates a text and inserts it.
 pub(crate) fn insert(
     cache: &mut Texts,
     alloc: Global,

@@ -1,4 +1,4 @@
-//! What the calls answer: each of a key as its segment does, and each of all as all of them do.
+//! The calls of a segmented cache. One about a key acts in its segment, one about all keys in all.
 use crate::caches::{
     Odd, SECOND, Texts, UPPER, builder, entry_count, hide_odd, holds, insert, invalidate,
     invalidate_all, is_live, look, notice_count, opened, remove, run_pending_tasks, run_up_to,
@@ -14,7 +14,7 @@ use std::sync::Arc;
 use std::test::Fail;
 use std::time::Duration;
 
-/// What a look at a key finds.
+/// Checks what a lookup of a key finds.
 fn found(
     rt: &impl Abort,
     cache: &mut Texts,
@@ -27,13 +27,13 @@ fn found(
     Ok(())
 }
 
-/// What a removal answers.
+/// Checks what a removal returns.
 fn removed(rt: &impl Abort, cache: &mut Texts, key: u64, text: Option<&str>) -> Result<(), Fail> {
     assert_eq!(rt; remove(cache, key)?.as_deref(), text);
     Ok(())
 }
 
-/// The next notice.
+/// Takes the next notice, and checks it.
 fn left(rt: &impl Abort, cache: &mut Texts, key: u64, value: &str, cause: RemovalCause) {
     match take_notice(cache) {
         Some(notice) => is_of(rt, &notice, key, value, cause),
@@ -41,7 +41,7 @@ fn left(rt: &impl Abort, cache: &mut Texts, key: u64, value: &str, cause: Remova
     }
 }
 
-/// A notice is of this value, which left for this cause.
+/// Checks the key, the value and the cause of a notice.
 fn is_of(
     rt: &impl Abort,
     notice: &Notice<u64, String>,
@@ -58,6 +58,7 @@ fn no_more_left(rt: &impl Abort, cache: &mut Texts) {
     assert!(rt; take_notice(cache).is_none());
 }
 
+/// Each segment has its share of the capacity, and its own latest moment.
 #[test]
 fn each_segment_has_its_share_and_its_moment(rt: HostRuntime) -> Result<(), Fail> {
     let told = builder(2).time_to_live(Duration::from_secs(10));
@@ -78,7 +79,7 @@ fn has_its_share_and_its_moment(
     found(rt, cache, 2, 9 * SECOND, Some("c"))
 }
 
-/// Of two keys of a segment the first one leaves.
+/// Checks that the first of two keys of a segment is evicted.
 fn loses_the_first(rt: &impl Abort, cache: &mut Texts) {
     run_pending_tasks(cache, 0);
     left(rt, cache, 1, "a", RemovalCause::Size);
@@ -86,6 +87,7 @@ fn loses_the_first(rt: &impl Abort, cache: &mut Texts) {
     assert_eq!(rt; entry_count(cache), 2);
 }
 
+/// Notices come segment by segment, and in order within each.
 #[test]
 fn notices_come_segment_by_segment(rt: HostRuntime) -> Result<(), Fail> {
     let mut cache = opened(rt.alloc(), builder(100), 4)?;
@@ -99,7 +101,8 @@ fn come_segment_by_segment(rt: &impl Abort, alloc: Global, cache: &mut Texts) ->
     found(rt, cache, u64::MAX, 0, Some("e"))
 }
 
-/// In three segments, the last one first, a value is replaced, one is hidden, and one removed.
+/// In three segments, the last one first, a value is overwritten, one is invalidated, and one
+/// removed.
 fn one_of_each_leaves(rt: &impl Abort, alloc: Global, cache: &mut Texts) -> Result<(), Fail> {
     insert(cache, alloc, u64::MAX, "d", 0)?;
     insert(cache, alloc, u64::MAX, "e", 0)?;
@@ -137,6 +140,7 @@ fn fill(cache: &mut Texts, alloc: Global) -> Result<(), Fail> {
     Ok(())
 }
 
+/// Invalidations and maintenance act in all segments.
 #[test]
 fn what_goes_to_all_goes_to_the_last_too(rt: HostRuntime) -> Result<(), Fail> {
     let told = builder(100).support_invalidation_closures();
@@ -153,7 +157,7 @@ fn goes_to_all(rt: &impl Abort, alloc: Global, cache: &mut Texts) -> Result<(), 
     found(rt, cache, 1, 0, None)
 }
 
-/// A predicate hides the odd keys, and a maintenance takes them away.
+/// Checks that a predicate invalidates the odd keys, and that maintenance removes them.
 fn a_predicate_goes_to_all(rt: &impl Abort, cache: &mut Texts) {
     accepted(rt, cache, Ok(()));
     for key in KEYS {
@@ -174,7 +178,7 @@ fn a_removal_goes_to_all(rt: &impl Abort, cache: &mut Texts) {
     holds(rt, cache, 0, 8);
 }
 
-/// So many keys are stored, and each of them weighs one.
+/// Checks the number of stored entries, each of which weighs 1.
 fn weighs(rt: &impl Abort, cache: &Texts, entries: u64) {
     assert_eq!(rt; entry_count(cache), entries);
     assert_eq!(rt; weighted_size(cache), entries);
@@ -182,16 +186,17 @@ fn weighs(rt: &impl Abort, cache: &Texts, entries: u64) {
 
 type Accepted = Result<(), PredicateError>;
 
-/// A predicate is accepted, or it is refused for this cause.
+/// Checks whether a predicate is accepted, or why it is rejected.
 fn accepted(rt: &impl Abort, cache: &mut Texts, expected: Accepted) {
     assert_eq!(rt; cache.invalidate_entries_if(Odd), expected);
 }
 
-/// One that is shared.
+/// Checks the same for a predicate in an `Arc`.
 fn shared_accepted(rt: &impl Abort, cache: &mut Texts, shared: Arc<Odd>, expected: Accepted) {
     assert_eq!(rt; hide_odd(cache, shared), expected);
 }
 
+/// A predicate is rejected by all segments if predicates are not supported.
 #[test]
 fn a_predicate_is_accepted_by_all_or_by_none(rt: HostRuntime) -> Result<(), Fail> {
     let mut cache = opened(rt.alloc(), builder(100), 4)?;
@@ -209,6 +214,7 @@ fn is_accepted_by_none(rt: &impl Abort, alloc: Global, cache: &mut Texts) -> Res
     Ok(())
 }
 
+/// Each segment gets the whole limit of a maintenance.
 #[test]
 fn each_segment_is_given_the_whole_limit(rt: HostRuntime) -> Result<(), Fail> {
     let mut cache = opened(rt.alloc(), builder(100), 4)?;
@@ -226,12 +232,13 @@ fn is_given_the_whole_limit(rt: &impl Abort, alloc: Global, cache: &mut Texts) -
     Ok(())
 }
 
-/// A maintenance up to a limit leaves a part undone or none, and so many keys stored.
+/// Runs a maintenance with a limit. Checks whether work is left, and how many entries are stored.
 fn leaves_undone(rt: &impl Abort, cache: &mut Texts, limit: u64, undone: bool, entries: u64) {
     assert_eq!(rt; run_up_to(cache, limit), undone);
     assert_eq!(rt; entry_count(cache), entries);
 }
 
+/// Each segment has sequence numbers of its own.
 #[test]
 fn each_segment_has_numbers_of_its_own(rt: HostRuntime) -> Result<(), Fail> {
     let told = builder(100).first_number(u64::MAX - 1);
@@ -246,7 +253,8 @@ fn has_numbers_of_its_own(rt: &impl Abort, alloc: Global, cache: &mut Texts) -> 
     found(rt, cache, UPPER, 0, Some("c"))
 }
 
-/// A write of key 2 is refused, since no number is left, and handed back.
+/// Checks that an insert of key 2 fails for lack of a sequence number, and hands back its
+/// arguments.
 fn is_refused(rt: &impl Abort, cache: &mut Texts, value: String) {
     match write(cache, 2, value, 0) {
         Err(InsertRefused { key, value, cause }) => {

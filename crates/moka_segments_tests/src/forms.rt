@@ -1,4 +1,4 @@
-//! The forms of initializers with a closure, each in the segment of its key.
+//! The loaders, each in the segment of its key.
 use crate::caches::{Hasher, UPPER};
 use moka::policy::{EvictionPolicy, ManualClock, NoExpiry, NoPredicate, NoWeigher, Refused};
 use moka::ready::ReadyTypes;
@@ -11,14 +11,14 @@ use std::process::Abort;
 use std::sync::Arc;
 use std::test::Fail;
 
-/// Initializers may fail with a number.
+/// The types of the cache. Initializers may fail with a number.
 type Types = ReadyTypes<Hasher, NoWeigher, NoExpiry, ManualClock, NoPredicate, u64>;
 
 type Numbers = SegmentedState<u64, u64, Types>;
 
 type One = CacheState<u64, u64, Types>;
 
-/// A cache of four segments, with room for ten keys in each.
+/// Builds a cache of four segments, with room for ten entries in each.
 fn opened(alloc: Global) -> Result<Numbers, Fail> {
     Ok(
         CacheBuilder::new(40)
@@ -28,7 +28,7 @@ fn opened(alloc: Global) -> Result<Numbers, Fail> {
     )
 }
 
-/// A state with the share of a segment.
+/// Builds an owned cache with the share of one segment.
 fn one(alloc: Global) -> Result<One, Fail> {
     Ok(
         CacheBuilder::new(10)
@@ -40,9 +40,9 @@ fn one(alloc: Global) -> Result<One, Fail> {
 /// A key of each of four segments.
 const KEYS: [u64; 4] = [1, 1 << 62, UPPER, u64::MAX];
 
-// A call of a cache is dear to prove wherever it is written: so each is written once, and all tests ask by these functions.
+// A call of a cache is slow to prove wherever it is made: so each is made once, in one of these.
 
-/// Whether a state has this key.
+/// Returns whether a cache has this key live.
 fn has(state: &One, key: u64) -> bool {
     state.contains_key(&key, 0)
 }
@@ -51,7 +51,7 @@ fn segments(cache: &Numbers) -> &[One] {
     cache.segments()
 }
 
-/// What is answered at a moment where the closure would give this value.
+/// Returns the result of `get_with` at a moment, by a closure that returns `given`.
 fn got_with(cache: &mut Numbers, key: u64, given: u64, now: u64) -> Result<u64, Refused> {
     cache.get_with(key, move || given, now)
 }
@@ -60,7 +60,7 @@ fn got_with_by_ref(cache: &mut Numbers, key: u64, given: u64) -> Result<u64, Ref
     cache.get_with_by_ref(&key, move || given, 0)
 }
 
-/// A live value that is this one is to be replaced.
+/// The same with `get_with_if`, which replaces a live value equal to `unwanted`.
 fn got_with_if(
     cache: &mut Numbers,
     key: u64,
@@ -86,19 +86,19 @@ fn maybe_got_by_ref(
     cache.optionally_get_with_by_ref(&key, move || given, now)
 }
 
-/// Of the four segments this one alone has this key.
+/// Checks that only the segment at `index` has this key.
 fn stands_in(rt: &impl Abort, cache: &Numbers, key: u64, index: usize) {
     for (place, segment) in segments(cache).iter().enumerate() {
         assert_eq!(rt; has(segment, key), place == index);
     }
 }
 
-/// No segment has this key.
+/// Checks that no segment has this key.
 fn stands_nowhere(rt: &impl Abort, cache: &Numbers, key: u64) {
     stands_in(rt, cache, key, segments(cache).len());
 }
 
-/// What the closure of a form would give, and what is answered.
+/// Checks the result of a loader whose closure returns `given`.
 fn gets_with(rt: &impl Abort, cache: &mut Numbers, key: u64, given: u64, answered: u64) {
     assert_eq!(rt; got_with(cache, key, given, 0), Ok(answered));
 }
@@ -107,7 +107,7 @@ fn gets_with_by_ref(rt: &impl Abort, cache: &mut Numbers, key: u64, given: u64, 
     assert_eq!(rt; got_with_by_ref(cache, key, given), Ok(answered));
 }
 
-/// A live value that is this one is to be replaced.
+/// Checks the same for `get_with_if`, which replaces a live value equal to `unwanted`.
 fn gets_with_if(
     rt: &impl Abort,
     cache: &mut Numbers,
@@ -149,6 +149,7 @@ fn is_told(rt: &impl Abort, told: Result<Result<u64, Arc<u64>>, Refused>, answer
     }
 }
 
+/// A loaded value is stored in the segment of its key.
 #[test]
 fn what_is_worked_out_is_of_the_segment_of_its_key(rt: HostRuntime) -> Result<(), Fail> {
     is_worked_out(&rt, &mut opened(rt.alloc())?);
@@ -164,6 +165,7 @@ fn is_worked_out(rt: &impl Abort, cache: &mut Numbers) {
     }
 }
 
+/// `get_with_if` replaces a value in the segment of its key.
 #[test]
 fn what_is_turned_down_is_replaced_in_its_segment(rt: HostRuntime) -> Result<(), Fail> {
     is_turned_down(&rt, &mut opened(rt.alloc())?);
@@ -180,6 +182,7 @@ fn is_turned_down(rt: &impl Abort, cache: &mut Numbers) {
     }
 }
 
+/// Nothing is stored if the closure returns `None`.
 #[test]
 fn nothing_is_written_where_none_is_given(rt: HostRuntime) -> Result<(), Fail> {
     is_not_written(&rt, &mut opened(rt.alloc())?);
@@ -197,6 +200,7 @@ fn is_not_written(rt: &impl Abort, cache: &mut Numbers) {
     }
 }
 
+/// Nothing is stored if the closure fails.
 #[test]
 fn nor_where_an_initializer_fails(rt: HostRuntime) -> Result<(), Fail> {
     fails(&rt, &mut opened(rt.alloc())?);
@@ -214,6 +218,7 @@ fn fails(rt: &impl Abort, cache: &mut Numbers) {
     }
 }
 
+/// A key by reference belongs to the same segment.
 #[test]
 fn lent_keys_are_of_the_same_segment(rt: HostRuntime) -> Result<(), Fail> {
     are_of_the_same_segment(&rt, &mut opened(rt.alloc())?);
@@ -229,6 +234,7 @@ fn are_of_the_same_segment(rt: &impl Abort, cache: &mut Numbers) {
     }
 }
 
+/// The loaders by reference store nothing for `None` or an error.
 #[test]
 fn lent_keys_may_get_none_or_an_error(rt: HostRuntime) -> Result<(), Fail> {
     may_get_none_or_an_error(&rt, &mut opened(rt.alloc())?);
@@ -247,7 +253,7 @@ fn may_get_none_or_an_error(rt: &impl Abort, cache: &mut Numbers) {
     }
 }
 
-/// A begin of a lent key opens a turn of this number, of the key's segment, which is abandoned.
+/// Begins a turn with the key by reference, and checks its number. Abandons the turn.
 fn opens(rt: &impl Abort, cache: &mut Numbers, key: u64, number: u64) {
     match cache.begin_by_ref(&key, Kind::With, None::<fn(&u64) -> bool>, 0) {
         Ok(Begun::Run(turn)) => {
@@ -264,6 +270,7 @@ fn opens(rt: &impl Abort, cache: &mut Numbers, key: u64, number: u64) {
     }
 }
 
+/// A loader fails with `TurnIsOpen` while a turn of its key is open in its segment.
 #[test]
 fn an_open_turn_is_not_waited_for(rt: HostRuntime) -> Result<(), Fail> {
     is_not_waited_for(&rt, &mut opened(rt.alloc())?);
@@ -277,7 +284,7 @@ fn is_not_waited_for(rt: &impl Abort, cache: &mut Numbers) {
     }
 }
 
-/// A form of a key is answered by the cache and by a state of its own alike.
+/// Checks that a loader returns the same on the cache and on a cache of its own.
 fn works_out_alike(rt: &impl Abort, cache: &mut Numbers, own: &mut One, key: u64, now: u64) {
     let said = own.get_with(key, || now, now);
     assert_eq!(rt; got_with(cache, key, now, now), said);
@@ -302,7 +309,7 @@ fn count(state: &One) -> u64 {
     state.entry_count()
 }
 
-/// The segment of these keys has as many as a state of its own.
+/// Checks that the segment of these keys has as many entries as a cache of its own.
 fn has_as_many(rt: &impl Abort, cache: &Numbers, own: &One) {
     match segments(cache).get(2) {
         Some(segment) => assert_eq!(rt; count(segment), count(own)),
@@ -310,7 +317,7 @@ fn has_as_many(rt: &impl Abort, cache: &Numbers, own: &One) {
     }
 }
 
-/// A cache is built, and its forms are answered as by the state.
+/// Builds a segmented cache, and checks that its loaders return what those of `own` do.
 fn answers_as(rt: &impl Abort, alloc: Global, own: &mut One) -> Result<(), Fail> {
     are_answered_alike(rt, &mut opened(alloc)?, own);
     Ok(())
@@ -337,6 +344,7 @@ fn run_pending_tasks(cache: &mut Numbers, own: &mut One) {
     cache.run_pending_tasks(30);
 }
 
+/// A segment returns what an owned cache with its share would.
 #[test]
 fn a_segment_answers_as_a_state_of_its_own(rt: HostRuntime) -> Result<(), Fail> {
     let mut own = one(rt.alloc())?;

@@ -1,4 +1,4 @@
-//! The tests of caches of several segments, by calls and by runs.
+//! The tests of owned caches with several segments, by calls and by runs.
 #![tactic(auto)]
 
 #[cfg(test)]

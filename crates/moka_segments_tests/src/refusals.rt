@@ -1,5 +1,5 @@
-//! What memory is taken, and what a refused call leaves. Each test passes, or says where it was refused, also where one
-//! request for memory is refused, whichever: `scripts/refused_memory` tries each.
+//! What is allocated, and what a failed call leaves. If any one allocation fails, each test passes,
+//! or says where it failed: `scripts/refused_memory` tries each.
 use crate::caches::{
     Builder, Hasher, Odd, SECOND, Texts, UPPER, builder, entry_count, hide_odd, holds, invalidate,
     invalidate_all, is_live, look, name, notice_count, opened, remove, run_pending_tasks,
@@ -22,7 +22,7 @@ fn built(alloc: Global) -> Result<Texts, BuildError> {
         .build_segmented_state(alloc, Hasher::default())
 }
 
-/// A cache. Where memory is refused, it asks once more.
+/// Builds a cache. Retries once if an allocation fails.
 fn built_anew(alloc: Global) -> Result<Texts, BuildError> {
     match built(alloc) {
         Err(BuildError::OutOfMemory) => built(alloc),
@@ -30,6 +30,7 @@ fn built_anew(alloc: Global) -> Result<Texts, BuildError> {
     }
 }
 
+/// A build that fails with `OutOfMemory` can be repeated.
 #[test]
 fn a_cache_is_built_anew_where_memory_was_refused(rt: HostRuntime) -> Result<(), Fail> {
     let cache = built_anew(rt.alloc())?;
@@ -43,7 +44,7 @@ fn is_built_anew(rt: &impl Abort, cache: &Texts) {
     assert_eq!(rt; entry_count(cache), 0);
 }
 
-/// A text. Where memory is refused, it asks once more.
+/// Creates a text. Retries once if the allocation fails.
 fn given(alloc: Global, it: &str) -> Result<String, Fail> {
     match text(alloc, it) {
         Ok(it) => Ok(it),
@@ -51,14 +52,15 @@ fn given(alloc: Global, it: &str) -> Result<String, Fail> {
     }
 }
 
-/// The text that a write hands back which is refused for want of memory, with its key.
+/// Returns the text that a failed insert hands back. Checks its key and that the cause is
+/// `OutOfMemory`.
 fn handed_back(rt: &impl Abort, refused: InsertRefused<u64, String>, key: u64, it: &str) -> String {
     assert_eq!(rt; (refused.key, refused.cause), (key, Refused::OutOfMemory));
     assert_eq!(rt; refused.value.as_str(), it);
     refused.value
 }
 
-/// Writes a text. A refused write hands it back with its key and changes nothing, and is tried again.
+/// Inserts a text. A failed insert hands it back with its key and changes nothing, and is repeated.
 fn insert(
     rt: &impl Abort,
     cache: &mut Texts,
@@ -78,6 +80,7 @@ fn insert(
 /// A key of each of four segments.
 const KEYS: [u64; 4] = [1, 1 << 62, UPPER, u64::MAX];
 
+/// Inserts, lookups and removals work, also if any one allocation fails.
 #[test]
 fn answers_where_a_call_is_refused(rt: HostRuntime) -> Result<(), Fail> {
     let mut cache = built_anew(rt.alloc())?;
@@ -103,7 +106,7 @@ fn is_text(rt: &impl Abort, given: Maybe, expected: &str) {
     assert_eq!(rt; given.as_deref(), Some(expected));
 }
 
-/// What a look at a key finds. Where memory is refused, it asks once more.
+/// Returns what a lookup of a key finds. Retries once if an allocation fails.
 fn looked_up(cache: &mut Texts, key: u64) -> Result<Maybe, Refused> {
     match look(cache, key, 0) {
         Err(Refused::OutOfMemory) => look(cache, key, 0),
@@ -111,7 +114,7 @@ fn looked_up(cache: &mut Texts, key: u64) -> Result<Maybe, Refused> {
     }
 }
 
-/// What a removal answers. Where memory is refused, it asks once more.
+/// Returns what a removal returns. Retries once if an allocation fails.
 fn removed(cache: &mut Texts, key: u64) -> Result<Maybe, Refused> {
     match remove(cache, key) {
         Err(Refused::OutOfMemory) => remove(cache, key),
@@ -119,6 +122,7 @@ fn removed(cache: &mut Texts, key: u64) -> Result<Maybe, Refused> {
     }
 }
 
+/// Calls other than inserts do not allocate, if they clone no value.
 #[test]
 fn takes_no_memory_but_for_writes(rt: HostRuntime) -> Result<(), Fail> {
     let told = builder(100).support_invalidation_closures();

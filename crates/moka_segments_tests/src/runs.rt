@@ -1,4 +1,4 @@
-//! Runs of steps, and steps of turns.
+//! Runs of steps, and steps about turns.
 ghost use Rattle.std.specs.Prelude.{◌≡◌, IfOk, OnOk};
 ghost use Rattle.std.specs.List.{All, AllByRecursion};
 ghost use Rattle.moka.specs.Step.{StepKeeps};
@@ -29,7 +29,7 @@ fn add(steps: &mut Steps, step: OneStep) -> Result<(), AllocError>
     Ok(steps.push(step)?)
 }
 
-// The steps of all_steps in five parts: a body that owns them all is dear to prove.
+// The steps of `all_steps` in five parts, since a body that owns them all is slow to prove.
 fn add_writes(alloc: Global, steps: &mut Steps) -> Result<(), AllocError>
     requires { All (StepKeeps ⟦<Types as CacheTypes<u64, String>>⟧.keeps
         ⟦<Odd as Predicate<u64, String>>⟧.tests ⟦<Types as CacheTypes<u64, String>>⟧.test) steps.old.items }
@@ -113,7 +113,7 @@ fn add_removals_of_all(alloc: Global, steps: &mut Steps) -> Result<(), AllocErro
     add(steps, Step::InvalidateAll)
 }
 
-/// A step of each kind, over two segments.
+/// Creates a step of each kind, over two segments.
 #[tactic(auto, using(std::proofs::lemmas::List::Elements::recursion_from_All))]
 fn all_steps(alloc: Global) -> Result<Steps, AllocError>
     ensures { IfOk result (λ steps. AllByRecursion
@@ -130,13 +130,14 @@ fn all_steps(alloc: Global) -> Result<Steps, AllocError>
     Ok(steps)
 }
 
-/// What is replied to these.
+/// The replies to these steps.
 const REPLIES: &str =
     "[Done, Done, Found(None), Contains(true), Counted(2), Counted(2), Left(true), Done, \
     Noticed(Some(Notice { key: 1, value: \"a\", cause: Expired })), Found(Some(\"b\")), \
     Noticed(Some(Notice { key: 9223372036854775808, value: \"b\", cause: Explicit })), Noticed(None), \
     Done, PredicateRefused(InvalidationClosuresDisabled), Done]";
 
+/// A run replies to each of its steps, in order.
 #[test]
 fn a_run_replies_to_each_step(rt: HostRuntime) -> Result<(), Fail> {
     let told = builder(100).time_to_live(Duration::from_secs(10));
@@ -150,7 +151,7 @@ fn replies_to_each(rt: &impl Abort, alloc: Global, cache: &mut Texts) -> Result<
     Ok(())
 }
 
-/// The name of a turn.
+/// Creates the name of a turn.
 fn name(alloc: Global, number: u64, kind: Kind, key: u64) -> Result<TurnName<u64>, AllocError>
     ensures { IfOk result (λ name. name.kind ≡ kind) }
 {
@@ -161,7 +162,7 @@ fn name(alloc: Global, number: u64, kind: Kind, key: u64) -> Result<TurnName<u64
     })
 }
 
-/// Does a step, which is replied to so.
+/// Makes a step, and checks its reply.
 fn replies(
     rt: &impl Abort,
     alloc: Global,
@@ -177,6 +178,7 @@ fn replies(
     Ok(())
 }
 
+/// Steps about turns name their turns, and reply as the calls return.
 #[test]
 fn steps_of_turns_name_their_turns(rt: HostRuntime) -> Result<(), Fail> {
     let mut cache = opened(rt.alloc(), builder(100), 2)?;
@@ -189,7 +191,7 @@ fn name_their_turns(rt: &impl Abort, alloc: Global, cache: &mut Texts) -> Result
     one_abandons(rt, alloc, cache)
 }
 
-/// A begin of a key.
+/// Creates the step that begins a turn of a key.
 fn begin(alloc: Global, key: u64, kind: Kind, replace: Option<bool>) -> Result<OneStep, AllocError>
     ensures { IfOk result (StepKeeps ⟦<Types as CacheTypes<u64, String>>⟧.keeps
         ⟦<Odd as Predicate<u64, String>>⟧.tests ⟦<Types as CacheTypes<u64, String>>⟧.test) }
@@ -236,7 +238,7 @@ fn one_runs_and_one_waits(rt: &impl Abort, alloc: Global, cache: &mut Texts) -> 
     )
 }
 
-/// A turn's number, kind and key.
+/// The number, the kind and the key of a turn.
 type Named = (u64, Kind, u64);
 
 fn collects(

@@ -1,4 +1,4 @@
-//! How many segments there are, what the share of each is, and which keys are of it.
+//! The number of segments, the share of each, and the keys that belong to it.
 use crate::caches::{Builder, Hasher, Texts, UPPER, builder, has, insert, name, opened, segments};
 use moka::common::builder_utils::BuildError;
 use moka::policy::{EvictionPolicy, NoListener, Policy};
@@ -7,7 +7,7 @@ use std::process::Abort;
 use std::test::Fail;
 use std::time::Duration;
 
-/// A capacity, a wanted number of segments, how many there are, and the share of each.
+/// A capacity, a wanted number of segments, the number that there are, and the share of each.
 const SHARES: [(u64, usize, usize, u64); 8] = [
     (100, 1, 1, 100),
     (100, 2, 2, 50),
@@ -19,6 +19,7 @@ const SHARES: [(u64, usize, usize, u64); 8] = [
     (9_007_199_254_740_993, 2, 2, 4_503_599_627_370_497),
 ];
 
+/// The number of segments is the next power of two, and each share is rounded up.
 #[test]
 fn each_segment_has_its_share(rt: HostRuntime) -> Result<(), Fail> {
     for (capacity, wanted, segments, share) in SHARES {
@@ -46,7 +47,7 @@ fn has_shares(rt: &impl Abort, cache: &Texts, policy: Policy, share: u64) {
     have_policies(rt, cache, policy, Policy::new(Some(share), 1, None, None));
 }
 
-/// The cache has this policy, and each segment that one.
+/// Checks the policy of the cache, and that of each segment.
 fn have_policies(rt: &impl Abort, cache: &Texts, policy: Policy, share: Policy) {
     assert_eq!(rt; cache.policy(), policy);
     for segment in segments(cache) {
@@ -54,6 +55,7 @@ fn have_policies(rt: &impl Abort, cache: &Texts, policy: Policy, share: Policy) 
     }
 }
 
+/// A segmented cache and its segments have the settings of the builder.
 #[test]
 fn every_setting_is_kept(rt: HostRuntime) -> Result<(), Fail> {
     let told: Builder = Builder::new(400)
@@ -74,6 +76,7 @@ fn keeps_settings(rt: &impl Abort, cache: &Texts) {
     assert_eq!(rt; name(cache), Some("tracked_sessions"));
 }
 
+/// Segments or rows for which memory is lacking fail with `OutOfMemory`.
 #[test]
 fn more_segments_than_memory_are_refused(rt: HostRuntime) -> Result<(), Fail> {
     for (segments, rows) in [(1 << 63, 0), (1 << 50, 0), (4, usize::MAX)] {
@@ -86,7 +89,7 @@ fn more_segments_than_memory_are_refused(rt: HostRuntime) -> Result<(), Fail> {
     Ok(())
 }
 
-/// Keys, and the segments of eight in which they are.
+/// Keys, and the segments of eight to which they belong.
 const PLACES: [(u64, usize); 6] = [
     (5, 0),
     (2_305_843_009_213_693_951, 0),
@@ -96,6 +99,7 @@ const PLACES: [(u64, usize); 6] = [
     (u64::MAX, 7),
 ];
 
+/// The highest bits of a key's hash choose its segment.
 #[test]
 fn a_key_is_of_the_segment_of_its_highest_bits(rt: HostRuntime) -> Result<(), Fail> {
     for (key, place) in PLACES {

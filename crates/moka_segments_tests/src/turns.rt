@@ -1,4 +1,4 @@
-//! The calls of turns, each in the segment of the turn's key.
+//! The calls about turns, each in the segment of the turn's key.
 ghost use Rattle.std.specs.Prelude.{◌≡◌};
 
 use crate::caches::{Texts, UPPER, builder, has, insert, look, opened, segments, text};
@@ -24,19 +24,19 @@ fn leave(cache: &mut Texts, ticket: Ticket<u64>) -> Result<(), Refused> {
 
 type Ended = Result<Finished<u64, String, Infallible>, FinishRefused<u64, String, Infallible>>;
 
-/// Ends a turn with a text.
+/// Finishes a turn with a text.
 fn finish(cache: &mut Texts, turn: Turn<u64>, value: String) -> Ended
     requires { turn.key.kind ≡ Kind.With }
 {
     cache.finish(turn, Outcome::Value(value), 0)
 }
 
-/// A ticket asks what came of its turn.
+/// Collects a ticket.
 fn collect(cache: &mut Texts, ticket: Ticket<u64>) -> Result<Told, CollectRefused<u64>> {
     cache.collect(ticket)
 }
 
-/// Spends what a begin handed out, and says what it was.
+/// Consumes what a begin returned, and returns what it was.
 fn spent(cache: &mut Texts, begun: Begins) -> &'static str {
     match begun {
         Ok(Begun::Run(turn)) => {
@@ -52,7 +52,7 @@ fn spent(cache: &mut Texts, begun: Begins) -> &'static str {
     }
 }
 
-/// The turn of a begin that runs.
+/// Returns the turn of a begin that runs.
 fn ran(rt: &impl Abort, cache: &mut Texts, key: &Arc<u64>) -> Turn<u64>
     ensures { result.key.kind ≡ Kind.With }
 {
@@ -62,7 +62,7 @@ fn ran(rt: &impl Abort, cache: &mut Texts, key: &Arc<u64>) -> Turn<u64>
     }
 }
 
-/// The ticket of a begin that waits.
+/// Returns the ticket of a begin that waits.
 fn waited(rt: &impl Abort, cache: &mut Texts, key: &Arc<u64>) -> Ticket<u64> {
     match cache.begin(key, Kind::With, None::<fn(&String) -> bool>, 0) {
         Ok(Begun::Wait(ticket)) => ticket,
@@ -70,7 +70,7 @@ fn waited(rt: &impl Abort, cache: &mut Texts, key: &Arc<u64>) -> Ticket<u64> {
     }
 }
 
-/// Ends a turn with a text.
+/// Finishes a turn with a text, which is fresh.
 fn finished(rt: &impl Abort, cache: &mut Texts, turn: Turn<u64>, value: String)
     requires { turn.key.kind ≡ Kind.With }
 {
@@ -88,7 +88,7 @@ fn finished(rt: &impl Abort, cache: &mut Texts, turn: Turn<u64>, value: String)
 
 type Told = Collected<u64, String, Infallible>;
 
-/// Spends what a ticket was told, and says what it was.
+/// Consumes what a ticket collected, and returns what it was.
 fn spent_told(cache: &mut Texts, told: Told) -> &'static str {
     match told {
         Collected::Ready(_) => "it gave something",
@@ -101,7 +101,7 @@ fn spent_told(cache: &mut Texts, told: Told) -> &'static str {
     }
 }
 
-/// What a ticket is told.
+/// Returns what a ticket collects.
 fn collected(rt: &impl Abort, cache: &mut Texts, ticket: Ticket<u64>) -> Told {
     match collect(cache, ticket) {
         Ok(told) => told,
@@ -112,7 +112,7 @@ fn collected(rt: &impl Abort, cache: &mut Texts, ticket: Ticket<u64>) -> Told {
     }
 }
 
-/// What came of a ticket's turn is this text for this key.
+/// Checks that a ticket collects this text under this key.
 fn told(rt: &impl Abort, cache: &mut Texts, ticket: Ticket<u64>, key: u64, value: &str) {
     match collected(rt, cache, ticket) {
         Collected::Ready(Answer::Entry(entry)) => {
@@ -123,7 +123,7 @@ fn told(rt: &impl Abort, cache: &mut Texts, ticket: Ticket<u64>, key: u64, value
     }
 }
 
-/// A ticket of a turn that is open still.
+/// Returns the ticket again after it found its turn still open.
 fn open_still(rt: &impl Abort, cache: &mut Texts, ticket: Ticket<u64>) -> Ticket<u64> {
     match collected(rt, cache, ticket) {
         Collected::NotYet(ticket) => ticket,
@@ -134,6 +134,7 @@ fn open_still(rt: &impl Abort, cache: &mut Texts, ticket: Ticket<u64>) -> Ticket
 /// A key of each of four segments.
 const KEYS: [u64; 4] = [1, 1 << 62, UPPER, u64::MAX];
 
+/// A turn belongs to the segment of its key.
 #[test]
 fn a_turn_is_of_the_segment_of_its_key(rt: HostRuntime) -> Result<(), Fail> {
     let mut cache = opened(rt.alloc(), builder(400), 4)?;
@@ -155,14 +156,14 @@ fn is_run(rt: &impl Abort, alloc: Global, cache: &mut Texts, number: u64) -> Res
     Ok(())
 }
 
-/// Of the segments this one alone has this key.
+/// Checks that only the segment at `index` has this key.
 fn stands_in(rt: &impl Abort, cache: &Texts, key: u64, index: usize) {
     for (place, segment) in segments(cache).iter().enumerate() {
         assert_eq!(rt; has(segment, key), place == index);
     }
 }
 
-/// One runs, another waits, and is told this text.
+/// Begins a turn, waits for it with a ticket, and finishes it. Checks what the ticket collects.
 fn runs_and_waits(rt: &impl Abort, cache: &mut Texts, key: &Arc<u64>, value: String) {
     let turn = ran(rt, cache, key);
     assert_eq!(rt; (turn.number(), *turn.key()), (0, **key));
@@ -172,6 +173,7 @@ fn runs_and_waits(rt: &impl Abort, cache: &mut Texts, key: &Arc<u64>, value: Str
     told(rt, cache, ticket, **key, "a");
 }
 
+/// Turns of two segments are independent, also with equal numbers.
 #[test]
 fn turns_of_two_segments_do_not_meet(rt: HostRuntime) -> Result<(), Fail> {
     let (low, high) = (Arc::new(rt.alloc(), 1)?, Arc::new(rt.alloc(), UPPER)?);
@@ -201,7 +203,7 @@ fn do_not_meet(
     told(rt, cache, more, UPPER, "b");
 }
 
-/// One runs and abandons, and another waits and leaves.
+/// Begins a turn, waits for it with a ticket, abandons it, and leaves the ticket.
 fn abandons(rt: &impl Abort, cache: &mut Texts, key: &Arc<u64>) {
     let turn = ran(rt, cache, key);
     let ticket = waited(rt, cache, key);
@@ -210,6 +212,7 @@ fn abandons(rt: &impl Abort, cache: &mut Texts, key: &Arc<u64>) {
     assert!(rt; leave(cache, ticket).is_ok());
 }
 
+/// A begin finds a live value, or replaces it if its predicate holds.
 #[test]
 fn a_live_value_is_found_or_replaced(rt: HostRuntime) -> Result<(), Fail> {
     let key = Arc::new(rt.alloc(), UPPER)?;
@@ -235,7 +238,7 @@ fn is_replaced(rt: &impl Abort, cache: &mut Texts, key: &Arc<u64>, value: String
     finished(rt, cache, turn, value);
 }
 
-/// A begin that turns longer texts down finds this one.
+/// Checks that a begin that replaces longer texts finds this one.
 fn is_found(rt: &impl Abort, cache: &mut Texts, key: &Arc<u64>) {
     match cache.begin(key, Kind::With, Some(|value: &String| value.len() > 1), 0) {
         Ok(Begun::Found(entry)) => assert_eq!(rt; entry.value().as_str(), "a"),
@@ -243,7 +246,7 @@ fn is_found(rt: &impl Abort, cache: &mut Texts, key: &Arc<u64>) {
     }
 }
 
-/// The turn of a begin that turns it down.
+/// Returns the turn of a begin that replaces this text.
 fn ran_over(rt: &impl Abort, cache: &mut Texts, key: &Arc<u64>) -> Turn<u64>
     ensures { result.key.kind ≡ Kind.With }
 {
@@ -253,6 +256,7 @@ fn ran_over(rt: &impl Abort, cache: &mut Texts, key: &Arc<u64>) -> Turn<u64>
     }
 }
 
+/// A turn or a ticket of another cache is unknown, and is handed back.
 #[test]
 fn what_another_cache_handed_out_is_not_known(rt: HostRuntime) -> Result<(), Fail> {
     let key = Arc::new(rt.alloc(), UPPER)?;
@@ -288,7 +292,7 @@ fn are_not_known(
     assert_eq!(rt; abandon(other, turn), Err(Refused::UnknownTurn));
 }
 
-/// A turn that a cache does not know, and hands back with its text.
+/// Checks that a cache does not know a turn. Returns the turn, which is handed back with its text.
 fn unknown_turn(rt: &impl Abort, cache: &mut Texts, turn: Turn<u64>, value: String) -> Turn<u64>
     requires { turn.key.kind ≡ Kind.With }
 {
@@ -308,7 +312,7 @@ fn unknown_turn(rt: &impl Abort, cache: &mut Texts, turn: Turn<u64>, value: Stri
     }
 }
 
-/// A ticket that a cache does not know, and hands back.
+/// Checks that a cache does not know a ticket. Returns the ticket, which is handed back.
 fn unknown_ticket(rt: &impl Abort, cache: &mut Texts, ticket: Ticket<u64>) -> Ticket<u64> {
     match collect(cache, ticket) {
         Err(CollectRefused { ticket, cause }) => {

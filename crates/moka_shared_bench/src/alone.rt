@@ -1,4 +1,4 @@
-//! The state that one owner has, which is what lies under the lock of a shared cache.
+//! The owned cache, which is what lies under the lock of a shared cache.
 use crate::load::Load;
 use crate::measure::{Outcome, nanos_since};
 use moka::policy::EvictionPolicy;
@@ -9,11 +9,11 @@ use std::alloc::{AllocError, Global};
 use std::io;
 use std::time::{Clock, Instant};
 
-/// A state of the same types as the shared caches. It is called over any store of rows, since a
-/// call over the store itself is dear to prove.
+/// An owned cache of the same types as the shared ones. Its calls are written over any row store,
+/// since a call over the store itself is slow to prove.
 type Alone<R> = State<u64, u64, Plain, R>;
 
-/// Makes a state, and runs a load on it.
+/// Creates a cache and runs a load on it.
 pub(crate) fn timed<R: Clock>(
     rt: &R,
     alloc: Global,
@@ -32,7 +32,7 @@ fn opened(alloc: Global, capacity: u32) -> Result<Alone<DueRows<u64, u64>>, Allo
     }
 }
 
-/// The time of the second half of the keys: the first half brings the state to where it stays.
+/// Times the second half of the keys. The first half brings the cache to a steady state.
 fn timed_on<R: RowStore<u64, u64>>(
     rt: &impl Clock,
     state: &mut Alone<R>,
@@ -59,7 +59,7 @@ fn look_for_all<R: RowStore<u64, u64>>(
     Ok(found)
 }
 
-/// Looks for a key, and writes it where it is not found. Whether it was found.
+/// Looks a key up, and inserts it if it is not found. Returns whether it was found.
 fn look<R: RowStore<u64, u64>>(state: &mut Alone<R>, key: u64) -> Result<bool, AllocError> {
     let Ok(found) = state.get(&key, 0) else {
         return Err(AllocError);

@@ -1,4 +1,4 @@
-//! Many threads that ask for one key at once, whose value takes a millisecond to work out.
+//! Many threads that load one key at once. Its value takes a millisecond to compute.
 use crate::initializer::Initializer;
 use crate::measure::{Call, Way, by_threads, nanos_since};
 use crate::subject::{OneLock, Segments, Subject};
@@ -10,13 +10,13 @@ use std::sync::Wait;
 use std::thread::Threads;
 use std::time::{Clock, Duration, Instant};
 
-/// Each of so many threads asks once.
+/// Each of so many threads loads once.
 const CALLERS: Way = Way {
     call: Call::GetWith,
     threads: 16,
 };
 
-/// What they ask for.
+/// The key that they load.
 const KEYS: [u64; 16] = [7; 16];
 
 /// Prints how many initializers run.
@@ -30,8 +30,8 @@ pub(crate) fn print_counts<R: Runtime + Wait + Threads + Copy + Send + Sync>(
     println!(rt; "16 segments: 16 threads ask for one key, initializers: {segments}")
 }
 
-/// Prints how many initializers run at most in a round, and the medians of the microseconds until
-/// all threads have the value: where it has to be worked out, and where it is there.
+/// Prints the greatest number of initializers in a round. Then prints the median times, in
+/// microseconds, until all threads have the value: if it has to be computed, and if it is stored.
 pub(crate) fn print_times<R: Runtime + Wait + Threads + Copy + Send + Sync>(
     rt: &R,
     alloc: Global,
@@ -62,8 +62,8 @@ fn print_row<S: Subject<R> + Sync, R: Runtime + Wait + Threads + Copy + Send + S
     println!(rt; "| {name} | {most} | {worked_out} | {there} |")
 }
 
-/// How many initializers ran, and the times until all threads had the value: where it was to be
-/// worked out, and where it was there.
+/// Returns how many initializers ran, and the times until all threads had the value. It had to be
+/// computed the first time, and was stored the second.
 fn round<S: Subject<R> + Sync, R: Wait + Clock + Threads + Copy + Send + Sync>(
     rt: &R,
     alloc: Global,
@@ -84,7 +84,7 @@ fn round_on<S: Subject<R> + Sync, R: Clock + Threads + Copy + Sync>(
     Ok((initializer.asked(), times))
 }
 
-/// The nanoseconds from before the first thread begins until the last has ended.
+/// Returns the nanoseconds from before the first thread starts until the last has ended.
 fn asked<S: Subject<R> + Sync, R: Clock + Threads + Sync>(
     rt: &R,
     alloc: Global,

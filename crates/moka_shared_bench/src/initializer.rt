@@ -1,9 +1,9 @@
-//! What works a value out.
+//! The initializer.
 use std::sync::atomic::{AtomicU64, Ordering};
 use std::thread;
 use std::time::{Clock, Duration};
 
-/// Gives each key itself as its value, after a while, and counts how often it was asked.
+/// Computes each key itself as its value, after a while, and counts its calls.
 #[derive(Drop)]
 pub(crate) struct Initializer<W> {
     asked: AtomicU64,
@@ -12,7 +12,7 @@ pub(crate) struct Initializer<W> {
 }
 
 impl<W: Clock> Initializer<W> {
-    /// One that takes so long for each value.
+    /// Creates an initializer that takes so long for each value.
     pub(crate) fn new(takes: Duration, clock: W) -> Self {
         Initializer {
             asked: AtomicU64::new(0),
@@ -21,14 +21,14 @@ impl<W: Clock> Initializer<W> {
         }
     }
 
-    /// The value of a key.
+    /// Counts a call, waits, and returns the value of a key.
     pub(crate) fn value_of(&self, key: u64) -> u64 {
         self.asked.fetch_add(1, Ordering::SeqCst);
         thread::sleep(&self.clock, self.takes);
         key
     }
 
-    /// How often it was asked so far.
+    /// Returns how often it was called so far.
     pub(crate) fn asked(&self) -> u64 {
         self.asked.load(Ordering::SeqCst)
     }

@@ -1,25 +1,28 @@
-//! What the caches are measured on.
+//! The loads on which the caches are measured.
 use crate::numbers::Numbers;
 use std::alloc::{AllocError, Global};
 
-/// Which keys a load has.
+/// The keys of a load.
 #[derive(Clone, Copy)]
 pub(crate) enum Kind {
-    /// `2^octaves - 1` keys, each as often as its inverse.
+    /// `2^octaves - 1` keys, each as frequent as its inverse.
     Looks { octaves: u32 },
     /// Each key comes once.
     Misses,
-    /// So many keys, each as often as any other. They come once each before the others do.
+    /// So many keys, all equally frequent. Each comes once before any comes again.
     Hits { keys: u32 },
 }
 
-/// A load. Each of its keys is looked for, and written where it is not found.
+/// A load. Each of its keys is looked up, and inserted if it is not found.
 #[derive(Clone, Copy)]
 pub(crate) struct Load {
+    /// The name in the table.
     pub name: &'static str,
+    /// The keys.
     pub kind: Kind,
+    /// In entries.
     pub capacity: u32,
-    /// How many calls are measured, behind as many that are not.
+    /// How many calls are measured, after as many that are not.
     pub calls: u32,
 }
 
@@ -31,7 +34,8 @@ const LOOKS: Load = Load {
     calls: 1_000_000,
 };
 
-/// There is more room than keys, since hashes share them out among segments a little unevenly.
+/// There is room for more entries than there are keys, since hashes distribute them a little
+/// unevenly over segments.
 const HITS: Load = Load {
     name: "hits",
     kind: Kind::Hits { keys: 100_000 },
@@ -39,7 +43,7 @@ const HITS: Load = Load {
     ..LOOKS
 };
 
-/// The loads on which threads look for keys.
+/// The loads on which threads look keys up.
 pub(crate) const LOADS: [Load; 3] = [
     LOOKS,
     Load {
@@ -50,10 +54,10 @@ pub(crate) const LOADS: [Load; 3] = [
     HITS,
 ];
 
-/// The load on which an initializer is at hand, and never asked.
+/// The load on which loaders never call their initializer.
 pub(crate) const ALL_THERE: [Load; 1] = [HITS];
 
-/// Looks of few calls, for the run without arguments.
+/// Lookups of few calls, for the run without arguments.
 pub(crate) const FEW_LOOKS: Load = Load {
     kind: Kind::Looks { octaves: 10 },
     capacity: 100,
@@ -70,7 +74,8 @@ pub(crate) const FEW_HITS: Load = Load {
 };
 
 impl Load {
-    /// The keys of its calls, in order: those before it is measured, and as many that are.
+    /// Returns the keys of the calls, in order: first those that are not measured, and then as many
+    /// that are.
     pub(crate) fn keys(&self, alloc: Global) -> Result<Vec<u64>, AllocError> {
         let mut numbers = Numbers::new(20_261_123);
         let calls = self.calls.saturating_mul(2);

@@ -1,6 +1,7 @@
-//! Measures the caches that threads share, beside a map and the kit's `lru` under one lock. Without
-//! arguments it prints what each finds of small loads, and how many initializers run where threads
-//! ask for one key.
+//! Measures the shared caches beside a map and the kit's `lru` under one lock.
+//!
+//! Without arguments it prints what each finds of small loads, and how many initializers run if
+//! threads load one key at once.
 #![tactic(auto)]
 
 mod alone;

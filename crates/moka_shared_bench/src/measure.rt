@@ -1,4 +1,4 @@
-//! One load on what threads share.
+//! Measures one load on what threads share.
 use crate::alone;
 use crate::initializer::Initializer;
 use crate::load::Load;
@@ -12,7 +12,7 @@ use std::{io, thread};
 /// What is measured.
 #[derive(Clone, Copy)]
 pub(crate) enum Which {
-    /// A state that is not shared.
+    /// An owned cache, which is not shared.
     Alone,
     /// A map without a bound, under one lock.
     Map,
@@ -20,34 +20,38 @@ pub(crate) enum Which {
     Lru,
     /// The shared cache.
     OneLock,
-    /// The shared cache of several segments.
+    /// The shared cache with several segments.
     Segments,
 }
 
 /// What is done with each key.
 #[derive(Clone, Copy)]
 pub(crate) enum Call {
-    /// It is looked for, and written where it is not found.
+    /// Looks it up, and inserts it if it is not found.
     Look,
-    /// It is asked for with an initializer at hand.
+    /// Loads it with an initializer.
     GetWith,
 }
 
 /// How the keys are run: by which call, and by how many threads, each of which runs a part of them.
 #[derive(Clone, Copy)]
 pub(crate) struct Way {
+    /// What is done with each key.
     pub call: Call,
+    /// The number of threads.
     pub threads: usize,
 }
 
-/// What a run came to.
+/// The result of a run.
 #[derive(Clone, Copy)]
 pub(crate) struct Outcome {
+    /// The time of the measured calls, in nanoseconds.
     pub nanos: u64,
+    /// How many of the measured calls found their key.
     pub found: u64,
 }
 
-/// Makes what is measured, and runs a load on it.
+/// Creates what is measured, and runs a load on it.
 pub(crate) fn measured<R: Wait + Clock + Threads + Copy + Send + Sync>(
     rt: &R,
     alloc: Global,
@@ -65,8 +69,8 @@ pub(crate) fn measured<R: Wait + Clock + Threads + Copy + Send + Sync>(
     }
 }
 
-/// The time of the second half of the keys: the first half, by looks of one thread, brings the
-/// subject to where it stays.
+/// Times the second half of the keys. The first half, looked up by one thread, brings the subject
+/// to a steady state.
 fn timed<S: Subject<R> + Sync, R: Wait + Clock + Threads + Copy + Send + Sync>(
     rt: &R,
     alloc: Global,
@@ -91,12 +95,12 @@ fn timed_on<S: Subject<R> + Sync, R: Clock + Threads + Copy + Sync>(
     let begun = Instant::now(rt)?;
     let found = by_threads(rt, alloc, subject, way, measured, &initializer)?;
     let nanos = nanos_since(rt, begun)?;
-    // What an initializer gave was not found.
+    // A value that an initializer computed was not found.
     let found = found.saturating_sub(initializer.asked());
     Ok(Outcome { nanos, found })
 }
 
-/// Runs the keys, a part of them in each of the threads. How many were found.
+/// Runs the keys, a part of them in each of the threads. Returns how many were found.
 pub(crate) fn by_threads<S: Subject<R> + Sync, R: Threads + Sync>(
     rt: &R,
     alloc: Global,
@@ -121,15 +125,15 @@ pub(crate) fn by_threads<S: Subject<R> + Sync, R: Threads + Sync>(
     Ok(found)
 }
 
-/// The keys that one of so many threads runs.
+/// Returns the keys that one of so many threads runs.
 fn part_of(keys: &[u64], index: usize, threads: usize) -> Option<&[u64]> {
     let len = keys.len().checked_div(threads)?;
     let first = len.wrapping_mul(index);
     keys.get(first..first.wrapping_add(len))
 }
 
-/// Runs the keys one after another. How many were found: by looks those that were there, by an
-/// initializer at hand those whose value is the right one.
+/// Runs the keys one after another. Returns how many lookups found their key, or how many loads
+/// returned the right value.
 fn found_of<S: Subject<R>, R>(
     subject: &S,
     call: Call,
@@ -149,7 +153,7 @@ fn found_of<S: Subject<R>, R>(
     Ok(found)
 }
 
-/// The nanoseconds since a moment.
+/// Returns the nanoseconds since a moment.
 pub(crate) fn nanos_since(clock: &impl Clock, begun: Instant) -> io::Result<u64> {
     let took = begun.elapsed(clock)?.as_nanos();
     Ok(u64::try_from(took).unwrap_or(u64::MAX))

@@ -1,5 +1,5 @@
-//! What threads share: the caches of this library, and other maps under one lock. Each has the
-//! quick hasher, and what has a bound lets the least recently used leave.
+//! What threads share: the caches of this library, and other maps under one lock. All have the
+//! kit's fast hasher, and those with a bound evict the least recently used entry.
 use crate::initializer::Initializer;
 use lru::LruCache;
 use moka::policy::{EvictionPolicy, ManualClock};
@@ -13,13 +13,14 @@ use std::time::Clock;
 
 /// What threads share.
 pub(crate) trait Subject<W>: Drop {
-    /// An empty one, with room for so many keys. Who waits for its lock waits by `waits`.
+    /// Creates an empty subject with room for `capacity` entries. `waits` waits for its lock.
     fn made(alloc: Global, capacity: u32, waits: W) -> Result<Self, AllocError>;
 
-    /// Looks for a key, and writes it where it is not found. Whether it was found.
+    /// Looks a key up, and inserts it if it is not found. Returns whether it was found.
     fn look(&self, key: u64) -> Result<bool, AllocError>;
 
-    /// The value of a key. Where it is not found an initializer works it out, and it is written.
+    /// Returns the value of a key. If it is not found, the initializer computes it, and it is
+    /// stored.
     fn get_with(&self, key: u64, initializer: &Initializer<W>) -> Result<u64, AllocError>;
 }
 
@@ -44,7 +45,7 @@ impl<W: Wait + Clock + Drop> Subject<W> for LockedMap<W> {
         Ok(found)
     }
 
-    /// The lock is held while the initializer runs, or two of them might.
+    /// Holds the lock while the initializer runs, since otherwise two of them might.
     fn get_with(&self, key: u64, initializer: &Initializer<W>) -> Result<u64, AllocError> {
         let mut map = self.map.lock(&self.waits);
         if let Some(value) = map.get(&key).copied() {
@@ -58,7 +59,7 @@ impl<W: Wait + Clock + Drop> Subject<W> for LockedMap<W> {
     }
 }
 
-/// The `lru` of the kit, under one lock.
+/// The kit's `lru`, under one lock.
 #[derive(Drop)]
 pub(crate) struct LockedLru<W> {
     cache: Mutex<LruCache<u64, u64, FoldState>>,
@@ -80,7 +81,7 @@ impl<W: Wait + Clock + Drop> Subject<W> for LockedLru<W> {
         Ok(found)
     }
 
-    /// The lock is held while the initializer runs, or two of them might.
+    /// Holds the lock while the initializer runs, since otherwise two of them might.
     fn get_with(&self, key: u64, initializer: &Initializer<W>) -> Result<u64, AllocError> {
         let mut cache = self.cache.lock(&self.waits);
         if let Some(value) = cache.get(&key).copied() {
@@ -94,7 +95,7 @@ impl<W: Wait + Clock + Drop> Subject<W> for LockedLru<W> {
     }
 }
 
-/// The shared cache of one lock.
+/// The shared cache with one lock.
 #[derive(Drop)]
 pub(crate) struct OneLock<W: Drop> {
     cache: Cache<u64, u64, Plain, W>,
@@ -127,10 +128,10 @@ impl<W: Wait + Clock + Drop> Subject<W> for OneLock<W> {
     }
 }
 
-/// How many segments the cache of several has.
+/// The number of segments of the segmented cache.
 const SEGMENTS: usize = 16;
 
-/// The shared cache of several segments, each with a lock of its own.
+/// The shared cache with several segments, each with its own lock.
 #[derive(Drop)]
 pub(crate) struct Segments<W: Drop> {
     cache: SegmentedCache<u64, u64, Plain, W>,

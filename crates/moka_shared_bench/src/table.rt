@@ -1,4 +1,4 @@
-//! What is printed.
+//! The tables that are printed.
 use crate::hot;
 use crate::load::{ALL_THERE, FEW_HITS, FEW_LOOKS, LOADS, Load};
 use crate::measure::{Call, Way, Which, measured};
@@ -18,7 +18,7 @@ struct Column {
     way: Way,
 }
 
-/// A further column: the time of one of them by that of another in the same round.
+/// A further column: the time of one column as a multiple of another's in the same round.
 #[derive(Clone, Copy)]
 struct Ratio {
     name: &'static str,
@@ -26,22 +26,22 @@ struct Ratio {
     to: usize,
 }
 
-/// Looks by one thread.
+/// Lookups by one thread.
 const ONE: Way = Way {
     call: Call::Look,
     threads: 1,
 };
 
-/// Looks by four threads.
+/// Lookups by four threads.
 const FOUR: Way = Way { threads: 4, ..ONE };
 
-/// The same, with an initializer at hand.
+/// The same by loaders, with an initializer.
 const FOUR_WITH: Way = Way {
     call: Call::GetWith,
     ..FOUR
 };
 
-/// What is the same for one thread alone: a state, and the shared caches.
+/// What one thread runs: an owned cache, and the shared caches.
 const ALONE: [Column; 3] = [
     Column {
         name: "state",
@@ -73,7 +73,7 @@ const ALONE_RATIOS: [Ratio; 2] = [
     },
 ];
 
-/// What four threads look in.
+/// What four threads look keys up in.
 const TOGETHER: [Column; 4] = [
     Column {
         name: "map",
@@ -125,7 +125,7 @@ const TOGETHER_RATIOS: [Ratio; 5] = [
     },
 ];
 
-/// What four threads ask with an initializer at hand, and the same looks without one.
+/// What four threads load from with an initializer, and the same lookups without one.
 const WITH: [Column; 6] = [
     Column {
         name: "map, get or insert",
@@ -182,10 +182,10 @@ const WITH_RATIOS: [Ratio; 4] = [
     },
 ];
 
-/// The times of the columns of a table in one round.
+/// The times of the columns of a table in one round, in nanoseconds.
 pub(crate) type Round = [u64; 8];
 
-/// One in which nothing was measured.
+/// A round without measurements.
 pub(crate) const NO_ROUND: Round = [0; 8];
 
 /// Does what the arguments ask for.
@@ -288,7 +288,7 @@ fn print_head(rt: &impl Print, columns: &[Column], ratios: &[Ratio]) -> io::Resu
     println!(rt; "")
 }
 
-/// One run of each column, one after another, so that what else the machine does meets all of them.
+/// Runs each column once, one after another, so that other work of the machine affects all of them.
 fn round<R: Wait + Clock + Threads + Copy + Send + Sync>(
     rt: &R,
     alloc: Global,
@@ -323,7 +323,7 @@ fn print_row(
     println!(rt; "")
 }
 
-/// The median of the times at a place of each round.
+/// Returns the median of the times at a place of each round, in nanoseconds.
 pub(crate) fn median_time(
     alloc: Global,
     rounds: &[Round],
@@ -336,7 +336,7 @@ pub(crate) fn median_time(
     Ok(median(times))
 }
 
-/// The median of a ratio, in hundredths.
+/// Returns the median of a ratio, in hundredths.
 fn median_ratio(alloc: Global, rounds: &[Round], ratio: &Ratio) -> Result<u64, AllocError> {
     let mut ratios = Vec::with_capacity(alloc, rounds.len())?;
     for round in rounds {
@@ -350,12 +350,12 @@ fn time_at(round: &Round, place: usize) -> u64 {
     round.get(place).copied().unwrap_or(0)
 }
 
-/// So many parts of a number by another.
+/// Returns `number` times `parts` divided by `by`, or 0 if `by` is 0.
 fn share(number: u64, parts: u64, by: u64) -> u64 {
     number.wrapping_mul(parts).checked_div(by).unwrap_or(0)
 }
 
-/// The number in the middle.
+/// Returns the number in the middle of the sorted list.
 fn median(mut numbers: Vec<u64>) -> u64 {
     numbers.sort_unstable();
     numbers.get(numbers.len() / 2).copied().unwrap_or(0)

@@ -1,4 +1,4 @@
-//! What a builder makes of its settings, and what it refuses.
+//! What a builder makes of its settings, and what it rejects.
 
 use crate::caches::Hasher;
 use moka::common::builder_utils::BuildError;
@@ -13,14 +13,15 @@ use std::sync::Wait;
 use std::test::Fail;
 use std::time::Duration;
 
-/// Numbers by numbers, each key being its own hash.
+/// Numbers by numbers. Each key is its own hash.
 type ByNumber<W> = SegmentedCache<u64, u64, ReadyTypes<Hasher>, W>;
 
 type Builder = CacheBuilder<u64, u64, ReadyTypes<Hasher>, Single>;
 
-/// A cache of keys that an attacker may pick.
+/// A cache for keys that an attacker may pick.
 type ByRandom<W> = SegmentedCache<u64, u64, PlainRandom, W>;
 
+/// `SegmentedCache::new` takes the next power of two as its number of segments.
 #[test]
 fn a_new_cache_of_five_segments_has_eight(rt: HostRuntime) -> Result<(), Fail> {
     let keys = RandomState::new(&rt)?;
@@ -28,7 +29,8 @@ fn a_new_cache_of_five_segments_has_eight(rt: HostRuntime) -> Result<(), Fail> {
     stores_thirteen_in_each(&rt, &cache)
 }
 
-/// A thousand keys are so many that each segment is filled, whatever their hashes.
+/// Checks the number of entries after a thousand inserts: each segment is full then, whatever the
+/// hashes are.
 fn stores_thirteen_in_each<W: Wait + Drop>(
     rt: &impl Abort,
     cache: &ByRandom<W>,
@@ -48,7 +50,7 @@ fn stores_thirteen_in_each<W: Wait + Drop>(
     Ok(())
 }
 
-/// A capacity, a wanted number of segments, how many there are, and the share of each.
+/// A capacity, a wanted number of segments, the number that there are, and the share of each.
 const SHARES: [(u64, usize, usize, u64); 6] = [
     (100, 1, 1, 100),
     (100, 5, 8, 13),
@@ -58,6 +60,7 @@ const SHARES: [(u64, usize, usize, u64); 6] = [
     (1, 4, 4, 1),
 ];
 
+/// Each segment keeps as many entries as its share of the capacity, rounded up.
 #[test]
 fn each_segment_stores_its_share(rt: HostRuntime) -> Result<(), Fail> {
     for (capacity, wanted, segments, share) in SHARES {
@@ -82,7 +85,7 @@ fn opens_with_shares<W: Wait + Abort + Copy + Drop>(
     has_shares(&rt, &cache, policy, share)
 }
 
-/// Of more keys of the first segment than have room in all so many stay as its share is.
+/// Checks that of 110 keys of the first segment as many stay as its share is.
 fn has_shares<W: Wait + Drop>(
     rt: &impl Abort,
     cache: &ByNumber<W>,
@@ -98,6 +101,7 @@ fn has_shares<W: Wait + Drop>(
     Ok(())
 }
 
+/// A segmented cache has the settings of its builder.
 #[test]
 fn every_setting_is_kept(rt: HostRuntime) -> Result<(), Fail> {
     let told: Builder = Builder::new(400)
@@ -119,6 +123,7 @@ fn keeps_settings<W: Wait + Drop>(rt: &impl Abort, cache: &ByNumber<W>) {
     assert_eq!(rt; cache.name(), Some("tracked_sessions"));
 }
 
+/// A builder rejects 0 segments and more than 2^63.
 #[test]
 fn no_segments_and_too_many_are_refused(rt: HostRuntime) -> Result<(), Fail> {
     for (count, refused) in [
@@ -139,6 +144,7 @@ const LONGEST: u64 = 31_536_000_000;
 
 const LONGER: u64 = LONGEST + 1;
 
+/// A time to live or to idle of more than 1000 years is rejected, the time to live first.
 #[test]
 fn lives_above_a_thousand_years_are_refused(rt: HostRuntime) {
     for (live, idle, refused) in [
@@ -154,20 +160,20 @@ fn lives_above_a_thousand_years_are_refused(rt: HostRuntime) {
     }
 }
 
-/// A builder of caches whose values live for so many seconds.
+/// Returns a builder of caches with these lifetimes, in seconds.
 fn lives(live: u64, idle: u64) -> Builder {
     Builder::new(100)
         .time_to_live(Duration::from_secs(live))
         .time_to_idle(Duration::from_secs(idle))
 }
 
-/// Why no cache of one lock is built.
+/// Returns why no cache with one lock is built, or `None`.
 fn single_refused<W: Wait + Drop>(rt: W, alloc: Global, told: Builder) -> Option<BuildError> {
     let built = told.build_with_hasher(alloc, Hasher::default(), ManualClock::new(0), rt);
     built.err()
 }
 
-/// Why no cache of several segments is built.
+/// Returns why no cache with several segments is built, or `None`.
 fn several_refused<W: Wait + Clone + Drop>(
     rt: W,
     alloc: Global,
@@ -184,6 +190,7 @@ fn several_refused<W: Wait + Clone + Drop>(
 /// Names by numbers, in one segment.
 type Names<W> = Cache<u64, String, Plain, W>;
 
+/// A cache without a number of segments has one.
 #[test]
 fn a_cache_of_a_hundred_keys_is_one_segment(rt: HostRuntime) -> Result<(), Fail> {
     let name = String::from_str(rt.alloc(), "Alice")?;

@@ -1,4 +1,5 @@
-//! The caches under test, of four segments. Each key is its own hash, so its two highest bits name its segment.
+//! The caches under test, with four segments. Each key is its own hash, so its two highest bits
+//! choose its segment.
 
 use crate::marks::{Marks, come, inside_until_done, mark};
 use moka::notification::RemovalCause;
@@ -16,7 +17,7 @@ use std::test::Fail;
 use std::thread;
 use std::thread::{JoinHandle, Threads};
 
-/// Says when it is told, and waits until another is done.
+/// A listener that counts itself as arrived, and waits until another thread is done.
 #[derive(Drop)]
 pub(crate) struct Slow<W> {
     marks: Arc<Marks>,
@@ -24,7 +25,7 @@ pub(crate) struct Slow<W> {
 }
 
 impl<W> Slow<W> {
-    /// Tells these marks.
+    /// Creates a listener with these counts.
     pub(crate) fn new(marks: Arc<Marks>, rt: W) -> Self {
         Slow { marks, rt }
     }
@@ -46,7 +47,7 @@ impl<W: Clock> Listener<u64, u64> for Slow<W> {
 
 pub(crate) type Hasher = BuildHasherDefault<NumberHash>;
 
-/// The types of all caches, of those without a listener too.
+/// The types of all caches, also of those without a listener.
 pub(crate) type Types<W> = ReadyTypes<
     Hasher,
     NoWeigher,
@@ -70,7 +71,7 @@ pub(crate) const THIRD: u64 = 1 << 63;
 /// The first key of the fourth segment.
 pub(crate) const FOURTH: u64 = THIRD | SECOND;
 
-/// Shares a value. Where memory is refused, it asks once more.
+/// Wraps a value in an `Arc`. Retries once if the allocation fails.
 pub(crate) fn shared<T: Drop>(alloc: Global, value: T) -> Result<Arc<T>, AllocError> {
     match Arc::new(alloc, value) {
         Ok(value) => Ok(value),
@@ -78,12 +79,12 @@ pub(crate) fn shared<T: Drop>(alloc: Global, value: T) -> Result<Arc<T>, AllocEr
     }
 }
 
-/// The builder of a cache in which a hundred keys have room.
+/// Returns the builder of a cache with a capacity of 100.
 pub(crate) fn builder<W: Clock + Drop>() -> Builder<W> {
     CacheBuilder::new(100).eviction_policy(EvictionPolicy::lru())
 }
 
-/// A cache of a builder's settings.
+/// Builds a cache of four segments, with the settings of a builder.
 pub(crate) fn opened<W: Wait + Clock + Clone + Drop>(
     rt: W,
     alloc: Global,
@@ -96,7 +97,7 @@ pub(crate) fn opened<W: Wait + Clock + Clone + Drop>(
     )
 }
 
-/// A cache that nobody listens to.
+/// Builds a cache without a listener.
 pub(crate) fn cache<W: Wait + Clock + Clone + Drop>(
     rt: W,
     alloc: Global,
@@ -104,8 +105,8 @@ pub(crate) fn cache<W: Wait + Clock + Clone + Drop>(
     opened(rt, alloc, builder())
 }
 
-// Each call of a cache stands once in these files: each further function that has it is as dear
-// to prove.
+// Each call of a cache is made once in these files, since each further function that makes it is as
+// slow to prove.
 
 pub(crate) fn get<W: Wait + Clock + Drop>(cache: &Numbers<W>, key: u64) -> Found {
     cache.get(&key)
@@ -126,10 +127,10 @@ pub(crate) fn clone<W: Wait + Clock + Drop>(cache: &Numbers<W>) -> Result<Number
     Ok(cache.clone()?)
 }
 
-/// What a look finds.
+/// The result of a lookup.
 pub(crate) type Found = Result<Option<u64>, Refused>;
 
-/// Looks for a key once another thread is inside, and is done.
+/// Looks up a key once another thread is inside a closure, and counts itself as done.
 fn gets_once_one_is_inside<W: Wait + Clock + Drop>(
     rt: &W,
     cache: &Numbers<W>,
@@ -142,7 +143,7 @@ fn gets_once_one_is_inside<W: Wait + Clock + Drop>(
     found
 }
 
-/// Looks for a key in a thread of its own, once another is inside.
+/// Looks up a key in a thread of its own, once another thread is inside a closure.
 pub(crate) fn gets_beside<W>(
     rt: &W,
     cache: &Numbers<W>,

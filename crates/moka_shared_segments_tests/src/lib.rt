@@ -1,5 +1,5 @@
-//! The tests of the cache of several segments that threads share: which lock is held when, who waits for whom, and what a
-//! builder makes.
+//! The tests of the shared cache with several segments: which lock is held when, which caller waits
+//! for which, and what a builder makes.
 #![tactic(auto)]
 
 #[cfg(test)]

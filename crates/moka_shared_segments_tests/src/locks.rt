@@ -1,5 +1,5 @@
-//! Which lock is held while a caller's closure runs: none where it works a value out, and where it says whether to replace
-//! a value that of its segment alone.
+//! Which lock is held while a caller's closure runs. An initializer runs with none, and a predicate
+//! that decides on a replacement only with that of its segment.
 
 use crate::caches::{FOURTH, Found, Numbers, SECOND, THIRD, cache, get, gets_beside, insert};
 use crate::marks::{Marks, inside_until_done, new_marks};
@@ -11,7 +11,7 @@ use std::sync::{Arc, Wait};
 use std::test::Fail;
 use std::thread::Threads;
 
-/// A call that asks a closure.
+/// A call with a closure.
 #[derive(Clone, Copy, Debug)]
 enum Form {
     With,
@@ -19,11 +19,12 @@ enum Form {
     Try,
     Compute,
     Upsert,
-    /// The closure that says whether to replace a value: it runs under the lock of its segment.
+    /// The predicate that decides whether a value is replaced. It runs under the lock of its
+    /// segment.
     ReplaceIf,
 }
 
-/// Those whose closures work a value out, with no lock held.
+/// The calls whose closures compute a value, with no lock held.
 const OUTSIDE: [Form; 5] = [
     Form::With,
     Form::Optionally,
@@ -32,7 +33,8 @@ const OUTSIDE: [Form; 5] = [
     Form::Upsert,
 ];
 
-/// A call of key 1, whose closure waits until another thread is done. The value behind it is 1 where that was in time.
+/// Makes a call about key 1, whose closure waits until another thread is done. The value is 1 then
+/// if that was in time.
 fn made_by<W: Wait + Clock + Drop>(rt: &W, cache: &Numbers<W>, marks: &Marks, form: Form) -> bool {
     match form {
         Form::With => gives(rt, cache, marks),
@@ -74,13 +76,14 @@ fn computes<W: Wait + Clock + Drop>(rt: &W, cache: &Numbers<W>, marks: &Marks) -
         .is_ok()
 }
 
-/// Puts 1 in the place of the live value where the other is done in time.
+/// Replaces the live value by 1 if the other thread is done in time.
 fn replaces<W: Wait + Clock + Drop>(rt: &W, cache: &Numbers<W>, marks: &Marks) -> bool {
     cache
         .get_with_if(1, || 1, |_| inside_until_done(rt, marks) == 1)
         .is_ok()
 }
 
+/// A `get` in the same segment returns while an initializer runs.
 #[test]
 fn a_get_in_the_same_segment_answers_while_a_closure_runs(rt: HostRuntime) -> Result<(), Fail> {
     for form in OUTSIDE {
@@ -89,6 +92,7 @@ fn a_get_in_the_same_segment_answers_while_a_closure_runs(rt: HostRuntime) -> Re
     Ok(())
 }
 
+/// A `get` in another segment returns while a predicate runs under its segment's lock.
 #[test]
 fn a_get_in_another_segment_answers_while_a_segment_is_locked(rt: HostRuntime) -> Result<(), Fail> {
     for key in [SECOND, THIRD, FOURTH] {
@@ -127,7 +131,7 @@ where
     Ok(())
 }
 
-/// The other has found its value, and the closure saw that it had.
+/// Checks that the lookup found its value, and that the closure saw that it was done.
 fn have_answered(rt: &impl Abort, made: Found, found: Found, form: Form, key: u64) {
     assert_eq!(rt;
         made,

@@ -1,4 +1,4 @@
-//! The listener is told with no lock held.
+//! The listener runs with no lock held.
 
 use crate::caches::{Builder, Found, Numbers, Slow, builder, gets_beside, insert, opened};
 use crate::marks::{Marks, new_marks, so_far};
@@ -9,7 +9,7 @@ use std::sync::{Arc, Wait};
 use std::test::Fail;
 use std::thread::Threads;
 
-/// A call in which a hidden value of key 1 leaves.
+/// A call that removes the invalidated entry of key 1.
 #[derive(Clone, Copy, Debug)]
 enum Leaves {
     Insert,
@@ -46,6 +46,7 @@ fn lets_one_leave<W: Wait + Clock + Drop>(cache: &Numbers<W>, call: Leaves) -> b
     }
 }
 
+/// A `get` in the same segment returns while the listener runs.
 #[test]
 fn a_get_in_the_same_segment_answers_while_the_listener_runs(rt: HostRuntime) -> Result<(), Fail> {
     for call in LEAVES {
@@ -63,7 +64,7 @@ where
     a_get_answers_in_between(&rt, &cache, &marks, call)
 }
 
-/// The builder of a cache that is heard slowly.
+/// Returns the builder of a cache with the slow listener.
 fn slow_builder<W: Clock + Copy + Drop>(rt: W, marks: &Arc<Marks>) -> Result<Builder<W>, Fail> {
     let listener = Slow::new(marks.clone()?, rt);
     Ok(builder().eviction_listener(listener))

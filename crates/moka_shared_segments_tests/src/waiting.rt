@@ -1,4 +1,4 @@
-//! Callers of one key wait for its turn, in the key's segment.
+//! Callers with one key wait for its turn, in the key's segment.
 ghost use Rattle.std.specs.Prelude.{◌≡◌, ◌≢◌};
 ghost use Rattle.moka_model.specs.declared.turns.Kind.{Kind};
 
@@ -14,16 +14,16 @@ use std::test::Fail;
 use std::thread;
 use std::thread::{JoinHandle, Threads};
 
-/// What a caller is given.
+/// The result of a loader.
 type Given = Result<u64, Refused>;
 
 /// A key of each segment.
 const KEYS: [u64; 4] = [0, SECOND, THIRD, FOURTH];
 
-/// How many threads.
+/// The number of threads.
 const THREADS: u64 = 4;
 
-/// The initializer: it gives its value once all have come and had time to wait.
+/// The initializer. It returns its value once all threads have arrived and had time to wait.
 fn works_it_out(rt: &impl Clock, marks: &Marks) -> u64 {
     mark(&marks.asks);
     come(rt, &marks.arrived, THREADS);
@@ -43,6 +43,7 @@ fn asks_with_others<W: Wait + Clock + Drop>(
     given
 }
 
+/// Of four callers one runs its initializer, and all get its value, in each segment.
 #[test]
 fn of_four_initializers_one_runs(rt: HostRuntime) -> Result<(), Fail> {
     for key in KEYS {
@@ -77,7 +78,7 @@ where
     Ok(())
 }
 
-/// Each of the threads asks.
+/// Loads in each of the threads.
 fn all_ask<W>(
     rt: &W,
     cache: &Numbers<W>,
@@ -108,7 +109,7 @@ where
     Ok(thread::spawn(rt, move || asks_with_others(&handle, &theirs, &others, key))?)
 }
 
-/// All are given what one of them worked out.
+/// Checks that all got the value that one of them computed.
 fn all_are_given<W>(rt: &W, marks: &Marks, children: Vec<JoinHandle<Given>>)
 where
     W: Clock + Threads + Abort,
@@ -120,7 +121,7 @@ where
     assert_eq!(rt; so_far(&marks.asks), 1, "one initializer ran");
 }
 
-/// One more was asked, and gives this value.
+/// Counts a call of the caller's own initializer, and returns its value.
 fn own(marks: &Marks) -> u64 {
     mark(&marks.asks);
     12
@@ -133,7 +134,7 @@ fn asks<W: Wait + Clock + Drop>(cache: &Numbers<W>, marks: &Marks, key: u64) -> 
     given
 }
 
-/// The turn to work out a value of a kind, whatever is live.
+/// Returns a turn of a kind, whatever is live.
 fn ran<W: Wait + Clock + Drop>(
     rt: &impl Abort,
     cache: &Numbers<W>,
@@ -154,12 +155,12 @@ fn ran<W: Wait + Clock + Drop>(
     }
 }
 
-/// Whether the turn was open.
+/// Abandons a turn. Returns whether it was open.
 fn abandon<W: Wait + Clock + Drop>(cache: &Numbers<W>, turn: Turn<u64>) -> bool {
     cache.abandon(turn).is_ok()
 }
 
-/// Ends a turn with 7.
+/// Finishes a turn with 7.
 fn finishes<W: Wait + Clock + Drop>(rt: &impl Abort, cache: &Numbers<W>, turn: Turn<u64>)
     requires { turn.key.kind ≡ Kind.With }
 {
@@ -176,10 +177,10 @@ fn finishes<W: Wait + Clock + Drop>(rt: &impl Abort, cache: &Numbers<W>, turn: T
     }
 }
 
-/// How the turn ends that another waits for.
+/// How the turn ends for which another caller waits.
 #[derive(Clone, Copy, Debug, PartialEq)]
 enum End {
-    /// With 7.
+    /// With the value 7.
     Finished,
     Abandoned,
 }
@@ -193,6 +194,7 @@ fn ends<W: Wait + Clock + Drop>(rt: &impl Abort, cache: &Numbers<W>, turn: Turn<
     }
 }
 
+/// A waiting caller gets the value of a turn that is finished, in each segment.
 #[test]
 fn a_finished_turn_answers_who_waits_in_its_segment(rt: HostRuntime) -> Result<(), Fail> {
     for key in KEYS {
@@ -201,6 +203,7 @@ fn a_finished_turn_answers_who_waits_in_its_segment(rt: HostRuntime) -> Result<(
     Ok(())
 }
 
+/// If a turn is abandoned, a waiting caller runs its own initializer, in each segment.
 #[test]
 fn an_abandoned_turn_goes_to_who_waits_in_its_segment(rt: HostRuntime) -> Result<(), Fail> {
     for key in KEYS {
@@ -239,14 +242,14 @@ where
     Ok(())
 }
 
-/// One has come, and is not answered after a while.
+/// Checks that one caller has arrived, and is still waiting after a pause.
 fn waits_still(rt: &(impl Clock + Abort), marks: &Marks) {
     assert!(rt; come(rt, &marks.arrived, 1), "the other waits");
     pause(rt);
     assert_eq!(rt; so_far(&marks.done), 0, "the other waits");
 }
 
-/// Who waited is given what the turn ended with, or works out its own.
+/// Checks that the waiting caller got the turn's value, or computed its own.
 fn is_given(rt: &impl Abort, given: Given, asks: u64, end: End) {
     let wanted = match end {
         End::Finished => (Ok(7), 0),

@@ -1,4 +1,4 @@
-//! A walk holds no lock between two of its steps, and goes on over what is written meanwhile.
+//! An iteration holds no lock between two of its steps, and goes on while entries are written.
 
 use crate::caches::{FOURTH, Hasher, Numbers, SECOND, THIRD, Types, builder, cache, clone, insert};
 use crate::marks::{Marks, come, mark, new_marks, so_far};
@@ -12,13 +12,14 @@ use std::test::Fail;
 use std::thread;
 use std::thread::{JoinHandle, Threads};
 
-/// A cache of one lock.
+/// A cache with one lock.
 type OneLock<W> = Cache<u64, u64, Types<W>, W>;
 
-/// A walk over a cache of either kind.
+/// An iteration over a cache of either kind.
 type Walk<'c, W> = Iter<'c, u64, u64, OneLock<W>>;
 
-/// Two keys of each of four segments. The last segment, to which a walk comes last, is written first.
+/// Two keys of each of four segments. The last segment, which an iteration reaches last, is written
+/// first.
 const KEYS: [u64; 8] = [
     FOURTH,
     FOURTH | 1,
@@ -30,10 +31,11 @@ const KEYS: [u64; 8] = [
     1,
 ];
 
-/// A key of the first segment, which is written once a walk has taken the keys of that.
+/// A key of the first segment, which is written after an iteration has listed that segment's keys.
 const LATE: u64 = 2;
 
-/// Walks to the end, and behind each step waits for a write of another thread. The keys that came, none twice.
+/// Iterates to the end, and after each step waits for a write of another thread. Returns the keys;
+/// checks that none came twice.
 fn walked<W: Wait + Clock + Abort + Drop>(
     rt: &W,
     alloc: Global,
@@ -52,12 +54,13 @@ fn walked<W: Wait + Clock + Abort + Drop>(
     Ok(came)
 }
 
-/// Waits for the next step of the walk.
+/// Waits for the next step of the iteration.
 fn waits_for_a_step(rt: &impl Clock, marks: &Marks) {
     come(rt, &marks.arrived, so_far(&marks.done).wrapping_add(1));
 }
 
-/// Writes a key that stands at each step, and one that did not. Whether none was refused.
+/// At each step writes a key that was stored before, and one that was not. Returns whether all
+/// succeeded.
 fn writes_to_several<W: Wait + Clock + Drop>(rt: &W, cache: &Numbers<W>, marks: &Marks) -> bool {
     let mut is_done = true;
     for key in KEYS {
@@ -81,7 +84,7 @@ fn writes_to_one<W: Wait + Clock + Drop>(rt: &W, cache: &OneLock<W>, marks: &Mar
     is_done
 }
 
-/// Each key that stood comes once, while another thread writes.
+/// Checks that each key that was stored before comes once, while another thread writes.
 fn all_come<W>(
     rt: &W,
     alloc: Global,
@@ -104,6 +107,7 @@ where
     Ok(())
 }
 
+/// An insert into a segmented cache returns between two steps of an iteration.
 #[test]
 fn an_insert_answers_between_two_steps_over_several_segments(rt: HostRuntime) -> Result<(), Fail> {
     let marks = new_marks(rt.alloc())?;
@@ -128,6 +132,7 @@ where
     all_come(rt, alloc, cache.iter(), marks, child)
 }
 
+/// An insert into a cache with one lock returns between two steps of an iteration.
 #[test]
 fn an_insert_answers_between_two_steps_over_one_lock(rt: HostRuntime) -> Result<(), Fail> {
     let marks = new_marks(rt.alloc())?;

@@ -1,4 +1,4 @@
-//! The caches under test, and who hears what leaves them.
+//! The caches under test, and their listener.
 ghost use Rattle.std.specs.Prelude.{◌≡◌, ◌%◌, nat_eq};
 
 use moka::notification::RemovalCause;
@@ -28,13 +28,13 @@ impl SteadyPredicate<u64, u64> for Odd {
     ghost test = { λ _ _ value. nat_eq (value % 2) 1 };
 }
 
-/// What left: its key, its value, and why.
+/// A removal: the key, the value and the cause.
 pub(crate) type Left = (u64, u64, RemovalCause);
 
-/// What was heard and not yet asked for, in its order.
+/// The removals that were heard and not yet asked for, in their order.
 pub(crate) type Queue = Mutex<VecDeque<Left>>;
 
-/// Notes what it hears.
+/// A listener that queues what it hears.
 #[derive(Drop)]
 pub(crate) struct Notes<W> {
     queue: Arc<Queue>,
@@ -42,7 +42,7 @@ pub(crate) struct Notes<W> {
 }
 
 impl<W> Notes<W> {
-    /// Notes into this queue.
+    /// Creates a listener with this queue.
     pub(crate) fn new(queue: Arc<Queue>, waits: W) -> Self {
         Notes { queue, waits }
     }
@@ -53,7 +53,7 @@ impl<W: Wait> Listener<u64, u64> for Notes<W> {
 
     ghost hears = { λ _ _ _. ⊤ };
 
-    /// What finds no room is not noted, so whoever asks for it misses it.
+    /// Queues a removal, or drops it if there is no room, so that a test misses it.
     fn removed(&self, key: Arc<u64>, value: u64, cause: RemovalCause)
         requires { ⊤ }
     {
@@ -63,14 +63,14 @@ impl<W: Wait> Listener<u64, u64> for Notes<W> {
 
 pub(crate) type Clock = Arc<ManualClock>;
 
-/// Initializers may fail with a number.
+/// The types of the caches. Initializers may fail with a number.
 pub(crate) type Types<W> = ReadyTypes<FoldState, NoWeigher, NoExpiry, Clock, Odd, u64, Notes<W>>;
 
 pub(crate) type Numbers<W> = Cache<u64, u64, Types<W>, W>;
 
 pub(crate) type Builder<W> = CacheBuilder<u64, u64, Types<W>, Single>;
 
-/// Shares a value. Where memory is refused, it asks once more.
+/// Wraps a value in an `Arc`. Retries once if the allocation fails.
 pub(crate) fn shared<T: Drop>(alloc: Global, value: T) -> Result<Arc<T>, AllocError> {
     match Arc::new(alloc, value) {
         Ok(value) => Ok(value),
@@ -78,7 +78,8 @@ pub(crate) fn shared<T: Drop>(alloc: Global, value: T) -> Result<Arc<T>, AllocEr
     }
 }
 
-/// A builder of caches of so many keys, whose values live ten seconds, and may be hidden.
+/// Returns a builder of caches of this capacity, with a time to live of ten seconds, which accept
+/// predicates.
 pub(crate) fn builder<W: Wait + Drop>(capacity: u64) -> Builder<W> {
     CacheBuilder::new(capacity)
         .eviction_policy(EvictionPolicy::lru())
@@ -86,7 +87,7 @@ pub(crate) fn builder<W: Wait + Drop>(capacity: u64) -> Builder<W> {
         .support_invalidation_closures()
 }
 
-/// A cache of a hundred keys, at moment 0.
+/// Builds a cache with a capacity of 100, at moment 0.
 pub(crate) fn cache<W: Wait + Drop>(rt: W, alloc: Global) -> Result<Numbers<W>, Fail> {
     let clock = shared(alloc, ManualClock::new(0))?;
     Ok(builder(100).build_with_hasher(alloc, FoldState::default(), clock, rt)?)

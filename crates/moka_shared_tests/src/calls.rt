@@ -1,4 +1,4 @@
-//! The calls of a shared cache that may take memory, each with what it answers.
+//! The calls of a shared cache that may allocate, with their results.
 use crate::caches::{Numbers, Odd};
 use crate::told::{
     Told, computed_of, entry_of, option_of, optional_entry_of, or_insert_of, parts,
@@ -13,8 +13,8 @@ use rand_xoshiro::SplitMix64;
 use std::alloc::AllocError;
 use std::sync::{Arc, Wait};
 
-// Each call of a cache stands once in these files: each further function that has it is as dear
-// to prove.
+// Each call of a cache is made once in these files, since each further function that makes it is as
+// slow to prove.
 
 pub(crate) fn get<W: Wait + Drop>(cache: &Numbers<W>, key: u64) -> Result<Option<u64>, Refused> {
     cache.get(&key)
@@ -35,12 +35,12 @@ pub(crate) fn clone<W: Wait + Drop>(cache: &Numbers<W>) -> Result<Numbers<W>, Al
     Ok(cache.clone()?)
 }
 
-/// Whether the turn was open.
+/// Abandons a turn. Returns whether it was open.
 pub(crate) fn abandon<W: Wait + Drop>(cache: &Numbers<W>, turn: Turn<u64>) -> bool {
     cache.abandon(turn).is_ok()
 }
 
-/// Whether the ticket was of this cache.
+/// Leaves a ticket. Returns whether the cache knew it.
 pub(crate) fn leave<W: Wait + Drop>(cache: &Numbers<W>, ticket: Ticket<u64>) -> bool {
     cache.leave(ticket).is_ok()
 }
@@ -53,7 +53,7 @@ pub(crate) fn or_default<W: Wait + Drop>(cache: &Numbers<W>, key: u64) -> Told {
     entry_of(cache.or_default(key))
 }
 
-/// Hides the odd values. The id is not shown: each is new.
+/// Invalidates the odd values. Drops the id, since each id is new.
 pub(crate) fn hide_odd<W: Wait + Drop>(cache: &Numbers<W>) -> Told {
     let mut generator = SplitMix64::seed_from_u64(7);
     match cache.invalidate_entries_if(Odd, &mut generator) {
@@ -66,7 +66,7 @@ pub(crate) fn get_with<W: Wait + Drop>(cache: &Numbers<W>, key: u64, value: u64)
     value_of(cache.get_with(key, move || value))
 }
 
-/// Where a live value of that number is turned down.
+/// Loads, and replaces a live value equal to `unwanted`.
 pub(crate) fn get_with_if<W: Wait + Drop>(
     cache: &Numbers<W>,
     key: u64,
@@ -108,7 +108,7 @@ pub(crate) fn try_by_ref<W: Wait + Drop>(
     tried_of(cache.try_get_with_by_ref(&key, move || value))
 }
 
-/// How a key is selected: by `entry`, or by `entry_by_ref`.
+/// How a key is selected: by `entry` or by `entry_by_ref`.
 #[derive(Clone, Copy)]
 pub(crate) enum Key {
     Owned(u64),
@@ -131,16 +131,16 @@ impl Key {
     }
 }
 
-/// What a closure says is to become of a value.
+/// The operation that a closure returns.
 #[derive(Clone, Copy)]
 pub(crate) enum Doing {
     Nop,
-    /// One more than what is live is put, or 1.
+    /// Puts the live value plus 1, or 1 if there is none.
     Count,
     Remove,
 }
 
-/// One more than what is shown.
+/// Returns the value of an entry plus 1, or 1 if there is none.
 pub(crate) fn next_of(shown: Option<Entry<u64, u64>>) -> u64 {
     match shown {
         Some(entry) => entry.value().wrapping_add(1),
@@ -187,7 +187,7 @@ pub(crate) fn or_insert_with<W: Wait + Drop>(cache: &Numbers<W>, key: Key, value
     })
 }
 
-/// Where a live value of that number is turned down.
+/// Inserts by a selector, and replaces a live value equal to `unwanted`.
 pub(crate) fn or_insert_with_if<W: Wait + Drop>(
     cache: &Numbers<W>,
     key: Key,
@@ -276,7 +276,7 @@ pub(crate) type Begins = Result<Begun<u64, u64>, Refused>;
 
 pub(crate) type BeginsCompute = Result<BegunCompute<u64, u64>, Refused>;
 
-/// Spends what a begin handed out, and says what it was.
+/// Consumes what a begin returned, and returns what it was.
 pub(crate) fn spent<W: Wait + Drop>(cache: &Numbers<W>, begun: Begins) -> Told {
     match begun {
         Ok(Begun::Found(entry)) => Told::Entry(parts(&entry)),
@@ -292,7 +292,7 @@ pub(crate) fn spent<W: Wait + Drop>(cache: &Numbers<W>, begun: Begins) -> Told {
     }
 }
 
-/// Spends what the begin of a compute handed out, and says what it was.
+/// Consumes what the begin of a compute returned, and returns what it was.
 pub(crate) fn spent_compute<W: Wait + Drop>(cache: &Numbers<W>, begun: BeginsCompute) -> Told {
     match begun {
         Ok(BegunCompute::Run(turn, _)) => {
@@ -307,19 +307,19 @@ pub(crate) fn spent_compute<W: Wait + Drop>(cache: &Numbers<W>, begun: BeginsCom
     }
 }
 
-/// A begin where a live value of that number is turned down; what it hands out is spent.
+/// Begins a turn that replaces a live value equal to `unwanted`. Consumes what it returns.
 pub(crate) fn begin<W: Wait + Drop>(cache: &Numbers<W>, key: &Arc<u64>, unwanted: u64) -> Told {
     let begun = cache.begin(key, Kind::With, Some(|live: &u64| *live == unwanted));
     spent(cache, begun)
 }
 
-/// A begin by a key that is lent; what it hands out is spent.
+/// Begins a turn with the key by reference. Consumes what it returns.
 pub(crate) fn begin_by_ref<W: Wait + Drop>(cache: &Numbers<W>, key: u64) -> Told {
     let begun = cache.begin_by_ref(&key, Kind::With, None::<fn(&u64) -> bool>);
     spent(cache, begun)
 }
 
-/// The begin of a compute; what it hands out is spent.
+/// Begins a compute. Consumes what it returns.
 pub(crate) fn begin_compute<W: Wait + Drop>(cache: &Numbers<W>, key: &Arc<u64>) -> Told {
     let begun = cache.begin_compute(key, true);
     spent_compute(cache, begun)

@@ -1,4 +1,4 @@
-//! The tests of the cache that threads share: what each call answers, and how its callers wait for each other.
+//! The tests of the shared cache: what each call returns, and how callers wait for each other.
 #![tactic(auto)]
 
 #[cfg(test)]

@@ -1,5 +1,5 @@
-//! How the threads of a test tell each other how far they are. Who waits for another gives up after a while, so that a test
-//! fails where a thread never comes.
+//! Counts by which the threads of a test wait for each other. A thread gives up after a while, so
+//! that the test fails if another never comes.
 
 use crate::caches::shared;
 use std::alloc::{AllocError, Global};
@@ -12,17 +12,17 @@ use std::time::Duration;
 /// Counts that go up, each from 0.
 #[derive(Drop)]
 pub(crate) struct Marks {
-    /// How many threads have come to where the others are to find them.
+    /// The threads that have reached the point at which others wait for them.
     pub arrived: AtomicU64,
-    /// How many have done what they were to do.
+    /// The threads that have done their work.
     pub done: AtomicU64,
-    /// How often a closure was asked that works a value out.
+    /// The calls of initializers.
     pub asks: AtomicU64,
-    /// How often a listener was told and another thread was done before it let go.
+    /// The calls of a listener during which another thread did its work.
     pub in_time: AtomicU64,
 }
 
-/// Nobody has come yet. Where memory is refused, it asks once more.
+/// Creates counts of 0. Retries once if the allocation fails.
 pub(crate) fn new_marks(alloc: Global) -> Result<Arc<Marks>, AllocError> {
     shared(
         alloc,
@@ -35,19 +35,20 @@ pub(crate) fn new_marks(alloc: Global) -> Result<Arc<Marks>, AllocError> {
     )
 }
 
-/// One more has come.
+/// Adds 1 to a count.
 pub(crate) fn mark(count: &AtomicU64) {
     count.fetch_add(1, Ordering::SeqCst);
 }
 
-/// How many have come.
+/// Returns a count.
 pub(crate) fn so_far(count: &AtomicU64) -> u64 {
     count.load(Ordering::SeqCst)
 }
 
+// Each turn sleeps one millisecond.
 const TURNS: u64 = 10_000;
 
-/// Waits until so many have come, for some ten seconds at most. Whether they have.
+/// Waits until a count has reached `wanted`, for about ten seconds at most. Returns whether it has.
 pub(crate) fn come(rt: &impl Clock, count: &AtomicU64, wanted: u64) -> bool {
     for _ in 0..TURNS {
         if so_far(count) >= wanted {
@@ -58,7 +59,7 @@ pub(crate) fn come(rt: &impl Clock, count: &AtomicU64, wanted: u64) -> bool {
     false
 }
 
-/// Gives others time, to come to where no count tells of them.
+/// Sleeps 30 ms, so that others come to a point that no count shows.
 pub(crate) fn pause(rt: &impl Clock) {
     thread::sleep(rt, Duration::from_millis(30));
 }

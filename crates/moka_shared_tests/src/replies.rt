@@ -1,4 +1,4 @@
-//! What the calls of a shared cache answer, one after another on one cache.
+//! The results of the calls of a shared cache, one after another on one cache.
 
 use crate::caches::{Numbers, cache, shared};
 use crate::calls;
@@ -17,6 +17,7 @@ const fn entry(key: u64, value: u64, is_fresh: bool) -> Told {
     Told::Entry((key, value, is_fresh, false))
 }
 
+/// Inserts return the live or the new entry, and removals leave nothing behind.
 #[test]
 fn writes_and_removals_answer(rt: HostRuntime) -> Result<(), Fail> {
     let key = shared(rt.alloc(), 1)?;
@@ -77,6 +78,7 @@ fn remove<W: Wait + Drop>(cache: &Numbers<W>, key: u64) -> Told {
     option_of(cache.remove(&key))
 }
 
+/// Each loader returns the live value, or what its closure returns.
 #[test]
 fn initializers_answer(rt: HostRuntime) -> Result<(), Fail> {
     let cache = cache(rt, rt.alloc())?;
@@ -175,6 +177,7 @@ fn by_reference<W: Wait + Drop>(rt: &impl Abort, cache: &Numbers<W>) {
     );
 }
 
+/// Each selector call returns an entry or its closure's error, by value and by reference.
 #[test]
 fn selectors_answer(rt: HostRuntime) -> Result<(), Fail> {
     let cache = cache(rt, rt.alloc())?;
@@ -243,6 +246,7 @@ fn computes<W: Wait + Drop>(rt: &impl Abort, cache: &Numbers<W>, is_lent: bool) 
     );
 }
 
+/// Each begin returns a turn, which leaves nothing behind once it is abandoned.
 #[test]
 fn turns_answer(rt: HostRuntime) -> Result<(), Fail> {
     let key = shared(rt.alloc(), 1)?;

@@ -1,4 +1,4 @@
-//! What calls answer, as plain data.
+//! The results of calls as plain data.
 
 use moka::common::entry::Entry;
 use moka::ops::compute::CompResult;
@@ -7,10 +7,10 @@ use moka::state::OrInsertRefused;
 use moka::sync::value_initializer::Answer;
 use std::sync::Arc;
 
-/// The parts of an entry: its key and its value, and whether it is fresh and replaced another value.
+/// The parts of an entry: its key, its value, `is_fresh` and `is_old_value_replaced`.
 pub(crate) type Parts = (u64, u64, bool, bool);
 
-/// What a call answers.
+/// The result of a call.
 #[derive(Clone, Copy, Debug, PartialEq)]
 pub(crate) enum Told {
     Done,
@@ -19,13 +19,13 @@ pub(crate) enum Told {
     Nothing,
     Value(u64),
     Entry(Parts),
-    /// The error that an initializer gave.
+    /// The error that an initializer returned.
     Failed(u64),
-    /// A word for what became of a value, and its entry.
+    /// A word for the result of a compute, and its entry.
     Became(&'static str, Option<Parts>),
-    /// A turn is handed out.
+    /// The call returned a turn.
     Runs,
-    /// A ticket is handed out.
+    /// The call returned a ticket.
     Waits,
     NotYet,
     Abandoned,

@@ -1,5 +1,5 @@
-//! Threads that share a cache: closures, listeners and steps of walks leave it free for others, and callers wait for each
-//! other's turns.
+//! Threads that share a cache. Closures, listeners and the steps of an iteration leave it free for
+//! others, and callers wait for each other's turns.
 ghost use Rattle.std.specs.Prelude.{◌≡◌, ◌≢◌};
 ghost use Rattle.moka_model.specs.declared.turns.Kind.{Kind};
 
@@ -21,17 +21,17 @@ use std::thread;
 use std::thread::{JoinHandle, Threads};
 use std::time::Duration;
 
-/// Says that it is inside, and waits there until one is done. How many are.
+/// Counts itself as arrived, and waits until another thread is done. Returns how many are.
 fn inside_until_done(rt: &impl Clock, marks: &Marks) -> u64 {
     mark(&marks.arrived);
     come(rt, &marks.done, 1);
     so_far(&marks.done)
 }
 
-/// What a look finds.
+/// The result of a lookup.
 type Found = Result<Option<u64>, Refused>;
 
-/// Looks for a key once another thread is inside, and is done.
+/// Looks up a key once another thread is inside a closure, and counts itself as done.
 fn gets_once_one_is_inside<W: Wait + Clock + Drop>(
     rt: &W,
     cache: &Numbers<W>,
@@ -44,7 +44,7 @@ fn gets_once_one_is_inside<W: Wait + Clock + Drop>(
     found
 }
 
-/// A call that asks a closure, outside of the lock.
+/// A call whose closure runs outside the lock.
 #[derive(Clone, Copy, Debug)]
 enum Form {
     With,
@@ -64,7 +64,7 @@ const FORMS: [Form; 6] = [
     Form::Upsert,
 ];
 
-/// A call of key 1, whose closure waits until another thread is done.
+/// Makes a call about key 1, whose closure waits until another thread is done.
 fn made_by<W: Wait + Clock + Drop>(rt: &W, cache: &Numbers<W>, marks: &Marks, form: Form) -> bool {
     match form {
         Form::With => gives(rt, cache, marks),
@@ -113,6 +113,7 @@ fn tries_to_compute<W: Wait + Clock + Drop>(rt: &W, cache: &Numbers<W>, marks: &
         .is_ok()
 }
 
+/// A `get` returns while the closure of another call runs.
 #[test]
 fn a_get_answers_while_a_closure_runs(rt: HostRuntime) -> Result<(), Fail> {
     for form in FORMS {
@@ -141,7 +142,7 @@ where
     Ok(())
 }
 
-/// Looks for key 2 in a thread of its own, once another is inside.
+/// Looks up key 2 in a thread of its own, once another thread is inside a closure.
 fn gets_beside<W>(rt: &W, cache: &Numbers<W>, marks: &Arc<Marks>) -> Result<JoinHandle<Found>, Fail>
 where
     W: Wait + Clock + Threads + Copy + Drop + Send + Sync + 'static,
@@ -153,7 +154,7 @@ where
     )?)
 }
 
-/// The other has found its value, and the closure saw that it had.
+/// Checks that the lookup found its value, and that the closure saw that it was done.
 fn has_answered<W: Wait + Abort + Drop>(rt: &W, cache: &Numbers<W>, found: Found, form: Form) {
     assert_eq!(rt;
         get(cache, 1),
@@ -163,7 +164,7 @@ fn has_answered<W: Wait + Abort + Drop>(rt: &W, cache: &Numbers<W>, found: Found
     assert_eq!(rt; found, Ok(Some(20)));
 }
 
-/// Says when it is told, and waits until another is done.
+/// A listener that counts itself as arrived, and waits until another thread is done.
 #[derive(Drop)]
 struct Slow<W> {
     marks: Arc<Marks>,
@@ -184,7 +185,7 @@ impl<W: Clock> Listener<u64, u64> for Slow<W> {
     }
 }
 
-/// The types of a cache that such a one listens to.
+/// The types of a cache with this listener.
 type SlowTypes<W> = ReadyTypes<
     FoldState,
     NoWeigher,
@@ -195,10 +196,10 @@ type SlowTypes<W> = ReadyTypes<
     Slow<W>,
 >;
 
-/// A cache that such a one listens to.
+/// A cache with this listener.
 type Heard<W> = Cache<u64, u64, SlowTypes<W>, W>;
 
-/// A call in which an expired value of key 1 leaves.
+/// A call that removes the expired entry of key 1.
 #[derive(Clone, Copy, Debug)]
 enum Leaves {
     Insert,
@@ -241,6 +242,7 @@ fn lets_one_leave<W: Wait + Clock + Drop>(cache: &Heard<W>, key: &Arc<u64>, call
     }
 }
 
+/// A `get` returns while the listener runs.
 #[test]
 fn a_get_answers_while_the_listener_runs(rt: HostRuntime) -> Result<(), Fail> {
     for call in LEAVES {
@@ -260,7 +262,7 @@ where
     a_get_answers_in_between(&rt, &cache, &clock, (&key, &marks), call)
 }
 
-/// A cache whose values live a second.
+/// Builds a cache with a time to live of one second and the slow listener.
 fn slow_cache<W: Wait + Clock + Copy + Drop>(
     rt: W,
     alloc: Global,
@@ -277,7 +279,7 @@ fn slow_cache<W: Wait + Clock + Copy + Drop>(
     )
 }
 
-/// Key 1 has expired, and key 2 is live.
+/// Inserts keys 1 and 2, of which key 1 has expired then.
 fn let_one_expire<W: Wait + Clock + Drop>(
     cache: &Heard<W>,
     clock: &ManualClock,
@@ -306,7 +308,7 @@ where
     Ok(())
 }
 
-/// Looks for key 2 in a thread of its own, once the listener runs.
+/// Looks up key 2 in a thread of its own, once the listener runs.
 fn gets_while_it_hears<W>(
     rt: &W,
     cache: &Heard<W>,
@@ -335,13 +337,13 @@ fn gets_once_it_hears<W: Wait + Clock + Drop>(rt: &W, cache: &Heard<W>, marks: &
     found
 }
 
-/// What a caller is given.
+/// The result of a loader.
 type Given = Result<u64, Refused>;
 
-/// How many threads.
+/// The number of threads.
 const THREADS: u64 = 4;
 
-/// The initializer: it gives its value once all have come and had time to wait.
+/// The initializer. It returns its value once all threads have arrived and had time to wait.
 fn works_it_out(rt: &impl Clock, marks: &Marks) -> u64 {
     mark(&marks.asks);
     come(rt, &marks.arrived, THREADS);
@@ -356,6 +358,7 @@ fn asks_with_others<W: Wait + Clock + Drop>(rt: &W, cache: &Numbers<W>, marks: &
     given
 }
 
+/// Of four callers one runs its initializer, and all get its value.
 #[test]
 fn of_four_initializers_one_runs(rt: HostRuntime) -> Result<(), Fail> {
     let marks = new_marks(rt.alloc())?;
@@ -379,7 +382,7 @@ where
     Ok(())
 }
 
-/// Each of the threads asks.
+/// Loads in each of the threads.
 fn all_ask<W>(
     rt: &W,
     cache: &Numbers<W>,
@@ -404,7 +407,7 @@ where
     Ok(thread::spawn(rt, move || asks_with_others(&handle, &theirs, &others))?)
 }
 
-/// All are given what one of them worked out.
+/// Checks that all got the value that one of them computed.
 fn all_are_given<W>(rt: &W, marks: &Marks, children: Vec<JoinHandle<Given>>)
 where
     W: Clock + Threads + Abort,
@@ -416,17 +419,17 @@ where
     assert_eq!(rt; so_far(&marks.asks), 1, "one initializer ran");
 }
 
-/// How one asks who is to wait for a turn.
+/// How a caller loads that is to wait for a turn.
 #[derive(Clone, Copy)]
 enum Way {
-    /// By `get_with`, where no value is live.
+    /// By `get_with`, with no live value.
     Plain,
-    /// By `get_with_if`, where the live value is turned down. Who is shown it has begun, and holds a ticket by the time that
-    /// anybody else gets to the cache.
+    /// By `get_with_if`, which replaces the live value. When its predicate runs, it has begun, and
+    /// it holds a ticket before anybody else gets the lock.
     If,
 }
 
-/// One more was asked, and gives this value.
+/// Counts a call of the caller's own initializer, and returns its value.
 fn own(marks: &Marks) -> u64 {
     mark(&marks.asks);
     12
@@ -455,7 +458,7 @@ fn asks_for_another<W: Wait + Drop>(cache: &Numbers<W>, marks: &Marks) -> Given 
     cache.get_with_if(1, || own(marks), |_| turns_it_down(marks))
 }
 
-/// The turn to work out a value of a kind, whatever is live.
+/// Returns a turn of a kind, whatever is live.
 fn ran<W: Wait + Drop>(rt: &impl Abort, cache: &Numbers<W>, key: &Arc<u64>, kind: Kind) -> Turn<u64>
     requires { kind ≢ Kind.Compute }
     ensures { result.key.kind ≡ kind }
@@ -471,7 +474,7 @@ fn ran<W: Wait + Drop>(rt: &impl Abort, cache: &Numbers<W>, key: &Arc<u64>, kind
     }
 }
 
-/// Ends a turn with 7.
+/// Finishes a turn with 7.
 fn finishes<W: Wait + Drop>(rt: &impl Abort, cache: &Numbers<W>, turn: Turn<u64>)
     requires { turn.key.kind ≡ Kind.With }
 {
@@ -488,10 +491,10 @@ fn finishes<W: Wait + Drop>(rt: &impl Abort, cache: &Numbers<W>, turn: Turn<u64>
     }
 }
 
-/// How the turn ends that another waits for.
+/// How the turn ends for which another caller waits.
 #[derive(Clone, Copy)]
 enum End {
-    /// With 7.
+    /// With the value 7.
     Finished,
     Abandoned,
 }
@@ -505,12 +508,14 @@ fn ends<W: Wait + Drop>(rt: &impl Abort, cache: &Numbers<W>, turn: Turn<u64>, en
     }
 }
 
+/// A waiting caller gets the value of a turn that is finished.
 #[test]
 fn a_finished_turn_answers_who_waits(rt: HostRuntime) -> Result<(), Fail> {
     waits_for_a_turn(rt, rt.alloc(), Way::Plain, End::Finished)?;
     waits_for_a_turn(rt, rt.alloc(), Way::If, End::Finished)
 }
 
+/// If a turn is abandoned, a waiting caller runs its own initializer.
 #[test]
 fn an_abandoned_turn_goes_to_who_waits(rt: HostRuntime) -> Result<(), Fail> {
     waits_for_a_turn(rt, rt.alloc(), Way::Plain, End::Abandoned)?;
@@ -551,14 +556,14 @@ where
     Ok(())
 }
 
-/// One has come, and is not answered after a while.
+/// Checks that one caller has arrived, and is still waiting after a pause.
 fn waits_still(rt: &(impl Clock + Abort), marks: &Marks) {
     assert!(rt; come(rt, &marks.arrived, 1), "the other waits");
     pause(rt);
     assert_eq!(rt; so_far(&marks.done), 0, "the other waits");
 }
 
-/// Who waited is given what the turn ended with, or works out its own.
+/// Checks that the waiting caller got the turn's value, or computed its own.
 fn is_given(rt: &impl Abort, given: Given, asks: u64, end: End) {
     let wanted = match end {
         End::Finished => (Ok(7), 0),
@@ -567,7 +572,7 @@ fn is_given(rt: &impl Abort, given: Given, asks: u64, end: End) {
     assert_eq!(rt; (given, asks), wanted);
 }
 
-/// Counts up the value of a key so often. The last value.
+/// Adds 1 to the value of a key eight times. Returns the last value.
 fn counts<W: Wait + Drop>(cache: &Numbers<W>, marks: &Marks) -> Given {
     let mut last = 0;
     for _ in 0..8 {
@@ -582,6 +587,7 @@ fn count<W: Wait + Drop>(cache: &Numbers<W>) -> Given {
     Ok(counted.into_value())
 }
 
+/// No upsert of four threads is lost.
 #[test]
 fn no_count_is_lost(rt: HostRuntime) -> Result<(), Fail> {
     let marks = new_marks(rt.alloc())?;
@@ -606,7 +612,7 @@ where
     Ok(())
 }
 
-/// Each of the threads counts.
+/// Counts in each of the threads.
 fn all_count<W>(
     rt: &W,
     cache: &Numbers<W>,
@@ -645,7 +651,7 @@ where
     }
 }
 
-/// The error that a caller is given whose own initializer fails with 5.
+/// Returns the error that a caller gets whose own initializer fails with 5.
 fn fails<W: Wait + Drop>(cache: &Numbers<W>, marks: &Marks) -> Option<Arc<u64>> {
     mark(&marks.arrived);
     let given = cache.try_get_with(1, || {
@@ -656,7 +662,7 @@ fn fails<W: Wait + Drop>(cache: &Numbers<W>, marks: &Marks) -> Option<Arc<u64>> 
     given.ok()?.err()
 }
 
-/// Ends a turn with an error.
+/// Finishes a turn with an error.
 fn finishes_with<W: Wait + Drop>(
     rt: &impl Abort,
     cache: &Numbers<W>,
@@ -678,8 +684,7 @@ fn finishes_with<W: Wait + Drop>(
     }
 }
 
-/// Nobody can see that another waits who has only begun. One that came too late to wait runs its own initializer, and then
-/// all is tried once more.
+/// A caller that waits for a turn gets the error of that turn, shared and not cloned.
 #[test]
 fn who_waits_is_given_the_same_error(rt: HostRuntime) -> Result<(), Fail> {
     for _ in 0..100 {
@@ -690,6 +695,8 @@ fn who_waits_is_given_the_same_error(rt: HostRuntime) -> Result<(), Fail> {
     Err(Fail::from("no thread has waited"))
 }
 
+// A caller that comes too late to wait runs its own initializer, and the test tries again. Nobody
+// can see that another one waits, only that it has begun.
 fn has_waited<W>(rt: W, alloc: Global) -> Result<bool, Fail>
 where
     W: Wait + Clock + Threads + Abort + Copy + Drop + Send + Sync + 'static,
@@ -721,7 +728,7 @@ where
     is_shared(rt, marks, child?.join(rt), error)
 }
 
-/// Whether the other waited: then it is given the error itself.
+/// Returns whether the other caller waited. If so, checks that it got the error itself.
 fn is_shared(
     rt: &impl Abort,
     marks: &Marks,

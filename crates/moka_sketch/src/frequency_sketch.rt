@@ -1,4 +1,5 @@
-//! A sketch of four rows of counters. A hash has one counter in each row, and the least of the four is its estimate.
+//! A sketch of four rows of counters. A hash has one counter in each row, and its estimate is the
+//! least of the four.
 ghost use Rattle.std.specs.Prelude.{◌≡◌, ◌*◌, ◌/◌, ◌<◌, length, map};
 ghost use Rattle.moka_policy.specs.Frequency.{Counts, counter_count};
 ghost use Rattle.moka_sketch.specs.Sketch.{IsSketch, place, counted_at, counted_in_each_row, none_noted, noted, estimated};
@@ -7,28 +8,33 @@ use moka_policy::policy::{FrequencySource, Refused};
 use std::alloc::Global;
 use std::marker::Model;
 
-/// The count that no counter passes.
+/// The greatest value of a counter.
 const GREATEST_COUNT: u8 = 15;
 
-/// How many notes for each counter of a row come before all counters are halved.
+/// The number of notes per counter of a row after which all counters are halved.
 const NOTES_FOR_A_COUNTER: usize = 10;
 
-/// How many bits of a hash number its counter in a row at most.
+/// The greatest number of bits of a hash that choose its counter in a row.
 const GREATEST_BITS: u32 = 20;
 
-/// By so many bits higher in a hash than in the row before begin those that number its counter.
+/// How many bits apart in a hash the bits for one row and for the next begin.
 const BITS_APART: u32 = 14;
 
-/// Counts notes in four rows of `2^min(BITS, 20)` counters from 0 to 15, all 0 at first. A hash uses one counter in
-/// each row: that which `min(BITS, 20)` of its bits number, from bit 0, 14, 28 and 42 on. A note adds one to all four,
-/// and 15 stays 15. With each ten notes for a counter of a row all counters are halved, rounded down, and the note itself
-/// counts first. The estimate is the least of the four. So it is never too low, up to 15, for what was noted since the
-/// last halving, and too high only where other hashes use all four counters too.
+/// A frequency source of four rows of `2^min(BITS, 20)` counters from 0 to 15, all 0 at first.
 ///
-/// It admits best where a row has about twice as many counters as the cache has keys.
+/// A hash uses one counter in each row. `min(BITS, 20)` bits of the hash choose it: those from bit
+/// 0, 14, 28 and 42 on. A note adds 1 to all four, up to 15. Every ten notes per counter of a row
+/// halve all counters, rounded down. The note itself is counted before that.
 ///
-/// `opening` takes one byte for each counter. `note` and `estimate` take no memory and constant time, but for the
-/// notes that halve, which take time in the number of the counters.
+/// The estimate is the least of the four counters. It is at least the number of the hash's notes
+/// since the last halving, up to 15. Other hashes raise it only if they use all four counters too.
+///
+/// A sketch admits best if a row has about twice as many counters as the cache has keys. `opening`
+/// allocates one byte for each counter. `note` and `estimate` do not allocate.
+///
+/// # Complexity
+///
+/// `note` and `estimate` take constant time. A note that halves visits all counters.
 #[derive(Debug, Drop)]
 pub struct FrequencySketch<const BITS: u32> {
     counters: Vec<u8>,
@@ -77,7 +83,7 @@ impl<const BITS: u32> FrequencySource for FrequencySketch<BITS> {
     }
 }
 
-/// The place of a hash's counter in a row, among the counters of all rows.
+/// Returns the index of a hash's counter in a row, among the counters of all rows.
 fn place_of(bits: u32, row: u32, hash: u64) -> usize
     requires { row < 4 }
     ensures place { result ≡ place bits row hash }
@@ -88,7 +94,7 @@ fn place_of(bits: u32, row: u32, hash: u64) -> usize
     ((row as usize) << bits) + in_row as usize
 }
 
-/// Counts one more at each of the four counters of a hash.
+/// Adds 1 to each of the four counters of a hash, up to 15.
 fn count_in_each_row(counters: &mut [u8], bits: u32, hash: u64)
     requires { length counters.old ≡ 4 * counter_count bits }
     ensures { counters.new ≡ counted_in_each_row bits counters.old hash }
@@ -99,7 +105,7 @@ fn count_in_each_row(counters: &mut [u8], bits: u32, hash: u64)
     count_at(counters, place_of(bits, 3, hash));
 }
 
-/// Counts one more at a place, up to 15.
+/// Adds 1 to a counter, up to 15.
 fn count_at(counters: &mut [u8], place: usize)
     requires { place < length counters.old }
     ensures { counters.new ≡ counted_at counters.old place }

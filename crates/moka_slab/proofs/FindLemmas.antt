@@ -1,4 +1,4 @@
--- A look-up along the chain of a hash.
+-- A lookup along the chain of a hash.
 use Rattle.std.proofs.Common.{◌≡◌, ℕ, suc, ◌+◌, ◌-◌, ◌^◌, ◌<◌, ◌≤◌, ◌==◌, ◌&&◌, Bool, true, false, List, [], ◌∷◌, ◌++◌, length, map, filter, Option, Some, None, IsSome, IfSome, refl, sym, ap, subst, ◌∙◌, arith, inl, ⊎_elim, append_assoc, length-append}
 use Rattle.std.specs.Arc.{arc_value}
 use Rattle.std.proofs.lemmas.Bool.{cases_eq, ne_eqb, eq-eqb}
@@ -14,7 +14,7 @@ use Rattle.moka_slab.specs.Tied.{IsTied, all_rows}
 use Rattle.moka_slab.proofs.KeptLemmas.{some-of, filter-in, filter-out, none-pass, passing, passes}
 use Rattle.moka_slab.proofs.TiedLemmas.{all-is, under-all}
 
--- a filter leaves no more than there were
+-- a filtered list is not longer than the list
 filter-few : {R : Type 0} (test : ℕ × R → Bool) (ps : List (ℕ × R)) → length (filter test ps) ≤ length ps
 filter-few test [] = omega arith
 filter-few test (p ∷ ps) = go (test p) refl (filter-few test ps)
@@ -28,7 +28,7 @@ length-numbers [] = refl
 length-numbers (p ∷ ps) = ap suc (length-numbers ps)
 
 module _ {K V : Type 0} (rows : Slab (Row K V)) (l : Links) (t : IsTied rows l) (eq : K → K → Bool) (key : K) (hash : ℕ) where
-  -- what a look-up has seen, and where it goes on
+  -- the state of a lookup: what it has seen, and where it continues
   pub record Sought (at : Option ℕ) (reads : ℕ) : Type 0 where
     pub seen : List ℕ
     pub rest : List ℕ
@@ -60,7 +60,7 @@ module _ {K V : Type 0} (rows : Slab (Row K V)) (l : Links) (t : IsTied rows l) 
           let h : r.0.hash ≡ hash = t.hashed k r.0 m.0 r.1 ∙ m.1 in
           passes (row_at rows) (λ r. r.hash == hash) k r.0 (numbers_of l) (among-linked l k m.0) r.1 (eq-eqb r.0.hash hash h)
 
-  -- a look-up that goes on to a number
+  -- a lookup that continues with a number
   pub record Going (reads k : ℕ) : Type 0 where
     pub behind : List ℕ
     pub seen : List ℕ
@@ -92,13 +92,13 @@ module _ {K V : Type 0} (rows : Slab (Row K V)) (l : Links) (t : IsTied rows l) 
             others = s.others;
           }
 
-  -- it has read less than the chain has numbers
+  -- it has read fewer rows than the chain has numbers
   pub going-few : (reads k : ℕ) → Going reads k → reads < length (chain_of l hash)
   going-few reads k w =
       let whole : length (chain_of l hash) ≡ length w.seen + length (k ∷ w.behind) = ap length w.is ∙ length-append w.seen (k ∷ w.behind) in
       omega (arith, whole, w.counted)
 
-  -- its row has another key, and it goes on
+  -- the row has another key, and the lookup continues
   pub sought-next : (reads k : ℕ) (r : Row K V) (w : Going reads k) → row_at rows k ≡ Some r → eq (arc_value r.key) key ≡ false → Sought (same_at l k) (reads + 1)
   sought-next reads k r w at other = record {
     seen = w.seen ++ k ∷ [];
@@ -146,7 +146,7 @@ module _ {K V : Type 0} (rows : Slab (Row K V)) (l : Links) (t : IsTied rows l) 
           ap (λ b. b && eq (arc_value r.key) key) (eq-eqb r.hash hash e) ∙ (sought-all reads s).2 k r there at)
           (λ ne. ap (λ b. b && eq (arc_value r.key) key) (ne_eqb r.hash hash ne)) (cases_eq r.hash hash)
 
-  -- what it has read
+  -- with this row it has read at most as many rows as have the hash
   pub going-reads : (reads k : ℕ) → Going reads k → reads + 1 ≤ length (filter (λ p. p.1.hash == hash) (all_rows rows l))
   going-reads reads k w = let few = going-few reads k w in omega (arith, few, chain-few)
 

@@ -15,7 +15,7 @@ module _ {R : Type 0} where
   abbrev pub AreStored : (ℕ → Option R) → List ℕ → Type 0
   AreStored at ks = (k : ℕ) → IsAmong k ks → IsSome (at k)
 
-  -- one number's row in front
+  -- the row of the first number comes first
   front : (at : ℕ → Option R) (k : ℕ) (ks : List ℕ) (r : R) → at k ≡ Some r → numbered at (k ∷ ks) ≡ (k, r) ∷ numbered at ks
   front at k ks r is = rw is refl
 
@@ -30,7 +30,7 @@ module _ {R : Type 0} where
       go None is rest = none at x (xs ++ ys) is ∙ rest ∙ ap (λ t. t ++ numbered at ys) (sym (none at x xs is))
       go (Some r) is rest = front at x (xs ++ ys) r is ∙ ap (λ t. (x, r) ∷ t) rest ∙ ap (λ t. t ++ numbered at ys) (sym (front at x xs r is))
 
-  -- the row under a number, or one that is not there
+  -- the row with a number, or a number without a row
   here : (n k : ℕ) (r : R) (rest : List (ℕ × R)) → k ≡ n → row_under n ((k, r) ∷ rest) ≡ Some r
   here n k r rest is = search (rules, is)
 
@@ -69,7 +69,7 @@ module _ {R : Type 0} where
           (λ ne. let t = rest (sym (there n k s (numbered at ks) ne) ∙ sym (ap (row_under n) (front at k ks s has)) ∙ found) in (inr t.0, t.1))
           (cases_eq k n)
 
-  -- a number is taken out
+  -- a number is removed
   pub numbered-without : (at : ℕ → Option R) (n : ℕ) (ks : List ℕ) (r : R) → at n ≡ Some r → without_row n (numbered at ks) ≡ numbered at (without n ks)
   numbered-without at n [] r is = refl
   numbered-without at n (k ∷ ks) r is = ⊎_elim (λ e. same e) (λ ne. go (at k) refl ne (numbered-without at n ks r is)) (cases_eq k n)
@@ -89,7 +89,7 @@ module _ {R : Type 0} where
           ap (without_row n) (front at k ks s has) ∙ drop-there s (numbered at ks) ne ∙ ap (λ t. (k, s) ∷ t) later
           ∙ sym (ap (numbered at) (without-there n k ks ne) ∙ front at k (without n ks) s has)
 
-  -- rows that are the same, but for one
+  -- rows that are all the same, except one
   pub numbered-same : (at at' : ℕ → Option R) (ks : List ℕ) → ((k : ℕ) → IsAmong k ks → at' k ≡ at k) → numbered at' ks ≡ numbered at ks
   numbered-same at at' [] same = refl
   numbered-same at at' (k ∷ ks) same = go (at k) refl (numbered-same at at' ks (λ j q. same j (inr q)))
@@ -121,7 +121,7 @@ module _ {R : Type 0} where
           front at' k ks s (others k (inl refl) ne ∙ has) ∙ ap (λ t. (k, s) ∷ t) later
           ∙ sym (ap (with_row n change) (front at k ks s has) ∙ change-there s (numbered at ks) ne)
 
-  -- where every number has a row: how many, the first, the one behind
+  -- if every number has a row: the number of rows, the first one, and the next one
   pub length-numbered : (at : ℕ → Option R) (ks : List ℕ) → AreStored at ks → length (numbered at ks) ≡ length ks
   length-numbered at [] stored = refl
   length-numbered at (k ∷ ks) stored =

@@ -18,7 +18,7 @@ module _ {R : Type 0} where
   entries-write k (None ∷ ss) (suc i) was r is = entries-write (k + 1) ss i was r is
   entries-write k (Some x ∷ ss) (suc i) was r is = ap suc (entries-write (k + 1) ss i was r is)
 
-  -- a write over a row leaves as many
+  -- overwriting a row keeps the number of rows
   pub len-write : (rows : Slab R) (key : ℕ) (was r : R) → get rows key ≡ Some was → slab_len (with_value rows key r) ≡ slab_len rows
   len-write rows key was r is =
       sym (length-entries_from 0 (slice_set rows.slots key (Some r))) ∙ entries-write 0 rows.slots key was r is ∙ length-entries_from 0 rows.slots
@@ -27,14 +27,14 @@ below : (v p q a b : ℕ) → p ≤ q → a ≤ b → (if nat_lt p v then 0 else
 below v p q a b more up = grind (arith)
 
 module _ {K V : Type 0} where
-  -- the room stays where no row comes
+  -- the room stays the same if no row is added
   pub room-kept : (old new : Slab (Row K V)) (l m : Links) → new.capacity ≡ old.capacity → slab_len new ≤ slab_len old
       → places_of l ≤ places_of m → spare_of l ≤ spare_of m → room_in old l ≤ room_in new m
   room-kept old new l m capacity len places spare =
       rw capacity
       (below (old.capacity + 2) (places_of l) (places_of m) (min (old.capacity - slab_len old) (spare_of l)) (min (old.capacity - slab_len new) (spare_of m)) places (omega arith))
 
-  -- where there is room, the slab and the index have it, and each number that the slab gives has a place
+  -- if there is room, the slab and the index have it, and each number that the slab can give out has a place
   pub record HasRoom (rows : Slab (Row K V)) (l : Links) : Type 0 where
     pub row : slab_len rows + 1 ≤ rows.capacity
     pub hash : 0 < spare_of l
@@ -47,7 +47,7 @@ module _ {K V : Type 0} where
       go true few none = absurd (omega arith)
       go false placed some = record { row = omega arith; hash = omega arith; place = λ key within. let made = ltb-false (places_of l) (rows.capacity + 2) placed in omega (arith, made, within) }
 
-  -- a row that comes takes the room of one
+  -- adding a row uses the room of one
   pub room-taken : (old new : Slab (Row K V)) (l m : Links) → new.capacity ≡ old.capacity → slab_len new ≡ slab_len old + 1
       → places_of m ≡ places_of l → spare_of l ≤ spare_of m + 1 → room_in old l ≤ room_in new m + 1
   room-taken old new l m capacity len places spare = rw (capacity, places) (go (nat_lt (places_of l) (old.capacity + 2)))
@@ -56,7 +56,7 @@ module _ {K V : Type 0} where
       go true = omega arith
       go false = omega (arith, len, spare)
 
-  -- room that was made
+  -- the room after a successful `reserve`
   pub room-made : (rows : Slab (Row K V)) (l : Links) (more : ℕ) → slab_len rows + more ≤ rows.capacity → rows.capacity + 2 ≤ places_of l → more ≤ spare_of l → more ≤ room_in rows l
   room-made rows l more row place hash = go (nat_lt (places_of l) (rows.capacity + 2)) refl
     where

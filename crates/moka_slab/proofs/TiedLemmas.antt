@@ -23,7 +23,7 @@ apart-both (x ∷ xs) ys a b once =
 pub numbers-apart : (l : Links) → IsApart (numbers_of l)
 numbers-apart l = apart-both (admitted_of l) (waiting_of l) (admitted-apart l) (waiting-apart l) (λ k q. linked-once l k q)
 
--- what was linked before an admission, and before a removal
+-- a number that is linked after an admission or a removal was linked before
 pub linked-admitted : (l m : Links) (n : ℕ) → IsLinked l n → admitted_of m ≡ without n (admitted_of l) ++ n ∷ [] → waiting_of m ≡ without n (waiting_of l) → (k : ℕ) → IsLinked m k → IsLinked l k
 linked-admitted l m n there admitted waiting k q =
     ⊎_elim
@@ -51,7 +51,7 @@ module _ {K V : Type 0} where
   pub waiting-found : (rows : Slab (Row K V)) (l : Links) (n : ℕ) → IsSome (row_under n (waiting_rows rows l)) → IsAmong n (waiting_of l)
   waiting-found rows l n found = let s = some-of (row_under n (waiting_rows rows l)) found in (under-some (row_at rows) n (waiting_of l) s.0 s.1).0
 
-  -- what is under a linked number
+  -- the row with a linked number
   pub under-all : (rows : Slab (Row K V)) (l : Links) (n : ℕ) (r : Row K V) → IsLinked l n → row_at rows n ≡ Some r → row_under n (all_rows rows l) ≡ Some r
   under-all rows l n r q is = ap (row_under n) (all-is rows l) ∙ under-among (row_at rows) n (numbers_of l) r is (among-linked l n q)
 
@@ -76,7 +76,7 @@ module _ {K V : Type 0} where
       → (IsAmong n (admitted_of l) → said ≡ true) → (IsAmong n (waiting_of l) → said ≡ false) → IsOrderOf n (admitted_rows rows l) (order_of said)
   order-said rows l n r said q is admits waits = by-order rows l n r _ (λ _. order_of said ≡ Admitted) q is (λ w. ap order_of (waits w)) (λ a. ap order_of (admits a))
 
-  -- one row changed, came or left
+  -- one row was changed, added or removed
   pub record Puts (old new : Slab (Row K V)) (n : ℕ) (row : Option (Row K V)) : Type 0 where
     pub at : row_at new n ≡ row
     pub others : (k : ℕ) → 2 ≤ k → k ≢ n → row_at new k ≡ row_at old k
@@ -101,7 +101,7 @@ module _ {K V : Type 0} where
       within : n - 2 < length old.slots
       within = ⊎_elim (λ t. t) (λ past. absurd (beyond past)) (cases_lt (n - 2) (length old.slots))
 
-  -- orders without the number keep their rows
+  -- the rows of an order without this number stay the same
   pub kept-without : (old new : Slab (Row K V)) (l : Links) (n : ℕ) (row : Option (Row K V)) (ks : List ℕ) → Puts old new n row → IsAbsent n ks → ((k : ℕ) → IsAmong k ks → 2 ≤ k)
       → numbered (row_at new) ks ≡ numbered (row_at old) ks
   kept-without old new l n row ks p absent above =
@@ -120,7 +120,7 @@ module _ {K V : Type 0} where
         ap (λ x. x.hash) e ∙ s.2 ∙ t.hashed k r.0 (linked k q) r.1 ∙ sym (hashes k);
   }
 
-  -- a row in use: it gets another content, and where it is admitted it becomes the last of these
+  -- an access to a row: its content changes, and a resident row becomes the last one
   module _ (old new : Slab (Row K V)) (l m : Links) (t : IsTied old l) (n : ℕ) (r : Row K V) (change : Row K V → Row K V) (is : row_at old n ≡ Some r)
       (p : Puts old new n (Some (change r))) (hash : (change r).hash ≡ r.hash) where
     same-hash : (k : ℕ) (x : Row K V) → IsLinked l k → row_at old k ≡ Some x → (y : Row K V) × (row_at new k ≡ Some y) × (y.hash ≡ x.hash)
@@ -129,7 +129,7 @@ module _ {K V : Type 0} where
         (λ e. let both : Some x ≡ Some r = sym at ∙ ap (row_at old) e ∙ is in let f : x ≡ r = cc in (change r, ap (row_at new) e ∙ p.at, hash ∙ ap (λ z. z.hash) (sym f)))
         (λ ne. (x, p.others k (linked-above l k q) ne ∙ at, refl)) (cases_eq k n)
 
-    -- where the links say which order it stands in
+    -- given its order, by the links
     module _ (there : IsLinked l n) (said : Bool)
         (admits : IsAmong n (admitted_of l) → (said ≡ true) × (admitted_of m ≡ without n (admitted_of l) ++ n ∷ []))
         (waits : IsAmong n (waiting_of l) → (said ≡ false) × (admitted_of m ≡ admitted_of l))
@@ -165,7 +165,7 @@ module _ {K V : Type 0} where
             ap (numbered (row_at new)) waiting ∙ kept-without old new l n (Some (change r)) (waiting_of l) p (linked-once l n a) (λ k s. linked-above l k (inr s)),
           ))
 
-  -- a row gets another content in its place
+  -- a row's content changes, and the row keeps its place
   module _ (old : Slab (Row K V)) (l : Links) (t : IsTied old l) (n : ℕ) (was row : Row K V) (change : Row K V → Row K V) (there : IsLinked l n) (is : row_at old n ≡ Some was)
       (made : row ≡ change was) (hash : (change was).hash ≡ was.hash) where
     put : Puts old (with_value old (n - 2) row) n (Some (change was))
@@ -183,7 +183,7 @@ module _ {K V : Type 0} where
     pub changed-waiting : waiting_rows (with_value old (n - 2) row) l ≡ with_row n change (waiting_rows old l)
     changed-waiting = changed (waiting_of l) (waiting-apart l) (λ k q. inr q)
 
-  -- a row that comes
+  -- a row is added
   module _ (old new : Slab (Row K V)) (l m : Links) (t : IsTied old l) (n : ℕ) (row : Row K V) (p : Puts old new n (Some row)) (fresh : IsLinked l n → ⊥)
       (admitted : admitted_of m ≡ admitted_of l) (waiting : waiting_of m ≡ waiting_of l ++ n ∷ []) where
     came : (k : ℕ) → IsLinked m k → IsLinked l k ⊎ (n ≡ k)
@@ -212,7 +212,7 @@ module _ {K V : Type 0} where
         ∙ ap (λ z. z ++ numbered (row_at new) (n ∷ [])) (kept-without old new l n (Some row) (waiting_of l) p (λ s. fresh (inr s)) (λ k s. linked-above l k (inr s)))
         ∙ ap (λ z. waiting_rows old l ++ z) (rw p.at refl)
 
-  -- a row that leaves
+  -- a row is removed
   module _ (old new : Slab (Row K V)) (l m : Links) (t : IsTied old l) (n : ℕ) (r : Row K V) (is : row_at old n ≡ Some r) (p : Puts old new n None) (there : IsLinked l n)
       (admitted : admitted_of m ≡ without n (admitted_of l)) (waiting : waiting_of m ≡ without n (waiting_of l)) where
     pub removed-tied : ((k : ℕ) → hash_at m k ≡ hash_at l k) → IsTied new m
@@ -251,7 +251,7 @@ module _ {K V : Type 0} where
       let some = rw none at stored in
       absurd cc
 
-  -- a row that waits is admitted
+  -- a pending row is admitted
   module _ (rows : Slab (Row K V)) (l m : Links) (t : IsTied rows l) (n : ℕ) (q : IsAmong n (waiting_of l))
       (admitted : admitted_of m ≡ without n (admitted_of l) ++ n ∷ []) (waiting : waiting_of m ≡ without n (waiting_of l)) where
     pub admitted-tied : ((k : ℕ) → hash_at m k ≡ hash_at l k) → IsTied rows m

@@ -7,25 +7,25 @@ use Rattle.moka_links.specs.declared.links.Links.{Links}
 use Rattle.moka_slab.specs.Kept.{row_at, numbered}
 
 module _ {K V : Type 0} where
-  -- each number that is linked has a row, whose hash is that of the number
+  -- Each linked number has a row, and the number's hash is the row's hash.
   pub record IsTied (rows : Slab (Row K V)) (links : Links) : Type 0 where
     pub stored : (k : ℕ) → IsLinked links k → IsSome (row_at rows k)
     pub hashed : (k : ℕ) (row : Row K V) → IsLinked links k → row_at rows k ≡ Some row → row.hash ≡ hash_at links k
 
-  -- the admitted rows, each with its number, the least recently used first
+  -- The resident rows with their numbers, the least recently used first.
   abbrev pub admitted_rows : Slab (Row K V) → Links → List (ℕ × Row K V)
   admitted_rows rows links = numbered (row_at rows) (admitted_of links)
 
-  -- the rows that wait, each with its number, the first to come first
+  -- The pending rows with their numbers, in arrival order.
   abbrev pub waiting_rows : Slab (Row K V) → Links → List (ℕ × Row K V)
   waiting_rows rows links = numbered (row_at rows) (waiting_of links)
 
-  -- all rows, the admitted ones first
+  -- All rows, the resident ones first.
   abbrev pub all_rows : Slab (Row K V) → Links → List (ℕ × Row K V)
   all_rows rows links = admitted_rows rows links ++ waiting_rows rows links
 
-  -- how many rows can be added without memory: as many as the slab and the index have room for, where each number that
-  -- the slab may give has a place
+  -- How many rows can be added without an allocation: as many as the slab and the index have room for. It is 0 unless
+  -- each number that the slab can give out has a place.
   abbrev pub room_in : Slab (Row K V) → Links → ℕ
   room_in rows links =
       if nat_lt (places_of links) (rows.capacity + 2) then 0 else min (rows.capacity - slab_len rows) (spare_of links)

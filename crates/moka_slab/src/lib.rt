@@ -1,4 +1,4 @@
-//! The store of a cache's rows in which each call takes constant time.
+//! The row store of a cache, in which most calls take constant time.
 #![tactic(auto)]
 
 pub mod slab_rows;

@@ -13,15 +13,22 @@ use moka_rows::visits::step;
 use slab::Slab;
 use std::alloc::{AllocError, Global};
 
-/// The number of the row under the slab's first key.
+/// The number of the row with the slab's first key.
 const FIRST: usize = 2;
 
-/// Rows in a slab, linked by their numbers in their two orders, and to the next row of the same
-/// hash.
+/// A row store in a slab. The rows are linked by their numbers, in two orders, and to the next row
+/// with the same hash.
 ///
-/// Every call takes constant time, but `find`, which reads the rows of one hash, `remove`, which
-/// follows the links of the rows of one hash, and `reserve`, which may have to grow. Numbers of
-/// removed rows are given out again.
+/// The numbers of removed rows are given out again.
+///
+/// # Complexity
+///
+/// Every call takes constant time except these:
+///
+/// - `find` reads the rows with one hash.
+/// - `remove` and `take_first_admitted` follow the links of the rows with one hash.
+/// - `reserve` may have to grow.
+/// - `first_expired` walks over the resident rows.
 #[derive(Drop)]
 pub struct SlabRows<K, V> {
     rows: Slab<Shelved<Row<K, V>>>,
@@ -29,7 +36,8 @@ pub struct SlabRows<K, V> {
     ghost tied: { IsTied rows links },
 }
 
-/// The order of a row, by whether it is admitted.
+/// Returns the order of a row, given whether it is resident.
+#[inline(always)]
 fn order(is_admitted: bool) -> Order
     ensures { result ≡ order_of is_admitted }
 {
@@ -41,7 +49,8 @@ fn order(is_admitted: bool) -> Order
 }
 
 impl<K, V> SlabRows<K, V> {
-    /// The row under a number.
+    /// Returns the row with this number.
+    #[inline(always)]
     fn shelved(&self, number: usize) -> &Shelved<Row<K, V>>
         requires { IsLinked self.now.links number }
         ensures { row_at self.now.rows number ≡ Some result.now }
@@ -49,7 +58,8 @@ impl<K, V> SlabRows<K, V> {
         &self.rows[number - FIRST]
     }
 
-    /// Reads the row under a number for a look-up.
+    /// Returns the row with this number to a lookup, and adds 1 to `reads`.
+    #[inline(always)]
     fn look(&self, number: usize, reads: &mut u64) -> &Row<K, V>
         requires linked { IsLinked self.now.links number }
         requires fits { reads.old < 2 ^ 64 - 1 }
@@ -59,7 +69,7 @@ impl<K, V> SlabRows<K, V> {
         self.shelved(number).look(reads)
     }
 
-    /// The first admitted row whose deadline has come at a moment, found by a walk over them.
+    /// Returns the first resident row whose deadline has come at `now`, found by a walk over them.
     fn walk_to_expired(&self, now: u64) -> Option<usize>
         ensures { result ≡ first_number (expired_at now (admitted_rows self.now.rows self.now.links)) }
     {
@@ -94,11 +104,13 @@ impl<K: Eq + Drop, V: Drop> RowStore<K, V> for SlabRows<K, V> {
         }
     }
 
+    #[inline(always)]
     fn len(&self) -> usize {
         self.links.admitted_len() + self.links.waiting_len()
     }
 
-    /// Reads no row of another hash.
+    /// Returns the number of the row with a key. Reads no more rows than have the key's hash.
+    #[inline(always)]
     fn find(&self, key: &K, hash: u64, reads: &mut u64) -> Option<usize>
         requires { reads.old ≡ 0 }
         ensures found { IfSome result
@@ -120,21 +132,29 @@ impl<K: Eq + Drop, V: Drop> RowStore<K, V> for SlabRows<K, V> {
         None
     }
 
+    #[inline(always)]
     fn row(&self, number: usize) -> &Row<K, V> {
         self.shelved(number).row()
     }
 
+    #[inline(always)]
     fn hash(&self, number: usize) -> u64 {
         self.links.hash(number)
     }
 
     fn numbers_differ(&self) {}
 
+    #[inline(always)]
     fn is_admitted(&self, number: usize) -> bool {
         self.links.is_admitted(number)
     }
 
-    /// A slab whose rows could get numbers of more than 32 bits is refused.
+    /// Makes room for this many more rows.
+    ///
+    /// # Errors
+    ///
+    /// - `AllocError`: an allocation failed, or the slab has so many places that row numbers could
+    ///   pass 32 bits.
     fn reserve(&mut self, more: usize) -> Result<(), AllocError> {
         self.rows.reserve(more)?;
         match self.rows.capacity().checked_add(FIRST) {
@@ -143,6 +163,7 @@ impl<K: Eq + Drop, V: Drop> RowStore<K, V> for SlabRows<K, V> {
         }
     }
 
+    #[inline(always)]
     fn add(&mut self, row: Row<K, V>) -> usize
         requires { 0 < room_in self.old.rows self.old.links }
         ensures fresh { row_under result (all_rows self.old.rows self.old.links) ≡ None }
@@ -157,25 +178,30 @@ impl<K: Eq + Drop, V: Drop> RowStore<K, V> for SlabRows<K, V> {
         number
     }
 
+    #[inline(always)]
     fn touch(&mut self, number: usize, touch: Touch) {
         self.rows[number - FIRST].touch(touch);
         self.links.touch(number);
     }
 
+    #[inline(always)]
     fn overwrite(&mut self, number: usize, value: V, info: EntryInfo) -> Before<V> {
         let (value, info) = self.rows[number - FIRST].overwrite(value, info);
         let order = order(self.links.touch(number));
         Before { value, info, order }
     }
 
+    #[inline(always)]
     fn hide(&mut self, number: usize) {
         self.rows[number - FIRST].hide();
     }
 
+    #[inline(always)]
     fn waiting_len(&self) -> usize {
         self.links.waiting_len()
     }
 
+    #[inline(always)]
     fn first_admitted(&self) -> Option<usize> {
         self.links.first_admitted()
     }
@@ -184,24 +210,29 @@ impl<K: Eq + Drop, V: Drop> RowStore<K, V> for SlabRows<K, V> {
         self.walk_to_expired(now)
     }
 
+    #[inline(always)]
     fn first_waiting(&self) -> Option<usize> {
         self.links.first_waiting()
     }
 
+    #[inline(always)]
     fn next(&self, number: usize, visits: &mut u128) -> Option<usize> {
         step(visits);
         self.links.next(number)
     }
 
+    #[inline(always)]
     fn admit(&mut self, number: usize) {
         self.links.admit(number);
     }
 
+    #[inline(always)]
     fn remove(&mut self, number: usize) -> (Row<K, V>, Order) {
         let order = order(self.links.remove(number));
         (self.rows.remove(number - FIRST).into_row(), order)
     }
 
+    #[inline(always)]
     fn take_first_admitted(&mut self) -> Option<Row<K, V>> {
         let number = self.first_admitted()?;
         let (row, _) = self.remove(number);

@@ -1,4 +1,4 @@
-//! What a value was, for contracts alone, in a type that threads may share.
+//! What a value was, for contracts only, in a type that threads may share.
 #![tactic(auto)]
 
 pub mod snapshot;

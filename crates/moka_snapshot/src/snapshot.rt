@@ -4,12 +4,12 @@ ghost use base.Fml.{ftrue};
 
 use std::marker::{Model, PhantomData, Send, Sync};
 
-/// What a value was when the snapshot was made, as clauses see it. It has no bytes and owns nothing, so any thread may have
-/// it, whatever the value's type.
+/// What a value was when the snapshot was made, as clauses see it. It has no bytes and owns
+/// nothing, so any thread may have it, whatever the value's type.
 ///
-/// It is `std::snapshot::Snapshot` with the proofs of `Send` and `Sync` at hand. Of a type with a field of `std`'s the
-/// prover has no such proof, nor of any type around it: it searches for one through all their fields, anew in each
-/// program that sends a value of them to a thread.
+/// It is `std::snapshot::Snapshot` with the proofs of `Send` and `Sync` at hand. For a type with a
+/// field of `std`'s snapshot the prover has no such proof, nor for any type around it. It searches
+/// for one through all their fields, anew in each program that sends such a value to a thread.
 pub struct SharedSnapshot<T> {
     marker: PhantomData<T>,
     /// What the value was.
@@ -31,7 +31,7 @@ impl<T> Drop for SharedSnapshot<T> {
 }
 
 impl<T> SharedSnapshot<T> {
-    /// What a value is now. It copies nothing, and takes no time.
+    /// Creates a snapshot of what a value is now. Copies nothing, and takes no time.
     pub fn of(value: &T) -> Self
         ensures { result.value ≡ value.now }
     {

@@ -52,7 +52,7 @@ module _ {K V : Type 0} (eq : K → K → Bool) (settings : Settings K V) (conte
   abbrev pub HasNoted : K → (List ℕ → ℕ → ℕ) → Type 0
   HasNoted k noted = (more : List ℕ) (hash : ℕ) → noted more hash ≡ frequency (settings.behaviour.hash k ∷ more) hash
 
-  -- a look at a key of which no write is live
+  -- a lookup of a key without a live write
   pub becomes-missed : (noted : List ℕ → ℕ → ℕ) (k : K) (at : ℕ) → HasNoted k noted → filter (λ w. is_live settings w (max latest at)) (held eq k (stored_orders contents)) ≡ []
       → Becomes eq (view_with settings contents frequency latest number) (Looked k at) (view_with settings contents noted (max latest at) number)
   becomes-missed noted k at notes none = record {
@@ -65,7 +65,7 @@ module _ {K V : Type 0} (eq : K → K → Bool) (settings : Settings K V) (conte
     frequency = notes;
   }
 
-  -- a look at a key that is not stored
+  -- a lookup of a key that is not stored
   pub becomes-absent : (noted : List ℕ → ℕ → ℕ) (k : K) (at : ℕ) → HasNoted k noted → held eq k (stored_orders contents) ≡ []
       → Becomes eq (view_with settings contents frequency latest number) (Looked k at) (view_with settings contents noted (max latest at) number)
   becomes-absent noted k at notes none = becomes-missed noted k at notes (ap (filter (λ w. is_live settings w (max latest at))) none)
@@ -118,7 +118,7 @@ module _ {K V : Type 0} (eq : K → K → Bool) (settings : Settings K V) (conte
     is_held : held eq k (stored_orders contents) ≡ stored_write row ∷ []
     is_held = held-row eq contents one k n row there same
 
-    -- what is noticed of it is what leaves
+    -- the notice of the row is that of its removal
     noticed-row : (own : RemovalCause) (notice : Notice K V) → arc_value notice.key ≡ arc_value row.key → notice.value ≡ row.value → notice.cause ≡ cause_of settings own (stored_write row) (max latest at)
         → new.notices ≡ contents.notices ++ notice ∷ [] → map removal_of new.notices ≡ map removal_of contents.notices ++ map (write_removal settings own (max latest at)) (held eq k (stored_orders contents))
     noticed-row own notice key value cause notices =
@@ -129,13 +129,13 @@ module _ {K V : Type 0} (eq : K → K → Bool) (settings : Settings K V) (conte
         ∙ ap (λ (c : RemovalCause). let l : Removal K V = record { key = arc_value row.key; value = row.value; cause = c } in l ∷ []) cause
         ∙ sym (ap (map (write_removal settings own (max latest at))) is_held))
 
-    -- a look that finds it dead
+    -- a lookup that finds it expired or invalidated
     pub becomes-dead : (noted : List ℕ → ℕ → ℕ) → HasNoted k noted → is_live settings (stored_write row) (max latest at) ≡ false
         → Becomes eq (view_with settings contents frequency latest number) (Looked k at) (view_with settings contents noted (max latest at) number)
     becomes-dead noted notes dead =
         becomes-missed noted k at notes (ap (filter (λ w. is_live settings w (max latest at))) is_held ∙ ap (λ t. cond t (stored_write row ∷ []) []) dead)
 
-    -- a look that hits it
+    -- a lookup that hits it
     pub becomes-hit : (noted : List ℕ → ℕ → ℕ) (touch : Touch) → HasNoted k noted → is_live settings (stored_write row) (max latest at) ≡ true → hit settings (max latest at) (stored_write row) ≡ stored_write (touched touch row)
         → UsesRow n (touched touch) contents new → new.notices ≡ contents.notices
         → Becomes eq (view_with settings contents frequency latest number) (Looked k at) (view_with settings new noted (max latest at) number)

@@ -1,4 +1,4 @@
--- What a begin of an initializer is to the definitions, and what its events make of the view of a state beside a hit or a miss.
+-- The begin of a loader by the specification, and what its events make of a state's view, beside a hit or a miss.
 use Rattle.std.proofs.Common.{◌≡◌, ◌≢◌, ℕ, zero, suc, ◌+◌, ◌<◌, ◌^◌, ◌==◌, max, not, ◌&&◌, Bool, true, false, cond, Option, Some, None, IfSome, List, [], ◌∷◌, ◌++◌, refl, sym, ap, ◌∙◌, subst, inl, inr, ◌⊎◌, arith, is_none, option_map}
 use Rattle.std.specs.Prelude.{Result, Ok, Err}
 use Rattle.std.specs.Arc.{arc_value}
@@ -55,7 +55,7 @@ use Rattle.moka_state.proofs.Turns.{gives-accepted}
 use Rattle.moka_state.proofs.Views.{view_with, Becomes, view-becomes, one-each, live-held}
 
 module _ {K V : Type 0} (eq : K → K → Bool) (settings : Settings K V) (contents : Contents K V) (frequency : List ℕ → ℕ → ℕ) (latest number : ℕ) where
-  -- a look at a live value that the caller turned down
+  -- a lookup of a live value that the caller turns down
   pub becomes-turned-down : (noted : List ℕ → ℕ → ℕ) (k : K) (at : ℕ) → HasNoted eq settings contents frequency latest number k noted
       → Becomes eq (view_with settings contents frequency latest number) (TurnedDown k at) (view_with settings contents noted (max latest at) number)
   becomes-turned-down noted k at notes = record { settings = refl; orders = refl; notices = refl; latest = refl; next_number = refl; frequency = notes }
@@ -64,7 +64,7 @@ module _ {K V : Type 0} (eq : K → K → Bool) (settings : Settings K V) (conte
   pub becomes-drawn : Becomes eq (view_with settings contents frequency latest number) Drawn (view_with settings contents frequency latest (number + 1))
   becomes-drawn = record { settings = refl; orders = refl; notices = refl; latest = refl; next_number = refl; frequency = λ more hash. refl }
 
--- a begin of an initializer goes by the acceptable live value and the open turn
+-- the begin of a loader depends on the acceptable live value and on the open turn
 pub begun-initializer : {K V E : Type 0} (eq : K → K → Bool) (settings : Settings K V) (h : List (Event K V)) (ts : List (Turn K V E)) (k : K) (kind : Kind) (replace : Option Bool) (at : ℕ) → kind ≢ Compute
     → begun_by eq settings h ts k kind replace at ≡ begun eq settings h k kind replace at (acceptable replace (live_at eq settings k at h)) (found (is_open_for eq kind k) ts)
 begun-initializer eq settings h ts k With replace at is = refl
@@ -78,19 +78,19 @@ found-numbered ts apart t is =
     found-one (λ u. u.name.number == t.name.number) ts t is (eq-eqb t.name.number t.name.number refl)
     (λ u is_u on_u. numbered-alone ts apart u t is_u is (eqb-true u.name.number t.name.number on_u))
 
--- a look draws no number
+-- a lookup draws no sequence number
 look-draws : {K : Type 0} (V : Type 0) (said : Option Bool) (k : K) (at : ℕ) → drawn_in {V = V} (look_event said k at ∷ []) ≡ 0
 look-draws V None k at = refl
 look-draws V (Some false) k at = refl
 look-draws V (Some true) k at = refl
 
--- a live value is acceptable to who does not ask to replace it
+-- a live value is acceptable if the caller does not ask to replace it
 accepted-said : {K V : Type 0} (said : Option Bool) (w : Write K V) → is_yes said ≡ false → acceptable said (Some w) ≡ Some w
 accepted-said None w declines = refl
 accepted-said (Some false) w declines = refl
 accepted-said (Some true) w declines = cc
 
--- and then the look is one that may hit
+-- the lookup is then one that may hit
 pub looked-said : {K V : Type 0} (said : Option Bool) (k : K) (at : ℕ) → is_yes said ≡ false → look_event {V = V} said k at ≡ Looked k at
 looked-said None k at declines = refl
 looked-said (Some false) k at declines = refl
@@ -106,7 +106,7 @@ said-yes None asks = cc
 said-yes (Some false) asks = cc
 said-yes (Some true) asks = refl
 
--- What a look finds is what the definitions find, in whatever list the state stands for.
+-- What a lookup finds is what the specification finds, for every history of the state.
 module _ {K V E F : Type 0} (eq : K → K → Bool) {is_clone : V → V → Type 0} {rows : List (Turn K V E)} (laws : IsEquivalence eq) (settings : Settings K V) (contents : Contents K V) (frequency : List ℕ → ℕ → ℕ) (latest number : ℕ)
     (given : Settings K V) (steps : List (AcceptedStep K V E)) (stands : StandsFor eq is_clone given (whole (view_with settings contents frequency latest number) rows) steps) (lives : Lives) (expired_alike : HasLives settings lives) (dated : AreDated lives (entries contents))
     (hash_of : K → ℕ) (respects : (a b : K) → eq a b ≡ true → hash_of a ≡ hash_of b) (hashed : AllByRecursion (λ p. p.1.hash ≡ hash_of (arc_value p.1.key)) (entries contents))
@@ -127,7 +127,7 @@ module _ {K V E F : Type 0} (eq : K → K → Bool) {is_clone : V → V → Type
       let here = live-is n row there (same-key eq k hash row of_key) true live in
       (row, there, rw here says, rw here (accepted-said said (stored_write row) declines), declines)
 
-  -- a use of that row is the look
+  -- A use of that row is the recorded lookup.
   pub hits-live : (n : ℕ) (new : Contents K V) → Accepts eq call replace_if k hash (max latest at) (entries contents) said (Some n) → IfSome (row_under n (entries contents)) (λ row. UsesAt settings.behaviour lives n row (max latest at) contents new)
       → new.notices ≡ contents.notices → (noted : List ℕ → ℕ → ℕ) → HasNoted eq settings contents frequency latest number k noted
       → Becomes eq (view_with settings contents frequency latest number) (look_event said k at) (view_with settings new noted (max latest at) number)
@@ -168,7 +168,7 @@ none-live {K} {V} settings at (Some w) none = go (is_live settings w at) refl
     go true is = let no : Some w ≡ None = sym (ap (λ b. cond b (Some w) None) is) ∙ none in cc
     go false is = ap (λ b. cond b (w ∷ []) []) is
 
--- a look that finds no acceptable value changes no row
+-- a lookup that finds no acceptable value changes no row
 pub looks-in-vain : {K V E : Type 0} (eq : K → K → Bool) {is_clone : V → V → Type 0} {rows : List (Turn K V E)} (laws : IsEquivalence eq) (settings : Settings K V) (contents : Contents K V) (frequency : List ℕ → ℕ → ℕ) (latest number : ℕ)
     (given : Settings K V) (steps : List (AcceptedStep K V E)) → StandsFor eq is_clone given (whole (view_with settings contents frequency latest number) rows) steps
     → (said : Option Bool) (k : K) (at : ℕ) → acceptable said (live_at eq given k at (events_in steps)) ≡ None → (noted : List ℕ → ℕ → ℕ) → HasNoted eq settings contents frequency latest number k noted
@@ -196,7 +196,7 @@ live-alike {K} {V} eq laws given view steps stands k q same at =
     let agree = filter_agree (λ (w : Write K V). eq w.key q) (λ (w : Write K V). eq w.key k) (λ w. laws.symm w.key q ∙ laws.congr q k w.key same ∙ laws.symm k w.key) (view.books.orders.admitted ++ view.books.orders.waiting) in
     live-held eq laws given view steps stands k at one.0 one.1 ∙ sym (live-held eq laws given view steps stands q at one.0 (agree ∙ one.1))
 
--- What a begin gives, by what its look finds.
+-- What a begin returns, by what its lookup finds.
 module _ {K V E : Type 0} (eq : K → K → Bool) (is_clone : V → V → Type 0) (is_infallible : V → Type 0) (settings : Settings K V) (steps : List (AcceptedStep K V E)) (k : K) (kind : Kind) (said : Option Bool) (at : ℕ) (initializer : kind ≢ Compute) where
   abbrev h : List (Event K V)
   h = events_in steps
@@ -257,7 +257,7 @@ module _ {K V E : Type 0} (eq : K → K → Bool) (is_clone : V → V → Type 0
         ≡ (record { events = Drawn ∷ look_event said k at ∷ []; move = Some (Opened (record { number = next_number settings h; kind = kind; key = k }) false None) }) ∷ steps
     after-run opened = ap (λ a. with_step a steps) (accepted-is None none None opened)
 
-    -- and it is refused for numbers that are used up, for a turn that it may not wait for, or for want of memory
+    -- It fails if no sequence number is left, if it may not wait for the turn, or with `OutOfMemory`.
     pub gives-refused : (hash_of : K → ℕ) (opened_now : TurnKey K → Option (OpenTurn V)) (ended_now : ℕ → Option (EndedTurn K V E)) (q : TurnKey K) (number : ℕ) (may_wait : Bool) (o : Option (Turn K V E)) → opened_here ≡ o → number ≡ next_number settings h → (cause : Refused)
         → IsBegun (λ after. Keeps eq is_clone hash_of after opened_now ended_now) q number may_wait (turns steps) o (Err cause) → GivesHere may_wait (Err cause)
     gives-refused hash_of opened_now ended_now q number may_wait None opened counted causes.OutOfMemory begins = (tt, λ no. absurd no)
@@ -275,7 +275,7 @@ module _ {K V E : Type 0} (eq : K → K → Bool) (is_clone : V → V → Type 0
     gives-refused hash_of opened_now ended_now q number may_wait (Some t) opened counted causes.WaitsAbandoned begins = absurd begins
     gives-refused hash_of opened_now ended_now q number may_wait (Some t) opened counted causes.TurnIsOpen begins = (begins, subst (IfAnswered IsWait) (sym (accepted-is None none (Some t) opened)) tt)
 
--- what a begin in the table was told
+-- what a begin in the table of turns says that returns a ticket
 pub waits-told : {K V E : Type 0} (eq : K → K → Bool) (is_clone : V → V → Type 0) (hash_of : K → ℕ) (opened_now : TurnKey K → Option (OpenTurn V)) (ended_now : ℕ → Option (EndedTurn K V E)) (q : TurnKey K) (number : ℕ) (may_wait : Bool) (ts : List (Turn K V E)) (o : Option (Turn K V E)) (ticket : Ticket K) → IsBegun (λ after. Keeps eq is_clone hash_of after opened_now ended_now) q number may_wait ts o (Ok (begun_turns.Wait ticket))
     → (t : Turn K V E) × (o ≡ Some t) × (may_wait ≡ true) × (ticket_name ticket ≡ name_of q t.name.number) × (t.unspent ≢ greatest_number) × Keeps eq is_clone hash_of (moved (Waited t.name.number) ts) opened_now ended_now
 waits-told eq is_clone hash_of opened_now ended_now q number may_wait ts None ticket begins = absurd begins

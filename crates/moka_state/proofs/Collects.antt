@@ -19,22 +19,22 @@ use Rattle.moka_turns.specs.Told.{IsTold, IfNotYet, TakesCopy, IsUnspent}
 use Rattle.moka_state.specs.Given.{Gives, told_as}
 use Rattle.moka_state.proofs.Turns.{gives-accepted, gives-memory, stands-by, no-less}
 
--- what a ticket is told, or why it is refused
+-- the result of a collect in the table of turns, as one of the specification
 abbrev pub result_as : {K V E : Type 0} → Name K → Result (Told K V E) (CollectRefused K) → Result (Answer K V E) Refused
 result_as name (Ok told) = Ok (told_as name told)
 result_as name (Err refused) = Err refused.cause
 
--- a ticket that is handed back has the name of the one that was given
+-- a ticket that comes back has the name of the given one
 pub unspent-named : {K V E : Type 0} (ticket : Ticket K) (told : Told K V E) → IfNotYet (λ same. same ≡ ticket) told → IfNotYet (λ same. ticket_name same ≡ ticket_name ticket) told
 unspent-named ticket (tells.NotYet same) is = ap ticket_name is
 unspent-named ticket (tells.Ended key end) is = tt
 
--- the answer by an end that is there
+-- the answer for an end, if there is one
 abbrev answer_by-some : {K V E : Type 0} → Name K → Option (End V E) → Answer K V E
 answer_by-some name None = NotYet
 answer_by-some name (Some end) = answer_by name end
 
--- a copy of an end is answered as a copy
+-- the answers for an end and for a clone of it are clones
 answers-copied : {K V E : Type 0} (is_clone : V → V → Type 0) (name : Name K) (a b : End V E) → IsCopiedEnd is_clone (Some a) (Some b) → IsAnswer is_clone (answer_by name a) (answer_by name b)
 answers-copied is_clone name (Value v m) (Value w n) is = (refl, is.0, refl, is.1)
 answers-copied is_clone name (Value v m) Nothing is = cc

@@ -1,4 +1,4 @@
--- What the begin of a compute that may not wait gives, and what a form of a compute is.
+-- The begin of a compute that may not wait, and computes with a closure.
 use Rattle.std.proofs.Common.{◌≡◌, ℕ, Bool, true, false, is_some, Option, Some, None, List, ap}
 use Rattle.std.specs.Prelude.{Result, Ok, Err, IsErrAnd}
 use Rattle.moka_policy.specs.declared.policy.Refused.{Refused}
@@ -15,13 +15,13 @@ use Rattle.moka_state.specs.Compute.{GivesAtOnce}
 use Rattle.moka_state.specs.ComputeForms.{IsComputeForm}
 use Rattle.moka_state.specs.Given.{Gives}
 
--- what the exit of a `?` answers
+-- a result whose `?` returns this error is that error
 pub err-is : {A X : Type 0} (r : Result A X) (e : X) → IsErrAnd r (λ own. own ≡ e) → r ≡ Err e
 err-is (Ok a) e is = absurd is
 err-is (Err own) e is = ap Err is
 
 module _ {K V E : Type 0} (eq : K → K → Bool) (is_clone : V → V → Type 0) (is_infallible : V → Type 0) (settings : Settings K V) (steps : List (AcceptedStep K V E)) (call : Call K V E) where
-  -- who may wait is not refused for an open turn
+  -- a begin that may wait does not fail with `TurnIsOpen`
   pub when-waiting : (result : Result (Answer K V E) Refused) → GivesAtOnce eq is_clone is_infallible settings steps call true result → Gives eq is_clone is_infallible settings steps call result
   when-waiting (Ok answer) gives = gives
   when-waiting (Err causes.OutOfMemory) gives = gives
@@ -31,7 +31,7 @@ module _ {K V E : Type 0} (eq : K → K → Bool) (is_clone : V → V → Type 0
   when-waiting (Err causes.TurnIsOpen) gives = let no = gives.0 in cc
   when-waiting (Err causes.WaitsAbandoned) gives = gives
 
-  -- what is refused is refused so at once
+  -- what fails by the specification may fail so without waiting
   pub at-once-refused : (may_wait : Bool) (cause : Refused) → Gives eq is_clone is_infallible settings steps call (Err cause) → GivesAtOnce eq is_clone is_infallible settings steps call may_wait (Err cause)
   at-once-refused may_wait causes.OutOfMemory gives = gives
   at-once-refused may_wait causes.NumbersUsedUp gives = gives
@@ -40,7 +40,7 @@ module _ {K V E : Type 0} (eq : K → K → Bool) (is_clone : V → V → Type 0
   at-once-refused may_wait causes.TurnIsOpen gives = absurd gives
   at-once-refused may_wait causes.WaitsAbandoned gives = gives
 
-  -- a form of a compute whose begin is refused
+  -- a compute with a closure whose begin fails
   pub compute-form-refused : (Stands : List (AcceptedStep K V E) → Type 0) (now : ℕ) (shown : Option (calls.Entry K V)) (cause : Refused) → GivesAtOnce eq is_clone is_infallible settings steps call false (Err cause)
       → IsComputeForm eq is_clone is_infallible settings steps call now shown None (Err cause) Stands
   compute-form-refused Stands now shown causes.OutOfMemory gives = gives

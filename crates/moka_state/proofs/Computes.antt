@@ -1,4 +1,4 @@
--- What the begin of a compute is to the definitions, and what the end of one is answered.
+-- The begin of a compute by the specification, and the results of its end.
 use Rattle.std.proofs.Common.{◌≡◌, ◌≢◌, ℕ, ◌<◌, ◌^◌, ◌==◌, max, not, ◌&&◌, Bool, true, false, cond, is_some, is_none, option_map, Option, Some, None, IfSome, List, [], ◌∷◌, ◌++◌, refl, sym, ap, ◌∙◌, subst, inl, inr, ◌⊎◌, arith}
 use Rattle.std.specs.Prelude.{Result, Ok, Err, IsSomeAnd}
 use Rattle.std.specs.Arc.{arc_value}
@@ -51,7 +51,7 @@ use Rattle.moka_state.proofs.Maintained.{HasLives}
 use Rattle.moka_state.proofs.Turns.{gives-accepted}
 use Rattle.moka_state.proofs.Views.{view_with, Becomes, one-each}
 
--- What a compute is answered is what the definitions say, and under its key.
+-- The result of a compute is that of the specification, with the turn's key.
 module _ {K V : Type 0} (is_clone : V → V → Type 0) (key : K) where
   copied-entry : (a e x : calls.Entry K V) → x ≡ e → IsCopiedEntry is_clone a e → IsCopiedEntry is_clone a x
   copied-entry a e x is copied = subst (λ (y : calls.Entry K V). IsCopiedEntry is_clone a y) (sym is) copied
@@ -135,12 +135,12 @@ module _ {K V : Type 0} (is_clone : V → V → Type 0) (key : K) where
     put-given own keyed false (results.ReplacedWith entry) is = absurd is
     put-given own keyed false (results.Removed entry) is = absurd is
 
--- a copy of a live value may fail, where one that was asked for was refused
+-- If a clone that was needed of a live value failed, it is one that can fail.
 pub may-fail : {K V : Type 0} (is_infallible : V → Type 0) (dead : Bool) (w : Write K V) (o : Option (Write K V)) → o ≡ cond (not dead) (Some w) None → (dead ≡ true → ⊥) → (is_infallible w.value → ⊥) → IsSomeAnd o (λ w. ¬ (is_infallible w.value))
 may-fail is_infallible true w o is not_dead fails = absurd (not_dead refl)
 may-fail is_infallible false w o is not_dead fails = rw is fails
 
--- the look of a compute that finds nothing has nothing to keep
+-- The lookup of a compute that finds nothing has no clone to keep aside.
 pub nothing-kept : {V : Type 0} (is_clone : V → V → Type 0) (keep : Bool) → IsCopyOf is_clone (cond keep None None) None
 nothing-kept is_clone true = tt
 nothing-kept is_clone false = tt
@@ -214,7 +214,7 @@ module _ {K V E : Type 0} (eq : K → K → Bool) (is_clone : V → V → Type 0
         ∙ ap (λ (w : Option (Write K V)). let s : AcceptedStep K V E = record { events = Drawn ∷ Looked k at ∷ []; move = Some (Opened (record { number = next_number settings h; kind = Compute; key = k }) (is_some w) (cond keep (option_map (λ w. w.value) w) None)) } in s ∷ steps) live
         ∙ ap (λ n. let s : AcceptedStep K V E = record { events = Drawn ∷ Looked k at ∷ []; move = Some (Opened (record { number = n; kind = Compute; key = k }) (is_some o) (cond keep (option_map (λ w. w.value) o) None)) } in s ∷ steps) (sym counted)
 
-  -- what a wait in the table is refused for
+  -- the causes for which waiting in the table of turns fails
   pub compute-refused : AreApart (turns steps) → (hash_of : K → ℕ) (opened_now : TurnKey K → Option (OpenTurn V)) (ended_now : ℕ → Option (EndedTurn K V E)) (q : TurnKey K) (number : ℕ) (o : Option (Turn K V E)) → opened_here ≡ o → number ≡ next_number settings h → (cause : Refused)
       → IsBegun (λ after. Keeps eq is_clone hash_of after opened_now ended_now) q number true (turns steps) o (Err cause) → GivesHere (Err cause)
   compute-refused apart hash_of opened_now ended_now q number None opened counted causes.OutOfMemory begins = gives-memory
@@ -230,7 +230,7 @@ module _ {K V E : Type 0} (eq : K → K → Bool) (is_clone : V → V → Type 0
   compute-refused apart hash_of opened_now ended_now q number (Some t) opened counted causes.TurnIsOpen begins = cc
   compute-refused apart hash_of opened_now ended_now q number (Some t) opened counted causes.WaitsAbandoned begins = absurd begins
 
--- What a look for a compute finds is what the definitions find, in whatever list the state stands for.
+-- What the lookup of a compute finds is what the specification finds, for every history of the state.
 module _ {K V E : Type 0} (eq : K → K → Bool) (is_clone : V → V → Type 0) {rows : List (Turn K V E)} (laws : IsEquivalence eq) (settings : Settings K V) (contents : Contents K V) (frequency : List ℕ → ℕ → ℕ) (latest number : ℕ)
     (given : Settings K V) (steps : List (AcceptedStep K V E)) (stands : StandsFor eq is_clone given (whole (view_with settings contents frequency latest number) rows) steps) (lives : Lives) (expired_alike : HasLives settings lives) (dated : AreDated lives (entries contents))
     (hash_of : K → ℕ) (respects : (a b : K) → eq a b ≡ true → hash_of a ≡ hash_of b) (hashed : AllByRecursion (λ p. p.1.hash ≡ hash_of (arc_value p.1.key)) (entries contents))
@@ -244,12 +244,12 @@ module _ {K V E : Type 0} (eq : K → K → Bool) (is_clone : V → V → Type 0
   live-is : (n : ℕ) (row : Row K V) → row_under n (entries contents) ≡ Some row → eq (arc_value row.key) k ≡ true → (alive : Bool) → is_live_row (max latest at) (Some row) ≡ alive → live_here ≡ cond alive (Some (stored_write row)) None
   live-is n row there same alive live = live-row eq laws settings contents frequency latest number given steps stands lives expired_alike k at n row there same alive (alive-is n row there alive live)
 
-  -- a row that is shown stores the live value,
+  -- A row that is found stores the live value.
   pub shows-live : (shown : Shown K V) → IsShown eq is_clone keep k hash (max latest at) (entries contents) (Some shown)
       → (row : Row K V) × (live_here ≡ Some (stored_write row)) × IsEntryOfRow is_clone row (entries_of.entry_of shown.entry) × IsCopyOf is_clone (cond keep (Some row.value) None) shown.kept
   shows-live shown (row, there, of_key, live, entry, kept) = (row, live-is shown.number row there (same-key eq k hash row of_key) true live, entry, kept)
 
-  -- a use of it is the look,
+  -- A use of that row is the recorded lookup.
   pub shows-hit : (shown : Shown K V) (new : Contents K V) → IsShown eq is_clone keep k hash (max latest at) (entries contents) (Some shown) → IfSome (row_under shown.number (entries contents)) (λ row. UsesAt settings.behaviour lives shown.number row (max latest at) contents new)
       → new.notices ≡ contents.notices → (noted : List ℕ → ℕ → ℕ) → HasNoted eq settings contents frequency latest number k noted
       → Becomes eq (view_with settings contents frequency latest number) (Looked k at) (view_with settings new noted (max latest at) number)
@@ -263,7 +263,7 @@ module _ {K V E : Type 0} (eq : K → K → Bool) (is_clone : V → V → Type 0
       becomes-hit eq settings contents frequency latest number one new k at shown.number row there same noted used.0 notes live_then
       (stored-same _ (touched used.0 row) refl refl refl refl refl (sym touch_is.accessed) (sym touch_is.own) refl) used.2 notices
 
-  -- and where none is shown, nothing is live
+  -- If no row is found, nothing is live.
   pub shows-none : IsShown eq is_clone keep k hash (max latest at) (entries contents) None → live_here ≡ None
   shows-none (inl none) = live-absent eq laws settings contents frequency latest number given steps stands hash_of respects hashed k at hash is none
   shows-none (inr (n, row, there, of_key, dead)) = live-is n row there (same-key eq k hash row of_key) false dead

@@ -20,7 +20,7 @@ module _ {X : Type 0} (P : X → Type 0) (weight : X → ℕ) (capacity : Option
   in_parts : InParts P of_parts
   in_parts = InParts-done P limit (parts weight capacity is_live wins q) (InParts-parts P weight capacity wins is_live q of_admitted of_waiting)
 
-  -- of all that a maintenance lets go
+  -- of all that a maintenance evicts
   pub all-evicted : AllByRecursion P (evicted_in of_parts)
   all-evicted = recursion_from_All P (evicted_in of_parts) (All-evicted_in P of_parts in_parts)
 

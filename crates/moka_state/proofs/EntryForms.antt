@@ -1,4 +1,4 @@
--- What a form is answered is all that its result says.
+-- The result of a loader determines the answer of the specification.
 use Rattle.std.proofs.Common.{◌≡◌, None, refl, sym, ap}
 use Rattle.std.specs.Prelude.{Result, Ok, Err}
 use Rattle.std.specs.Arc.{arc_value}

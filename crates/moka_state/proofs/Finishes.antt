@@ -82,7 +82,7 @@ never-replaced {K} {V} eq settings none steps legal k at =
     ap (λ (q : Queues (Write K V)). is_some (live eq settings k m (cond (nat_le flush_point (length q.waiting)) (Maintained settings.flush_limit at ∷ []) [] ++ h))) (orders-empty eq settings none steps legal)
     ∙ ap (λ o. is_some (live_one settings m o)) (standing-empty eq settings none k steps legal)
 
--- an open turn that was told, and one that is not known
+-- a search of an open turn that returned something, and one that returned nothing
 pub open-told : {A : Type 0} (Q : A → Type 0) (o : Option A) (result : Option ℕ) → MatchOption o (result ≡ None) (λ a. IsSome result × Q a) → IsSome result → (a : A) × (o ≡ Some a) × Q a
 open-told Q None result is some = absurd (nobody result is some)
 open-told Q (Some a) result is some = (a, refl, is.1)
@@ -91,7 +91,7 @@ pub closed-told : {A : Type 0} (Q : A → Type 0) (o : Option A) (result : Optio
 closed-told Q None result is none = refl
 closed-told Q (Some a) result is none = absurd (nobody result none is.0)
 
--- what is kept of a copy of a value is a copy of the end with the value
+-- if the kept value is a clone, so is the kept end with it
 pub kept-copied : {V : Type 0} (E : Type 0) (is_clone : V → V → Type 0) (value : V) (is_replaced : Bool) (kept : Option V) → IfSome kept (is_clone value)
     → IfSome (option_map (λ v. let it : TurnEnd V E = ends_of.Value v is_replaced in it) kept) (λ end. IsCopiedEnd is_clone (Some (turning.Value value is_replaced)) (Some (end_of end)))
 kept-copied E is_clone value is_replaced None copied = tt
@@ -105,13 +105,13 @@ pub with-books : {K V H W X F E : Type 0} (settings : SettingsData H W X) (books
     → (let a : StateData K V H W X F E = record { settings = settings; books = books; source = source; initial_room = room; turns = rows } in a) ≡ record { settings = settings; books = before; source = source; initial_room = room; turns = rows }
 with-books {K} {V} {H} {W} {X} {F} {E} settings books before source room rows same = ap (λ b. let a : StateData K V H W X F E = record { settings = settings; books = b; source = source; initial_room = room; turns = rows } in a) same
 
--- what is kept of an error is that error
+-- the kept end with an error is the end with that error
 pub failed-copied : {V E : Type 0} (is_clone : V → V → Type 0) (e : E) (end : Option (TurnEnd V E)) → IfSome end (λ kept. end_of kept ≡ turning.Failed e)
     → IfSome end (λ kept. IsCopiedEnd is_clone (Some (turning.Failed e)) (Some (end_of kept)))
 failed-copied is_clone e None is = tt
 failed-copied is_clone e (Some kept) is = ap (λ o. Some o) is
 
--- the entry of an answer, if it is one
+-- the entry in an answer, if it has one
 abbrev entered : {K V E : Type 0} → calls.Entry K V → Answer K V E → calls.Entry K V
 entered default (Entered e) = e
 entered default answer = default

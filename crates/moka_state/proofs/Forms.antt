@@ -1,4 +1,4 @@
--- What a form gives, by its begin and by the end of its turn.
+-- What a loader returns, by its begin and by the end of its turn.
 use Rattle.std.proofs.Common.{◌≡◌, ◌≢◌, ℕ, Bool, true, false, Option, Some, None, option_map, List, [], ◌∷◌, ◌++◌, refl, sym, ap, ◌∙◌, subst, eq-eqb}
 use Rattle.std.specs.Prelude.{Result, Ok, Err, OnOk, OnErr, IfOk, IfErr, IfSome, IsSome}
 use Rattle.std.specs.Arc.{arc_value}
@@ -30,7 +30,7 @@ use Rattle.moka_state.proofs.Finishes.{finish-memory}
 use Rattle.moka_state.proofs.Turns.{no-less}
 
 module _ {K V E : Type 0} (eq : K → K → Bool) (is_clone : V → V → Type 0) (is_infallible : V → Type 0) (settings : Settings K V) (steps : List (AcceptedStep K V E)) (Stands : List (AcceptedStep K V E) → Type 0) where
-  -- a form whose begin is refused
+  -- a loader whose begin fails
   pub form-refused : (k : K) (kind : Kind) (said : Option Bool) (now : ℕ) (cause : Refused) → GivesBegun eq is_clone is_infallible settings steps (Begin k kind said now) false (Err cause)
       → IsForm eq is_clone is_infallible settings steps (Begin k kind said now) now None (Err cause) Stands
   form-refused k kind said now causes.OutOfMemory gives = gives
@@ -49,7 +49,7 @@ abandon-stands eq is_clone is_infallible settings steps view name (Err refused) 
     let unknown = rw cause at gives in
     subst (StandsFor eq is_clone settings view) (sym (ap (λ a. with_step a steps) unknown.0)) (same on_err)
 
--- what follows from what holds of an answer
+-- what follows from what holds of a success
 pub on-ok : {A B : Type 0} {P Q : Type 0} (result : Result A B) → (P → Q) → OnOk result P → OnOk result Q
 on-ok (Ok a) implies p = implies p
 on-ok (Err b) implies p = p
@@ -62,13 +62,13 @@ pub if-some : {A : Type 0} {P Q : A → Type 0} (o : Option A) → ((a : A) → 
 if-some None implies p = p
 if-some (Some a) implies p = implies a p
 
--- who asks nothing of a live value says nothing
+-- without a `replace_if`, nothing is said of the live value
 pub unsaid : {K V F : Type 0} (call : Mut F (Bor V × Unit {0}) Bool) (replace_if : Option F) (live : Option (Write K V)) (said : Option Bool) → replace_if ≡ None → IsSaidOf call replace_if live said → said ≡ None
 unsaid call replace_if None said none says = says
 unsaid call None (Some w) said none says = says
 unsaid call (Some f) (Some w) said none says = cc
 
--- What a value or an error is to the forms that may answer something else.
+-- A value or an error, as the result of a loader that may return something else too.
 module _ {K V E : Type 0} where
   pub optional-value : (answer : Result (calls.Answer K V E) Refused) (v : V) → IsValue answer (Ok v) → IsOptional answer (Ok (Some v))
   optional-value (Ok (Entered e)) v is = is
@@ -80,7 +80,7 @@ module _ {K V E : Type 0} where
   optional-refused (Ok answer) cause is = absurd is
   optional-refused (Err own) cause is = is
 
-  -- what ends a turn without a value is answered so
+  -- the answer for a turn that ends without a value
   pub optional-none : (is_clone : V → V → Type 0) (key : K) (answer : answers.Answer K V E) → IsGiven is_clone key outcomes.Nothing answer → of_answer answer ≡ GaveNothing
   optional-none is_clone key given.Nothing is = refl
   optional-none is_clone key (given.Entry entry) is = absurd is
@@ -158,7 +158,7 @@ module _ {K V E : Type 0} (eq : K → K → Bool) (laws : IsEquivalence eq) (is_
           subst (λ a. IsSome (accepted eq settings (with_step a steps) (Finish name outcome at))) (sym is)
           (opens (new_name eq settings (events_in steps) kind k) it.0 (the_begun None None).step refl)
 
--- A turn that may be finished with an error may be refused memory for it.
+-- A finish of an open turn with an error may fail with `OutOfMemory`.
 pub failed-memory : {K V E : Type 0} (eq : K → K → Bool) (is_clone : V → V → Type 0) (is_infallible : V → Type 0) (settings : Settings K V) (steps : List (AcceptedStep K V E)) (name : Name K) (error : E) (at : ℕ) → fits {V = V} name.kind (outcomes.Failed error) ≡ true
     → IsSome (accepted eq settings steps (Finish name (outcomes.Failed error) at)) → Gives eq is_clone is_infallible settings steps (Finish name (outcomes.Failed error) at) (Err causes.OutOfMemory)
 failed-memory {K} {V} {E} eq is_clone is_infallible settings steps name error at fit known = go (found (is_open_as eq name) (turns steps)) refl

@@ -180,7 +180,7 @@ module _ {K V : Type 0} (eq : K → K → Bool) (laws : IsEquivalence eq) (given
         ∙ ap (λ m. is_some (live eq given key m (Maintained given.flush_limit at ∷ h))) passed
         ∙ sym (ap (λ due. is_some (live eq given key (max (latest h) at) (cond due (Maintained given.flush_limit at ∷ []) [] ++ h))) (flush-viewed old_view h is ∙ many-wait contents place.0))
 
--- and all that the state keeps to stays so
+-- and what holds of the state's table stays so
 module _ {K V : Type 0} (eq : K → K → Bool) (laws : IsEquivalence eq) (behaviour : Behaviour K V) (lives : Lives) (frequency_of : ℕ → ℕ) (capacity limit : Option ℕ) (contents new : Contents K V) {keeps : K → V → Type 0} (sound : IsSound keeps behaviour.hash lives contents)
     (alike : (a b : K) (w : V) → eq a b ≡ true → keeps a w → keeps b w) (key : K) (it : NewValue V) (hashed : it.hash ≡ behaviour.hash key) (kept_is : keeps key it.value) where
   pub sound-written : (place : Place K) (replaced : Bool) → IsPlaceOf eq key it.hash contents place → WritesAt eq behaviour lives frequency_of capacity limit place it contents new replaced → IsSound keeps behaviour.hash lives new

@@ -12,12 +12,14 @@ pub mod EntryForms
 pub mod Finds
 pub mod Finishes
 pub mod Forms
+pub mod HandsOuts
 pub mod Held
 pub mod Inserts
 pub mod Maintained
 pub mod OrInserts
 pub mod Orders
 pub mod Removing
+pub mod Replied
 pub mod Runs
 pub mod Sound
 pub mod Targets

@@ -27,7 +27,7 @@ use Rattle.moka_maintain.specs.Maintain.{is_alive, notice_at, rows_of, row_wins,
 use Rattle.moka_state.specs.State.{stored_orders}
 use Rattle.moka_state.proofs.Views.{view_with, Becomes}
 
--- No more leave than the limit says, and each is noticed.
+-- At most as many entries are evicted as the limit says, and each is noticed.
 module _ {K V : Type 0} {lives : Lives} {is_lru : Bool} {frequency_of : ℕ → ℕ} {capacity : Option ℕ} {at : ℕ} {old new : Contents K V} where
   pub few-noticed : {is_cut : Bool} (limit : ℕ) → IsMaintainedUpTo lives is_lru frequency_of capacity at (Some limit) old new is_cut → length new.notices ≤ length old.notices + limit
   few-noticed limit is =

@@ -1,4 +1,4 @@
--- What a call gives that answers a live value or writes one, and what a state stands for after it.
+-- What a call returns that finds a live value or writes one, and what a state stands for after it.
 use Rattle.std.proofs.Common.{◌≡◌, ◌↔◌, ℕ, ◌+◌, ◌<◌, ◌^◌, ◌==◌, ◌&&◌, max, not, Bool, true, false, cond, Option, Some, None, List, [], ◌∷◌, ◌++◌, refl, sym, ap, ◌∙◌, subst, arith}
 use Rattle.std.specs.Prelude.{Result, Ok, Err, IsSome}
 use Rattle.std.specs.Cmp.{IsEquivalence}
@@ -44,7 +44,7 @@ module _ {K V E : Type 0} (eq : K → K → Bool) (is_clone : V → V → Type 0
   abbrev Inserts : Result (Answer K V E) Refused → Type 0
   Inserts = Gives eq is_clone is_infallible settings steps (OrInsert k v at)
 
-  -- a look, and a write behind its flush or a moment that passes
+  -- the events of a lookup, and of a write after its flush or of a moment that passes
   abbrev looked-written : Bool → Bool → List (Event K V)
   looked-written nothing due = cond nothing (Passed at ∷ []) (Written k v at ∷ cond due (Maintained settings.flush_limit at ∷ []) []) ++ Looked k at ∷ []
 
@@ -59,7 +59,7 @@ module _ {K V E : Type 0} (eq : K → K → Bool) (is_clone : V → V → Type 0
   accepted-or : (o : Option (Write K V)) → live_at eq settings k at h ≡ o → accepted eq settings steps (OrInsert k v at) ≡ Some (or_inserted eq settings h k v at o)
   accepted-or o is = ap (λ w. Some (or_inserted {E = E} eq settings h k v at w)) is
 
-  -- what a begin answers with an entry found the live value
+  -- a begin that returns an entry has found the live value
   begins-live : (o : Option (Write K V)) (t : Option (Turn K V E)) (e : Entry K V) → IsAnswer is_clone (begun eq settings h k With None at o t).answer (Entered e) → (w : Write K V) × (o ≡ Some w) × IsCopiedEntry is_clone (entry_of w) e
   begins-live (Some w) t e is = (w, refl, is)
   begins-live None (Some t) e is = cc
@@ -79,7 +79,7 @@ module _ {K V E : Type 0} (eq : K → K → Bool) (is_clone : V → V → Type 0
         after-found eq is_clone is_infallible settings steps k With None at (λ no. cc) it.0 it.1
         ∙ sym (ap (λ a. with_step a steps) (accepted-or (Some it.0) it.1))
 
-  -- where the copy of a live value is refused, no number was wanted
+  -- if cloning a live value fails, no sequence number was needed
   pub or-uncopied : IsSome (live_at eq settings k at h) → Inserts (Err OutOfMemory)
   or-uncopied live = go (live_at eq settings k at h) refl live
     where
@@ -99,7 +99,7 @@ module _ {K V E : Type 0} (eq : K → K → Bool) (is_clone : V → V → Type 0
     draws : (0 < drawn_in it_written) ↔ (stores_nothing settings.max_capacity ≡ false)
     draws = drawn-by (stores_nothing settings.max_capacity) (is_flush_due eq settings (Looked k at ∷ h))
 
-    -- none is wanted that is not there, where the state says so
+    -- if the state's own check says so, the call is not out of sequence numbers
     pub or-left : (capacity : Option ℕ) (next : ℕ) → capacity ≡ settings.max_capacity → next ≡ next_number settings h → (not (stores_nothing capacity) && (next == greatest_number)) ≡ false → ¬ OrOutOfNumbers
     or-left capacity next same counted left out =
         let stores : stores_nothing capacity ≡ false = ap stores_nothing same ∙ draws.0 out.0 in
@@ -123,7 +123,7 @@ module _ {K V E : Type 0} (eq : K → K → Bool) (is_clone : V → V → Type 0
         wanted true used_up e = cc
         wanted false used_up e = (refl, e)
 
-    -- the state then stands for the steps with the look and the write
+    -- The state then stands for the steps with the lookup and the write.
     pub or-stands : (view : View K V) (rows : List (Turn K V E)) → StandsFor eq is_clone settings (whole view rows) steps → (new : View K V) → IsViewOf eq settings new (write_events eq settings k v at (Looked k at ∷ h) ++ Looked k at ∷ h)
         → StandsFor eq is_clone settings (whole new rows) (after eq settings (OrInsert k v at) steps)
     or-stands view rows stands new is =
@@ -135,7 +135,7 @@ module _ {K V E : Type 0} (eq : K → K → Bool) (is_clone : V → V → Type 0
 max-again : (a b : ℕ) → max (max a b) b ≡ max a b
 max-again a b = omega arith
 
--- What becomes of a view by a look that finds no live value, and the write of one behind it.
+-- What a lookup that finds no live value, and the write after it, make of a view.
 module _ {K V E : Type 0} (eq : K → K → Bool) {is_clone : V → V → Type 0} {rows : List (Turn K V E)} (laws : IsEquivalence eq) (settings : Settings K V) (contents : Contents K V) (frequency noted : List ℕ → ℕ → ℕ) (latest number : ℕ)
     (given : Settings K V) (steps : List (AcceptedStep K V E)) (stands : StandsFor eq is_clone given (whole (view_with settings contents frequency latest number) rows) steps)
     (key : K) (at : ℕ) (none : live_at eq given key at (events_in steps) ≡ None) (notes : HasNoted eq settings contents frequency latest number key noted) where

@@ -1,4 +1,4 @@
--- What is answered of a row that is removed, and what the hiding of rows makes of the view of a state.
+-- What the removal of a row returns, and what hiding rows makes of a state's view.
 use Rattle.std.proofs.Common.{◌≡◌, ℕ, Bool, true, false, not, cond, Option, Some, None, List, [], ◌∷◌, map, option_map, refl, ap, subst, ◌∙◌}
 use Rattle.std.specs.Arc.{arc_value}
 use Rattle.std.specs.Option.{IfSome}

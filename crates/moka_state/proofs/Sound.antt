@@ -1,4 +1,4 @@
--- What a state keeps to stays so: after a change of one row, and after a maintenance.
+-- What holds of a state's table stays so: after a change of one row, and after a maintenance.
 use Rattle.std.proofs.Common.{◌≡◌, ◌≢◌, ℕ, zero, suc, arith, Bool, List, [], ◌∷◌, ◌++◌, map, Option, Some, None, refl, sym, ap, ◌∙◌, subst, append_assoc}
 use Rattle.std.specs.Arc.{arc_value}
 use Rattle.moka_model.specs.declared.notification.Notice.{Notice}
@@ -20,7 +20,7 @@ use Rattle.moka_rows.proofs.Callers.{all-append}
 use Rattle.moka_table.proofs.Callers.{of-row, of-used, of-taken}
 use Rattle.moka_state.proofs.Elements.{all-kept, all-evicted}
 
--- the same rows keep all
+-- it holds of the same rows
 pub IsSound-same : {K V : Type 0} (keeps : K → V → Type 0) (hash_of : K → ℕ) (lives : Lives) (old new : Contents K V) → SameRows old new → IsSound keeps hash_of lives old → IsSound keeps hash_of lives new
 IsSound-same keeps hash_of lives old new same sound = record {
   dated = rw (same.0, same.1) sound.dated;
@@ -30,7 +30,7 @@ IsSound-same keeps hash_of lives old new same sound = record {
 }
 
 module _ {K V : Type 0} (keeps : K → V → Type 0) (hash_of : K → ℕ) (lives : Lives) (old new : Contents K V) (sound : IsSound keeps hash_of lives old) where
-  -- A value that is kept for a row's key takes the lookup of the one before, which is noticed under an equal key.
+  -- A value that satisfies the invariant takes the place of a row's value, which gets a notice under an equal key.
   pub IsSound-overwritten : (n : ℕ) (row : Row K V) (v : V) (info : EntryInfo) (notice : Notice K V) → row_under n (entries old) ≡ Some row → keeps (arc_value row.key) v
       → (keeps (arc_value row.key) row.value → keeps (arc_value notice.key) notice.value) → UsesRow n (overwritten v info) old new → new.notices ≡ old.notices ++ notice ∷ []
       → IsDated lives info → IsSound keeps hash_of lives new
@@ -42,7 +42,7 @@ module _ {K V : Type 0} (keeps : K → V → Type 0) (hash_of : K → ℕ) (live
         notices_kept = rw notices (all-append (λ (m : Notice K V). keeps (arc_value m.key) m.value) old.notices (notice ∷ []) sound.notices_kept (left (of-row (λ (r : Row K V). keeps (arc_value r.key) r.value) n (entries old) row sound.kept there), tt));
       }
 
-  -- a row with its hash and with a value that is kept for its key is added to those that wait
+  -- a row with its hash, whose value satisfies the invariant with its key, is added to the pending ones
   pub IsSound-added : (n : ℕ) (row : Row K V) → row.hash ≡ hash_of (arc_value row.key) → keeps (arc_value row.key) row.value
       → new.admitted ≡ old.admitted → new.waiting ≡ old.waiting ++ (n, row) ∷ [] → new.notices ≡ old.notices → IsDated lives row.info → IsSound keeps hash_of lives new
   IsSound-added n row hash kept admitted waiting notices dated = record {
@@ -101,7 +101,7 @@ module _ {K V : Type 0} (keeps : K → V → Type 0) (hash_of : K → ℕ) (live
 pub IsSound-empty : {K V : Type 0} (keeps : K → V → Type 0) (hash_of : K → ℕ) (lives : Lives) (contents : Contents K V) → entries contents ≡ [] → contents.notices ≡ [] → IsSound keeps hash_of lives contents
 IsSound-empty keeps hash_of lives contents none no_notices = record { dated = rw none tt; hashed = rw none tt; kept = rw none tt; notices_kept = rw no_notices tt }
 
--- a limit that is not 0 lets some leave
+-- a limit that is not 0 allows an eviction
 pub limits-some : (limit : Option ℕ) → limit ≢ Some 0 → LimitsSome limit
 limits-some None other = tt
 limits-some (Some zero) other = absurd (other refl)

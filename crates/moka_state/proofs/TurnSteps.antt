@@ -1,7 +1,7 @@
 -- Calls of turns as data: what a begin does whose caller has said beforehand whether to replace a live value, and what the state
 -- stands for after a reply.
 use Rattle.std.proofs.Common.{◌≡◌, ◌≢◌, ℕ, max, Bool, true, false, cond, Option, Some, None, List, [], ◌∷◌, ◌++◌, refl, sym, ap, ◌∙◌, subst, inl, inr, ◌⊎◌}
-use Rattle.std.specs.Prelude.{Result, Ok, Err, OnOk, OnErr}
+use Rattle.std.specs.Prelude.{Result, Ok, Err, OnOk, OnErr, IsErr}
 use Rattle.std.specs.Cmp.{IsEquivalence}
 use Rattle.std.specs.Fn.{CalledAt, Mut}
 use Rattle.std.specs.List.{filter}
@@ -37,7 +37,7 @@ use Rattle.std.specs.declared.alloc.Global.{Global}
 use Rattle.moka_state.proofs.Begins.{begun-initializer}
 use Rattle.moka_state.proofs.Orders.{used_where-none}
 
--- A look at a key of which no write is live.
+-- A lookup of a key without a live write.
 module _ {K V : Type 0} (eq : K → K → Bool) (laws : IsEquivalence eq) (settings : Settings K V) (k : K) (at : ℕ) (h : List (Event K V)) (none : live_at eq settings k at h ≡ None) where
   abbrev moment : ℕ
   moment = max (latest h) at
@@ -58,7 +58,7 @@ module _ {K V : Type 0} (eq : K → K → Bool) (laws : IsEquivalence eq) (setti
       ∙ ap (filter (λ w. is_live settings w moment)) (held-orders eq settings laws k h)
       ∙ none-alive (standing eq settings k h) none)
 
-  -- so its books are those of a look whose value is turned down, before a number is drawn and after it
+  -- so its books are those of a lookup whose value is turned down, before a number is drawn and after it
   pub books-unhit : books_of eq settings (Looked k at ∷ h) ≡ books_of eq settings (TurnedDown k at ∷ h)
   books-unhit =
       let e : List (Event K V) = TurnedDown k at ∷ h in
@@ -136,7 +136,7 @@ module _ {K V E : Type 0} (eq : K → K → Bool) (settings : Settings K V) (ste
       same None true s l = record { legal = l; settings = s.settings; books = s.books ∙ books-unhit-drawn eq laws settings k at (events_in steps) none; frequency = s.frequency; turns = s.turns }
       same (Some t) true s l = record { legal = l; settings = s.settings; books = s.books ∙ books-unhit eq laws settings k at (events_in steps) none; frequency = s.frequency; turns = s.turns }
 
--- What a caller says who was asked, or who would have been.
+-- The caller has said this of the live value; or no value is live, and nothing was said.
 abbrev pub IsSaidOrUnasked : {K V : Type 0} → Bool → Option (Write K V) → Option Bool → Type 0
 IsSaidOrUnasked says live said = (said ≡ Some says) ⊎ ((live ≡ None) × (said ≡ None))
 
@@ -150,7 +150,7 @@ pub unasked : {K V F : Type 0} (call : Mut F (Bor V × Unit {0}) Bool) (live : O
 unasked call None said is = is
 unasked call (Some w) said is = is
 
--- a begin that may wait gives what the definitions give
+-- the result of a begin that may wait is one of the specification
 pub begun-gives : {K V E : Type 0} (eq : K → K → Bool) (is_clone : V → V → Type 0) (is_infallible : V → Type 0) (settings : Settings K V) (steps : List (AcceptedStep K V E)) (call : Call K V E) (result : Result (Begun K V) Refused)
     → GivesBegun eq is_clone is_infallible settings steps call true result → Gives eq is_clone is_infallible settings steps call (of_begin result)
 begun-gives eq is_clone is_infallible settings steps call (Ok (begins.Found entry)) is = is
@@ -181,7 +181,7 @@ pub after-compute : {K V E : Type 0} (eq : K → K → Bool) (settings : Setting
     → after eq settings (BeginCompute k false at) steps ≡ after eq settings (Begin k kind replace at) steps
 after-compute eq settings steps k kind is replace at = ap (λ (q : Kind). after eq settings (Begin k q replace at) steps) (sym is)
 
--- A begin whose caller would say this of any live value.
+-- A begin whose caller says the same of any live value.
 module _ {K V E : Type 0} (eq : K → K → Bool) (settings : Settings K V) (steps : List (AcceptedStep K V E)) (k : K) (kind : Kind) (at : ℕ) (initializer : kind ≢ Compute) (says : Bool) where
   pub gives-said : (is_clone : V → V → Type 0) (is_infallible : V → Type 0) (said : Option Bool) → IsSaidOrUnasked says (live_at eq settings k at (events_in steps)) said → (given : Result (Answer K V E) Refused)
       → Gives eq is_clone is_infallible settings steps (Begin k kind said at) given → Gives eq is_clone is_infallible settings steps (Begin k kind (Some says) at) given
@@ -195,7 +195,7 @@ module _ {K V E : Type 0} (eq : K → K → Bool) (settings : Settings K V) (ste
   stands-said laws {is_clone} said (inr (none, is)) view legal stands =
       stands-unsaid eq settings steps k kind at initializer none laws view says legal (subst (λ s. StandsFor eq is_clone settings view (after eq settings (Begin k kind s at) steps)) is stands)
 
--- A state stands for what a call leaves that follows where it is done, and that changes nothing where it is refused.
+-- What a state stands for after a call that `follows` if it succeeds and changes nothing if it fails.
 pub given-stands : {A B S K V E : Type 0} (eq : K → K → Bool) {is_clone : V → V → Type 0} (view : S → WholeView K V E) (old new : S) (call : Call K V E) (given : Result A B) → OnOk given (Follows eq is_clone (view old) call (view new)) → OnErr given (new ≡ old)
     → (settings : Settings K V) (steps : List (AcceptedStep K V E)) → StandsFor eq is_clone settings (view old) steps → StandsFor eq is_clone settings (view new) (after_given eq settings call given steps)
 given-stands eq view old new call (Ok given) follows same settings steps stands = follows settings steps stands
@@ -205,7 +205,12 @@ pub OnOk-by : {A B : Type 0} {P Q : Type 0} (r : Result A B) → (P → Q) → O
 OnOk-by (Ok x) more is = more is
 OnOk-by (Err e) more is = tt
 
--- what a reader gets of a call of a turn
+-- what holds if a call fails
+pub OnErr-so : {A B : Type 0} {P : Type 0} (r : Result A B) → OnErr r P → IsErr r → P
+OnErr-so (Ok x) is refused = let off : false ≡ true = refused in cc
+OnErr-so (Err e) is refused = is
+
+-- what the caller gets from a call of a turn
 module _ {K V C H W X P F L T E S : Type 0} (keeps : K → V → Type 0) where
   pub begin-keeps : (key : Arc K Global) (kind : Kind) (replace : Option Bool) (now : ℕ) (reply : Reply K V C H W X P F L T E S) → EntryKeeps keeps reply → ReplyKeeps keeps (calls.Begin key kind replace now) reply
   begin-keeps key kind replace now (Entered entry) is = is

@@ -26,11 +26,12 @@ use Rattle.moka_state.specs.State.{books_by}
 pub sound-turns : {K V E : Type 0} (eq : K → K → Bool) → IsEquivalence eq → (settings : Settings K V) (steps : List (AcceptedStep K V E)) → IsLegal eq settings steps → AreSound eq (turns steps)
 sound-turns eq laws settings steps legal = let fit = legal-fit eq settings steps legal in (turns-apart eq settings steps fit, one_is_open eq settings laws steps fit)
 
--- a call that is answered by a search moves a turn where it is found, and is refused by its name where it is not
+-- the flag of a search says whether something was found
 pub told : {A : Type 0} (Q : A → Type 0) (o : Option A) (b : Bool) → MatchOption o (b ≡ false) (λ a. (b ≡ true) × Q a) → b ≡ is_some o
 told Q None b is = is
 told Q (Some a) b is = is.0
 
+-- A call of a search moves the turn that it finds; if it finds none, it fails for its name.
 module _ {K V E : Type 0} (eq : K → K → Bool) {is_clone : V → V → Type 0} (settings : Settings K V) (view : View K V) (rows left : List (Turn K V E)) (steps : List (AcceptedStep K V E))
     (stands : StandsFor eq is_clone settings (whole view rows) steps) where
   pub stands-by : (call : Call K V E) (move : Move K V E) → after eq settings call steps ≡ (record { events = []; move = Some move }) ∷ steps → Holds eq is_clone (moved move (turns steps)) left
@@ -85,7 +86,7 @@ module _ {K V E : Type 0} (eq : K → K → Bool) (is_clone : V → V → Type 0
       → ¬ (WantsNumberBy (next_number settings (events_in steps)) (turns steps) it.step.events it.step.move) → GivesThis (Err OutOfMemory)
   gives-memory it is may draws = (may, λ _ out. draws (subst (WantsNumber (next_number settings (events_in steps)) (turns steps)) is out))
 
--- a search that was told
+-- what a search has found, if its flag is true
 pub found-told : {A : Type 0} (Q : A → Type 0) (o : Option A) (b : Bool) → MatchOption o (b ≡ false) (λ a. (b ≡ true) × Q a) → b ≡ true → (a : A) × (o ≡ Some a) × Q a
 found-told Q None b is on = let off : false ≡ true = sym is ∙ on in cc
 found-told Q (Some a) b is on = (a, refl, is.1)
@@ -94,6 +95,6 @@ pub none-told : {A : Type 0} (Q : A → Type 0) (o : Option A) (b : Bool) → Ma
 none-told Q None b is off = refl
 none-told Q (Some a) b is off = let on : true ≡ false = sym is.0 ∙ off in cc
 
--- none is less than none
+-- zero is not less than zero
 pub no-less : 0 < 0 → ⊥
 no-less less = absurd (omega (arith, less))

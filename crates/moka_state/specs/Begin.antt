@@ -1,4 +1,4 @@
--- How the begin of a turn goes.
+-- The begin of a turn.
 use Rattle.std.specs.Prelude.{⊤, ◌≡◌, ◌≢◌, ◌⊎◌, ℕ, Bool, true, false, Option, Some, None, List, Result, Ok, Err, OnOk, OnErr}
 use Rattle.std.specs.Arc.{arc_value}
 use denote.Ref.{Bor}
@@ -18,13 +18,13 @@ use Rattle.moka_state.specs.declared.answers.Begun.{Begun}
 use Rattle.moka_state.specs.declared.answers.Begun.TheVariants as begins
 use Rattle.moka_state.specs.Given.{Gives, of_begin}
 
--- what a caller says of the live value, if there is one: he is shown it, and else says nothing
+-- What `replace_if` returns for the live value; none if no value is live or there is no `replace_if`.
 abbrev pub IsSaidOf : {K V F : Type 0} → Mut F (Bor V × Unit {0}) Bool → Option F → Option (Write K V) → Option Bool → Type 0
 IsSaidOf call replace_if None said = said ≡ None
 IsSaidOf call replace_if (Some w) said = IsSaid call replace_if w.value said
 
--- A look finds no live value that is acceptable. Or it finds one, and its entry is the answer of a begin of any initializer; or
--- the copy is refused for want of memory.
+-- A lookup finds no acceptable value, and none is live. Or it returns the entry that a begin of any loader would
+-- return. Or it fails with `OutOfMemory`.
 abbrev pub GivesLook : {K V E : Type 0} → (K → K → Bool) → (V → V → Type 0) → (V → Type 0) → Settings K V →
     List (AcceptedStep K V E) → K → Option Bool → ℕ → Result (Option (Entry K V)) Refused → Type 0
 GivesLook eq is_clone is_infallible settings steps key said at (Ok None) =
@@ -33,18 +33,19 @@ GivesLook eq is_clone is_infallible settings steps key said at (Ok (Some entry))
     (kind : Kind) → kind ≢ Compute → Gives eq is_clone is_infallible settings steps (Begin key kind said at) (Ok (Entered (entry_of entry)))
 GivesLook eq is_clone is_infallible settings steps key said at (Err cause) = cause ≡ causes.OutOfMemory
 
--- P holds where an entry is found, and Q where none is
+-- P if the lookup found an entry, Q if it found none or failed.
 abbrev pub ByFound : {K V : Type 0} → Type 0 → Type 0 → Result (Option (Entry K V)) Refused → Type 0
 ByFound P Q (Ok (Some entry)) = P
 ByFound P Q result = Q
 
--- A look goes as is given: where it finds an entry, what follows holds, and else nothing has changed.
+-- A lookup ends as `gives` says. If it found an entry, `follows` holds; else nothing has changed.
 pub record LookEnds {K V H W X F E : Type 0} (gives : Result (Option (Entry K V)) Refused → Type 0) (follows : Type 0)
     (old new : StateData K V H W X F E) (result : Result (Option (Entry K V)) Refused) : Type 0 where
   pub reply : gives result
   pub stands : ByFound follows (new ≡ old) result
 
--- A begin that may not wait is refused where it would have to; else the definitions give what is answered or refused.
+-- A begin that may not wait fails with `TurnIsOpen` only if it would have to wait, and only one that may wait returns a
+-- ticket. Any other result is the one of the specification.
 abbrev pub GivesBegun : {K V E : Type 0} → (K → K → Bool) → (V → V → Type 0) → (V → Type 0) → Settings K V →
     List (AcceptedStep K V E) → Call K V E → Bool → Result (Begun K V) Refused → Type 0
 GivesBegun eq is_clone is_infallible settings steps call may_wait (Err causes.TurnIsOpen) =
@@ -54,38 +55,38 @@ GivesBegun eq is_clone is_infallible settings steps call may_wait (Ok (begins.Wa
 GivesBegun eq is_clone is_infallible settings steps call may_wait result =
     Gives eq is_clone is_infallible settings steps call (of_begin result)
 
--- A begin goes as is given: where it is done, what follows holds, and where it is refused, nothing has changed.
+-- A begin ends as `gives` says. If it succeeds, `follows` holds; if it fails, nothing has changed.
 pub record BeginEnds {K V H W X F E : Type 0} (gives : Result (Begun K V) Refused → Type 0) (follows : Type 0)
     (old new : StateData K V H W X F E) (result : Result (Begun K V) Refused) : Type 0 where
   pub reply : gives result
   pub stands : OnOk result follows
   pub refused : OnErr result (new ≡ old)
 
--- a turn or a ticket that is handed out has this kind, and this very key
+-- The turn or the ticket that is returned has this kind, and exactly this key.
 abbrev pub IsNamed : {K V : Type 0} → Kind → K → Begun K V → Type 0
 IsNamed kind key (begins.Found entry) = ⊤
 IsNamed kind key (begins.Run turn) = (turn.key.kind ≡ kind) × (arc_value turn.key.key ≡ key)
 IsNamed kind key (begins.Wait ticket) = (ticket.key.kind ≡ kind) × (arc_value ticket.key.key ≡ key)
 
--- the value that is found is kept, if one is
+-- The value that is found, if any, satisfies the invariant with the stored key.
 abbrev pub FoundKeeps : {K V : Type 0} → (K → V → Type 0) → Begun K V → Type 0
 FoundKeeps keeps (begins.Found entry) = keeps (entry_of entry).key (entry_of entry).value
 FoundKeeps keeps begun = ⊤
 
--- the value of an entry that is found is kept, under the stored key and under the one that was looked for
+-- The value of an entry satisfies the invariant with the stored key, and with the key that was looked up.
 abbrev pub EntryKeeps : {K V : Type 0} → (K → V → Type 0) → K → Entry K V → Type 0
 EntryKeeps keeps key entry = keeps (entry_of entry).key (entry_of entry).value × keeps key (entry_of entry).value
 
--- P holds where a ticket is handed out
+-- P if a ticket is returned.
 abbrev pub IfWait : {K V : Type 0} → Type 0 → Begun K V → Type 0
 IfWait P (begins.Wait ticket) = P
 IfWait P begun = ⊤
 
--- the value that is found is kept under the key that was looked for, if one is
+-- The value that is found, if any, satisfies the invariant with the key that was looked up.
 abbrev pub FoundKeepsFor : {K V : Type 0} → (K → V → Type 0) → K → Begun K V → Type 0
 FoundKeepsFor keeps key (begins.Found entry) = keeps key (entry_of entry).value
 FoundKeepsFor keeps key begun = ⊤
 
--- the key that a call by reference asks for: the one that is lent, or an equal copy of it
+-- The key that a call by reference uses: the given one, or a clone, which equals the given one.
 abbrev pub IsAsked : {K : Type 0} → (K → K → Bool) → (K → K → Type 0) → K → K → Type 0
 IsAsked eq is_clone key asked = (eq key asked ≡ true) × ((asked ≡ key) ⊎ is_clone key asked)

@@ -1,4 +1,4 @@
--- How a compute begins, and what it is answered.
+-- The begin of a compute, and the results of computes.
 use Rattle.std.specs.Prelude.{⊤, ◌≡◌, ◌⊎◌, ℕ, Bool, true, false, Option, Some, None, List, Result, Err, OnOk, OnErr, IfSome, if◌then◌else◌}
 use Rattle.std.specs.Arc.{arc_value}
 use Rattle.moka_policy.specs.declared.policy.Refused.{Refused}
@@ -22,8 +22,8 @@ use Rattle.moka_state.specs.declared.compute.Shown.{Shown}
 use Rattle.moka_state.specs.Begin.{EntryKeeps}
 use Rattle.moka_state.specs.Given.{Gives, of_begin_compute}
 
--- A look for a compute finds the row of a key whose value is live: its entry, and where it is asked for a second copy of the value.
--- Else there is no row of the key, or its value is dead.
+-- The lookup of a compute finds the row of a key whose value is live. It returns the entry and, with `keep`, a second
+-- clone of the value. Or it finds none: the key has no row, or its value is not live.
 abbrev pub IsShown : {K V : Type 0} → (K → K → Bool) → (V → V → Type 0) → Bool → K → ℕ → ℕ →
     List (ℕ × Row K V) → Option (Shown K V) → Type 0
 IsShown {K} {V} eq is_clone keep key hash at rows (Some shown) =
@@ -33,14 +33,15 @@ IsShown {K} {V} eq is_clone keep key hash at rows None =
     NoneIsRowOf eq key hash rows
     ⊎ ((n : ℕ) × (row : Row K V) × (row_under n rows ≡ Some row) × IsRowOf eq key hash row × (is_live_row at (Some row) ≡ false))
 
--- A compute begins as is given: where it does, what follows holds, and where it is refused, nothing has changed.
+-- The begin of a compute ends as `gives` says. If it succeeds, `follows` holds; if it fails, nothing has changed.
 pub record ComputeBegins {K V H W X F E : Type 0} (gives : Result (calls.Answer K V E) Refused → Type 0) (follows : Type 0)
     (old new : StateData K V H W X F E) (result : Result (BegunCompute K V) Refused) : Type 0 where
   pub reply : gives (of_begin_compute result)
   pub stands : OnOk result follows
   pub refused : OnErr result (new ≡ old)
 
--- One that may not wait is refused where it would have to; else the definitions give what is answered or refused.
+-- A begin that may not wait fails with `TurnIsOpen` only if it would have to wait. Any other result is the one of the
+-- specification.
 abbrev pub GivesAtOnce : {K V E : Type 0} → (K → K → Bool) → (V → V → Type 0) → (V → Type 0) → Settings K V →
     List (AcceptedStep K V E) → Call K V E → Bool → Result (calls.Answer K V E) Refused → Type 0
 GivesAtOnce eq is_clone is_infallible settings steps call may_wait (Err causes.TurnIsOpen) =
@@ -48,37 +49,39 @@ GivesAtOnce eq is_clone is_infallible settings steps call may_wait (Err causes.T
 GivesAtOnce eq is_clone is_infallible settings steps call may_wait result =
     Gives eq is_clone is_infallible settings steps call result
 
--- P holds where a ticket is handed out
+-- P if a ticket is returned.
 abbrev pub IfWaits : {K V : Type 0} → Type 0 → BegunCompute K V → Type 0
 IfWaits P (begins.Wait ticket) = P
 IfWaits P begun = ⊤
 
--- a turn or a ticket that is handed out is a compute's, and has this very key
+-- The turn or the ticket that is returned is that of a compute, and has exactly this key.
 abbrev pub IsCompute : {K V : Type 0} → K → BegunCompute K V → Type 0
 IsCompute key (begins.Run turn entry) = (turn.key.kind ≡ Compute) × (arc_value turn.key.key ≡ key)
 IsCompute key (begins.Wait ticket) = (ticket.key.kind ≡ Compute) × (arc_value ticket.key.key ≡ key)
 
--- the value that is shown is kept, if one is
+-- The live value that is returned, if any, satisfies the invariant with the stored key.
 abbrev pub ShownKeeps : {K V : Type 0} → (K → V → Type 0) → BegunCompute K V → Type 0
 ShownKeeps keeps (begins.Run turn (Some entry)) = keeps (entry_of entry).key (entry_of entry).value
 ShownKeeps keeps begun = ⊤
 
--- and under the key that was looked for
+-- That value satisfies the invariant with the stored key, and with the key that was looked up.
 abbrev pub ShownKeepsFor : {K V : Type 0} → (K → V → Type 0) → K → BegunCompute K V → Type 0
 ShownKeepsFor keeps key (begins.Run turn shown) = IfSome shown (EntryKeeps keeps key)
 ShownKeepsFor keeps key (begins.Wait ticket) = ⊤
 
--- what a compute is answered that does nothing, removes or puts
+-- The result of a compute that does nothing: the value that was kept aside, if one was.
 abbrev pub IsLeft : {K V : Type 0} → K → Option V → CompResult K V → Type 0
 IsLeft key None (results.StillNone own) = arc_value own ≡ key
 IsLeft key (Some v) (results.Unchanged entry) = entry_of entry ≡ entry_under key v
 IsLeft key kept result = ⊥
 
+-- The result of a compute that removes: the live value that it removed, if there was one.
 abbrev pub IsRemoved : {K V : Type 0} → K → Option V → CompResult K V → Type 0
 IsRemoved key None (results.StillNone own) = arc_value own ≡ key
 IsRemoved key (Some v) (results.Removed entry) = entry_of entry ≡ entry_under key v
 IsRemoved key removed result = ⊥
 
+-- The result of a compute that puts a value, by whether its begin found a live one.
 abbrev pub IsPut : {K V : Type 0} → K → V → Bool → CompResult K V → Type 0
 IsPut key v true (results.ReplacedWith entry) = entry_of entry ≡ fresh_entry key v true
 IsPut key v false (results.Inserted entry) = entry_of entry ≡ fresh_entry key v false

@@ -1,4 +1,4 @@
--- How a form of a compute goes: it begins, asks the closure and finishes at one moment, or abandons its turn.
+-- Computes with a closure: begin, closure and finish at one moment, or an abandoned turn.
 use Rattle.std.specs.Prelude.{⊤, ◌≡◌, ℕ, Bool, Option, Some, None, List, Result, Ok, Err}
 use Rattle.moka_policy.specs.declared.policy.Refused.{Refused}
 use Rattle.moka_policy.specs.declared.policy.Refused.TheVariants as causes
@@ -17,30 +17,30 @@ use Rattle.moka_state.specs.Forms.{EndsTurn}
 use Rattle.moka_state.specs.Given.{Gives}
 
 module _ {K V E : Type 0} where
-  -- what the result of a compute is to the definitions
+  -- The result of a compute, as an answer of the specification.
   abbrev pub of_computing : Result (CompResult K V) Refused → Result (calls.Answer K V E) Refused
   of_computing (Ok computed) = Ok (of_computed computed)
   of_computing (Err cause) = Err cause
 
-  -- and of one whose closure may fail, which is an abandon
+  -- The same if the closure may fail: then the turn is abandoned, and the answer is `Done`.
   abbrev pub of_trying : {X : Type 0} → Result (Result (CompResult K V) X) Refused → Result (calls.Answer K V E) Refused
   of_trying (Ok (Ok computed)) = Ok (of_computed computed)
   of_trying (Ok (Err error)) = Ok Done
   of_trying (Err cause) = Err cause
 
-  -- a compute that puts a value answers its entry, or is refused
+  -- An upsert returns the entry that its compute put, or the cause of the failure.
   abbrev pub IsUpserted : Result (calls.Answer K V E) Refused → Result (Entry K V) Refused → Type 0
   IsUpserted (Ok (Inserted put)) (Ok entry) = entry_of entry ≡ put
   IsUpserted (Ok (ReplacedWith put)) (Ok entry) = entry_of entry ≡ put
   IsUpserted (Err cause) (Err refused) = refused ≡ cause
   IsUpserted answer result = ⊥
 
--- what a closure said, where it did not fail
+-- What a closure returned, if it did not fail.
 abbrev pub unless_failed : {A X : Type 0} → Result A X → Option A
 unless_failed (Ok said) = Some said
 unless_failed (Err error) = None
 
--- where a closure was asked and failed its error is the answer, and no other error is answered
+-- If the closure ran and failed, the call returns its error. It returns no other error of a closure.
 abbrev pub IsErrorOf : {A B X : Type 0} → Option (Result A X) → Result (Result B X) Refused → Type 0
 IsErrorOf (Some (Err error)) (Ok (Err own)) = own ≡ error
 IsErrorOf (Some (Err error)) result = ⊥
@@ -48,16 +48,16 @@ IsErrorOf given (Ok (Err own)) = ⊥
 IsErrorOf given result = ⊤
 
 module _ {K V E : Type 0} (eq : K → K → Bool) (is_clone : V → V → Type 0) (is_infallible : V → Type 0) (settings : Settings K V) where
-  -- The turn of a compute ends with what is to be done, or it is abandoned where the closure did not say.
+  -- The turn of a compute ends with the operation that the closure returned, or is abandoned if the closure failed.
   abbrev pub EndsCompute : List (AcceptedStep K V E) → Name K → Option (Op V) → ℕ → Result (calls.Answer K V E) Refused →
       (List (AcceptedStep K V E) → Type 0) → Type 0
   EndsCompute steps name (Some op) now answer Stands =
       EndsTurn eq is_clone is_infallible settings steps name (outcomes.Op op) now answer Stands
   EndsCompute steps name None now answer Stands = (answer ≡ Ok Done) × Stands (after eq settings (Abandon name) steps)
 
-  -- A form of a compute is its begin, and where that opens a turn, the end of the turn with what the closure said. `shown` is the
-  -- entry that the closure was shown, if there was one, and `given` what it said, none where it was not asked; `Stands` says for
-  -- which steps the state stands then.
+  -- A compute with a closure is its begin and, if that opens a turn, the end of the turn with what the closure
+  -- returned. `shown` is the live entry that the closure got, if any. `given` is what it returned; none if it did not
+  -- run. `Stands` holds of the history of the new state.
   abbrev pub IsComputeForm : List (AcceptedStep K V E) → Call K V E → ℕ → Option (calls.Entry K V) → Option (Option (Op V)) →
       Result (calls.Answer K V E) Refused → (List (AcceptedStep K V E) → Type 0) → Type 0
   IsComputeForm steps begin now shown None (Ok answer) Stands = ⊥

@@ -1,4 +1,4 @@
--- What the forms give that answer entries.
+-- The results of loaders that return entries.
 use Rattle.std.specs.Prelude.{Option, Some, None, Result, Ok, Err}
 use Rattle.std.specs.Arc.{arc_value}
 use Rattle.std.specs.declared.sync.Arc.{Arc}
@@ -9,13 +9,13 @@ use Rattle.moka_model.specs.Entries.{entry_of}
 use Rattle.moka_model.specs.Calls.{Answer, Entered, GaveError, GaveNothing}
 
 module _ {K V E : Type 0} where
-  -- what the result of one that may answer none is to the definitions
+  -- The result of a loader that may return no entry, as an answer of the specification.
   abbrev pub of_optional : Result (Option (Entry K V)) Refused → Result (Answer K V E) Refused
   of_optional (Ok (Some entry)) = Ok (Entered (entry_of entry))
   of_optional (Ok None) = Ok GaveNothing
   of_optional (Err cause) = Err cause
 
-  -- and of one that may answer an error
+  -- The result of a loader that may return an error, as an answer of the specification.
   abbrev pub of_tried : Result (Result (Entry K V) (Arc E Global)) Refused → Result (Answer K V E) Refused
   of_tried (Ok (Ok entry)) = Ok (Entered (entry_of entry))
   of_tried (Ok (Err error)) = Ok (GaveError (arc_value error))

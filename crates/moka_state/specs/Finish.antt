@@ -1,4 +1,4 @@
--- How the end of a turn goes.
+-- The end of a turn with an outcome.
 use Rattle.std.specs.Prelude.{⊤, ◌≡◌, ◌<◌, ℕ, true, Option, Some, IsSome, IfSome, Result, OnOk, OnErr, IfOk, IfErr}
 use Rattle.std.specs.Arc.{arc_value}
 use Rattle.std.specs.declared.sync.Arc.{Arc}
@@ -25,24 +25,24 @@ use Rattle.moka_state.specs.declared.answers.FinishRefused.{FinishRefused}
 use Rattle.moka_state.specs.declared.finish.Copies.{Copies}
 use Rattle.moka_state.specs.Given.{of_finish}
 
--- an outcome as the definitions have it: its error is shared already
+-- An outcome as the specification has it: with the error itself instead of its `Arc`.
 abbrev pub outcome_of : {V E : Type 0} → Outcome V (Arc E Global) → Outcome V E
 outcome_of (outcomes.Value v) = outcomes.Value v
 outcome_of outcomes.Nothing = outcomes.Nothing
 outcome_of (outcomes.Failed e) = outcomes.Failed (arc_value e)
 outcome_of (outcomes.Op op) = outcomes.Op op
 
--- a turn of the kind may end with the outcome
+-- A turn of this kind may end with this outcome.
 abbrev pub Fits : {V : Type 0} (E : Type 0) → Kind → Outcome V E → Type 0
 Fits E kind outcome = fits kind outcome ≡ true
 
--- what a caller owes of an outcome: that its value is kept, if one is written
+-- What the caller owes for an outcome: a value that is to be written satisfies the invariant.
 abbrev pub OutcomeKeeps : {V E : Type 0} → (V → Type 0) → Outcome V E → Type 0
 OutcomeKeeps keeps (outcomes.Value v) = keeps v
 OutcomeKeeps keeps (outcomes.Op (ops.Put v)) = keeps v
 OutcomeKeeps keeps outcome = ⊤
 
--- the copies for the end of a turn with a value, for which so many wait
+-- The clones for the end of a turn with a value that `waiting` callers wait for.
 pub record IsCopiesOf {K V : Type 0} (is_clone : V → V → Type 0) (turn : Turn K) (value : V) (waiting : ℕ)
     (copies : Copies K V) : Type 0 where
   pub key : arc_value copies.key ≡ arc_value turn.key.key
@@ -50,14 +50,14 @@ pub record IsCopiesOf {K V : Type 0} (is_clone : V → V → Type 0) (turn : Tur
   pub waited : 0 < waiting → IsSome copies.kept
   pub kept : IfSome copies.kept (is_clone value)
 
--- what an ended turn is answered is its outcome: under its key a copy of the value, or the error itself
+-- The result of a loader's turn is its outcome: a clone of the value under the turn's key, nothing, or the same error.
 abbrev pub IsGiven : {K V E : Type 0} → (V → V → Type 0) → K → Outcome V (Arc E Global) → Answer K V E → Type 0
 IsGiven is_clone key (outcomes.Value v) (answers.Entry entry) = ((entry_of entry).key ≡ key) × is_clone v (entry_of entry).value
 IsGiven is_clone key outcomes.Nothing answers.Nothing = ⊤
 IsGiven is_clone key (outcomes.Failed e) (answers.Failed f) = f ≡ e
 IsGiven is_clone key outcome answer = ⊥
 
--- what an ended compute is answered is what was to be done: under its key a copy of the value that was put, or what stood, if anything
+-- The result of a compute fits its operation, and has the turn's key. A value that was put is there as a clone.
 abbrev pub IsComputed : {K V : Type 0} → (V → V → Type 0) → K → Op V → CompResult K V → Type 0
 IsComputed is_clone key (ops.Put v) (results.Inserted entry) = ((entry_of entry).key ≡ key) × is_clone v (entry_of entry).value
 IsComputed is_clone key (ops.Put v) (results.ReplacedWith entry) = ((entry_of entry).key ≡ key) × is_clone v (entry_of entry).value
@@ -67,13 +67,14 @@ IsComputed is_clone key ops.Nop (results.StillNone own) = arc_value own ≡ key
 IsComputed is_clone key ops.Nop (results.Unchanged entry) = (entry_of entry).key ≡ key
 IsComputed is_clone key op result = ⊥
 
+-- The result of a finish is that of a loader's turn or that of a compute.
 abbrev pub IsFinished : {K V E : Type 0} → (V → V → Type 0) → K → Outcome V (Arc E Global) → Finished K V E → Type 0
 IsFinished is_clone key outcome (finishes.Answer answer) = IsGiven is_clone key outcome answer
 IsFinished is_clone key (outcomes.Op op) (finishes.Computed result) = IsComputed is_clone key op result
 IsFinished is_clone key outcome (finishes.Computed result) = ⊥
 
--- A turn ends with an outcome: the definitions give what is answered, or what is refused. Where it is done, what follows holds,
--- and the answer is the outcome. Where it is refused, nothing has changed, and turn and outcome come back. The settings stay.
+-- A finish ends as `gives` says, and keeps the settings. If it succeeds, `follows` holds, and the result is the
+-- outcome. If it fails, nothing has changed, and the turn and the outcome come back.
 pub record FinishEnds {K V H W X F E : Type 0} (is_clone : V → V → Type 0) (gives : Result (calls.Answer K V E) Refused → Type 0)
     (follows : Type 0) (old new : StateData K V H W X F E) (turn : Turn K) (outcome : Outcome V (Arc E Global))
     (result : Result (Finished K V E) (FinishRefused K V E)) : Type 0 where

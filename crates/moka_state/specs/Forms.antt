@@ -1,4 +1,4 @@
--- How a form of an initializer goes: it begins, asks the closure and finishes at one moment.
+-- Loaders: begin, closure and finish at one moment.
 use Rattle.std.specs.Prelude.{⊤, ◌≡◌, ℕ, Bool, Option, Some, None, List, Result, Ok, Err}
 use Rattle.std.specs.Arc.{arc_value}
 use Rattle.std.specs.declared.sync.Arc.{Arc}
@@ -16,72 +16,74 @@ use Rattle.moka_state.specs.declared.answers.Answer.{Answer}
 use Rattle.moka_state.specs.Given.{Gives, of_answer}
 
 module _ {K V E : Type 0} where
-  -- what the end of a turn is to the definitions
+  -- The result of the end of a turn, as an answer of the specification.
   abbrev pub of_end : Result (Answer K V E) Refused → Result (calls.Answer K V E) Refused
   of_end (Ok answer) = Ok (of_answer answer)
   of_end (Err cause) = Err cause
 
-  -- the call that ends a form's turn: its finish, and where that is refused, an abandon
+  -- The call that ends a loader's turn: its finish or, if that fails, an abandon.
   abbrev pub end_call : Name K → Outcome V E → ℕ → Result (calls.Answer K V E) Refused → Call K V E
   end_call name outcome now (Ok answer) = Finish name outcome now
   end_call name outcome now (Err cause) = Abandon name
 
-  -- the live value was answered
+  -- The begin found the live value.
   abbrev pub IsEntered : calls.Answer K V E → Type 0
   IsEntered (Entered entry) = ⊤
   IsEntered answer = ⊥
 
-  -- a form answers the value of an entry, or is refused
+  -- A loader returns the value of the entry, or the cause of the failure.
   abbrev pub IsValue : Result (calls.Answer K V E) Refused → Result V Refused → Type 0
   IsValue (Ok (Entered entry)) (Ok value) = value ≡ entry.value
   IsValue (Err cause) (Err refused) = refused ≡ cause
   IsValue answer result = ⊥
 
-  -- or it answers that there is none
+  -- A loader returns the value of the entry, or none if there is none, or the cause of the failure.
   abbrev pub IsOptional : Result (calls.Answer K V E) Refused → Result (Option V) Refused → Type 0
   IsOptional (Ok (Entered entry)) (Ok (Some value)) = value ≡ entry.value
   IsOptional (Ok GaveNothing) (Ok None) = ⊤
   IsOptional (Err cause) (Err refused) = refused ≡ cause
   IsOptional answer result = ⊥
 
-  -- or an error
+  -- The end of a turn with an error returns the error in an `Arc`, or the cause of the failure.
   abbrev pub IsFailed : Result (calls.Answer K V E) Refused → Result (Arc E Global) Refused → Type 0
   IsFailed (Ok (GaveError error)) (Ok shared) = arc_value shared ≡ error
   IsFailed (Err cause) (Err refused) = refused ≡ cause
   IsFailed answer result = ⊥
 
+  -- A loader returns the value of the entry, or the error in an `Arc`, or the cause of the failure.
   abbrev pub IsTried : Result (calls.Answer K V E) Refused → Result (Result V (Arc E Global)) Refused → Type 0
   IsTried (Ok (Entered entry)) (Ok (Ok value)) = value ≡ entry.value
   IsTried (Ok (GaveError error)) (Ok (Err shared)) = arc_value shared ≡ error
   IsTried (Err cause) (Err refused) = refused ≡ cause
   IsTried answer result = ⊥
 
-  -- P holds where a form is refused and its closure was not asked
+  -- P if the loader failed and its closure did not run.
   abbrev pub IfRefusedUnasked : {G : Type 0} → Type 0 → Option G → Result (calls.Answer K V E) Refused → Type 0
   IfRefusedUnasked P None (Err cause) = P
   IfRefusedUnasked P given answer = ⊤
 
 module _ {V E : Type 0} where
-  -- the outcomes that closures give
+  -- The outcome of a closure that may return no value.
   abbrev pub optional_outcome : Option V → Outcome V E
   optional_outcome (Some value) = outcomes.Value value
   optional_outcome None = outcomes.Nothing
 
+  -- The outcome of a closure that may fail.
   abbrev pub tried_outcome : Result V E → Outcome V E
   tried_outcome (Ok value) = outcomes.Value value
   tried_outcome (Err error) = outcomes.Failed error
 
 module _ {K V E : Type 0} (eq : K → K → Bool) (is_clone : V → V → Type 0) (is_infallible : V → Type 0) (settings : Settings K V) where
-  -- A turn ends with an outcome: its finish is answered so, and then the state stands for the steps with the finish. Or the
-  -- finish is refused, and it stands for them with an abandon.
+  -- A turn ends with an outcome. The history of the new state goes on with the finish or, if that fails, with an
+  -- abandon.
   abbrev pub EndsTurn : List (AcceptedStep K V E) → Name K → Outcome V E → ℕ → Result (calls.Answer K V E) Refused →
       (List (AcceptedStep K V E) → Type 0) → Type 0
   EndsTurn steps name outcome now answer Stands =
       Gives eq is_clone is_infallible settings steps (Finish name outcome now) answer
       × Stands (after eq settings (end_call name outcome now answer) steps)
 
-  -- A form is its begin, and where that opens a turn, the end of the turn with what the closure gave. `given` is what it gave,
-  -- none where it was not asked; `Stands` says for which steps the state stands then.
+  -- A loader is its begin and, if that opens a turn, the end of the turn with what the closure returned. `given` is
+  -- what it returned; none if it did not run. `Stands` holds of the history of the new state.
   abbrev pub IsForm : List (AcceptedStep K V E) → Call K V E → ℕ → Option (Outcome V E) → Result (calls.Answer K V E) Refused →
       (List (AcceptedStep K V E) → Type 0) → Type 0
   IsForm steps begin now None (Ok answer) Stands =

@@ -1,4 +1,4 @@
--- What a call gives: an answer, or a refusal.
+-- What a call returns after a history: an answer of the specification, or an error whose cause holds.
 use Rattle.std.specs.Prelude.{⊤, ◌≡◌, Bool, Option, List, Result, Ok, Err, option_map}
 use Rattle.std.specs.Arc.{arc_value}
 use Rattle.moka_policy.specs.declared.policy.Refused.{Refused}
@@ -31,15 +31,17 @@ use Rattle.moka_state.specs.declared.answers.Begun.TheVariants as begins
 use Rattle.moka_state.specs.declared.answers.BegunCompute.{BegunCompute}
 use Rattle.moka_state.specs.declared.answers.BegunCompute.TheVariants as computes
 
--- A call finds out that it is out of numbers before it asks for memory; a begin takes its share of the key before that.
+-- The call checks for a sequence number before it needs memory. The begins do not: they share or allocate the key
+-- first.
 abbrev pub CountsFirst : {K V E : Type 0} → Call K V E → Type 0
 CountsFirst (Begin k kind replace at) = ⊥
 CountsFirst (BeginCompute k keep at) = ⊥
 CountsFirst call = ⊤
 
--- A call is accepted with the definitions' answer, and not out of numbers. Or it is refused, and that is so for which it is: for
--- want of memory only where it is accepted and may take some, and not for want of numbers, where it counts first; and for its name
--- only where it is not accepted.
+-- The call succeeds with an answer of the specification, and is not out of sequence numbers. Or it fails with a cause
+-- that holds. `NumbersUsedUp` needs a call that is out of sequence numbers. `OutOfMemory` needs one that may allocate,
+-- and that is not out of numbers if it checks for these first. `UnknownTurn` and `UnknownTicket` need one that the
+-- specification does not accept. There is no other cause.
 abbrev pub Gives : {K V E : Type 0} → (K → K → Bool) → (V → V → Type 0) → (V → Type 0) → Settings K V → List (AcceptedStep K V E) →
     Call K V E → Result (calls.Answer K V E) Refused → Type 0
 Gives eq is_clone is_infallible settings steps call (Ok answer) =
@@ -53,54 +55,63 @@ Gives eq is_clone is_infallible settings steps call (Err causes.TurnIsOpen) = �
 Gives eq is_clone is_infallible settings steps call (Err causes.WaitsAbandoned) = ⊥
 
 module _ {K V E : Type 0} where
-  -- what the results of the calls are to the definitions
+  -- The result of a call without a value, as an answer of the specification. The next definitions do the same for other
+  -- calls.
   abbrev pub of_done : Result (Unit {0}) Refused → Result (calls.Answer K V E) Refused
   of_done (Ok done) = Ok Done
   of_done (Err cause) = Err cause
 
+  -- The outcome of a loader's turn.
   abbrev pub of_answer : Answer K V E → calls.Answer K V E
   of_answer (answers.Entry entry) = Entered (entry_of entry)
   of_answer answers.Nothing = GaveNothing
   of_answer (answers.Failed error) = GaveError (arc_value error)
 
+  -- What a successful collect returns.
   abbrev pub of_collected : Collected K V E → calls.Answer K V E
   of_collected (collects.Ready answer) = of_answer answer
   of_collected (collects.NotYet ticket) = NotYet
   of_collected collects.Abandoned = WasAbandoned
   of_collected collects.Ended = HasEnded
 
+  -- The result of a collect.
   abbrev pub of_collect : Result (Collected K V E) (CollectRefused K) → Result (calls.Answer K V E) Refused
   of_collect (Ok collected) = Ok (of_collected collected)
   of_collect (Err refused) = Err refused.cause
 
+  -- The result of a finish.
   abbrev pub of_finish : Result (Finished K V E) (FinishRefused K V E) → Result (calls.Answer K V E) Refused
   of_finish (Ok (finishes.Answer answer)) = Ok (of_answer answer)
   of_finish (Ok (finishes.Computed result)) = Ok (of_computed result)
   of_finish (Err refused) = Err refused.cause
 
+  -- What a successful begin returns.
   abbrev pub of_begun : Begun K V → calls.Answer K V E
   of_begun (begins.Found entry) = Entered (entry_of entry)
   of_begun (begins.Run turn) = Run (turn_name turn) Option.None
   of_begun (begins.Wait ticket) = Wait (ticket_name ticket)
 
+  -- The result of a begin.
   abbrev pub of_begin : Result (Begun K V) Refused → Result (calls.Answer K V E) Refused
   of_begin (Ok begun) = Ok (of_begun begun)
   of_begin (Err cause) = Err cause
 
+  -- What a successful begin of a compute returns.
   abbrev pub of_begun_compute : BegunCompute K V → calls.Answer K V E
   of_begun_compute (computes.Run turn entry) = Run (turn_name turn) (option_map entry_of entry)
   of_begun_compute (computes.Wait ticket) = Wait (ticket_name ticket)
 
+  -- The result of the begin of a compute.
   abbrev pub of_begin_compute : Result (BegunCompute K V) Refused → Result (calls.Answer K V E) Refused
   of_begin_compute (Ok begun) = Ok (of_begun_compute begun)
   of_begin_compute (Err cause) = Err cause
 
-  -- P holds of a ticket that is handed back
+  -- P of the ticket, if it comes back unspent.
   abbrev pub IfUnspent : (Ticket K → Type 0) → Collected K V E → Type 0
   IfUnspent P (collects.NotYet ticket) = P ticket
   IfUnspent P collected = ⊤
 
--- what a ticket is told is this answer
+-- What the table of turns returns for a ticket of this name, as an answer of the specification.
 abbrev pub told_as : {K V E : Type 0} → Name K → Told K V E → calls.Answer K V E
 told_as name (tells.NotYet ticket) = NotYet
 told_as name (tells.Ended key end) = answer_by name (end_of end)

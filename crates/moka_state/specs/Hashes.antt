@@ -1,4 +1,4 @@
--- Hashes of keys, as who calls a state hands them in.
+-- Hashes of keys that callers pass in.
 use Rattle.std.specs.Prelude.{◌≡◌, ⊤, ℕ}
 use Rattle.std.specs.Arc.{arc_value}
 use Rattle.moka_model.specs.Lives.{Settings}
@@ -6,11 +6,11 @@ use Rattle.moka_state.specs.declared.step.Step.{Step}
 use Rattle.moka_state.specs.declared.step.Step.TheVariants.{Get, ContainsKey, Insert, Invalidate, Remove}
 use Rattle.moka_state.specs.declared.step.Step.TheVariants.{OrInsert, Begin, BeginCompute, Finish, Abandon, Collect, Leave}
 
--- a number is the hash of a key, by the hasher that these settings have
+-- The number is the hash of the key, by the hasher of these settings.
 abbrev pub IsHashOf : {K V : Type 0} → Settings K V → K → ℕ → Type 0
 IsHashOf settings key hash = hash ≡ settings.behaviour.hash key
 
--- and that of the key of a step, if it has one
+-- The number is the hash of the step's key. For a step without a key, any number will do.
 abbrev pub IsHashOfStep : {K V C H W X P F L T E S : Type 0} → Settings K V → Step K V C H W X P F L T E S → ℕ → Type 0
 IsHashOfStep settings (Get key now) hash = IsHashOf settings (arc_value key) hash
 IsHashOfStep settings (ContainsKey key now) hash = IsHashOf settings (arc_value key) hash

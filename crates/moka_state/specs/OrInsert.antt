@@ -1,4 +1,4 @@
--- How a call goes that answers the live value of a key, and writes one where there is none.
+-- Calls that return the live value of a key, and write one if there is none.
 use Rattle.std.specs.Prelude.{◌≡◌, Result, Ok, Err, OnOk, OnErr}
 use Rattle.moka_policy.specs.declared.policy.Refused.{Refused}
 use Rattle.moka_model.specs.declared.entry.Entry.{Entry}
@@ -8,16 +8,17 @@ use Rattle.moka_ways.specs.StateData.{StateData}
 use Rattle.moka_state.specs.declared.or_insert.OrInsertRefused.{OrInsertRefused}
 
 module _ {K V E : Type 0} where
-  -- what its results are to the definitions
+  -- The result of an `or_insert`, as an answer of the specification.
   abbrev pub of_or_insert : Result (Entry K V) (OrInsertRefused V) → Result (Answer K V E) Refused
   of_or_insert (Ok entry) = Ok (Entered (entry_of entry))
   of_or_insert (Err refused) = Err refused.cause
 
+  -- The result of an `or_default`, as an answer of the specification.
   abbrev pub of_or_default : Result (Entry K V) Refused → Result (Answer K V E) Refused
   of_or_default (Ok entry) = Ok (Entered (entry_of entry))
   of_or_default (Err cause) = Err cause
 
--- It gives what the definitions give. Where it is done, what follows holds, and where it is refused, nothing has changed.
+-- The call returns what `gives` says. If it succeeds, `follows` holds; if it fails, nothing has changed.
 pub record OrInsertEnds {K V H W X F E Q : Type 0} (gives follows : Type 0) (old new : StateData K V H W X F E)
     (result : Result (Entry K V) Q) : Type 0 where
   pub reply : gives

@@ -1,4 +1,4 @@
--- What a state keeps, by its fields.
+-- What a state shows as data, made of its fields.
 use Rattle.std.specs.Prelude.{◌≡◌, ℕ, Bool, List, ◌++◌, map, option_map, Option, String}
 use Rattle.std.specs.Arc.{arc_value}
 use Rattle.std.specs.List.{AllByRecursion}
@@ -15,7 +15,7 @@ use Rattle.moka_table.specs.Table.{Contents, entries, stored_writes, removal_of}
 use Rattle.moka_ways.specs.Lives.{AreDated}
 pub use Rattle.moka_ways.specs.StateData.{SettingsData, StateData}
 
--- the settings of a state that is built with these
+-- The settings of a state that is built from these.
 abbrev pub settings_of : {H W X : Type 0} → Option (String Global) → Option Duration → Option Duration → Option ℕ → ℕ → Bool →
     Option ℕ → BehaviourData H W X → SettingsData H W X
 settings_of name time_to_live time_to_idle max_capacity first_number closures flush_limit behaviour = record {
@@ -29,16 +29,16 @@ settings_of name time_to_live time_to_idle max_capacity first_number closures fl
   behaviour = behaviour;
 }
 
--- all stored writes
+-- All stored writes: first the resident entries, then the pending ones.
 abbrev pub all_writes : {K V H W X F E : Type 0} → StateData K V H W X F E → List (Write K V)
 all_writes state = state.books.orders.admitted ++ state.books.orders.waiting
 
 module _ {K V : Type 0} where
-  -- the writes that the rows of a table store, in their two orders
+  -- The writes that the rows of a table store, in the access order and in the arrival order.
   abbrev pub stored_orders : Contents K V → Queues (Write K V)
   stored_orders contents = record { admitted = stored_writes contents.admitted; waiting = stored_writes contents.waiting }
 
-  -- the books, by a table, the latest moment and the next number
+  -- The books, made of a table, the latest moment and the next sequence number.
   abbrev pub books_by : Contents K V → ℕ → ℕ → Books K V
   books_by contents latest next_number = record {
     orders = stored_orders contents;
@@ -47,8 +47,8 @@ module _ {K V : Type 0} where
     next_number = next_number;
   }
 
-  -- Each row has the hash of its key, and keeps the deadline of its value; and each key and value, stored or noticed,
-  -- are in the relation that the cache keeps.
+  -- Each row has the hash of its key, and the deadline of its value. Each key with its value, stored or in a notice,
+  -- satisfies the value invariant.
   pub record IsSound (keeps : K → V → Type 0) (hash_of : K → ℕ) (lives : Lives) (contents : Contents K V) : Type 0 where
     pub dated : AreDated lives (entries contents)
     pub hashed : AllByRecursion (λ p. p.1.hash ≡ hash_of (arc_value p.1.key)) (entries contents)

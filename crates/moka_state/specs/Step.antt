@@ -1,4 +1,4 @@
--- Steps and replies as data, and what a run of steps answers.
+-- Steps and replies as data, and the replies of a run of steps.
 use Rattle.std.specs.Prelude.{⊤, Bool, List, [], ◌∷◌, Some, None, Err, option_map}
 use Rattle.std.specs.Arc.{arc_value}
 use Rattle.moka_predicate_ids.specs.declared.predicate_error.PredicateError.TheVariants.{InvalidationClosuresDisabled}
@@ -21,9 +21,9 @@ use Rattle.moka_state.specs.declared.step.Reply.TheVariants.{Found, Contains, Do
 use Rattle.moka_state.specs.declared.step.Reply.TheVariants.{Entered, Run, Wait, Nothing, Failed, Computed, NotYet, Abandoned, Ended}
 use Rattle.moka_table.specs.Table.{removal_of}
 
--- Steps of a cache's own types: of its keys and values, its predicates P, and the others that it names.
+-- Steps over a cache's own types: its keys K, its values V, its predicates P, and the others that it names.
 module _ {K V C H W X P F L T E S : Type 0} where
-  -- The call that a step is, by the test that each predicate answers.
+  -- The call of a step, given the test that each predicate computes.
   abbrev pub call_of : (P → K → V → Bool) → Step K V C H W X P F L T E S → Call K V E
   call_of test (Get key now) = Call.Get (arc_value key) now
   call_of test (ContainsKey key now) = Call.ContainsKey (arc_value key) now
@@ -45,18 +45,18 @@ module _ {K V C H W X P F L T E S : Type 0} where
   call_of test (Collect name) = Call.Collect (name_by name)
   call_of test (Leave name) = Call.Leave (name_by name)
 
--- The values' type says what a copy is, and of which values copies never fail.
+-- The type of the values says what a clone is, and of which values clones cannot fail.
 module _ {K V E : Type 0} (eq : K → K → Bool) (is_clone : V → V → Type 0) (settings : Settings K V)
     (steps : List (AcceptedStep K V E)) where
-  -- a call is accepted with this answer, and it is not out of numbers
+  -- The call is accepted with this answer, and is not out of sequence numbers.
   abbrev pub IsAccepted : Call K V E → Answer K V E → Type 0
   IsAccepted call answer = IsAnswerOf is_clone (accepted eq settings steps call) answer × ¬ (IsOutOfNumbers eq settings steps call)
 
 module _ {K V C H W X P F L T E S : Type 0} (eq : K → K → Bool) (is_clone : V → V → Type 0) (is_infallible : V → Type 0)
     (settings : Settings K V) (steps : List (AcceptedStep K V E)) where
-  -- An accepted call answers what the definitions give, and one that draws a number is accepted only where one is left. A
-  -- refused one says for want of what it was refused, and that is so: for want of memory only where it was not for want of
-  -- numbers. A predicate is refused exactly where the call is refused by its name.
+  -- The reply is right for the call. An accepted call has an answer of the specification, and draws a sequence number
+  -- only if one is left. A failed one has a cause that holds, as `Gives` says. A predicate fails with
+  -- `InvalidationClosuresDisabled`, exactly if the specification does not accept the call.
   abbrev pub IsReplyTo : Call K V E → Reply K V C H W X P F L T E S → Type 0
   IsReplyTo call (Found v) = IsAccepted eq is_clone settings steps call (Answer.Found v)
   IsReplyTo call (Contains b) = IsAccepted eq is_clone settings steps call (Answer.Contains b)
@@ -78,21 +78,21 @@ module _ {K V C H W X P F L T E S : Type 0} (eq : K → K → Bool) (is_clone : 
   IsReplyTo call (PredicateRefused predicates.OutOfMemory) = ⊥
 
 module _ {K V C H W X P F L T E S : Type 0} (eq : K → K → Bool) (settings : Settings K V) where
-  -- The accepted steps after a reply to a call: a refused call leaves them as they are.
+  -- The accepted steps after a reply to a call. A failed call leaves them as they are.
   abbrev pub after_reply : Call K V E → Reply K V C H W X P F L T E S → List (AcceptedStep K V E) → List (AcceptedStep K V E)
   after_reply call (Refused cause) steps = steps
   after_reply call (PredicateRefused cause) steps = steps
   after_reply call reply steps = after eq settings call steps
 
 module _ {K V C H W X P F L T E S : Type 0} (eq : K → K → Bool) (test : P → K → V → Bool) (settings : Settings K V) where
-  -- those after a run, on those before it
+  -- The accepted steps after a run.
   abbrev pub after_all : List (Step K V C H W X P F L T E S) → List (Reply K V C H W X P F L T E S) → List (AcceptedStep K V E) →
       List (AcceptedStep K V E)
   after_all [] replies steps = steps
   after_all (step ∷ rest) [] steps = steps
   after_all (step ∷ rest) (reply ∷ replies) steps = after_all rest replies (after_reply eq settings (call_of test step) reply steps)
 
-  -- Each reply is the step's, after the accepted steps before it, and there are as many replies as steps.
+  -- There are as many replies as steps, and each is right for its step, after the accepted steps before it.
   abbrev pub IsRun : (V → V → Type 0) → (V → Type 0) → List (AcceptedStep K V E) → List (Step K V C H W X P F L T E S) →
       List (Reply K V C H W X P F L T E S) → Type 0
   IsRun is_clone is_infallible steps [] [] = ⊤
@@ -103,8 +103,8 @@ module _ {K V C H W X P F L T E S : Type 0} (eq : K → K → Bool) (test : P �
   IsRun is_clone is_infallible steps (step ∷ rest) [] = ⊥
 
 module _ {K V C H W X P F L T E S : Type 0} (keeps : K → V → Type 0) where
-  -- What a caller owes of a step: a writer that the pair keeps, also who ends a turn with a value; and who hides by a predicate
-  -- that it answers its test.
+  -- What the caller owes for a step: a value that may be written satisfies the invariant with its key, and a predicate
+  -- computes its test.
   abbrev pub StepKeeps : (P → (K → V → Bool) → Type 0) → (P → K → V → Bool) → Step K V C H W X P F L T E S → Type 0
   StepKeeps tests test (Insert key value now) = keeps (arc_value key) value
   StepKeeps tests test (OrInsert key value now) = keeps (arc_value key) value
@@ -112,7 +112,8 @@ module _ {K V C H W X P F L T E S : Type 0} (keeps : K → V → Type 0) where
   StepKeeps tests test (Finish name outcome now) = OutcomeKeeps (keeps (arc_value name.key)) outcome
   StepKeeps tests test step = ⊤
 
-  -- what a reader gets
+  -- What the caller gets. A value that was found or removed satisfies the invariant with the step's key; that of an
+  -- entry or a notice, with its own key. Nothing is said of a finish or a collect.
   abbrev pub ReplyKeeps : Step K V C H W X P F L T E S → Reply K V C H W X P F L T E S → Type 0
   ReplyKeeps (Get key now) (Found (Some v)) = keeps (arc_value key) v
   ReplyKeeps (Remove key now) (Found (Some v)) = keeps (arc_value key) v

@@ -1,13 +1,13 @@
--- How a write ends.
+-- The end of a write.
 use Rattle.std.specs.Prelude.{◌≡◌, ◌↔◌, ◌⊎◌, true, false, Result, IsOk, OnOk, OnErr, IfErr, IsErrAnd}
 use Rattle.moka_policy.specs.declared.policy.Refused.TheVariants.{OutOfMemory, NumbersUsedUp}
 use Rattle.moka_model.specs.Numbers.{greatest_number, stores_nothing}
 use Rattle.moka_ways.specs.StateData.{StateData}
 use Rattle.moka_state.specs.declared.state.InsertRefused.{InsertRefused}
 
--- How a write of a value for a key ends that finds one state and leaves another. Where it is done, what follows holds. Where
--- it is refused, whatever refuses it, nothing has changed, and what was given comes back. It is refused for want of numbers
--- exactly where one is to be drawn and none is left, and else for want of memory; where nothing is stored it is done.
+-- A write of a value under a key ends, between an old state and a new one. If it succeeds, `follows` holds. If it
+-- fails, nothing has changed, and the key and the value come back. It fails with `NumbersUsedUp` exactly if it needs a
+-- sequence number and none is left, and otherwise only with `OutOfMemory`. If nothing is stored it succeeds.
 pub record WriteEnds {K V H W X F E Q T : Type 0} (follows : Type 0) (old new : StateData K V H W X F E) (key : Q) (value : V)
     (result : Result T (InsertRefused Q V)) : Type 0 where
   pub stands : OnOk result follows

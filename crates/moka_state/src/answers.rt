@@ -1,4 +1,4 @@
-//! What the calls of turns answer, and what they hand back.
+//! The results of the calls of turns, and the errors that hand their arguments back.
 ghost use Rattle.std.specs.Prelude.{◌≡◌};
 ghost use Rattle.std.specs.Arc.{arc_value};
 ghost use Rattle.moka_model.specs.Turns.{Name};
@@ -17,68 +17,69 @@ use moka_turns::handles::{Ticket, Turn};
 use moka_turns::table::{Told, TurnEnd};
 use std::sync::Arc;
 
-/// The answer of a begin. It can't be dropped: a turn is ended, and a ticket spent.
+/// The result of a begin. It cannot be dropped: a turn has to be ended, and a ticket spent.
 pub enum Begun<K, V> {
-    /// An acceptable value is live: nobody need work one out.
+    /// An acceptable value is live, so that nothing has to be computed.
     Found(Entry<K, V>),
-    /// The caller is to work the value out, and to end this turn.
+    /// The caller has to compute the value, and to end this turn.
     Run(Turn<K>),
-    /// Another caller works it out: this ticket is for what comes of that.
+    /// Another caller computes the value. This ticket is for the outcome.
     Wait(Ticket<K>),
 }
 
-/// The answer of the begin of a compute. It can't be dropped: a turn is ended, and a ticket spent.
+/// The result of the begin of a compute. It cannot be dropped: a turn has to be ended, and a ticket
+/// spent.
 pub enum BegunCompute<K, V> {
-    /// The caller is to say what is to be done with the value of the key, by the end of this turn. It is
-    /// shown the entry of the live value, if there is one.
+    /// The caller has to end this turn with what is to be done with the key's value. The entry is
+    /// the live one, if there is one.
     Run(Turn<K>, Option<Entry<K, V>>),
-    /// Another caller computes: this ticket is for the end of that.
+    /// Another caller computes. This ticket is for the end of that.
     Wait(Ticket<K>),
 }
 
-/// What an initializer gave.
+/// The outcome of a loader's turn.
 #[derive(Debug, Drop)]
 pub enum Answer<K, V, E> {
-    /// A value.
+    /// A value, with its key.
     Entry(Entry<K, V>),
     /// No value.
     Nothing,
-    /// An error in place of a value.
+    /// An error instead of a value.
     Failed(Arc<E>),
 }
 
-/// The answer of a finish.
+/// The result of a finish.
 #[derive(Debug, Drop)]
 pub enum Finished<K, V, E> {
-    /// What the initializer gave.
+    /// The outcome of a loader's turn.
     Answer(Answer<K, V, E>),
-    /// What became of the value, where the turn was a compute.
+    /// The result of a compute.
     Computed(CompResult<K, V>),
 }
 
-/// What a ticket is told. It can't be dropped, since the ticket of a turn that is open is handed back.
+/// The result of a collect. It cannot be dropped, since it may contain the ticket of an open turn.
 pub enum Collected<K, V, E> {
-    /// The turn has ended with this.
+    /// The turn ended with this outcome.
     Ready(Answer<K, V, E>),
-    /// The turn is open still: this is the ticket.
+    /// The turn is still open. This is the ticket, unspent.
     NotYet(Ticket<K>),
     /// The turn was abandoned.
     Abandoned,
-    /// The turn was a compute, and has ended: what it gave is its caller's own.
+    /// The turn was a compute, and has ended. Only the caller that ended it gets the result.
     Ended,
 }
 
-/// A refused `finish`, with the turn and the outcome that it was given.
+/// The error of a failed `finish`, with the turn and the outcome that it was given.
 pub struct FinishRefused<K, V, E> {
     /// The turn, as it was given.
     pub turn: Turn<K>,
     /// The outcome, as it was given.
     pub outcome: Outcome<V, Arc<E>>,
-    /// Why it was refused.
+    /// Why the call failed.
     pub cause: Refused,
 }
 
-// What the end of a turn is to a ticket of it, under the ticket's key.
+// Returns what a ticket gets from the end of its turn. An entry has the ticket's key.
 fn ended<K: Drop, V, E>(key: Arc<K>, end: TurnEnd<V, E>) -> Collected<K, V, E>
     ensures reply { (name : Name K) → arc_value key ≡ name.key →
         of_collected result ≡ answer_by name (end_of end) }
@@ -96,7 +97,7 @@ fn ended<K: Drop, V, E>(key: Arc<K>, end: TurnEnd<V, E>) -> Collected<K, V, E>
     }
 }
 
-/// What a ticket is told, as its caller sees it.
+/// Converts what the table of turns returns for a ticket into what its caller gets.
 pub(crate) fn told_to_caller<K: Drop, V, E>(told: Told<K, V, E>) -> Collected<K, V, E>
     ensures reply { (name : Name K) → IfEnded (λ key. arc_value key ≡ name.key) told →
         of_collected result ≡ told_as name told }

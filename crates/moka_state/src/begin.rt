@@ -1,4 +1,4 @@
-//! The begin of a turn.
+//! The begin of a turn: it finds a live value, waits for an open turn, or opens one.
 ghost use Rattle.std.specs.Prelude.{◌≡◌, ◌≢◌, Bool, Option, None, true, IfOk, IfSome, IsSome, OnErr};
 ghost use Rattle.std.specs.Arc.{arc_value};
 ghost use Rattle.moka_model.specs.Steps.{events_in};
@@ -20,15 +20,25 @@ use std::hash::Hash;
 use std::sync::Arc;
 
 impl<K: Hash + Drop, V: Clone, C: CacheTypes<K, V>, R: RowStore<K, V>> State<K, V, C, R> {
-    /// Begins to work out a value for a key, as an initializer of this kind: answers the live value,
-    /// where there is one and the caller, who is shown it, does not ask to replace it; else a ticket for
-    /// the open turn of the kind and the key, where there is one; and else a turn that is opened for the
-    /// caller to end. In each case the key is looked for at this moment, as by [`State::get`].
+    /// Begins to compute a value for `key`, as a loader of this kind, which must not be `Compute`.
     ///
-    /// It asks for a kind other than `Compute`. Refused with `NumbersUsedUp` where a turn would be
-    /// opened and no number is left, or would be waited for by more callers than can be counted, and
-    /// with `OutOfMemory`; then nothing has changed. On a live key it costs a `get` and a share of the
-    /// key, else a look-up in the table of turns more.
+    /// - Returns the live entry as `Begun::Found`, unless `replace_if` returns true for its value.
+    /// - Else, if a turn of the key and the kind is open, returns a ticket for it as `Begun::Wait`.
+    /// - Else opens a turn, which the caller has to end, and returns it as `Begun::Run`.
+    ///
+    /// In each case this is a recorded lookup, as [`State::get`]. A value that is to be replaced
+    /// counts as absent.
+    ///
+    /// # Errors
+    ///
+    /// - `NumbersUsedUp`: a turn would be opened, and no sequence number is left. Or the open turn
+    ///   already has 2⁶⁴ - 1 unspent tickets.
+    /// - `OutOfMemory`: an allocation or a clone failed.
+    ///
+    /// # Complexity
+    ///
+    /// A hit costs a [`State::get`] and a share of the stored key. Otherwise two lookups in the
+    /// table of turns come on top.
     pub fn begin<F: FnMut(&V) -> bool + Drop>(
         &mut self,
         key: &Arc<K>,
@@ -63,13 +73,20 @@ impl<K: Hash + Drop, V: Clone, C: CacheTypes<K, V>, R: RowStore<K, V>> State<K, 
         }
     }
 
-    /// The entry of a key's live value, where there is one and the caller, who is shown it, does not ask
-    /// to replace it: what [`State::begin`] finds, for who has only lent the key and has its hash, as
-    /// [`State::hash`] answers it. The value is then used at this moment, as by a begin of any kind. A look
-    /// that finds none changes nothing, and is no step: a begin is to follow it.
+    /// Returns the entry of the live value for `key`, or `None` if there is none or `replace_if`
+    /// returns true for it.
     ///
-    /// Refused with `OutOfMemory` for the copy of the value alone, so only where one is live; then nothing
-    /// has changed. The stored key is shared. It costs a `get` without the hash.
+    /// This is the lookup of [`State::begin`], for a key by reference and its hash, as
+    /// [`State::hash`] returns it. A hit counts as an access, as in a begin of any kind. A miss
+    /// changes nothing and is no step: a begin is meant to follow it.
+    ///
+    /// # Errors
+    ///
+    /// - `OutOfMemory`: a value is live, and cloning it failed. The cache is unchanged.
+    ///
+    /// # Complexity
+    ///
+    /// Costs a [`State::get`], without hashing the key, and a share of the stored key.
     pub fn acceptable_entry<F: FnMut(&V) -> bool + Drop>(
         &mut self,
         key: &K,
@@ -106,8 +123,8 @@ impl<K: Hash + Drop, V: Clone, C: CacheTypes<K, V>, R: RowStore<K, V>> State<K, 
         Ok(Some(entry))
     }
 
-    // Waits for the open turn of a kind and a key, or opens one, where a look at the key has just found
-    // no acceptable value. Where it would have to wait and may not, it is refused with `TurnIsOpen`.
+    // Waits for the open turn of a key and a kind, or opens one, after a lookup that found no
+    // acceptable value. Fails with `TurnIsOpen` if it would have to wait and may not.
     pub(crate) fn begin_turn(
         &mut self,
         key: Arc<K>,
@@ -154,11 +171,16 @@ impl<K: Hash + Drop, V: Clone, C: CacheTypes<K, V>, R: RowStore<K, V>> State<K, 
 }
 
 impl<K: Hash + Clone + Drop, V: Clone, C: CacheTypes<K, V>, R: RowStore<K, V>> State<K, V, C, R> {
-    /// As [`State::begin`], for who lends the key. Where a turn is opened or waited for, it is that of a
-    /// copy of the key; a look that finds an acceptable value copies none.
+    /// Works like [`State::begin`], for a key by reference. The key is cloned only if no acceptable
+    /// value is found; the turn or the ticket has the clone.
     ///
-    /// It asks that a copy of a key equals it. Refused as [`State::begin`], and with `OutOfMemory` for
-    /// the copy of the key and its share.
+    /// The prover asks that a clone of a key equals it.
+    ///
+    /// # Errors
+    ///
+    /// As [`State::begin`]. Also:
+    ///
+    /// - `OutOfMemory`: the key could not be cloned into an `Arc`.
     pub fn begin_by_ref<F: FnMut(&V) -> bool + Drop>(
         &mut self,
         key: &K,
@@ -185,8 +207,7 @@ impl<K: Hash + Clone + Drop, V: Clone, C: CacheTypes<K, V>, R: RowStore<K, V>> S
         self.begin_lent(key, kind, replace_if, now, true)
     }
 
-    // A begin by reference, which may wait or not: where it would have to and may not, it is refused
-    // with `TurnIsOpen`.
+    // Works like `begin_by_ref`, but fails with `TurnIsOpen` if it would have to wait and may not.
     pub(crate) fn begin_lent<F: FnMut(&V) -> bool + Drop>(
         &mut self,
         key: &K,
@@ -223,7 +244,7 @@ impl<K: Hash + Clone + Drop, V: Clone, C: CacheTypes<K, V>, R: RowStore<K, V>> S
         }
     }
 
-    // A copy of a key that several may hold. Refused for want of memory alone.
+    // Clones a key into an `Arc`.
     pub(crate) fn share_copy(&self, key: &K) -> Result<Arc<K>, AllocError>
         ensures { IfOk result (λ shared. K.is_clone key.now (arc_value shared)) }
     {

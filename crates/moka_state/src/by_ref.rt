@@ -1,4 +1,4 @@
-//! The forms of initializers with a closure, for who lends the key.
+//! Loaders for a key by reference, which they clone on a miss only.
 ghost use Rattle.std.specs.Prelude.{◌≡◌, ◌≢◌, Option, None, Result, false, true, option_map, IfOk, IfSome};
 ghost use Rattle.moka_model.specs.Calls as calls;
 ghost use Rattle.moka_model.specs.Calls.{Begin};
@@ -16,10 +16,16 @@ use std::hash::Hash;
 use std::sync::Arc;
 
 impl<K: Hash + Clone + Drop, V: Clone, C: CacheTypes<K, V>, R: RowStore<K, V>> State<K, V, C, R> {
-    /// As [`State::get_with`], for who lends the key. What is written stands under a copy of the key; where
-    /// a live value is found no key is copied.
+    /// Works like [`State::get_with`], for a key by reference. A miss clones the key, and a new
+    /// entry is stored under the clone. A hit does not clone it.
     ///
-    /// It asks that a copy of a key equals it.
+    /// The prover asks that a clone of a key equals it.
+    ///
+    /// # Errors
+    ///
+    /// As [`State::get_with`]. Also:
+    ///
+    /// - `OutOfMemory`: cloning the key failed.
     pub fn get_with_by_ref<F: FnOnce() -> V + Drop>(
         &mut self,
         key: &K,
@@ -51,7 +57,8 @@ impl<K: Hash + Clone + Drop, V: Clone, C: CacheTypes<K, V>, R: RowStore<K, V>> S
         }
     }
 
-    /// As [`State::optionally_get_with`], for who lends the key, as [`State::get_with_by_ref`].
+    /// Works like [`State::optionally_get_with`], for a key by reference, as
+    /// [`State::get_with_by_ref`].
     pub fn optionally_get_with_by_ref<F: FnOnce() -> Option<V> + Drop>(
         &mut self,
         key: &K,
@@ -83,7 +90,7 @@ impl<K: Hash + Clone + Drop, V: Clone, C: CacheTypes<K, V>, R: RowStore<K, V>> S
         }
     }
 
-    /// As [`State::try_get_with`], for who lends the key, as [`State::get_with_by_ref`].
+    /// Works like [`State::try_get_with`], for a key by reference, as [`State::get_with_by_ref`].
     pub fn try_get_with_by_ref<F: FnOnce() -> Result<V, C::Error> + Drop>(
         &mut self,
         key: &K,
@@ -115,7 +122,7 @@ impl<K: Hash + Clone + Drop, V: Clone, C: CacheTypes<K, V>, R: RowStore<K, V>> S
         }
     }
 
-    // The begin of a form by reference, which accepts any live value and does not wait.
+    // Does the begin of a loader by reference, which accepts any live value and never waits.
     fn begin_at_once_by_ref(
         &mut self,
         key: &K,

@@ -1,4 +1,4 @@
-//! Computes: one caller is shown the live value of a key, and says what is to be done with it.
+//! Computes: one caller reads the live value of a key, and decides what is done with it.
 ghost use Rattle.std.specs.Prelude.{◌≡◌, true, false, Some, None, if◌then◌else◌, IfOk};
 ghost use Rattle.std.specs.Arc.{arc_value};
 ghost use Rattle.moka_model.specs.Calls.{BeginCompute, Finish, IsCopyOf};
@@ -29,8 +29,8 @@ use std::alloc::AllocError;
 use std::hash::Hash;
 use std::sync::Arc;
 
-// What the begin of a compute finds live: the row, the entry that is shown, and the copy of the value
-// that is kept aside, if one is.
+// What the begin of a compute finds live: the row's number, the entry for the caller, and the clone
+// that is kept aside, if any.
 #[derive(Drop)]
 struct Shown<K, V> {
     number: usize,
@@ -38,7 +38,7 @@ struct Shown<K, V> {
     kept: Option<V>,
 }
 
-// A copy of a value, if it is asked for. Refused for want of memory alone.
+// Clones a value if `keep` is true.
 fn kept_copy<V: Clone>(value: &V, keep: bool) -> Result<Option<V>, AllocError>
     ensures { IfOk result (IsCopyOf V.is_clone (if keep then Some value.now else None)) }
 {
@@ -51,8 +51,8 @@ fn kept_copy<V: Clone>(value: &V, keep: bool) -> Result<Option<V>, AllocError>
     }
 }
 
-// What is live for a key at a moment, with a copy to be kept aside if it is asked for. Refused for want
-// of memory alone, and only where something is live.
+// Finds what is live for a key at a moment, with a clone to keep aside if `keep` is true. Can fail
+// only if a value is live.
 fn look<K: Eq + Drop, V: Clone, R: RowStore<K, V>>(
     table: &Table<K, V, R>,
     key: &K,
@@ -79,7 +79,7 @@ fn look<K: Eq + Drop, V: Clone, R: RowStore<K, V>>(
     }))
 }
 
-// What a compute is answered that does nothing.
+// Makes the result of a compute that does nothing.
 fn left<K, V>(key: Arc<K>, kept: Option<V>) -> CompResult<K, V>
     ensures { IsLeft (arc_value key) kept result }
 {
@@ -89,7 +89,7 @@ fn left<K, V>(key: Arc<K>, kept: Option<V>) -> CompResult<K, V>
     }
 }
 
-// What a compute is answered that removes this.
+// Makes the result of a compute that removes the entry.
 fn removed<K, V>(key: Arc<K>, found: Option<V>) -> CompResult<K, V>
     ensures { IsRemoved (arc_value key) found result }
 {
@@ -99,7 +99,7 @@ fn removed<K, V>(key: Arc<K>, found: Option<V>) -> CompResult<K, V>
     }
 }
 
-// What a compute is answered that puts this, by whether its begin showed a value.
+// Makes the result of a compute that stores a value, by whether its begin found a live one.
 fn put<K, V>(key: Arc<K>, value: V, was_shown: bool) -> CompResult<K, V>
     ensures { IsPut (arc_value key) value was_shown result }
 {
@@ -109,7 +109,7 @@ fn put<K, V>(key: Arc<K>, value: V, was_shown: bool) -> CompResult<K, V>
     CompResult::Inserted(Entry::new(key, value, true, false))
 }
 
-// A refusal of what was to be done.
+// Makes the error of a failed finish.
 fn refused<K, V, E>(turn: Turn<K>, op: Op<V>, cause: Refused) -> FinishRefused<K, V, E>
     ensures { result ≡ record { turn = turn; outcome = Outcome.Op op; cause = cause } }
 {
@@ -121,16 +121,26 @@ fn refused<K, V, E>(turn: Turn<K>, op: Op<V>, cause: Refused) -> FinishRefused<K
 }
 
 impl<K: Hash + Drop, V: Clone, C: CacheTypes<K, V>, R: RowStore<K, V>> State<K, V, C, R> {
-    /// Begins a compute of a key. Where another's is open, it answers a ticket for that, and does not
-    /// look: only the moment is recorded. Else a turn is opened for the caller to end, and the key is
-    /// looked for at this moment, as by [`State::get`]: the caller is shown the entry of the live
-    /// value, if there is one. Who may end it with [`Op::Nop`] and wants to be answered that value then
-    /// asks to keep it: a second copy is kept aside.
+    /// Begins a compute of `key`.
     ///
-    /// Refused with `NumbersUsedUp` where a turn would be opened and no number is left, or would be
-    /// waited for by more callers than can be counted, and with `OutOfMemory`; then nothing has
-    /// changed. It costs a `get`, two shares of the key, a copy where one is to be kept, and two
-    /// look-ups in the table of turns.
+    /// - If another compute of the key is open, returns a ticket for it. Only the moment is
+    ///   recorded then.
+    /// - Else opens a turn, which the caller has to end. Returns it with the live entry, if there
+    ///   is one. This is a recorded lookup, as [`State::get`].
+    ///
+    /// With `keep`, a second clone of the live value is kept aside. A finish with [`Op::Nop`]
+    /// returns it.
+    ///
+    /// # Errors
+    ///
+    /// - `NumbersUsedUp`: a turn would be opened, and no sequence number is left. Or the open turn
+    ///   already has 2⁶⁴ - 1 unspent tickets.
+    /// - `OutOfMemory`: an allocation or a clone failed.
+    ///
+    /// # Complexity
+    ///
+    /// Costs a [`State::get`], two shares of the key, a clone with `keep`, and two lookups in the
+    /// table of turns.
     pub fn begin_compute(
         &mut self,
         key: &Arc<K>,
@@ -156,8 +166,8 @@ impl<K: Hash + Drop, V: Clone, C: CacheTypes<K, V>, R: RowStore<K, V>> State<K, 
         }
     }
 
-    // Waits for the open compute of a key, or opens one. Where it would have to wait and may not, it is
-    // refused with `TurnIsOpen`.
+    // Waits for the open compute of a key, or opens one. Fails with `TurnIsOpen` if it would have
+    // to wait and may not.
     pub(crate) fn begin_computing(
         &mut self,
         key: Arc<K>,
@@ -222,7 +232,7 @@ impl<K: Hash + Drop, V: Clone, C: CacheTypes<K, V>, R: RowStore<K, V>> State<K, 
         Ok(BegunCompute::Run(turn, Some(entry)))
     }
 
-    // Ends a compute with what is to be done.
+    // Ends a compute with an operation.
     pub(crate) fn finish_op(
         &mut self,
         turn: Turn<K>,
@@ -271,7 +281,7 @@ impl<K: Hash + Drop, V: Clone, C: CacheTypes<K, V>, R: RowStore<K, V>> State<K, 
         Ok(Finished::Computed(left(key, open.kept)))
     }
 
-    // Ends a compute that removes the value.
+    // Ends a compute that removes the entry.
     fn finish_remove(
         &mut self,
         turn: Turn<K>,
@@ -331,7 +341,7 @@ impl<K: Hash + Drop, V: Clone, C: CacheTypes<K, V>, R: RowStore<K, V>> State<K, 
         self.put_stored(turn, value, now)
     }
 
-    // Ends a compute that puts a value, where nothing is stored.
+    // Ends a compute that puts a value which is not stored, since the capacity is 0.
     fn put_unstored(
         &mut self,
         turn: Turn<K>,
@@ -361,7 +371,7 @@ impl<K: Hash + Drop, V: Clone, C: CacheTypes<K, V>, R: RowStore<K, V>> State<K, 
         Ok(Finished::Computed(put(key, copy, open.shown)))
     }
 
-    // Ends a compute that puts a value, which is stored.
+    // Ends a compute that puts a value which is stored.
     fn put_stored(
         &mut self,
         turn: Turn<K>,

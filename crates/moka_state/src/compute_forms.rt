@@ -1,4 +1,4 @@
-//! The forms of a compute with a closure: begin, closure and finish at one moment.
+//! Computes with a closure: begin, closure and finish at one moment.
 ghost use Rattle.std.specs.Prelude.{◌≡◌, Option, Some, Result, false, true, option_map, IfOk, IfSome};
 ghost use Rattle.std.specs.Arc.{arc_value};
 ghost use Rattle.moka_model.specs.Entries.{entry_of};
@@ -23,8 +23,8 @@ use moka_ways::view::StateView;
 use std::hash::Hash;
 
 impl<K: Hash + Drop, V: Clone, C: CacheTypes<K, V>, R: RowStore<K, V>> State<K, V, C, R> {
-    // Asks what is to be done with the value of a key, and does it, in one turn of a compute. It keeps a
-    // copy of the live value aside, which is answered where nothing is to be done.
+    // Runs `f` on the live entry of `key`, and does what it returns, in one turn. The begin keeps a
+    // clone of the live value aside, which an `Op::Nop` returns.
     pub(crate) fn compute_with<F: FnOnce(Option<Entry<K, V>>) -> Op<V> + Drop>(
         &mut self,
         key: K,
@@ -56,8 +56,8 @@ impl<K: Hash + Drop, V: Clone, C: CacheTypes<K, V>, R: RowStore<K, V>> State<K, 
         }
     }
 
-    // As `compute_with`, for who puts a value in any case; it answers the entry that was put, and keeps
-    // no copy aside.
+    // Works like `compute_with`, but always puts the value that `f` returns, and returns its entry.
+    // Keeps no clone aside.
     pub(crate) fn upsert_with<F: FnOnce(Option<Entry<K, V>>) -> V + Drop>(
         &mut self,
         key: K,
@@ -90,7 +90,7 @@ impl<K: Hash + Drop, V: Clone, C: CacheTypes<K, V>, R: RowStore<K, V>> State<K, 
         }
     }
 
-    // As `compute_with`, for a closure that may fail; then the turn is abandoned.
+    // Works like `compute_with`, for a closure that may fail: then the turn is abandoned.
     pub(crate) fn try_compute_with<
         F: FnOnce(Option<Entry<K, V>>) -> Result<Op<V>, C::Error> + Drop,
     >(&mut self, key: K, f: F, now: u64) -> Result<Result<CompResult<K, V>, C::Error>, Refused>
@@ -119,8 +119,7 @@ impl<K: Hash + Drop, V: Clone, C: CacheTypes<K, V>, R: RowStore<K, V>> State<K, 
         }
     }
 
-    // The begin of a form of a compute, which does not wait: where a compute of the key is open, it is
-    // refused with `TurnIsOpen`.
+    // Begins a compute without waiting: fails with `TurnIsOpen` if a compute of the key is open.
     fn open_at_once(&mut self, key: K, keep: bool, now: u64) -> Result<BegunCompute<K, V>, Refused>
         ensures begins { ComputeBegins
             (λ given. ⟦<C as StateView<K, V>>⟧.at_each_history self.old (λ settings steps.
@@ -140,7 +139,7 @@ impl<K: Hash + Drop, V: Clone, C: CacheTypes<K, V>, R: RowStore<K, V>> State<K, 
         }
     }
 
-    // Ends the turn of a compute with what is to be done; where that is refused, the turn is abandoned.
+    // Finishes a compute with an operation. If that fails, abandons the turn and returns the cause.
     fn end_compute(
         &mut self,
         turn: Turn<K>,
@@ -171,7 +170,7 @@ impl<K: Hash + Drop, V: Clone, C: CacheTypes<K, V>, R: RowStore<K, V>> State<K, 
         Err(cause)
     }
 
-    // Ends the turn of a compute with a value that is put, and answers its entry.
+    // Finishes a compute with a value that is put, and returns the value's entry.
     fn end_with_put(&mut self, turn: Turn<K>, value: V, now: u64) -> Result<Entry<K, V>, Refused>
         requires compute { turn.key.kind ≡ Kind.Compute }
         requires kept { C.keeps (arc_value turn.key.key) value }
@@ -193,7 +192,7 @@ impl<K: Hash + Drop, V: Clone, C: CacheTypes<K, V>, R: RowStore<K, V>> State<K, 
         }
     }
 
-    // Ends the turn of a compute with what is to be done, or abandons it and answers the error.
+    // Finishes a compute with an operation, or abandons it and returns the error of its closure.
     fn end_tried_compute(
         &mut self,
         turn: Turn<K>,

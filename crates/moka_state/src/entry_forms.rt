@@ -1,4 +1,4 @@
-//! The forms that answer entries, for who hands in the key.
+//! Loaders that return entries, for an owned key.
 ghost use Rattle.std.specs.Prelude.{◌≡◌, ◌≢◌, Bool, Option, None, Some, Result, option_map, IfOk, IfSome, IsSome};
 ghost use Rattle.std.specs.Arc.{arc_value};
 ghost use Rattle.moka_model.specs.Entries.{entry_of};
@@ -25,8 +25,8 @@ use std::hash::Hash;
 use std::sync::Arc;
 
 impl<K: Hash + Drop, V: Clone, C: CacheTypes<K, V>, R: RowStore<K, V>> State<K, V, C, R> {
-    // As `or_insert`, for who hands in the key: it is shared where nothing is live. A refused call drops
-    // key and value.
+    // Works like `or_insert`, for an owned key, which moves into an `Arc` on a miss. A failed call
+    // drops the key and the value.
     pub(crate) fn entry_or_insert(
         &mut self,
         key: K,
@@ -51,7 +51,7 @@ impl<K: Hash + Drop, V: Clone, C: CacheTypes<K, V>, R: RowStore<K, V>> State<K, 
         }
     }
 
-    // As `get_with`; it answers the entry.
+    // Works like `get_with`, and returns the entry.
     pub(crate) fn entry_with<F: FnOnce() -> V + Drop>(
         &mut self,
         key: K,
@@ -81,7 +81,7 @@ impl<K: Hash + Drop, V: Clone, C: CacheTypes<K, V>, R: RowStore<K, V>> State<K, 
         }
     }
 
-    // As `get_with_if`; it answers the entry.
+    // Works like `get_with_if`, and returns the entry.
     pub(crate) fn entry_with_if<F: FnOnce() -> V + Drop, P: FnMut(&V) -> bool + Drop>(
         &mut self,
         key: K,
@@ -114,7 +114,7 @@ impl<K: Hash + Drop, V: Clone, C: CacheTypes<K, V>, R: RowStore<K, V>> State<K, 
         }
     }
 
-    // As `optionally_get_with`; it answers the entry.
+    // Works like `optionally_get_with`, and returns the entry.
     pub(crate) fn entry_optionally_with<F: FnOnce() -> Option<V> + Drop>(
         &mut self,
         key: K,
@@ -146,7 +146,7 @@ impl<K: Hash + Drop, V: Clone, C: CacheTypes<K, V>, R: RowStore<K, V>> State<K, 
         }
     }
 
-    // As `try_get_with`; it answers the entry.
+    // Works like `try_get_with`, and returns the entry.
     pub(crate) fn entry_try_with<F: FnOnce() -> Result<V, C::Error> + Drop>(
         &mut self,
         key: K,
@@ -177,7 +177,7 @@ impl<K: Hash + Drop, V: Clone, C: CacheTypes<K, V>, R: RowStore<K, V>> State<K, 
         }
     }
 
-    // Ends the turn of a form with a value, and answers its entry.
+    // Finishes a loader's turn with a value, and returns the value's entry.
     fn end_with_entry(&mut self, turn: Turn<K>, value: V, now: u64) -> Result<Entry<K, V>, Refused>
         requires fits { Fits C.Error turn.key.kind (Outcome.Value value) }
         requires initializer { turn.key.kind ≢ Kind.Compute }
@@ -197,7 +197,7 @@ impl<K: Hash + Drop, V: Clone, C: CacheTypes<K, V>, R: RowStore<K, V>> State<K, 
         }
     }
 
-    // Ends the turn of a form with a value or none, and answers its entry, if there is one.
+    // Finishes a loader's turn with a value or with nothing, and returns the value's entry, if any.
     fn end_with_optional_entry(
         &mut self,
         turn: Turn<K>,
@@ -226,8 +226,8 @@ impl<K: Hash + Drop, V: Clone, C: CacheTypes<K, V>, R: RowStore<K, V>> State<K, 
         }
     }
 
-    // Ends the turn of a form with a value or an error, and answers its entry or the shared error. What
-    // is said of the end holds where the turn is open.
+    // Finishes a loader's turn with a value or an error, and returns the value's entry, or the
+    // error in an `Arc`. Clause `ends` describes the end of an open turn only.
     fn end_with_tried_entry(
         &mut self,
         turn: Turn<K>,

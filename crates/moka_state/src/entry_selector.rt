@@ -1,4 +1,4 @@
-//! The calls of one key on a lent state.
+//! Selectors of an owned cache: a key and a moment, for exactly one call.
 ghost use Rattle.std.specs.Prelude.{◌≡◌, Bool, Option, None, Some, Result, false, true, option_map, IfErr, IfOk, IfSome};
 ghost use Rattle.std.specs.Borrow.{sem, RestsIfErr};
 ghost use Rattle.moka_model.specs.Entries.{entry_of};
@@ -24,8 +24,10 @@ use moka_ways::view::StateView;
 use std::hash::Hash;
 use std::sync::Arc;
 
-/// A key of a lent state and a moment, for the one call that is made of them. [`State::entry`] and
-/// [`State::entry_by_ref`] make it; it holds the state's `&mut` until that call.
+/// A key and a moment, for exactly one call on an owned cache.
+///
+/// [`State::entry`] and [`State::entry_by_ref`] make one. It holds the cache's `&mut` until that
+/// call, and cannot be dropped.
 pub struct StateEntrySelector<
     'a,
     K: Hash + Drop,
@@ -39,7 +41,7 @@ pub struct StateEntrySelector<
 }
 
 impl<K: Hash + Drop, V: Clone, C: CacheTypes<K, V>, R: RowStore<K, V>> State<K, V, C, R> {
-    /// Selects a key, for a call at this moment. Nothing is looked for yet.
+    /// Returns a selector of `key`, for a call at the moment `now`. No lookup is done yet.
     pub fn entry(&mut self, key: K, now: u64) -> StateEntrySelector<'_, K, V, C, R>
         ensures same_reference { result.state.ghost_name ≡ self.entry.ghost_name }
         ensures state { result.state.now ≡ self.entry.now }
@@ -55,9 +57,11 @@ impl<K: Hash + Drop, V: Clone, C: CacheTypes<K, V>, R: RowStore<K, V>> State<K, 
 }
 
 impl<K: Hash + Clone + Drop, V: Clone, C: CacheTypes<K, V>, R: RowStore<K, V>> State<K, V, C, R> {
-    /// As [`State::entry`], for who lends the key: a copy of it is selected.
+    /// Returns a selector of a clone of `key`, as [`State::entry`].
     ///
-    /// Refused with `OutOfMemory`, for the copy alone; then nothing has changed.
+    /// # Errors
+    ///
+    /// - `OutOfMemory`: cloning the key failed. The cache is unchanged.
     pub fn entry_by_ref(
         &mut self,
         key: &K,
@@ -92,10 +96,17 @@ impl<'a, K: Hash + Drop, V: Clone, C: CacheTypes<K, V>, R: RowStore<K, V>> State
     C,
     R,
 > {
-    /// Answers the key's live value; where there is none, writes this one, and answers a copy of it, as
-    /// [`State::or_insert`]. No closure is asked and no turn opened; an open turn does not matter.
+    /// Returns the entry of the key's live value. If there is none, stores `value`, and returns the
+    /// new entry with a clone of the value, as [`State::or_insert`].
     ///
-    /// Refused as [`State::or_insert`]; it then drops key and value, and has changed nothing.
+    /// Runs no closure and opens no turn. An open turn of the key makes no difference.
+    ///
+    /// # Errors
+    ///
+    /// A failed call drops the key and the value, and changes nothing.
+    ///
+    /// - `NumbersUsedUp`: no value is live, the capacity is not 0, and no sequence number is left.
+    /// - `OutOfMemory`: an allocation or a clone failed.
     pub fn or_insert(self, value: V) -> Result<Entry<K, V>, Refused>
         requires { C.keeps self.key value }
         ensures ends { OrInsertEnds
@@ -112,11 +123,19 @@ impl<'a, K: Hash + Drop, V: Clone, C: CacheTypes<K, V>, R: RowStore<K, V>> State
         state.entry_or_insert(key, value, at)
     }
 
-    /// The entry of the key's live value; where there is none, that of what the closure gives, which is
-    /// written, as [`State::get_with`]. The closure is asked where a turn is opened, and once.
+    /// Returns the entry of the key's live value. If there is none, runs `init`, stores its result,
+    /// and returns the new entry with a clone of the result, as [`State::get_with`].
     ///
-    /// Refused as [`State::get_with`], with `TurnIsOpen` where a turn of the key and the kind is open.
-    /// On a live key it takes no memory but for the copy.
+    /// `init` runs at most once, and only if a turn is opened. A hit allocates only the clone of
+    /// the value.
+    ///
+    /// # Errors
+    ///
+    /// If the begin fails, the cache is unchanged. If the finish fails, the turn is abandoned.
+    ///
+    /// - `TurnIsOpen`: a turn of the key and of kind `With` is open.
+    /// - `NumbersUsedUp`: no sequence number is left, for the turn or for the write.
+    /// - `OutOfMemory`: an allocation or a clone failed.
     pub fn or_insert_with<F: FnOnce() -> V + Drop>(self, init: F) -> Result<Entry<K, V>, Refused>
         requires asks { F.IsAlwaysCallable init }
         requires keeps { (v : V) → F.post init v → C.keeps self.key v }
@@ -136,8 +155,12 @@ impl<'a, K: Hash + Drop, V: Clone, C: CacheTypes<K, V>, R: RowStore<K, V>> State
         state.entry_with(key, init, at)
     }
 
-    /// As [`StateEntrySelector::or_insert_with`], for a caller who is shown the live value and says whether
-    /// to replace it, as [`State::get_with_if`].
+    /// Returns the entry of the key's live value, unless `replace_if` returns true for it.
+    /// Otherwise works like [`StateEntrySelector::or_insert_with`], as [`State::get_with_if`].
+    ///
+    /// # Errors
+    ///
+    /// As [`StateEntrySelector::or_insert_with`].
     pub fn or_insert_with_if<F: FnOnce() -> V + Drop, P: FnMut(&V) -> bool + Drop>(
         self,
         init: F,
@@ -164,8 +187,12 @@ impl<'a, K: Hash + Drop, V: Clone, C: CacheTypes<K, V>, R: RowStore<K, V>> State
         state.entry_with_if(key, init, replace_if, at)
     }
 
-    /// As [`StateEntrySelector::or_insert_with`], for a closure that may give no value; then nothing is
-    /// written, and none is answered, as [`State::optionally_get_with`].
+    /// Returns the entry of the key's live value. If there is none, runs `init`, which may return
+    /// no value: then nothing is stored, and `None` is returned, as [`State::optionally_get_with`].
+    ///
+    /// # Errors
+    ///
+    /// As [`StateEntrySelector::or_insert_with`], for turns of kind `Optionally`.
     pub fn or_optionally_insert_with<F: FnOnce() -> Option<V> + Drop>(
         self,
         init: F,
@@ -189,9 +216,14 @@ impl<'a, K: Hash + Drop, V: Clone, C: CacheTypes<K, V>, R: RowStore<K, V>> State
         state.entry_optionally_with(key, init, at)
     }
 
-    /// As [`StateEntrySelector::or_insert_with`], for a closure that may fail; then nothing is written, and
-    /// its error is answered, shared, as [`State::try_get_with`]. Where the error finds no memory to be
-    /// shared, the turn is abandoned and the call refused with `OutOfMemory`.
+    /// Returns the entry of the key's live value. If there is none, runs `init`, which may fail:
+    /// then nothing is stored, and its error is returned in an `Arc`, as [`State::try_get_with`].
+    ///
+    /// # Errors
+    ///
+    /// As [`StateEntrySelector::or_insert_with`], for turns of kind `Try`. Also:
+    ///
+    /// - `OutOfMemory`: the `Arc` of the error could not be allocated. The turn is abandoned.
     pub fn or_try_insert_with<F: FnOnce() -> Result<V, C::Error> + Drop>(
         self,
         init: F,
@@ -214,16 +246,28 @@ impl<'a, K: Hash + Drop, V: Clone, C: CacheTypes<K, V>, R: RowStore<K, V>> State
         state.entry_try_with(key, init, at)
     }
 
-    /// Asks the closure what is to be done with the key's value, and does it: it is shown the entry of the
-    /// live value, if there is one, and says to put a value, to remove the one that is there, or to leave
-    /// it. This is a compute: its begin, which keeps a copy of the live value aside, and its finish with
-    /// what the closure said, all at one moment. The closure is asked where the turn is opened, and once.
+    /// Runs `f` on the entry of the key's live value, if there is one, and does what it returns.
+    /// `Op::Put` stores a value, `Op::Remove` removes the entry, and `Op::Nop` leaves it.
     ///
-    /// It asks that the closure may be shown any entry whose value is kept, and that a value that it then
-    /// puts is kept. Refused with `TurnIsOpen` where a compute of the key is open, since it would have to
-    /// wait for that; and as [`State::begin_compute`]; then the closure is not asked, and nothing has
-    /// changed. Where the finish is refused, as [`State::finish`] may be, the turn is abandoned. It costs
-    /// a begin and a finish of a compute.
+    /// This is a compute: its begin, `f`, and its finish, all at one moment. `f` runs at most once,
+    /// and only if the turn is opened. The begin keeps a clone of the live value aside, which
+    /// `Op::Nop` returns.
+    ///
+    /// The prover asks that `f` accepts any entry whose value satisfies the value invariant. It
+    /// also asks that a value that `f` then puts satisfies it.
+    ///
+    /// # Errors
+    ///
+    /// If the begin fails, `f` does not run, and the cache is unchanged. If the finish fails, the
+    /// turn is abandoned.
+    ///
+    /// - `TurnIsOpen`: a compute of the key is open, so that the call would have to wait for it.
+    /// - `NumbersUsedUp`: no sequence number is left, for the turn or for the write.
+    /// - `OutOfMemory`: an allocation or a clone failed.
+    ///
+    /// # Complexity
+    ///
+    /// Costs one [`State::begin_compute`] and one [`State::finish`].
     pub fn and_compute_with<F: FnOnce(Option<Entry<K, V>>) -> Op<V> + Drop>(
         self,
         f: F,
@@ -248,8 +292,15 @@ impl<'a, K: Hash + Drop, V: Clone, C: CacheTypes<K, V>, R: RowStore<K, V>> State
         state.compute_with(key, f, at)
     }
 
-    /// As [`StateEntrySelector::and_compute_with`], for a closure that gives a value in any case: it is
-    /// put, and the entry that was put is answered. No copy of the live value is kept aside.
+    /// Runs `f` on the entry of the key's live value, if there is one, and stores the value that it
+    /// returns. Returns the new entry, with a clone of that value.
+    ///
+    /// Works like [`StateEntrySelector::and_compute_with`] with an `Op::Put`, but keeps no clone of
+    /// the live value aside.
+    ///
+    /// # Errors
+    ///
+    /// As [`StateEntrySelector::and_compute_with`].
     pub fn and_upsert_with<F: FnOnce(Option<Entry<K, V>>) -> V + Drop>(
         self,
         f: F,
@@ -274,8 +325,14 @@ impl<'a, K: Hash + Drop, V: Clone, C: CacheTypes<K, V>, R: RowStore<K, V>> State
         state.upsert_with(key, f, at)
     }
 
-    /// As [`StateEntrySelector::and_compute_with`], for a closure that may fail; then the turn is abandoned,
-    /// the value is left as it is, and the closure's error is answered.
+    /// Runs `f` on the entry of the key's live value, if there is one, and does what it returns. If
+    /// `f` fails, the turn is abandoned, the value stays, and the error of `f` is returned.
+    ///
+    /// Otherwise works like [`StateEntrySelector::and_compute_with`].
+    ///
+    /// # Errors
+    ///
+    /// As [`StateEntrySelector::and_compute_with`].
     pub fn and_try_compute_with<F: FnOnce(Option<Entry<K, V>>) -> Result<Op<V>, C::Error> + Drop>(
         self,
         f: F,
@@ -308,9 +365,14 @@ impl<
     C: CacheTypes<K, V>,
     R: RowStore<K, V>,
 > StateEntrySelector<'a, K, V, C, R> {
-    /// As [`StateEntrySelector::or_insert`], of the default value, as [`State::or_default`].
+    /// Returns the entry of the key's live value. If there is none, stores the default value, and
+    /// returns the new entry with a clone of that value, as [`State::or_default`].
     ///
-    /// It asks that the key keeps whatever value is the default.
+    /// The prover asks that every default value satisfies the value invariant with the key.
+    ///
+    /// # Errors
+    ///
+    /// As [`StateEntrySelector::or_insert`].
     pub fn or_default(self) -> Result<Entry<K, V>, Refused>
         requires { (value : V) → V.is_default value → C.keeps self.key value }
         ensures ends { (value : V) × V.is_default value × OrInsertEnds

@@ -1,4 +1,4 @@
-//! The end of a turn with what its initializer gave.
+//! The end of a turn with an outcome.
 ghost use Rattle.std.specs.Prelude.{◌≡◌, ◌<◌, ℕ, List, true, false, nat_eq, option_map, IsSome, IfOk, OnOk, IfSome};
 ghost use Rattle.std.specs.Arc.{arc_value};
 ghost use Rattle.indexmap.specs.IndexMap.{get};
@@ -30,8 +30,8 @@ use std::alloc::{AllocError, Global};
 use std::hash::Hash;
 use std::sync::Arc;
 
-// What the end of a turn with a value takes memory for, beside the write: a share of the key for the
-// answer, and copies of the value for the answer and, where somebody waits, for the table of turns.
+// What the end of a turn with a value needs beside the write. The caller gets a share of the key
+// and a clone of the value. Waiting callers, if any, get another clone.
 #[derive(Drop)]
 struct Copies<K, V> {
     key: Arc<K>,
@@ -40,7 +40,7 @@ struct Copies<K, V> {
 }
 
 impl<K: Drop, V: Clone> Copies<K, V> {
-    // The copies for the end of a turn that so many wait for. Refused for want of memory alone.
+    // Makes the clones for the end of a turn that `waiting` callers wait for.
     fn new(turn: &Turn<K>, value: &V, waiting: u64) -> Result<Self, AllocError>
         ensures { IfOk result (IsCopiesOf V.is_clone turn.now value.now waiting) }
     {
@@ -55,7 +55,7 @@ impl<K: Drop, V: Clone> Copies<K, V> {
     }
 }
 
-// What is kept of a value for those who wait.
+// Returns the end of a turn that is kept for the waiting callers, if there is a value for them.
 fn kept_end<V, E>(kept: Option<V>, is_replaced: bool) -> Option<TurnEnd<V, E>>
     ensures { result ≡ option_map (λ value. TurnEnd.Value value is_replaced) kept }
 {
@@ -65,7 +65,8 @@ fn kept_end<V, E>(kept: Option<V>, is_replaced: bool) -> Option<TurnEnd<V, E>>
     }
 }
 
-// What is kept of an error for those who wait. Refused for want of memory alone.
+// Returns the end with an error that is kept for the waiting callers. May return `None` if nobody
+// waits.
 fn failed_end<V, E: Drop>(error: &Arc<E>, waiting: u64) -> Result<Option<TurnEnd<V, E>>, AllocError>
     ensures waited { IfOk result (λ end. 0 < waiting → IsSome end) }
     ensures kept { IfOk result (λ end. IfSome end
@@ -80,7 +81,7 @@ fn failed_end<V, E: Drop>(error: &Arc<E>, waiting: u64) -> Result<Option<TurnEnd
     }
 }
 
-// Ends an open turn with a value, and answers its entry.
+// Ends an open turn with a value, and returns its entry.
 fn conclude<K: Eq + Drop, V: Clone, E: Drop>(
     turns: &mut Turns<K, V, E>,
     turn: Turn<K>,
@@ -112,7 +113,7 @@ fn conclude<K: Eq + Drop, V: Clone, E: Drop>(
     Answer::Entry(Entry::new(key, answer, true, is_replaced))
 }
 
-// The place of a write of a turn's key, once there is room for it. Refused for want of memory alone.
+// Makes room for a write of a turn's key, and returns the place for it.
 pub(crate) fn place_for<K: Eq + Drop, V: Drop, R: RowStore<K, V>>(
     table: &mut Table<K, V, R>,
     turn: &Turn<K>,
@@ -132,7 +133,7 @@ pub(crate) fn place_for<K: Eq + Drop, V: Drop, R: RowStore<K, V>>(
     }
 }
 
-// A refusal of a value.
+// Makes the error of a failed finish with a value.
 fn refused<K, V, E>(turn: Turn<K>, value: V, cause: Refused) -> FinishRefused<K, V, E>
     ensures { result ≡ record { turn = turn; outcome = Outcome.Value value; cause = cause } }
 {
@@ -167,7 +168,7 @@ impl<K: Hash + Drop, V: Clone, C: CacheTypes<K, V>, R: RowStore<K, V>> State<K, 
         self.finish_stored(turn, value, now)
     }
 
-    // Ends a turn with a value, where nothing is stored.
+    // Ends a turn with a value that is not stored, since the capacity is 0.
     fn finish_unstored(
         &mut self,
         turn: Turn<K>,
@@ -198,7 +199,7 @@ impl<K: Hash + Drop, V: Clone, C: CacheTypes<K, V>, R: RowStore<K, V>> State<K, 
         Ok(Finished::Answer(answer))
     }
 
-    // Ends a turn with a value, which is stored.
+    // Ends a turn with a value that is stored.
     fn finish_stored(
         &mut self,
         turn: Turn<K>,
@@ -317,20 +318,31 @@ impl<K: Hash + Drop, V: Clone, C: CacheTypes<K, V>, R: RowStore<K, V>> State<K, 
         Ok(Finished::Answer(Answer::Failed(error)))
     }
 
-    /// Ends a turn with what its initializer gave. A value is written as by [`State::insert`]: its
-    /// entry is fresh, and marked as replacing where a live value stood just before the write. What
-    /// came of the turn is kept for those who wait for it, until the last of them has collected it.
+    /// Ends a turn with an outcome, which must fit the turn's kind, and returns the result.
     ///
-    /// A compute ends with what is to be done, and only its caller is answered what became of the value:
-    /// one that is put is written so too, and replaces where the begin showed a value, whatever became
-    /// of that since; a removal is that of [`State::remove`]; and a `Nop` answers the copy that was kept
-    /// aside, if one was, and takes no memory.
+    /// A value is stored as by [`State::insert`]. Its entry is fresh, and marked as replacing if a
+    /// live value was stored just before the write. The outcome is kept for the waiting callers
+    /// until the last of them has collected it.
     ///
-    /// It asks for an outcome that fits the turn's kind. Refused with `UnknownTurn` exactly where it
-    /// is no open turn of this cache, with `NumbersUsedUp` exactly where a value is to be written and
-    /// no number is left, and else with `OutOfMemory`; no outcome but a value, an error or the removal of
-    /// a live value takes memory. A refused finish hands back the turn and the outcome, and changes
-    /// nothing. It costs an insert, and two look-ups in the table of turns.
+    /// A compute ends with an operation, and only its caller gets the result.
+    ///
+    /// - `Op::Put` stores a value in the same way. It replaces if the begin found a live value,
+    ///   whatever became of that since.
+    /// - `Op::Remove` removes the entry, as [`State::remove`].
+    /// - `Op::Nop` returns the clone that was kept aside, if one was. It does not allocate.
+    ///
+    /// # Errors
+    ///
+    /// A failed call hands back the turn and the outcome.
+    ///
+    /// - `UnknownTurn`: the turn is no open turn of this cache.
+    /// - `NumbersUsedUp`: a value is to be stored, and no sequence number is left.
+    /// - `OutOfMemory`: an allocation or a clone failed. Only a value, an error or the removal of a
+    ///   live value can cause it.
+    ///
+    /// # Complexity
+    ///
+    /// Costs a [`State::insert`], and two lookups in the table of turns.
     pub fn finish(
         &mut self,
         turn: Turn<K>,

@@ -1,4 +1,4 @@
-//! The forms of initializers with a closure: begin, closure and finish at one moment.
+//! Loaders of an owned cache: each is a begin, a closure and a finish at one moment.
 ghost use Rattle.std.specs.Prelude.{◌≡◌, ◌≢◌, Bool, Option, None, Some, Result, false, true, option_map, IfOk, IfSome, IsSome};
 ghost use Rattle.std.specs.Arc.{arc_value};
 ghost use Rattle.moka_model.specs.Steps.{events_in};
@@ -20,7 +20,7 @@ use std::alloc::AllocError;
 use std::hash::Hash;
 use std::sync::Arc;
 
-// None, where there might be a closure of this type.
+// Returns `None`, with the type of an optional closure like this one.
 pub(crate) fn without<F: Drop>(_closure: F) -> Option<F>
     ensures { result ≡ None }
 {
@@ -28,14 +28,25 @@ pub(crate) fn without<F: Drop>(_closure: F) -> Option<F>
 }
 
 impl<K: Hash + Drop, V: Clone, C: CacheTypes<K, V>, R: RowStore<K, V>> State<K, V, C, R> {
-    /// The live value of a key; where there is none, what the closure gives, which is written. It is a
-    /// begin of the kind `With`, and where that opens a turn, its finish with what the closure gave, all
-    /// at one moment. The closure is asked where a turn is opened, and once.
+    /// Returns a clone of the live value for `key`. If there is none, runs `init`, stores its
+    /// result, and returns a clone of the result.
     ///
-    /// Refused with `TurnIsOpen` where a turn of the key and the kind is open, since it would have to
-    /// wait for that; and as [`State::begin`], which then changes nothing. Where the finish is refused,
-    /// as [`State::finish`] may be, the turn is abandoned. On a live key it costs a `get`, and takes no
-    /// memory but for the copy; else a begin and a finish.
+    /// This is a begin of kind `With` and, if that opens a turn, a finish with the result of
+    /// `init`, all at one moment. `init` runs at most once, and only if a turn is opened. A hit
+    /// allocates only the clone of the value.
+    ///
+    /// # Errors
+    ///
+    /// If the begin fails, the cache is unchanged. If the finish fails, the turn is abandoned.
+    ///
+    /// - `TurnIsOpen`: a turn of the key and of kind `With` is open, so that the call would have to
+    ///   wait for it.
+    /// - `NumbersUsedUp`: no sequence number is left, for the turn or for the write.
+    /// - `OutOfMemory`: an allocation or a clone failed.
+    ///
+    /// # Complexity
+    ///
+    /// Costs a [`State::get`] on a hit, else a [`State::begin`] and a [`State::finish`].
     pub fn get_with<F: FnOnce() -> V + Drop>(
         &mut self,
         key: K,
@@ -65,9 +76,15 @@ impl<K: Hash + Drop, V: Clone, C: CacheTypes<K, V>, R: RowStore<K, V>> State<K, 
         }
     }
 
-    /// As [`State::get_with`], for a caller who is shown the live value and says whether to replace it.
-    /// One that is to be replaced is taken for none: the look is then a miss, and the closure's value is
-    /// written over it.
+    /// Returns a clone of the live value for `key`, unless `replace_if` returns true for it.
+    /// Otherwise works like [`State::get_with`].
+    ///
+    /// A value that is to be replaced counts as absent: the lookup is a miss, and the result of
+    /// `init` overwrites the value.
+    ///
+    /// # Errors
+    ///
+    /// As [`State::get_with`].
     pub fn get_with_if<F: FnOnce() -> V + Drop, P: FnMut(&V) -> bool + Drop>(
         &mut self,
         key: K,
@@ -101,8 +118,14 @@ impl<K: Hash + Drop, V: Clone, C: CacheTypes<K, V>, R: RowStore<K, V>> State<K, 
         }
     }
 
-    /// As [`State::get_with`], for a closure that may give no value; then nothing is written, and none is
-    /// answered. Its begin is of the kind `Optionally`.
+    /// Returns a clone of the live value for `key`. If there is none, runs `init`, which may return
+    /// no value: then nothing is stored, and `None` is returned.
+    ///
+    /// Otherwise works like [`State::get_with`]. The begin is of kind `Optionally`.
+    ///
+    /// # Errors
+    ///
+    /// As [`State::get_with`], for turns of kind `Optionally`.
     pub fn optionally_get_with<F: FnOnce() -> Option<V> + Drop>(
         &mut self,
         key: K,
@@ -133,9 +156,16 @@ impl<K: Hash + Drop, V: Clone, C: CacheTypes<K, V>, R: RowStore<K, V>> State<K, 
         }
     }
 
-    /// As [`State::get_with`], for a closure that may fail; then nothing is written, and its error is
-    /// answered, shared. Its begin is of the kind `Try`. Where the error finds no memory to be shared, the
-    /// turn is abandoned and the call refused with `OutOfMemory`.
+    /// Returns a clone of the live value for `key`. If there is none, runs `init`, which may fail:
+    /// then nothing is stored, and its error is returned in an `Arc`.
+    ///
+    /// Otherwise works like [`State::get_with`]. The begin is of kind `Try`.
+    ///
+    /// # Errors
+    ///
+    /// As [`State::get_with`], for turns of kind `Try`. Also:
+    ///
+    /// - `OutOfMemory`: the `Arc` of the error could not be allocated. The turn is abandoned.
     pub fn try_get_with<F: FnOnce() -> Result<V, C::Error> + Drop>(
         &mut self,
         key: K,
@@ -166,8 +196,8 @@ impl<K: Hash + Drop, V: Clone, C: CacheTypes<K, V>, R: RowStore<K, V>> State<K, 
         }
     }
 
-    // The begin of a form, which does not wait: where a turn of the kind and the key is open, it is
-    // refused with `TurnIsOpen`. The key is shared only where no acceptable value is live.
+    // Does the begin of a loader without waiting: fails with `TurnIsOpen` if a turn of the key and
+    // the kind is open. The key moves into an `Arc` only if no acceptable value is live.
     pub(crate) fn begin_at_once_if<F: FnMut(&V) -> bool + Drop>(
         &mut self,
         key: K,
@@ -200,7 +230,7 @@ impl<K: Hash + Drop, V: Clone, C: CacheTypes<K, V>, R: RowStore<K, V>> State<K, 
         }
     }
 
-    // The begin of a form that accepts any live value.
+    // Does the begin of a loader that accepts any live value.
     pub(crate) fn begin_at_once(
         &mut self,
         key: K,
@@ -222,7 +252,7 @@ impl<K: Hash + Drop, V: Clone, C: CacheTypes<K, V>, R: RowStore<K, V>> State<K, 
         self.begin_at_once_if(key, kind, without(|_: &V| false), now)
     }
 
-    // A value that several may hold. Refused for want of memory alone.
+    // Moves a value into an `Arc`.
     pub(crate) fn share<T: Drop>(&self, value: T) -> Result<Arc<T>, AllocError>
         ensures { IfOk result (λ shared. arc_value shared ≡ value) }
     {
@@ -232,7 +262,8 @@ impl<K: Hash + Drop, V: Clone, C: CacheTypes<K, V>, R: RowStore<K, V>> State<K, 
         }
     }
 
-    // Ends the turn of a form with an outcome; where that is refused, the turn is abandoned.
+    // Finishes a loader's turn with an outcome. If that fails, abandons the turn and returns the
+    // cause.
     pub(crate) fn end_turn(
         &mut self,
         turn: Turn<K>,
@@ -263,7 +294,7 @@ impl<K: Hash + Drop, V: Clone, C: CacheTypes<K, V>, R: RowStore<K, V>> State<K, 
         Err(cause)
     }
 
-    // Ends the turn of a form with a value, and answers the copy that is handed out.
+    // Finishes a loader's turn with a value, and returns a clone of the value.
     pub(crate) fn end_with_value(&mut self, turn: Turn<K>, value: V, now: u64) -> Result<V, Refused>
         requires fits { Fits C.Error turn.key.kind (Outcome.Value value) }
         requires initializer { turn.key.kind ≢ Kind.Compute }
@@ -284,7 +315,8 @@ impl<K: Hash + Drop, V: Clone, C: CacheTypes<K, V>, R: RowStore<K, V>> State<K, 
         }
     }
 
-    // Ends the turn of a form with a value or none, and answers the copy that is handed out.
+    // Finishes a loader's turn with a value or with nothing, and returns a clone of the value, if
+    // any.
     pub(crate) fn end_with_option(
         &mut self,
         turn: Turn<K>,
@@ -311,7 +343,7 @@ impl<K: Hash + Drop, V: Clone, C: CacheTypes<K, V>, R: RowStore<K, V>> State<K, 
         }
     }
 
-    // Ends the turn of a form without a value, and answers none.
+    // Finishes a loader's turn with nothing, and returns `None`.
     pub(crate) fn end_with_none(&mut self, turn: Turn<K>, now: u64) -> Result<Option<V>, Refused>
         requires kind { turn.key.kind ≡ Kind.Optionally }
         ensures ends { (answer : Result (calls.Answer K V C.Error) Refused)
@@ -330,8 +362,8 @@ impl<K: Hash + Drop, V: Clone, C: CacheTypes<K, V>, R: RowStore<K, V>> State<K, 
         Ok(None)
     }
 
-    // Ends the turn of a form with an error, and answers the shared error. Where it finds no memory to
-    // be shared, the turn is abandoned. What is said of the end holds where the turn is open.
+    // Finishes a loader's turn with an error, and returns it in an `Arc`. If the `Arc` cannot be
+    // allocated, abandons the turn. Clause `ends` describes the end of an open turn only.
     pub(crate) fn end_with_error(
         &mut self,
         turn: Turn<K>,
@@ -359,7 +391,7 @@ impl<K: Hash + Drop, V: Clone, C: CacheTypes<K, V>, R: RowStore<K, V>> State<K, 
         }
     }
 
-    // Ends the turn of a form with a value or an error, as `end_with_value` and `end_with_error`.
+    // Finishes a loader's turn with a value or an error, as `end_with_value` and `end_with_error`.
     pub(crate) fn end_with_result(
         &mut self,
         turn: Turn<K>,

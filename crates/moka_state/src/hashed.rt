@@ -1,5 +1,5 @@
-//! The calls of a key that take its hash, for who has hashed it already, as to choose one of several
-//! states.
+//! Calls that take the hash of their key, for callers that know it already: for example from
+//! choosing one of several states.
 ghost use Rattle.std.specs.Prelude.{◌≡◌, ◌≢◌, ◌≤◌, false, None, IsOk, IfOk, IfErr, IfSome, OnOk, OnErr};
 ghost use Rattle.moka_model.specs.Numbers.{greatest_number, stores_nothing};
 ghost use Rattle.moka_model.specs.Steps.{events_in};
@@ -18,18 +18,25 @@ use moka_ways::view::StateView;
 use std::hash::Hash;
 
 impl<K: Hash + Drop, V: Clone, C: CacheTypes<K, V>, R: RowStore<K, V>> State<K, V, C, R> {
-    /// The hash of a key by the cache's hasher, as the calls want it that take one. It reads no row.
+    /// Returns the hash of `key` by the cache's hasher, as the calls that take a hash want it.
+    /// Reads no row.
+    #[inline(always)]
     pub fn hash(&self, key: &K) -> u64
         ensures { IsHashOf (⟦<C as StateView<K, V>>⟧.settings self.now.settings) key.now result }
     {
         self.behaviour.hash(key)
     }
 
-    /// As [`State::get`], with the key's hash, as [`State::hash`] answers it: the key is not
-    /// hashed again.
+    /// Works like [`State::get`], given the key's hash, as [`State::hash`] returns it. The key is
+    /// not hashed again.
     ///
-    /// Refused for want of memory for the value's copy alone: a look that finds no live value takes
-    /// none and succeeds. A `CacheState` reads no rows but those that have the key's hash.
+    /// # Errors
+    ///
+    /// - `OutOfMemory`: cloning the value failed. A miss cannot fail, and does not allocate.
+    ///
+    /// # Complexity
+    ///
+    /// In a `CacheState`, reads no rows but those that have the key's hash.
     pub fn get_with_hash(&mut self, key: &K, hash: u64, now: u64) -> Result<Option<V>, Refused>
         requires hash { IsHashOf (⟦<C as StateView<K, V>>⟧.settings self.old.settings)
             key.now hash }
@@ -40,11 +47,11 @@ impl<K: Hash + Drop, V: Clone, C: CacheTypes<K, V>, R: RowStore<K, V>> State<K, 
             (⟦<C as StateView<K, V>>⟧.follows self.old (Get key.now now) self.new) }
         ensures kept { IfOk result (λ found. IfSome found (C.keeps key.now)) }
 
-        // Only the copy can be refused, and then nothing has changed.
+        // Only cloning the value can fail, and then nothing has changed.
         ensures refused { OnErr result (self.new ≡ self.old) }
         ensures cause { IfErr result (λ cause. cause ≡ Refused.OutOfMemory) }
 
-        // It is not where nothing is live, nor where the copies of the live value never fail.
+        // The call succeeds if no value is live, or if clones of the live value cannot fail.
         ensures miss { ⟦<C as StateView<K, V>>⟧.at_each_history self.old (λ settings steps.
             live_at K.eq settings key.now now (events_in steps) ≡ None → IsOk result) }
         ensures copied { ⟦<C as StateView<K, V>>⟧.at_each_history self.old (λ settings steps.
@@ -77,13 +84,20 @@ impl<K: Hash + Drop, V: Clone, C: CacheTypes<K, V>, R: RowStore<K, V>> State<K, 
         Ok(Some(value))
     }
 
-    /// As [`State::insert`], with the key's hash, as [`State::hash`] answers it: the key is not
-    /// hashed again.
+    /// Works like [`State::insert`], given the key's hash, as [`State::hash`] returns it. The key
+    /// is not hashed again.
     ///
-    /// Refused with `NumbersUsedUp` exactly where a number is to be drawn and none is left, and
-    /// else with `OutOfMemory` alone. A refused write hands back the key and the value, and changes
-    /// nothing. Where the capacity is 0 it succeeds without memory. Beside a maintenance, a
-    /// `CacheState` reads no rows but those that have the key's hash.
+    /// # Errors
+    ///
+    /// A failed call hands back the key and the value. If the capacity is 0, the call cannot fail,
+    /// and does not allocate.
+    ///
+    /// - `NumbersUsedUp`: the capacity is not 0, and no sequence number is left.
+    /// - `OutOfMemory`: an allocation failed, and a sequence number is left.
+    ///
+    /// # Complexity
+    ///
+    /// In a `CacheState`, reads no rows but those that have the key's hash, apart from a flush.
     pub fn insert_with_hash(
         &mut self,
         key: K,
@@ -108,7 +122,8 @@ impl<K: Hash + Drop, V: Clone, C: CacheTypes<K, V>, R: RowStore<K, V>> State<K, 
         }
     }
 
-    // A write of a key that is shared already, or is to be, with its hash.
+    // Writes a value under a key that is in an `Arc` already, or moves into one, given the key's
+    // hash.
     pub(crate) fn write<S: IntoShared<K>>(
         &mut self,
         key: S,
@@ -135,7 +150,8 @@ impl<K: Hash + Drop, V: Clone, C: CacheTypes<K, V>, R: RowStore<K, V>> State<K, 
         self.write_anew(key, hash, value, now)
     }
 
-    // A write that draws a number. The weight is asked for the call's key, before anything changes.
+    // Does a write that draws a sequence number. The weigher gets the call's key, before anything
+    // changes.
     fn write_anew<S: IntoShared<K>>(
         &mut self,
         key: S,
@@ -178,8 +194,8 @@ impl<K: Hash + Drop, V: Clone, C: CacheTypes<K, V>, R: RowStore<K, V>> State<K, 
         Ok(())
     }
 
-    /// As [`State::contains_key`], with the key's hash, as [`State::hash`] answers it: the key is not
-    /// hashed again.
+    /// Works like [`State::contains_key`], given the key's hash, as [`State::hash`] returns it. The
+    /// key is not hashed again.
     pub fn contains_key_with_hash(&self, key: &K, hash: u64, now: u64) -> bool
         requires hash { IsHashOf (⟦<C as StateView<K, V>>⟧.settings self.now.settings)
             key.now hash }
@@ -196,8 +212,8 @@ impl<K: Hash + Drop, V: Clone, C: CacheTypes<K, V>, R: RowStore<K, V>> State<K, 
         }
     }
 
-    /// As [`State::invalidate`], with the key's hash, as [`State::hash`] answers it: the key is not
-    /// hashed again. It takes no memory.
+    /// Works like [`State::invalidate`], given the key's hash, as [`State::hash`] returns it. The
+    /// key is not hashed again. Does not allocate.
     pub fn invalidate_with_hash(&mut self, key: &K, hash: u64, now: u64)
         requires hash { IsHashOf (⟦<C as StateView<K, V>>⟧.settings self.old.settings)
             key.now hash }
@@ -215,11 +231,17 @@ impl<K: Hash + Drop, V: Clone, C: CacheTypes<K, V>, R: RowStore<K, V>> State<K, 
         }
     }
 
-    /// As [`State::remove`], with the key's hash, as [`State::hash`] answers it: the key is not
-    /// hashed again.
+    /// Works like [`State::remove`], given the key's hash, as [`State::hash`] returns it. The key
+    /// is not hashed again.
     ///
-    /// Refused for want of memory for the value's copy alone: where no live value stands it takes
-    /// none and succeeds. A `CacheState` reads no rows but those that have the key's hash.
+    /// # Errors
+    ///
+    /// - `OutOfMemory`: cloning the value failed. If no value is live, the call cannot fail, and
+    ///   does not allocate.
+    ///
+    /// # Complexity
+    ///
+    /// In a `CacheState`, reads no rows but those that have the key's hash.
     pub fn remove_with_hash(&mut self, key: &K, hash: u64, now: u64) -> Result<Option<V>, Refused>
         requires hash { IsHashOf (⟦<C as StateView<K, V>>⟧.settings self.old.settings)
             key.now hash }
@@ -230,11 +252,11 @@ impl<K: Hash + Drop, V: Clone, C: CacheTypes<K, V>, R: RowStore<K, V>> State<K, 
             (⟦<C as StateView<K, V>>⟧.follows self.old (Remove key.now now) self.new) }
         ensures kept { IfOk result (λ found. IfSome found (C.keeps key.now)) }
 
-        // Only the copy can be refused, and then nothing has changed.
+        // Only cloning the value can fail, and then nothing has changed.
         ensures refused { OnErr result (self.new ≡ self.old) }
         ensures cause { IfErr result (λ cause. cause ≡ Refused.OutOfMemory) }
 
-        // It is not where nothing is live, nor where the copies of the live value never fail.
+        // The call succeeds if no value is live, or if clones of the live value cannot fail.
         ensures miss { ⟦<C as StateView<K, V>>⟧.at_each_history self.old (λ settings steps.
             live_at K.eq settings key.now now (events_in steps) ≡ None → IsOk result) }
         ensures copied { ⟦<C as StateView<K, V>>⟧.at_each_history self.old (λ settings steps.

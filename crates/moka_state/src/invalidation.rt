@@ -1,4 +1,4 @@
-//! The calls that hide what a predicate holds of.
+//! The calls that invalidate the entries of which a predicate holds.
 ghost use Rattle.std.specs.Prelude.{◌≡◌, ◌↔◌, true, false, if◌then◌else◌, IsOk, IfOk, IfErr, OnOk, OnErr};
 ghost use Rattle.std.specs.Arc.{arc_value};
 ghost use Rattle.std.specs.String.{string_bytes};
@@ -16,15 +16,24 @@ use std::hash::Hash;
 use std::sync::Arc;
 
 impl<K: Hash + Drop, V: Clone, C: CacheTypes<K, V>, R: RowStore<K, V>> State<K, V, C, R> {
-    /// Hides each value of which a predicate holds, under the key that it is stored under. From then
-    /// on it is not found, and it is noticed once it leaves, at a maintenance or where its key is
-    /// written or removed. What is written later is not hidden. The call has no moment. It answers a
-    /// new id, made of what the generator draws.
+    /// Marks every stored entry of which `predicate` holds as invalidated, and returns a new id.
     ///
-    /// Refused with `InvalidationClosuresDisabled` exactly where the cache was built without support
-    /// for closures, and then the generator draws nothing; else with `OutOfMemory` alone, where
-    /// memory for the id's text is refused. A refused call hides nothing. Asks the predicate once of
-    /// each stored value, and visits each.
+    /// The predicate gets the stored key and the value. A marked value is not found any more. Its
+    /// entry is removed, and its notice queued, by a later maintenance, or when its key is written
+    /// or removed. What is written later is not affected. The call has no moment. The id is made of
+    /// what the generator draws.
+    ///
+    /// # Errors
+    ///
+    /// A failed call marks nothing.
+    ///
+    /// - `InvalidationClosuresDisabled`: the cache was built without support for closures. The
+    ///   generator is not used.
+    /// - `OutOfMemory`: the id's text could not be allocated. The generator has been used.
+    ///
+    /// # Complexity
+    ///
+    /// Visits every entry, and runs the predicate once on each.
     pub fn invalidate_entries_if<G: Rng>(
         &mut self,
         predicate: C::Predicate,
@@ -38,7 +47,8 @@ impl<K: Hash + Drop, V: Clone, C: CacheTypes<K, V>, R: RowStore<K, V>> State<K, 
         ensures drawn { self.old.settings.supports_closures ≡ true →
             G.stream generator.new ≡ stream_after_id (G.stream generator.old) }
 
-        // It is refused by its name exactly where closures aren't supported, and nothing changes.
+        // Fails with `InvalidationClosuresDisabled` exactly if closures are not supported. A failed
+        // call changes nothing.
         ensures accepted { OnOk result (self.old.settings.supports_closures ≡ true) }
         ensures cause { IfErr result (λ cause. cause ≡ (if self.old.settings.supports_closures
             then PredicateError.OutOfMemory else PredicateError.InvalidationClosuresDisabled)) }
@@ -54,8 +64,12 @@ impl<K: Hash + Drop, V: Clone, C: CacheTypes<K, V>, R: RowStore<K, V>> State<K, 
         Ok(id)
     }
 
-    /// As [`State::invalidate_entries_if`] for a predicate that is shared already, without an id. It
-    /// takes no memory, so it is refused with `InvalidationClosuresDisabled` alone.
+    /// Works like [`State::invalidate_entries_if`], for a predicate in an `Arc`, and without an id.
+    /// Does not allocate.
+    ///
+    /// # Errors
+    ///
+    /// - `InvalidationClosuresDisabled`: the cache was built without support for closures.
     pub fn invalidate_entries_with_arc_fun(
         &mut self,
         predicate: Arc<C::Predicate>,
@@ -74,9 +88,12 @@ impl<K: Hash + Drop, V: Clone, C: CacheTypes<K, V>, R: RowStore<K, V>> State<K, 
         Ok(())
     }
 
-    /// Whether a predicate would be accepted: refused with `InvalidationClosuresDisabled` exactly
-    /// where the cache was built without support for closures. A predicate takes no room of the
-    /// cache, so none is made, and nothing changes. It is no step.
+    /// Checks whether a predicate would be accepted. A predicate needs no room in the cache, so
+    /// none is made. Changes nothing, and is no step.
+    ///
+    /// # Errors
+    ///
+    /// - `InvalidationClosuresDisabled`: the cache was built without support for closures.
     pub fn predicate_room(&mut self) -> Result<(), PredicateError>
         ensures accepted { IsOk result ↔ (self.old.settings.supports_closures ≡ true) }
         ensures cause { IfErr result
@@ -90,9 +107,10 @@ impl<K: Hash + Drop, V: Clone, C: CacheTypes<K, V>, R: RowStore<K, V>> State<K, 
         }
     }
 
-    /// Hides what a predicate holds of, where closures are supported: an
-    /// [`State::invalidate_entries_if`] that cannot be refused, for who has asked
-    /// [`State::predicate_room`]. It takes no memory.
+    /// Marks every stored entry of which `predicate` holds as invalidated, like
+    /// [`State::invalidate_entries_if`]. Cannot fail, and does not allocate.
+    ///
+    /// Closures must be supported, which [`State::predicate_room`] checks.
     pub fn hide_where(&mut self, predicate: &C::Predicate)
         requires tests { C.Predicate.tests predicate.now (C.test predicate.now) }
         requires supported { self.old.settings.supports_closures ≡ true }

@@ -1,6 +1,7 @@
-//! The cache as a plain value: its rows, its state, and its calls.
+//! The owned cache: its state, its calls, its selectors and its steps.
 #![tactic(auto)]
 
+mod again;
 pub mod answers;
 pub mod begin;
 pub mod by_ref;
@@ -10,13 +11,16 @@ mod entry_forms;
 pub mod entry_selector;
 pub mod finish;
 pub mod get_with;
+mod handed_out;
 pub mod hashed;
 pub mod invalidation;
 pub mod or_insert;
+mod recorded;
 pub mod removal;
 pub mod scanning;
 pub mod state;
 pub mod step;
+mod step_copy;
 mod step_text;
 mod turn_replies;
 mod turn_step;

@@ -1,4 +1,4 @@
-//! The calls that answer the live value of a key, and write one where there is none.
+//! The calls that return the live value of a key, and write one if there is none.
 ghost use Rattle.std.specs.Prelude.{◌≡◌, ◌≢◌, ◌&&◌, ◌==◌, None, false, true, not, IfOk, IfErr, OnOk, OnErr};
 ghost use Rattle.std.specs.Arc.{arc_value};
 ghost use Rattle.moka_model.specs.Numbers.{greatest_number, stores_nothing};
@@ -22,14 +22,14 @@ use std::hash::Hash;
 use std::sync::Arc;
 use thiserror::Error;
 
-/// A refused `or_insert`, with the value that it was given.
+/// The error of a failed [`State::or_insert`], with the value that it was given.
 #[derive(Debug, Drop, Error)]
 #[error("or_insert was refused ({cause}) and changed nothing: the value is handed back, to try again \
      with more memory, or with another cache where its numbers are used up")]
 pub struct OrInsertRefused<V> {
     /// The value, as it was given.
     pub value: V,
-    /// Why it was refused.
+    /// Why the call failed.
     pub cause: Refused,
 }
 
@@ -41,8 +41,8 @@ impl<V: Drop> From<OrInsertRefused<V>> for Refused {
     }
 }
 
-// What is answered for a value that is to be written: a share of its key, and a copy of it. Refused
-// for want of memory alone.
+// Makes the entry of a value that is to be written, from a share of its key and a clone of the
+// value.
 fn written_entry<K: Drop, V: Clone>(key: &Arc<K>, value: &V) -> Result<Entry<K, V>, AllocError>
     ensures { IfOk result (λ entry. IsCopiedEntry V.is_clone
         (fresh_entry (arc_value key.now) value.now false) (entry_of entry)) }
@@ -53,16 +53,28 @@ fn written_entry<K: Drop, V: Clone>(key: &Arc<K>, value: &V) -> Result<Entry<K, 
 }
 
 impl<K: Hash + Drop, V: Clone, C: CacheTypes<K, V>, R: RowStore<K, V>> State<K, V, C, R> {
-    /// Answers the live value of a key; where there is none, writes this one, and answers a copy of it.
-    /// It is one look at the key, as by [`State::get`], and where that finds nothing, one write, as by
-    /// [`State::insert`], at the same moment: the look is noted before the maintenance that the write
-    /// may run. The entry is fresh where it was written, and never marked as replacing. A value that is
-    /// found stands under the stored key.
+    /// Returns the entry of the live value for `key`. If there is none, stores `value`, and returns
+    /// the new entry with a clone of the value.
     ///
-    /// Where the capacity is 0 nothing is stored and no number drawn, and the entry is fresh. Refused
-    /// with `NumbersUsedUp` exactly where a number is to be drawn and none is left, and else with
-    /// `OutOfMemory` alone. A refused call hands back the value and changes nothing. On a live key it
-    /// costs a `get` and a share of the key, else an insert, a share of the key and a copy.
+    /// This is one recorded lookup, as [`State::get`], and on a miss one write, as
+    /// [`State::insert`], at the same moment. The lookup is noted before the flush that the write
+    /// may run. A new entry is fresh, and never marked as replacing. A found entry has the stored
+    /// key.
+    ///
+    /// If the capacity is 0, nothing is stored and no sequence number is drawn, but the entry is
+    /// fresh.
+    ///
+    /// # Errors
+    ///
+    /// A failed call hands back the value.
+    ///
+    /// - `NumbersUsedUp`: no value is live, the capacity is not 0, and no sequence number is left.
+    /// - `OutOfMemory`: an allocation or a clone failed.
+    ///
+    /// # Complexity
+    ///
+    /// A hit costs a [`State::get`] and a share of the stored key. A miss costs a
+    /// [`State::insert`], a share of the key and a clone of the value.
     pub fn or_insert(
         &mut self,
         key: &Arc<K>,
@@ -85,8 +97,8 @@ impl<K: Hash + Drop, V: Clone, C: CacheTypes<K, V>, R: RowStore<K, V>> State<K, 
         self.or_insert_with_hash(key, hash, value, now)
     }
 
-    /// As [`State::or_insert`], with the key's hash, as [`State::hash`] answers it: the key is not
-    /// hashed again.
+    /// Works like [`State::or_insert`], given the key's hash, as [`State::hash`] returns it. The
+    /// key is not hashed again.
     pub fn or_insert_with_hash(
         &mut self,
         key: &Arc<K>,
@@ -115,7 +127,7 @@ impl<K: Hash + Drop, V: Clone, C: CacheTypes<K, V>, R: RowStore<K, V>> State<K, 
         }
     }
 
-    // A look that found no live value, and the write that follows it.
+    // Notes a lookup that found no live value, and does the write that follows it.
     fn write_missing(
         &mut self,
         key: &Arc<K>,
@@ -158,7 +170,7 @@ impl<K: Hash + Drop, V: Clone, C: CacheTypes<K, V>, R: RowStore<K, V>> State<K, 
         }
     }
 
-    // A look that found no live value, and the write that follows it, for who hands in the key.
+    // Works like `write_missing`, for an owned key, which moves into an `Arc`.
     pub(crate) fn write_default(
         &mut self,
         key: K,
@@ -191,7 +203,7 @@ impl<K: Hash + Drop, V: Clone, C: CacheTypes<K, V>, R: RowStore<K, V>> State<K, 
         }
     }
 
-    // Whether a write would draw a number, and none is left.
+    // Checks whether a write would draw a sequence number and none is left.
     fn wants_number(&self) -> bool
         ensures { result ≡ (not (stores_nothing self.now.settings.max_capacity)
             && (self.now.books.next_number == greatest_number)) }
@@ -199,8 +211,7 @@ impl<K: Hash + Drop, V: Clone, C: CacheTypes<K, V>, R: RowStore<K, V>> State<K, 
         self.upkeep.max_capacity != Some(0) && self.next_number == u64::MAX
     }
 
-    // A look that found no live value is noted, and then a value is written. First all memory for it
-    // is taken.
+    // Notes a lookup that found no live value, and then writes. Allocates before anything changes.
     fn write_looked(
         &mut self,
         key: &Arc<K>,
@@ -252,10 +263,19 @@ impl<K: Hash + Drop, V: Clone, C: CacheTypes<K, V>, R: RowStore<K, V>> State<K, 
 }
 
 impl<K: Hash + Drop, V: Clone + Default, C: CacheTypes<K, V>, R: RowStore<K, V>> State<K, V, C, R> {
-    /// As [`State::or_insert`], of the default value, for who hands in the key: it is shared where
-    /// nothing is live. The default value is made before the look.
+    /// Returns the entry of the live value for `key`. If there is none, stores the default value,
+    /// and returns the new entry with a clone of that value.
     ///
-    /// It asks that the key keeps whatever value is the default. A refused call drops the key.
+    /// Works like [`State::or_insert`], for an owned key, which moves into an `Arc` on a miss. The
+    /// default value is made before the lookup. The prover asks that every default value satisfies
+    /// the value invariant with the key.
+    ///
+    /// # Errors
+    ///
+    /// A failed call drops the key.
+    ///
+    /// - `NumbersUsedUp`: no value is live, the capacity is not 0, and no sequence number is left.
+    /// - `OutOfMemory`: an allocation or a clone failed.
     pub fn or_default(&mut self, key: K, now: u64) -> Result<Entry<K, V>, Refused>
         requires { (value : V) → V.is_default value → C.keeps key value }
         ensures ends { (value : V) × V.is_default value × OrInsertEnds
@@ -271,8 +291,8 @@ impl<K: Hash + Drop, V: Clone + Default, C: CacheTypes<K, V>, R: RowStore<K, V>>
         self.or_default_with_hash(key, hash, now)
     }
 
-    /// As [`State::or_default`], with the key's hash, as [`State::hash`] answers it: the key is not
-    /// hashed again.
+    /// Works like [`State::or_default`], given the key's hash, as [`State::hash`] returns it. The
+    /// key is not hashed again.
     pub fn or_default_with_hash(
         &mut self,
         key: K,

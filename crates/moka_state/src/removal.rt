@@ -1,5 +1,5 @@
-//! The calls that remove by a caller's wish and more than [`State::invalidate`] does: one answers what it removes, and
-//! one removes all.
+//! Two calls that remove at the caller's wish and do more than [`State::invalidate`]: one returns
+//! what it removes, the other removes everything.
 ghost use Rattle.std.specs.Prelude.{◌≡◌, None, IsOk, IfOk, IfErr, IfSome, OnOk, OnErr};
 ghost use Rattle.moka_model.specs.Steps.{events_in};
 ghost use Rattle.moka_model.specs.Calls.{Remove, InvalidateAll, Found, live_at};
@@ -11,10 +11,17 @@ use moka_ways::view::StateView;
 use std::hash::Hash;
 
 impl<K: Hash + Drop, V: Clone, C: CacheTypes<K, V>, R: RowStore<K, V>> State<K, V, C, R> {
-    /// Removes a key, and answers its live value. What stood for the key, live or not, is noticed.
+    /// Removes the entry of `key`, live or expired, and queues its notice. Returns a clone of the
+    /// value if it was live, else `None`.
     ///
-    /// Refused for want of memory for the value's copy alone: where no live value stands it takes
-    /// none and succeeds. A `CacheState` reads no rows but those that have the key's hash.
+    /// # Errors
+    ///
+    /// - `OutOfMemory`: cloning the value failed. If no value is live, the call cannot fail, and
+    ///   does not allocate.
+    ///
+    /// # Complexity
+    ///
+    /// In a `CacheState`, reads no rows but those that have the key's hash.
     pub fn remove(&mut self, key: &K, now: u64) -> Result<Option<V>, Refused>
         ensures reply { IfOk result (λ found.
             ⟦<C as StateView<K, V>>⟧.answers self.old (Remove key.now now) (Found found)) }
@@ -22,11 +29,11 @@ impl<K: Hash + Drop, V: Clone, C: CacheTypes<K, V>, R: RowStore<K, V>> State<K, 
             (⟦<C as StateView<K, V>>⟧.follows self.old (Remove key.now now) self.new) }
         ensures kept { IfOk result (λ found. IfSome found (C.keeps key.now)) }
 
-        // Only the copy can be refused, and then nothing has changed.
+        // Only cloning the value can fail, and then nothing has changed.
         ensures refused { OnErr result (self.new ≡ self.old) }
         ensures cause { IfErr result (λ cause. cause ≡ Refused.OutOfMemory) }
 
-        // It is not where nothing is live, nor where the copies of the live value never fail.
+        // The call succeeds if no value is live, or if clones of the live value cannot fail.
         ensures miss { ⟦<C as StateView<K, V>>⟧.at_each_history self.old (λ settings steps.
             live_at K.eq settings key.now now (events_in steps) ≡ None → IsOk result) }
         ensures copied { ⟦<C as StateView<K, V>>⟧.at_each_history self.old (λ settings steps.
@@ -37,9 +44,15 @@ impl<K: Hash + Drop, V: Clone, C: CacheTypes<K, V>, R: RowStore<K, V>> State<K, 
         self.remove_with_hash(key, hash, now)
     }
 
-    /// Removes all keys. From then on no value that stood is found; each is noticed once it leaves,
-    /// at a maintenance or where its key is written or removed. It has no moment, and takes no
-    /// memory. Visits each row.
+    /// Marks every stored entry as invalidated: none of their values is found any more. Cannot
+    /// fail, and does not allocate.
+    ///
+    /// An entry is removed, and its notice queued, by a later maintenance, or when its key is
+    /// written or removed. The call has no moment.
+    ///
+    /// # Complexity
+    ///
+    /// Visits every entry.
     pub fn invalidate_all(&mut self)
         ensures stands { ⟦<C as StateView<K, V>>⟧.follows self.old InvalidateAll self.new }
         ensures settings { self.new.settings ≡ self.old.settings }

@@ -1,4 +1,4 @@
-//! What walks ask of a state. The calls change nothing, and are no steps.
+//! What iteration reads of a cache. These calls change nothing, and are no steps.
 ghost use Rattle.std.specs.Prelude.{◌≡◌, None, map, IsOk, IfOk, IfErr, IfSome};
 ghost use Rattle.std.specs.Arc.{arc_value};
 ghost use Rattle.moka_model.specs.Steps.{events_in};
@@ -14,9 +14,15 @@ use std::hash::Hash;
 use std::sync::Arc;
 
 impl<K: Hash + Drop, V: Clone, C: CacheTypes<K, V>, R: RowStore<K, V>> State<K, V, C, R> {
-    /// The key of each stored value, live or not, once. Keys are shared, and not copied.
+    /// Returns the key of each stored entry, live or not, once. The keys are shared, not cloned.
     ///
-    /// Refused for want of memory alone. Visits each row once.
+    /// # Errors
+    ///
+    /// - `OutOfMemory`: the list of keys could not be allocated.
+    ///
+    /// # Complexity
+    ///
+    /// Visits every entry once.
     pub fn scan_keys(&self) -> Result<Vec<Arc<K>>, Refused>
         ensures keys { IfOk result (λ keys.
             map arc_value keys.items ≡ map (λ w. w.key) (all_writes self.now)) }
@@ -29,18 +35,24 @@ impl<K: Hash + Drop, V: Clone, C: CacheTypes<K, V>, R: RowStore<K, V>> State<K, 
         }
     }
 
-    /// The live value of a key at a moment: what `get` would answer. It is no use of the value, notes no
-    /// hash, and records no moment.
+    /// Returns what [`State::get`] would: a clone of the live value for `key`, or `None`. Does not
+    /// count as an access, notes no hash, and records no moment.
     ///
-    /// Refused for want of memory for the value's copy alone: where no value is live it takes none and
-    /// succeeds. A `CacheState` reads no rows but those that have the key's hash.
+    /// # Errors
+    ///
+    /// - `OutOfMemory`: cloning the value failed. If no value is live, the call cannot fail, and
+    ///   does not allocate.
+    ///
+    /// # Complexity
+    ///
+    /// In a `CacheState`, reads no rows but those that have the key's hash.
     pub fn scan_get(&self, key: &K, now: u64) -> Result<Option<V>, Refused>
         ensures reply { IfOk result (λ found.
             ⟦<C as StateView<K, V>>⟧.answers self.now (Get key.now now) (Found found)) }
         ensures kept { IfOk result (λ found. IfSome found (C.keeps key.now)) }
         ensures cause { IfErr result (λ cause. cause ≡ Refused.OutOfMemory) }
 
-        // It is not refused where nothing is live, nor where the copies of the live value never fail.
+        // The call succeeds if no value is live, or if clones of the live value cannot fail.
         ensures miss { ⟦<C as StateView<K, V>>⟧.at_each_history self.now (λ settings steps.
             live_at K.eq settings key.now now (events_in steps) ≡ None → IsOk result) }
         ensures copied { ⟦<C as StateView<K, V>>⟧.at_each_history self.now (λ settings steps.

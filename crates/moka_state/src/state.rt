@@ -1,4 +1,5 @@
-//! The cache as a plain value, lent with `&mut`, with every moment handed in.
+//! The owned cache as a plain value, called through `&mut`: its settings, its state and its main
+//! calls. Each call that depends on the time is given its moment.
 ghost use Rattle.std.specs.Prelude.{◌≡◌, ◌≢◌, ◌+◌, ◌≤◌, ◌↔◌, is_some, true, false, Some, [], ◌++◌, length, min, map, option_map, IsNone, IsSome, IsOk, IfOk, IfErr, IfSome, OnOk, OnErr, None, IsErrAnd, ◌∷◌};
 ghost use Rattle.std.specs.Arc.{arc_value};
 ghost use Rattle.std.specs.Duration.{as_nanos};
@@ -35,41 +36,42 @@ use std::sync::Arc;
 use std::time::Duration;
 use thiserror::Error;
 
-/// What a cache is made from.
+/// The settings that a cache is built from.
 #[derive(Drop)]
 pub struct Settings<K: Eq, V: Clone, C: CacheTypes<K, V>> {
-    /// What the cache is called.
+    /// The name of the cache, if it has one.
     pub name: Option<String>,
-    /// How long a value lives after its write.
+    /// How long an entry lives after its last write; `None` is no limit.
     pub time_to_live: Option<Duration>,
-    /// How long a value lives after its last use: its write, or a recorded look that found it live.
+    /// How long an entry lives after its last access or write; `None` is no limit.
     pub time_to_idle: Option<Duration>,
-    /// How much may stay stored, by the weights of the values; none is no bound. A cache may pass
-    /// it by the 64 keys that may wait for a maintenance. With 0 nothing is stored.
+    /// The bound on the total weight of the resident entries; without a weigher, on their number.
+    /// `None` is no bound. Pending entries come on top: without a weigher, at most the capacity
+    /// plus 64 entries are stored. With 0 nothing is stored.
     pub max_capacity: Option<u64>,
-    /// How many keys there is room for from the start.
+    /// For how many entries room is allocated when the cache is built.
     pub initial_capacity: usize,
-    /// Which keys leave where the cache has passed its capacity, and which new ones are admitted.
+    /// Which entries are evicted if the capacity is exceeded, and which pending ones are admitted.
     pub eviction_policy: EvictionPolicy,
-    /// Weighs each value when it is written; without one each weighs 1, so that the capacity is a
-    /// number of keys.
+    /// Returns the weight of each entry when it is written. Without one, each entry weighs 1, so
+    /// that the capacity is a number of entries.
     pub weigher: Option<Arc<C::Weigher>>,
-    /// Gives values lives of their own, beside the two lives above: the earliest end counts.
-    /// Without one no value has one.
+    /// Gives entries lifetimes of their own, beside the time to live and the time to idle: the
+    /// earliest end counts. Without one, no entry has a lifetime of its own.
     pub expiry: Option<Arc<C::Expiry>>,
-    /// Whether its values may be hidden by predicates.
+    /// Whether stored values can be invalidated by predicates.
     pub closures: bool,
-    /// How many values may leave in the maintenance that comes before a write where 64 or more keys
-    /// wait; none is no limit. It is not 0, and stands beside no weigher. With it more than 64 keys
-    /// may wait.
+    /// How many entries a flush may evict, at least 1; `None` is no limit. It must be `None` beside
+    /// a weigher. A flush is the maintenance that a write runs first if 64 or more entries are
+    /// pending. With a limit, more than 64 may be pending.
     pub flush_limit: Option<u64>,
-    /// The number that the first write draws.
+    /// The first sequence number that a write or an opened turn draws.
     pub first_number: u64,
-    /// Makes the hashers of keys.
+    /// Makes the hashers of the keys.
     pub hasher: Arc<C::Hasher>,
 }
 
-/// A refused `insert`, with the key and the value that it was given.
+/// The error of a failed [`State::insert`], with the key and the value that it was given.
 #[derive(Debug, Drop, Error)]
 #[error("insert was refused ({cause}) and changed nothing: key and value are handed back, to try again \
      with more memory, or with another cache where its numbers are used up")]
@@ -78,7 +80,7 @@ pub struct InsertRefused<K, V> {
     pub key: K,
     /// The value, as it was given.
     pub value: V,
-    /// Why it was refused.
+    /// Why the call failed.
     pub cause: Refused,
 }
 
@@ -90,7 +92,14 @@ impl<K: Drop, V: Drop> From<InsertRefused<K, V>> for Refused {
     }
 }
 
-/// A cache over a store of rows.
+/// An owned cache over a row store `R`: a plain value that is called through `&mut`.
+///
+/// A moment (`now`) is a number of nanoseconds, counted from any origin. A moment before the latest
+/// one counts as the latest.
+///
+/// A failed call leaves the cache unchanged. The exception is a loader or a compute that fails
+/// after its closure ran. Its lookup is recorded, a sequence number is drawn, and its turn is
+/// abandoned.
 #[derive(Drop)]
 pub struct State<K: Hash + Drop, V: Clone, C: CacheTypes<K, V>, R: RowStore<K, V>> {
     name: Option<String>,
@@ -104,14 +113,16 @@ pub struct State<K: Hash + Drop, V: Clone, C: CacheTypes<K, V>, R: RowStore<K, V
     pub(crate) behaviour: Behaviour<K, V, C>,
     pub(crate) turns: Turns<K, V, C::Error>,
     pub(crate) alloc: Global,
-    // The table as it was at the start, for contracts alone.
+    // The table as it was when the cache was built. Only contracts use it.
     opening: SharedSnapshot<Table<K, V, R>>,
 }
 
-/// A cache over rows in a slab, of which the first expired one is known without a walk.
+/// An owned cache whose rows are in a slab, and which finds the first expired row without a walk.
 ///
-/// A look-up reads at most as many rows as have the key's hash. `DueRows::find` is proved to (its
-/// clause `few`), and no call looks a key up but by it.
+/// # Complexity
+///
+/// A lookup reads at most as many rows as have the key's hash. Clause `few` of `DueRows::find` says
+/// so, and no call searches for a key by other means.
 ///
 /// ```
 /// type Sessions = CacheState<u64, String, Plain>;
@@ -142,9 +153,15 @@ impl<K: Hash + Drop, V: Clone, C: CacheTypes<K, V>, R: RowStore<K, V>> Model for
 }
 
 impl<K: Hash + Drop, V: Clone, C: CacheTypes<K, V>, R: RowStore<K, V>> State<K, V, C, R> {
-    /// A cache without values. The weigher and the expiry, where they are given, do what the
-    /// cache's types say of them. A flush limit is not 0, and stands beside no weigher. It takes
-    /// the memory of the source of frequencies, and of the rows and notices of the initial capacity.
+    /// Creates an empty cache. Allocates the frequency source, and room for the rows and notices of
+    /// the initial capacity.
+    ///
+    /// The weigher and the expiry, if given, must compute what the cache's types declare. The flush
+    /// limit must not be 0, and must be `None` beside a weigher.
+    ///
+    /// # Errors
+    ///
+    /// - `OutOfMemory`: an allocation failed.
     pub fn new(alloc: Global, settings: Settings<K, V, C>) -> Result<Self, Refused>
         requires weighs { IfSome settings.weigher (λ weigher.
             C.Weigher.weighs (arc_value weigher) (C.weight (arc_value weigher))) }
@@ -198,12 +215,19 @@ impl<K: Hash + Drop, V: Clone, C: CacheTypes<K, V>, R: RowStore<K, V>> State<K, 
         })
     }
 
-    /// The live value of a key, which is then used at this moment: a recorded look. The key's hash
-    /// is noted, whether there is a value or not. A value that is found may get another life of its
-    /// own.
+    /// Returns a clone of the live value for `key`, or `None` if there is none.
     ///
-    /// Refused for want of memory for the value's copy alone: a look that finds no live value takes
-    /// none and succeeds. A [`CacheState`] reads no rows but those that have the key's hash.
+    /// A hit counts as an access: it renews the time to idle, and moves a resident entry to the end
+    /// of the access order. It may also give the entry a new lifetime of its own. Hit or miss, the
+    /// call notes the key's hash and records the moment.
+    ///
+    /// # Errors
+    ///
+    /// - `OutOfMemory`: cloning the value failed. A miss cannot fail, and does not allocate.
+    ///
+    /// # Complexity
+    ///
+    /// In a [`CacheState`], reads no rows but those that have the key's hash.
     ///
     /// ```
     /// if let Some(line) = lines.get(&number, 0)? {
@@ -217,11 +241,11 @@ impl<K: Hash + Drop, V: Clone, C: CacheTypes<K, V>, R: RowStore<K, V>> State<K, 
             (⟦<C as StateView<K, V>>⟧.follows self.old (Get key.now now) self.new) }
         ensures kept { IfOk result (λ found. IfSome found (C.keeps key.now)) }
 
-        // Only the copy can be refused, and then nothing has changed.
+        // Only cloning the value can fail, and then nothing has changed.
         ensures refused { OnErr result (self.new ≡ self.old) }
         ensures cause { IfErr result (λ cause. cause ≡ Refused.OutOfMemory) }
 
-        // It is not where nothing is live, nor where the copies of the live value never fail.
+        // The call succeeds if no value is live, or if clones of the live value cannot fail.
         ensures miss { ⟦<C as StateView<K, V>>⟧.at_each_history self.old (λ settings steps.
             live_at K.eq settings key.now now (events_in steps) ≡ None → IsOk result) }
         ensures copied { ⟦<C as StateView<K, V>>⟧.at_each_history self.old (λ settings steps.
@@ -232,14 +256,23 @@ impl<K: Hash + Drop, V: Clone, C: CacheTypes<K, V>, R: RowStore<K, V>> State<K, 
         self.get_with_hash(key, hash, now)
     }
 
-    /// Writes a value for a key. The value that stands for the key, live or expired, leaves and is
-    /// noticed. Where 64 or more keys wait, a maintenance comes first, at the same moment, within
-    /// the flush limit if there is one. Where the capacity is 0 nothing is written.
+    /// Stores `value` under `key`: inserts a new entry, or overwrites the entry that the key has.
     ///
-    /// Refused with `NumbersUsedUp` exactly where a number is to be drawn and none is left, and
-    /// else with `OutOfMemory` alone. A refused write hands back the key and the value, and changes
-    /// nothing. Where the capacity is 0 it succeeds without memory. Beside a maintenance, a
-    /// [`CacheState`] reads no rows but those that have the key's hash.
+    /// An overwrite keeps the stored key, and queues a notice of the old value, live or expired. If
+    /// 64 or more entries are pending, a flush runs first: a maintenance at the same moment, within
+    /// the flush limit if there is one. If the capacity is 0, nothing is stored, and the call
+    /// succeeds without allocating.
+    ///
+    /// # Errors
+    ///
+    /// A failed call hands back the key and the value.
+    ///
+    /// - `NumbersUsedUp`: the capacity is not 0, and no sequence number is left.
+    /// - `OutOfMemory`: an allocation failed, and a sequence number is left.
+    ///
+    /// # Complexity
+    ///
+    /// In a [`CacheState`], reads no rows but those that have the key's hash, apart from a flush.
     ///
     /// ```
     /// match pages.insert(number, name, 0) {
@@ -260,7 +293,8 @@ impl<K: Hash + Drop, V: Clone, C: CacheTypes<K, V>, R: RowStore<K, V>> State<K, 
         self.insert_with_hash(key, hash, value, now)
     }
 
-    /// Whether a key has a live value at a moment. It is no use of the value, and records nothing.
+    /// Checks whether `key` has a live value at the moment `now`. Does not count as an access, and
+    /// records nothing.
     pub fn contains_key(&self, key: &K, now: u64) -> bool
         ensures reply { ⟦<C as StateView<K, V>>⟧.answers self.now
             (ContainsKey key.now now) (Contains result) }
@@ -271,7 +305,8 @@ impl<K: Hash + Drop, V: Clone, C: CacheTypes<K, V>, R: RowStore<K, V>> State<K, 
         self.contains_key_with_hash(key, hash, now)
     }
 
-    /// Removes a key. Its value, live or expired, is noticed. It takes no memory.
+    /// Removes the entry of `key`, live or expired, and queues its notice. Cannot fail, and does
+    /// not allocate.
     pub fn invalidate(&mut self, key: &K, now: u64)
         ensures { ⟦<C as StateView<K, V>>⟧.follows self.old (Invalidate key.now now) self.new }
     {
@@ -279,8 +314,8 @@ impl<K: Hash + Drop, V: Clone, C: CacheTypes<K, V>, R: RowStore<K, V>> State<K, 
         self.invalidate_with_hash(key, hash, now);
     }
 
-    /// The first notice that has not been taken, in the order of leaving; none exactly where all
-    /// are taken. It takes no memory.
+    /// Removes and returns the oldest queued notice, or returns `None` if none is queued. Notices
+    /// are in the order of the removals. Does not allocate.
     ///
     /// ```
     /// while let Some(notice) = pages.take_notice() {
@@ -288,13 +323,14 @@ impl<K: Hash + Drop, V: Clone, C: CacheTypes<K, V>, R: RowStore<K, V>> State<K, 
     ///     println!(rt; "deleted {}: {:?}", notice.value, notice.cause)?;
     /// }
     /// ```
+    #[inline(always)]
     pub fn take_notice(&mut self) -> Option<Notice<K, V>>
         ensures reply { ⟦<C as StateView<K, V>>⟧.answers self.old TakeNotice
             (Noticed (option_map removal_of result)) }
         ensures stands { ⟦<C as StateView<K, V>>⟧.follows self.old TakeNotice self.new }
         ensures kept { IfSome result (λ notice. C.keeps (arc_value notice.key) notice.value) }
 
-        // So a loop that takes notices ends.
+        // So a loop that takes all notices ends: each one taken leaves one fewer.
         ensures none { IsNone result ↔ (self.old.books.notices ≡ []) }
         ensures fewer { IfSome result (λ _.
             length self.old.books.notices ≡ length self.new.books.notices + 1) }
@@ -303,14 +339,24 @@ impl<K: Hash + Drop, V: Clone, C: CacheTypes<K, V>, R: RowStore<K, V>> State<K, 
         self.table.take_notice()
     }
 
-    /// Runs a maintenance: the expired values leave, and where the admitted pass the capacity the
-    /// least recently used leave. Then each that waits, in their order, is admitted, where need be
-    /// in place of the least recently used, or it leaves, as the policy wants it. Each that leaves
-    /// is noticed. It takes no memory.
+    /// Runs a maintenance, and queues a notice of each entry that it evicts. Cannot fail, and does
+    /// not allocate.
     ///
-    /// Visits the waiting rows, for each the admitted ones that would have to leave for it, and those
-    /// that leave; and where a row may be hidden, all. So does a [`CacheState`]; another store may
-    /// walk to find the first expired row.
+    /// 1. It evicts the expired entries, and those marked as invalidated.
+    /// 2. If the resident entries exceed the capacity, it evicts the least recently used ones.
+    /// 3. It admits or evicts each pending entry, in arrival order, as the eviction policy decides.
+    ///    If need be, an admitted entry takes the place of the least recently used ones, which are
+    ///    evicted.
+    ///
+    /// # Complexity
+    ///
+    /// In a [`CacheState`], visits
+    ///
+    /// - the pending entries, and for each the resident ones that would have to be evicted for it;
+    /// - the entries that are evicted;
+    /// - every entry, if one may be marked as invalidated.
+    ///
+    /// Another row store may also walk to find the first expired row.
     ///
     /// ```
     /// sessions.run_pending_tasks(now);
@@ -324,8 +370,8 @@ impl<K: Hash + Drop, V: Clone, C: CacheTypes<K, V>, R: RowStore<K, V>> State<K, 
     pub fn run_pending_tasks(&mut self, now: u64)
         ensures stands { ⟦<C as StateView<K, V>>⟧.follows self.old (RunPendingTasks now) self.new }
 
-        // Nothing waits then, what is stored is live, and it is within the capacity, by its weight,
-        // and so by its number where there is no weigher.
+        // Afterwards nothing is pending, every stored entry is live, and their weight is within the
+        // capacity. Without a weigher, so is their number.
         ensures none_waits { self.new.books.orders.waiting ≡ [] }
         ensures all_live { ⟦<C as StateView<K, V>>⟧.at_each_history self.old (λ settings steps.
             AllByRecursion
@@ -345,25 +391,30 @@ impl<K: Hash + Drop, V: Clone, C: CacheTypes<K, V>, R: RowStore<K, V>> State<K, 
         self.latest = now;
     }
 
-    /// Runs a maintenance within a limit, and answers whether it left a part undone. What leaves by
-    /// itself is a part, and a key that waits is one with the keys that leave for it. The parts are
-    /// done in the order of [`State::run_pending_tasks`], up to the first with which more than the
-    /// limit would have left. It takes no memory.
+    /// Runs a maintenance that evicts at most `limit` entries, and returns whether a part is left
+    /// to do. Cannot fail, and does not allocate.
     ///
-    /// Visits no more rows than a whole maintenance. The next one visits those that wait again, and
-    /// where a row may be hidden the admitted ones in front that live.
+    /// Its parts are done in the order of [`State::run_pending_tasks`]. Each eviction by itself is
+    /// a part. A pending entry is a part together with the entries that are evicted for it. The
+    /// call stops before the first part that would exceed the limit. If it returns false,
+    /// everything is as after a whole maintenance.
+    ///
+    /// # Complexity
+    ///
+    /// Visits no more rows than a whole maintenance. The next call visits the pending entries
+    /// again, and, if an entry may be marked as invalidated, the live resident ones in front.
     pub fn run_pending_tasks_up_to(&mut self, limit: u64, now: u64) -> bool
         ensures reply { ⟦<C as StateView<K, V>>⟧.answers self.old
             (RunPendingTasksUpTo limit now) (Left result) }
         ensures stands { ⟦<C as StateView<K, V>>⟧.follows self.old
             (RunPendingTasksUpTo limit now) self.new }
 
-        // At most as many leave as the limit says, and each is noticed.
+        // At most `limit` entries are evicted, and at most as many notices queued.
         ensures fewer { length (all_writes self.old) ≤ length (all_writes self.new) + limit }
         ensures noticed { length self.new.books.notices
             ≤ length self.old.books.notices + limit }
 
-        // Where it leaves no part undone, all is as after a whole maintenance.
+        // If no part is left to do, everything is as after a whole maintenance.
         ensures whole { result ≡ false →
             ⟦<C as StateView<K, V>>⟧.follows self.old (RunPendingTasks now) self.new }
         ensures none_waits { result ≡ false → self.new.books.orders.waiting ≡ [] }
@@ -389,8 +440,8 @@ impl<K: Hash + Drop, V: Clone, C: CacheTypes<K, V>, R: RowStore<K, V>> State<K, 
         is_cut
     }
 
-    /// How many keys are stored, with those that wait and those whose values are expired. With a
-    /// capacity and without a weigher it is at most the capacity and 64 more.
+    /// Returns the number of stored entries, pending and expired ones included. With a capacity and
+    /// without a weigher, it is at most the capacity plus 64.
     pub fn entry_count(&self) -> u64
         ensures counted { result ≡ length (all_writes self.now) }
         ensures reply { ⟦<C as StateView<K, V>>⟧.answers self.now EntryCount (Counted result) }
@@ -403,8 +454,8 @@ impl<K: Hash + Drop, V: Clone, C: CacheTypes<K, V>, R: RowStore<K, V>> State<K, 
         self.table.len() as u64
     }
 
-    /// How heavy all that is stored is, with what waits and what is expired; where that is more
-    /// than `u64::MAX`, this is `u64::MAX`.
+    /// Returns the total weight of the stored entries, pending and expired ones included. A greater
+    /// weight than `u64::MAX` is returned as `u64::MAX`.
     pub fn weighted_size(&self) -> u64
         ensures counted { result
             ≡ min (total (λ w. w.policy_weight) (all_writes self.now)) greatest_number }
@@ -414,14 +465,15 @@ impl<K: Hash + Drop, V: Clone, C: CacheTypes<K, V>, R: RowStore<K, V>> State<K, 
         self.table.weight().min(u128::from(u64::MAX)) as u64
     }
 
-    /// What it is called.
+    /// Returns the name of the cache, if it has one.
     pub fn name(&self) -> Option<&str>
         ensures { option_map (λ name. name.now) result ≡ self.now.settings.name }
     {
         self.name.as_deref()
     }
 
-    /// How much it may store and how long its values live, as it was built. It is one segment.
+    /// Returns the capacity, the time to live and the time to idle that the cache was built with.
+    /// Its number of segments is 1.
     pub fn policy(&self) -> Policy
         ensures max_capacity { result.max_capacity ≡ self.now.settings.max_capacity }
         ensures num_segments { result.num_segments ≡ 1 }
@@ -439,14 +491,15 @@ impl<K: Hash + Drop, V: Clone, C: CacheTypes<K, V>, R: RowStore<K, V>> State<K, 
         )
     }
 
-    // The allocator that it keeps. Its flush limit, if there is one, is not 0.
+    // Returns the cache's allocator. The contract adds that a flush limit is not 0.
     pub(crate) fn alloc(&self) -> Global
         ensures { LimitsSome self.now.settings.flush_limit }
     {
         self.alloc
     }
 
-    /// How many notices have not been taken.
+    /// Returns the number of queued notices.
+    #[inline(always)]
     pub fn notice_count(&self) -> usize
         ensures { result ≡ length self.now.books.notices }
     {

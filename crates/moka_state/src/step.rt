@@ -1,4 +1,4 @@
-//! Calls and their answers as data, and runs of them.
+//! Calls and their replies as data: single steps, and runs of steps.
 ghost use Rattle.std.specs.Prelude.{◌≡◌, ◌+◌, ◌≤◌, ◌++◌, length, None, IfOk, IfErr, IfSome, OnErr};
 ghost use Rattle.std.specs.List.{AllByRecursion};
 ghost use Rattle.moka_model.specs.Numbers.{flush_point};
@@ -7,6 +7,7 @@ ghost use Rattle.moka_conserved.specs.Conserved.{given_out, IsConserved};
 ghost use Rattle.moka_state.specs.State.{all_writes};
 ghost use Rattle.moka_state.specs.Hashes.{IsHashOfStep};
 ghost use Rattle.moka_state.specs.Noticed.{noticed_in};
+ghost use Rattle.moka_state.specs.Replies.{IsRefusal};
 ghost use Rattle.moka_state.specs.Step.{call_of, IsReplyTo, StepKeeps, ReplyKeeps, after_reply, IsRun, after_all};
 
 use crate::or_insert::OrInsertRefused;
@@ -24,144 +25,156 @@ use std::collections::VecDeque;
 use std::hash::Hash;
 use std::sync::Arc;
 
-/// One call of a cache, with its arguments as values.
+/// One call on a cache, with its arguments, as data. `now` is the moment of the call, in
+/// nanoseconds. A turn or a ticket appears by its name.
 #[derive(Drop)]
 pub enum Step<K: Eq, V: Clone, C: CacheTypes<K, V>> {
-    /// A look that uses the value that it finds.
+    /// [`State::get`]: a recorded lookup that returns the live value.
     Get {
         key: Arc<K>,
         now: u64,
     },
-    /// A look that uses nothing.
+    /// [`State::contains_key`]: a lookup that records nothing.
     ContainsKey {
         key: Arc<K>,
         now: u64,
     },
-    /// A write.
+    /// [`State::insert`]: a write.
     Insert {
         key: Arc<K>,
         value: V,
         now: u64,
     },
-    /// A look that uses the value that it finds, and where it finds none, a write.
+    /// [`State::or_insert`]: a recorded lookup and, if it finds no value, a write.
     OrInsert {
         key: Arc<K>,
         value: V,
         now: u64,
     },
-    /// A removal.
+    /// [`State::invalidate`]: a removal.
     Invalidate {
         key: Arc<K>,
         now: u64,
     },
-    /// A removal that answers the live value.
+    /// [`State::remove`]: a removal that returns the live value.
     Remove {
         key: Arc<K>,
         now: u64,
     },
-    /// A removal of all keys.
+    /// [`State::invalidate_all`]: an invalidation of all entries.
     InvalidateAll,
-    /// A removal of each value of which a predicate holds.
+    /// [`State::invalidate_entries_with_arc_fun`]: an invalidation of the entries of which a
+    /// predicate holds.
     InvalidateIf {
         predicate: Arc<C::Predicate>,
     },
-    /// A maintenance.
+    /// [`State::run_pending_tasks`]: a whole maintenance.
     RunPendingTasks {
         now: u64,
     },
-    /// A maintenance within a limit.
+    /// [`State::run_pending_tasks_up_to`]: a maintenance that evicts at most `limit` entries.
     RunPendingTasksUpTo {
         limit: u64,
         now: u64,
     },
-    /// A count of the stored keys.
+    /// [`State::entry_count`]: the number of stored entries.
     EntryCount,
-    /// The weight of all that is stored.
+    /// [`State::weighted_size`]: the total weight of the stored entries.
     WeightedSize,
-    /// The first notice is taken.
+    /// [`State::take_notice`]: the oldest queued notice.
     TakeNotice,
-    /// The begin of a turn, with what its caller says of the live value that is shown: whether to
-    /// replace it, or none where it asks nothing.
+    /// [`State::begin`]: the begin of a turn. `replace` is what `replace_if` returns for any live
+    /// value, or `None` without a `replace_if`.
     Begin {
         key: Arc<K>,
         kind: Kind,
         replace: Option<bool>,
         now: u64,
     },
-    /// The begin of a compute, and whether a copy of the live value is to be kept aside.
+    /// [`State::begin_compute`]: the begin of a compute. `keep` is whether a clone of the live
+    /// value is kept aside.
     BeginCompute {
         key: Arc<K>,
         keep: bool,
         now: u64,
     },
-    /// The end of a turn with an outcome.
+    /// [`State::finish`]: the end of a turn with an outcome.
     Finish {
         name: TurnName<K>,
         outcome: Outcome<V, Arc<C::Error>>,
         now: u64,
     },
-    /// The end of a turn without one.
+    /// [`State::abandon`]: the end of a turn without an outcome.
     Abandon {
         name: TurnName<K>,
     },
-    /// A ticket asks what came of its turn.
+    /// [`State::collect`]: a ticket is exchanged for the outcome of its turn.
     Collect {
         name: TurnName<K>,
     },
-    /// A ticket is spent, and asks nothing.
+    /// [`State::leave`]: a ticket is spent without the outcome of its turn.
     Leave {
         name: TurnName<K>,
     },
 }
 
-/// The answer of a call. In it a turn and a ticket stand by name.
+/// The result of a call, as data. A turn or a ticket appears by its name.
 #[derive(Drop)]
 pub enum Reply<K: Eq, V: Clone, C: CacheTypes<K, V>> {
-    /// What `Get` found, or what `Remove` removed.
+    /// The live value that `Get` found or that `Remove` removed, if there was one.
     Found(Option<V>),
-    /// What `ContainsKey` found.
+    /// Whether `ContainsKey` found a live value.
     Contains(bool),
-    /// The call was done, and answers nothing.
+    /// The call succeeded, and has no result.
     Done,
-    /// How many keys `EntryCount` found stored, or what `WeightedSize` found.
+    /// The number of entries from `EntryCount`, or the total weight from `WeightedSize`.
     Counted(u64),
-    /// Whether `RunPendingTasksUpTo` left a part undone.
+    /// Whether `RunPendingTasksUpTo` left a part to do.
     Left(bool),
-    /// The notice that was taken, if there was one.
+    /// The notice from `TakeNotice`, if one was queued.
     Noticed(Option<Notice<K, V>>),
     /// The entry that `Begin` or `OrInsert` found, that `Finish` or `OrInsert` wrote, or that
-    /// `Collect` was told.
+    /// `Collect` returned.
     Entered(Entry<K, V>),
-    /// `Begin` or `BeginCompute` opened this turn, and a compute is shown this entry, if one is live.
+    /// `Begin` or `BeginCompute` opened this turn. A compute also gets the live entry, if there is
+    /// one.
     Run(TurnName<K>, Option<Entry<K, V>>),
-    /// `Begin` or `BeginCompute` waits for this turn.
+    /// `Begin` or `BeginCompute` has to wait for this turn.
     Wait(TurnName<K>),
-    /// The turn gave no value.
+    /// The turn ended without a value.
     Nothing,
-    /// The turn gave an error in place of a value.
+    /// The turn ended with an error instead of a value.
     Failed(Arc<C::Error>),
-    /// What became of the value of a compute that `Finish` ended.
+    /// The result of a compute that `Finish` ended.
     Computed(CompResult<K, V>),
-    /// The turn of `Collect` is open still.
+    /// The turn of `Collect` is still open.
     NotYet,
     /// The turn of `Collect` was abandoned.
     Abandoned,
     /// The turn of `Collect` was a compute, and has ended.
     Ended,
-    /// The call was refused, and changed nothing.
+    /// The call failed, and changed nothing.
     Refused(Refused),
-    /// `InvalidateIf` was refused, and changed nothing.
+    /// `InvalidateIf` failed, and changed nothing.
     PredicateRefused(PredicateError),
 }
 
 impl<K: Hash + Drop, V: Clone, C: CacheTypes<K, V>, R: RowStore<K, V>> State<K, V, C, R> {
-    /// Does one step. A step and the call that it stands for answer the same. A refused step has
-    /// changed nothing, and what it carried is dropped. Memory is refused to writes, to looks that
-    /// find a live value whose copy can fail, to each `OrInsert`, to begins, and to ends of turns and
-    /// tickets that are handed a value or an error; to no other step. A `Finish` whose outcome does not
-    /// fit the kind of its name is refused with `UnknownTurn`. An `or_default` stands in a step as the
-    /// `OrInsert` of the default value, and a `Begin` of kind `Compute` as a `BeginCompute` that keeps no
-    /// copy.
+    /// Does one step, and returns the result of its call.
+    ///
+    /// An `or_default` is an `OrInsert` of the default value. A `Begin` of kind `Compute` is a
+    /// `BeginCompute` that keeps no clone.
+    ///
+    /// # Errors
+    ///
+    /// A failed step changes nothing, and what it contains is dropped. It fails as its call does,
+    /// and with `UnknownTurn` if the outcome of a `Finish` does not fit the kind of its name.
+    /// `OutOfMemory` is possible only for
+    ///
+    /// - an `Insert` (unless the capacity is 0), an `OrInsert`, a `Begin` or a `BeginCompute`;
+    /// - a `Get` or a `Remove` that finds a live value whose clone can fail;
+    /// - a `Finish` with a value, with an error, or with the removal of such a live value;
+    /// - a `Collect` that returns a value or an error.
     pub fn step(&mut self, step: Step<K, V, C>) -> Reply<K, V, C>
         requires { StepKeeps C.keeps C.Predicate.tests C.test step }
         ensures reply { ⟦<C as StateView<K, V>>⟧.at_each_history self.old (λ settings steps.
@@ -171,13 +184,15 @@ impl<K: Hash + Drop, V: Clone, C: CacheTypes<K, V>, R: RowStore<K, V>> State<K, 
             ⟦<C as StateView<K, V>>⟧.stands_for settings self.new
             (after_reply K.eq settings (call_of C.test step) result steps)) }
         ensures kept { ReplyKeeps C.keeps step result }
+        ensures refused { IsRefusal result → self.new ≡ self.old }
     {
         let hash = self.hash_of_step(&step);
         self.step_with_hash(step, hash)
     }
 
-    /// As [`State::step`], with the hash of the step's key, as [`State::hash`] answers it: the key is
-    /// not hashed again, but for a step of a turn. Where the step has no key, any number does.
+    /// Works like [`State::step`], given the hash of the step's key, as [`State::hash`] returns it.
+    /// The key is not hashed again, except in a step of a turn. For a step without a key, any
+    /// number will do.
     pub fn step_with_hash(&mut self, step: Step<K, V, C>, hash: u64) -> Reply<K, V, C>
         requires hash { IsHashOfStep (⟦<C as StateView<K, V>>⟧.settings self.old.settings)
             step hash }
@@ -189,6 +204,7 @@ impl<K: Hash + Drop, V: Clone, C: CacheTypes<K, V>, R: RowStore<K, V>> State<K, 
             ⟦<C as StateView<K, V>>⟧.stands_for settings self.new
             (after_reply K.eq settings (call_of C.test step) result steps)) }
         ensures kept { ReplyKeeps C.keeps step result }
+        ensures refused { IsRefusal result → self.new ≡ self.old }
         ensures settings { self.new.settings ≡ self.old.settings }
     {
         match step {
@@ -251,7 +267,7 @@ impl<K: Hash + Drop, V: Clone, C: CacheTypes<K, V>, R: RowStore<K, V>> State<K, 
         }
     }
 
-    // The hash of the key of a step, and some number where it has none.
+    // Returns the hash of a step's key, or 0 if it has none.
     fn hash_of_step(&self, step: &Step<K, V, C>) -> u64
         ensures { IsHashOfStep (⟦<C as StateView<K, V>>⟧.settings self.now.settings)
             step.now result }
@@ -273,9 +289,12 @@ impl<K: Hash + Drop, V: Clone, C: CacheTypes<K, V>, R: RowStore<K, V>> State<K, 
         }
     }
 
-    /// Does steps in order, and answers their replies. With a capacity and without a weigher no more
-    /// keys are stored then than it allows, and 64. Where the list of replies finds no room, no step
-    /// was done.
+    /// Does the steps in order, and returns their replies. Afterwards, with a capacity and without
+    /// a weigher, at most the capacity plus 64 entries are stored.
+    ///
+    /// # Errors
+    ///
+    /// - `OutOfMemory`: the list of replies could not be allocated. No step was done.
     pub fn run(&mut self, steps: Vec<Step<K, V, C>>) -> Result<Vec<Reply<K, V, C>>, Refused>
         requires { AllByRecursion (StepKeeps C.keeps C.Predicate.tests C.test) steps.items }
         ensures replies { IfOk result (λ replies.
@@ -287,8 +306,9 @@ impl<K: Hash + Drop, V: Clone, C: CacheTypes<K, V>, R: RowStore<K, V>> State<K, 
             ⟦<C as StateView<K, V>>⟧.stands_for settings self.new
             (after_all K.eq C.test settings steps.items replies.items before))) }
 
-        // Nothing is lost or doubled: what was written is stored, or its notice waits, or it was given
-        // out, before the run or by its replies; of a new cache, by its replies alone.
+        // Nothing is lost or doubled: each written pair is stored, or its notice is queued, or was
+        // given out. That happened before the run or in its replies; with a new cache, only in its
+        // replies.
         ensures conserved { IfOk result (λ replies.
             ⟦<C as StateView<K, V>>⟧.at_each_history self.old (λ settings before.
             IsConserved K.eq settings

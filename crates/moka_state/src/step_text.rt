@@ -1,4 +1,4 @@
-//! How steps and replies are written. A predicate and an error are written as `..`, so none needs
+//! `Debug` of steps and replies. A predicate or an error is written as `..`, so that it needs no
 //! `Debug`.
 use crate::step::{Reply, Step};
 use moka_model::entry::Entry;
@@ -8,7 +8,7 @@ use moka_turns::turn_name::TurnName;
 use std::fmt;
 use std::fmt::{Debug, Formatter};
 
-// An outcome, without its error.
+// Writes an outcome, without its error.
 fn write_outcome<V: Debug, E, W: fmt::Write>(
     outcome: &Outcome<V, E>,
     f: &mut Formatter<W>,
@@ -21,7 +21,7 @@ fn write_outcome<V: Debug, E, W: fmt::Write>(
     }
 }
 
-// A step that is told a key and its moment.
+// Writes a step of a key and a moment.
 fn write_look<K: Debug, W: fmt::Write>(
     name: &str,
     key: &K,
@@ -31,7 +31,7 @@ fn write_look<K: Debug, W: fmt::Write>(
     write!(f, "{name} {{ key: {key:?}, now: {now} }}")
 }
 
-// A step that is told a key, a value and its moment.
+// Writes a step of a key, a value and a moment.
 fn write_write<K: Debug, V: Debug, W: fmt::Write>(
     name: &str,
     key: &K,
@@ -42,7 +42,7 @@ fn write_write<K: Debug, V: Debug, W: fmt::Write>(
     write!(f, "{name} {{ key: {key:?}, value: {value:?}, now: {now} }}")
 }
 
-// A step that begins a turn.
+// Writes a `Begin`.
 fn write_begin<K: Debug, W: fmt::Write>(
     key: &K,
     kind: Kind,
@@ -56,7 +56,7 @@ fn write_begin<K: Debug, W: fmt::Write>(
     )
 }
 
-// A step that begins a compute.
+// Writes a `BeginCompute`.
 fn write_begin_compute<K: Debug, W: fmt::Write>(
     key: &K,
     keep: bool,
@@ -69,7 +69,7 @@ fn write_begin_compute<K: Debug, W: fmt::Write>(
     )
 }
 
-// A step that ends a turn with an outcome.
+// Writes a `Finish`.
 fn write_finish<K: Debug, V: Debug, E, W: fmt::Write>(
     name: &TurnName<K>,
     outcome: &Outcome<V, E>,
@@ -81,7 +81,7 @@ fn write_finish<K: Debug, V: Debug, E, W: fmt::Write>(
     write!(f, ", now: {now} }}")
 }
 
-// A step that is told a turn alone.
+// Writes a step of nothing but a name.
 fn write_of_turn<K: Debug, W: fmt::Write>(
     step: &str,
     name: &TurnName<K>,
@@ -90,12 +90,12 @@ fn write_of_turn<K: Debug, W: fmt::Write>(
     write!(f, "{step} {{ name: {name:?} }}")
 }
 
-// A maintenance within a limit.
+// Writes a `RunPendingTasksUpTo`.
 fn write_within<W: fmt::Write>(limit: u64, now: u64, f: &mut Formatter<W>) -> fmt::Result {
     write!(f, "RunPendingTasksUpTo {{ limit: {limit}, now: {now} }}")
 }
 
-// The parts are in functions of their own, since one body of all is dear to prove.
+// The parts are in functions of their own, since one large body is expensive to prove.
 impl<K: Eq + Debug, V: Clone + Debug, C: CacheTypes<K, V>> Debug for Step<K, V, C> {
     fn fmt<W: fmt::Write>(&self, f: &mut Formatter<W>) -> fmt::Result {
         match self {
@@ -127,12 +127,12 @@ impl<K: Eq + Debug, V: Clone + Debug, C: CacheTypes<K, V>> Debug for Step<K, V, 
     }
 }
 
-// A reply of one part.
+// Writes a reply of one part.
 fn write_one<T: Debug, W: fmt::Write>(name: &str, part: &T, f: &mut Formatter<W>) -> fmt::Result {
     write!(f, "{name}({part:?})")
 }
 
-// A turn that was opened, and the entry that is shown.
+// Writes a `Run`: the turn that was opened, and the entry that a compute gets.
 fn write_run<K: Debug, V: Debug, W: fmt::Write>(
     name: &TurnName<K>,
     entry: &Option<Entry<K, V>>,

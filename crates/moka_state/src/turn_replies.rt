@@ -1,9 +1,9 @@
-//! What the calls of turns answer, as replies: in these a turn and a ticket stand by name.
-ghost use Rattle.std.specs.Prelude.{Ok, IfOk};
+//! The results of the calls of turns as replies, in which a turn or a ticket appears by its name.
+ghost use Rattle.std.specs.Prelude.{Ok, IfOk, IsErr};
 ghost use Rattle.moka_state.specs.Begin.{FoundKeeps};
 ghost use Rattle.moka_state.specs.Compute.{ShownKeeps};
 ghost use Rattle.moka_state.specs.Given.{of_answer, of_begin, of_begin_compute, of_collect, of_done, of_finish};
-ghost use Rattle.moka_state.specs.Replies.{EntryKeeps, HasNoNotice, Leaves, Says};
+ghost use Rattle.moka_state.specs.Replies.{EntryKeeps, HasNoNotice, IsRefusal, Leaves, Says};
 
 use crate::answers::{
     Answer, Begun, BegunCompute, CollectRefused, Collected, FinishRefused, Finished,
@@ -12,12 +12,13 @@ use crate::step::Reply;
 use moka_policy::policy::{CacheTypes, Refused};
 use moka_turns::naming::{name_of_ticket, name_of_turn};
 
-/// The reply to a begin.
+/// Converts the result of a begin into a reply.
 pub(crate) fn begun_reply<K: Eq + Drop, V: Clone, C: CacheTypes<K, V>>(
     begun: Result<Begun<K, V>, Refused>,
 ) -> Reply<K, V, C>
     ensures says { Says K.eq V.is_clone V.is_infallible (of_begin begun) result }
     ensures leaves { Leaves K.eq begun result }
+    ensures refused { IsRefusal result → IsErr begun }
     ensures kept { IfOk begun (FoundKeeps C.keeps) → EntryKeeps C.keeps result }
 {
     match begun {
@@ -28,12 +29,13 @@ pub(crate) fn begun_reply<K: Eq + Drop, V: Clone, C: CacheTypes<K, V>>(
     }
 }
 
-/// The reply to the begin of a compute.
+/// Converts the result of the begin of a compute into a reply.
 pub(crate) fn compute_reply<K: Eq + Drop, V: Clone, C: CacheTypes<K, V>>(
     begun: Result<BegunCompute<K, V>, Refused>,
 ) -> Reply<K, V, C>
     ensures says { Says K.eq V.is_clone V.is_infallible (of_begin_compute begun) result }
     ensures leaves { Leaves K.eq begun result }
+    ensures refused { IsRefusal result → IsErr begun }
     ensures kept { IfOk begun (ShownKeeps C.keeps) → EntryKeeps C.keeps result }
 {
     match begun {
@@ -43,12 +45,13 @@ pub(crate) fn compute_reply<K: Eq + Drop, V: Clone, C: CacheTypes<K, V>>(
     }
 }
 
-// The reply to what a turn gave.
+// Converts the outcome of a loader's turn into a reply.
 fn answer_reply<K: Eq + Drop, V: Clone, C: CacheTypes<K, V>>(
     answer: Answer<K, V, C::Error>,
 ) -> Reply<K, V, C>
     ensures says { Says K.eq V.is_clone V.is_infallible (Ok (of_answer answer)) result }
     ensures leaves { Leaves {B = Unit {0}} K.eq (Ok answer) result }
+    ensures accepted { ¬ (IsRefusal result) }
     ensures kept { HasNoNotice result }
 {
     match answer {
@@ -58,12 +61,13 @@ fn answer_reply<K: Eq + Drop, V: Clone, C: CacheTypes<K, V>>(
     }
 }
 
-/// The reply to a finish.
+/// Converts the result of a finish into a reply.
 pub(crate) fn finish_reply<K: Eq + Drop, V: Clone, C: CacheTypes<K, V>>(
     finished: Result<Finished<K, V, C::Error>, FinishRefused<K, V, C::Error>>,
 ) -> Reply<K, V, C>
     ensures says { Says K.eq V.is_clone V.is_infallible (of_finish finished) result }
     ensures leaves { Leaves K.eq finished result }
+    ensures refused { IsRefusal result → IsErr finished }
     ensures kept { HasNoNotice result }
 {
     match finished {
@@ -82,12 +86,13 @@ pub(crate) fn finish_reply<K: Eq + Drop, V: Clone, C: CacheTypes<K, V>>(
     }
 }
 
-/// The reply to a collect.
+/// Converts the result of a collect into a reply.
 pub(crate) fn collect_reply<K: Eq + Drop, V: Clone, C: CacheTypes<K, V>>(
     collected: Result<Collected<K, V, C::Error>, CollectRefused<K>>,
 ) -> Reply<K, V, C>
     ensures says { Says K.eq V.is_clone V.is_infallible (of_collect collected) result }
     ensures leaves { Leaves K.eq collected result }
+    ensures refused { IsRefusal result → IsErr collected }
     ensures kept { HasNoNotice result }
 {
     match collected {
@@ -105,12 +110,13 @@ pub(crate) fn collect_reply<K: Eq + Drop, V: Clone, C: CacheTypes<K, V>>(
     }
 }
 
-/// The reply to a call that answers nothing.
+/// Converts a result without a value into a reply.
 pub(crate) fn done_reply<K: Eq + Drop, V: Clone, C: CacheTypes<K, V>>(
     done: Result<(), Refused>,
 ) -> Reply<K, V, C>
     ensures says { Says K.eq V.is_clone V.is_infallible (of_done done) result }
     ensures leaves { Leaves K.eq done result }
+    ensures refused { IsRefusal result → IsErr done }
     ensures kept { HasNoNotice result }
 {
     match done {

@@ -1,4 +1,4 @@
-//! The calls of turns as data: in these a turn and a ticket stand by name.
+//! The calls of turns as steps, in which a turn or a ticket appears by its name.
 ghost use Rattle.std.specs.Prelude.{◌≡◌, ◌≢◌, Bool, false, unwrap_or, IfOk, OnOk, OnErr};
 ghost use Rattle.std.specs.Arc.{arc_value};
 ghost use Rattle.std.specs.Fn.{CalledAt};
@@ -7,7 +7,7 @@ ghost use Rattle.moka_turns.specs.Handles.{name_by};
 ghost use Rattle.moka_state.specs.Begin.{FoundKeeps};
 ghost use Rattle.moka_state.specs.Finish.{OutcomeKeeps, outcome_of};
 ghost use Rattle.moka_state.specs.Given.{Gives, of_begin};
-ghost use Rattle.moka_state.specs.Replies.{EntryKeeps, HasNoNotice};
+ghost use Rattle.moka_state.specs.Replies.{EntryKeeps, HasNoNotice, IsRefusal};
 ghost use Rattle.moka_state.specs.Step.{IsReplyTo, after_reply};
 
 use crate::answers::Begun;
@@ -24,7 +24,8 @@ use std::hash::Hash;
 use std::sync::Arc;
 
 impl<K: Hash + Drop, V: Clone, C: CacheTypes<K, V>, R: RowStore<K, V>> State<K, V, C, R> {
-    // A begin whose caller says this of any live value, where he is asked.
+    // Does a begin with a `replace_if` that returns `replace` for any value, or without it for
+    // `None`.
     fn begin_asked<F: FnMut(&V) -> bool + Drop>(
         &mut self,
         key: &Arc<K>,
@@ -52,7 +53,7 @@ impl<K: Hash + Drop, V: Clone, C: CacheTypes<K, V>, R: RowStore<K, V>> State<K, 
         }
     }
 
-    /// Does a begin that stands as data. One of kind `Compute` keeps no copy.
+    /// Does a `Begin`. One of kind `Compute` keeps no clone.
     pub(crate) fn step_begin(
         &mut self,
         key: Arc<K>,
@@ -67,6 +68,7 @@ impl<K: Hash + Drop, V: Clone, C: CacheTypes<K, V>, R: RowStore<K, V>> State<K, 
             ⟦<C as StateView<K, V>>⟧.stands_for settings self.new
             (after_reply K.eq settings (Begin (arc_value key) kind replace now) result steps)) }
         ensures kept { EntryKeeps C.keeps result }
+        ensures refused { IsRefusal result → self.new ≡ self.old }
         ensures settings { self.new.settings ≡ self.old.settings }
     {
         if kind == Kind::Compute {
@@ -76,7 +78,7 @@ impl<K: Hash + Drop, V: Clone, C: CacheTypes<K, V>, R: RowStore<K, V>> State<K, 
         begun_reply(self.begin_asked(&key, kind, replace, |_: &V| replaces, now))
     }
 
-    /// Does the begin of a compute that stands as data.
+    /// Does a `BeginCompute`.
     pub(crate) fn step_begin_compute(&mut self, key: Arc<K>, keep: bool, now: u64) -> Reply<K, V, C>
         ensures reply { ⟦<C as StateView<K, V>>⟧.at_each_history self.old (λ settings steps.
             IsReplyTo K.eq V.is_clone V.is_infallible settings steps
@@ -85,12 +87,13 @@ impl<K: Hash + Drop, V: Clone, C: CacheTypes<K, V>, R: RowStore<K, V>> State<K, 
             ⟦<C as StateView<K, V>>⟧.stands_for settings self.new
             (after_reply K.eq settings (BeginCompute (arc_value key) keep now) result steps)) }
         ensures kept { EntryKeeps C.keeps result }
+        ensures refused { IsRefusal result → self.new ≡ self.old }
         ensures settings { self.new.settings ≡ self.old.settings }
     {
         compute_reply(self.begin_compute(&key, keep, now))
     }
 
-    /// Does a finish that stands as data. An outcome that does not fit its kind is refused.
+    /// Does a `Finish`. Fails with `UnknownTurn` if the outcome does not fit the kind of the name.
     pub(crate) fn step_finish(
         &mut self,
         name: TurnName<K>,
@@ -105,6 +108,7 @@ impl<K: Hash + Drop, V: Clone, C: CacheTypes<K, V>, R: RowStore<K, V>> State<K, 
             ⟦<C as StateView<K, V>>⟧.stands_for settings self.new
             (after_reply K.eq settings (Finish (name_by name) (outcome_of outcome) now) result steps)) }
         ensures kept { HasNoNotice result }
+        ensures refused { IsRefusal result → self.new ≡ self.old }
         ensures settings { self.new.settings ≡ self.old.settings }
     {
         if !name.kind.accepts(&outcome) {
@@ -113,7 +117,7 @@ impl<K: Hash + Drop, V: Clone, C: CacheTypes<K, V>, R: RowStore<K, V>> State<K, 
         finish_reply(self.finish(turn_of(name), outcome, now))
     }
 
-    /// Does an abandon that stands as data.
+    /// Does an `Abandon`.
     pub(crate) fn step_abandon(&mut self, name: TurnName<K>) -> Reply<K, V, C>
         ensures reply { ⟦<C as StateView<K, V>>⟧.at_each_history self.old (λ settings steps.
             IsReplyTo K.eq V.is_clone V.is_infallible settings steps
@@ -122,12 +126,14 @@ impl<K: Hash + Drop, V: Clone, C: CacheTypes<K, V>, R: RowStore<K, V>> State<K, 
             ⟦<C as StateView<K, V>>⟧.stands_for settings self.new
             (after_reply K.eq settings (Abandon (name_by name)) result steps)) }
         ensures kept { HasNoNotice result }
+        ensures refused { IsRefusal result → self.new ≡ self.old }
         ensures settings { self.new.settings ≡ self.old.settings }
     {
         done_reply(self.abandon(turn_of(name)))
     }
 
-    /// Does a collect that stands as data. The ticket of an open turn may be named once more.
+    /// Does a `Collect`. If the turn is open, the ticket stays unspent, and a later step may name
+    /// it again.
     pub(crate) fn step_collect(&mut self, name: TurnName<K>) -> Reply<K, V, C>
         ensures reply { ⟦<C as StateView<K, V>>⟧.at_each_history self.old (λ settings steps.
             IsReplyTo K.eq V.is_clone V.is_infallible settings steps
@@ -136,12 +142,13 @@ impl<K: Hash + Drop, V: Clone, C: CacheTypes<K, V>, R: RowStore<K, V>> State<K, 
             ⟦<C as StateView<K, V>>⟧.stands_for settings self.new
             (after_reply K.eq settings (Collect (name_by name)) result steps)) }
         ensures kept { HasNoNotice result }
+        ensures refused { IsRefusal result → self.new ≡ self.old }
         ensures settings { self.new.settings ≡ self.old.settings }
     {
         collect_reply(self.collect(ticket_of(name)))
     }
 
-    /// Does a leave that stands as data.
+    /// Does a `Leave`.
     pub(crate) fn step_leave(&mut self, name: TurnName<K>) -> Reply<K, V, C>
         ensures reply { ⟦<C as StateView<K, V>>⟧.at_each_history self.old (λ settings steps.
             IsReplyTo K.eq V.is_clone V.is_infallible settings steps
@@ -150,6 +157,7 @@ impl<K: Hash + Drop, V: Clone, C: CacheTypes<K, V>, R: RowStore<K, V>> State<K, 
             ⟦<C as StateView<K, V>>⟧.stands_for settings self.new
             (after_reply K.eq settings (Leave (name_by name)) result steps)) }
         ensures kept { HasNoNotice result }
+        ensures refused { IsRefusal result → self.new ≡ self.old }
         ensures settings { self.new.settings ≡ self.old.settings }
     {
         done_reply(self.leave(ticket_of(name)))

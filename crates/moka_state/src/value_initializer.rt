@@ -1,5 +1,5 @@
-//! The calls of turns: one caller works out a value for a key, while others wait for what comes of
-//! it.
+//! Single flight by hand: one caller computes a value for a key, while others wait for the outcome.
+//! These calls abandon a turn, and spend a ticket.
 ghost use Rattle.std.specs.Prelude.{◌≡◌, IfOk, IfErr, OnOk, OnErr};
 ghost use Rattle.moka_model.specs.Calls.{Abandon, Collect, Leave};
 ghost use Rattle.moka_turns.specs.Handles.{turn_name, ticket_name};
@@ -14,11 +14,18 @@ use moka_ways::view::StateView;
 use std::hash::Hash;
 
 impl<K: Hash + Drop, V: Clone, C: CacheTypes<K, V>, R: RowStore<K, V>> State<K, V, C, R> {
-    /// Ends a turn without an outcome: those who wait for it are told that it was abandoned. The turn
-    /// is spent in any case.
+    /// Ends a turn without an outcome. The callers that wait for it find it abandoned. Does not
+    /// allocate.
     ///
-    /// Refused with `UnknownTurn` exactly where it is no open turn of this cache; then nothing has
-    /// changed. It takes no memory, and constant time.
+    /// The turn is spent, even if the call fails.
+    ///
+    /// # Errors
+    ///
+    /// - `UnknownTurn`: the turn is no open turn of this cache.
+    ///
+    /// # Complexity
+    ///
+    /// Costs a fixed number of lookups in the table of turns.
     pub fn abandon(&mut self, turn: Turn<K>) -> Result<(), Refused>
         ensures reply { ⟦<C as StateView<K, V>>⟧.at_each_history self.old (λ settings steps.
             Gives K.eq V.is_clone V.is_infallible settings steps (Abandon (turn_name turn))
@@ -36,10 +43,17 @@ impl<K: Hash + Drop, V: Clone, C: CacheTypes<K, V>, R: RowStore<K, V>> State<K, 
         Ok(())
     }
 
-    /// Spends a ticket and asks nothing. The ticket is spent in any case.
+    /// Spends a ticket without collecting the outcome of its turn. Does not allocate.
     ///
-    /// Refused with `UnknownTicket` exactly where no turn of this cache has its name and an unspent
-    /// ticket; then nothing has changed. It takes no memory, and constant time.
+    /// The ticket is spent, even if the call fails.
+    ///
+    /// # Errors
+    ///
+    /// - `UnknownTicket`: this cache has no turn of the ticket's name with an unspent ticket.
+    ///
+    /// # Complexity
+    ///
+    /// Costs a fixed number of lookups in the table of turns.
     pub fn leave(&mut self, ticket: Ticket<K>) -> Result<(), Refused>
         ensures reply { ⟦<C as StateView<K, V>>⟧.at_each_history self.old (λ settings steps.
             Gives K.eq V.is_clone V.is_infallible settings steps (Leave (ticket_name ticket))
@@ -57,13 +71,19 @@ impl<K: Hash + Drop, V: Clone, C: CacheTypes<K, V>, R: RowStore<K, V>> State<K, 
         Ok(())
     }
 
-    /// Asks what came of a turn. The ticket of an ended turn is spent, and answered a copy of its
-    /// outcome; that of an open one is handed back.
+    /// Spends the ticket of an ended turn, and returns a clone of the turn's outcome. If the turn
+    /// is open, returns the ticket unspent.
     ///
-    /// Refused with `UnknownTicket` exactly where no turn of this cache has its name and an unspent
-    /// ticket, and else with `OutOfMemory`, for the copy of a value or the share of an error alone. A
-    /// refused ticket is handed back unspent, and nothing has changed. It takes constant time, but for
-    /// the copy.
+    /// # Errors
+    ///
+    /// A failed call hands back the ticket, unspent.
+    ///
+    /// - `UnknownTicket`: this cache has no turn of the ticket's name with an unspent ticket.
+    /// - `OutOfMemory`: cloning the value or sharing the error failed.
+    ///
+    /// # Complexity
+    ///
+    /// Costs a fixed number of lookups in the table of turns, and the clone.
     pub fn collect(
         &mut self,
         ticket: Ticket<K>,

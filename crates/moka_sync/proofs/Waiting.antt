@@ -1,4 +1,4 @@
--- What the loop comes to for callers of a cache.
+-- What the waiting loop returns to callers of a cache.
 use Rattle.std.proofs.Common.{◌≡◌, ℕ, Option, ap, ◌∙◌, subst, refl}
 use Rattle.std.specs.Arc.{arc_value}
 use Rattle.moka_model.specs.declared.turns.Kind.{Kind}
@@ -16,7 +16,7 @@ use Rattle.moka_state.specs.declared.answers.Answer.{Answer}
 use Rattle.moka_sync.specs.declared.value_initializer.ShownTurn.{ShownTurn}
 use Rattle.moka_sync.specs.Waiting.{InitializerData, ComputerData, IsTurnFor, IsTicketFor, IsSameTicket, IsGivenTo, IsShownTurn, BeginTells, CollectTells, ComputeTells, ComputeEnds}
 
--- a ticket that is handed back is for the same kind and key
+-- a ticket that comes back is for the same kind and key
 same-ticket : {K : Type 0} (kind : Kind) (key : K) (ticket same : Ticket K) → IsTicketFor kind key ticket → IsSameTicket ticket same → IsTicketFor kind key same
 same-ticket kind key ticket same of is = (ap (λ name. name.kind) is ∙ of.0, ap (λ name. name.key) is ∙ of.1)
 
@@ -32,7 +32,7 @@ module _ {K V E : Type 0} (keeps : K → V → Type 0) where
   given-for kind key ticket (NotYet same) of tells = same-ticket kind key ticket same of tells
   given-for kind key ticket Again of tells = tt
 
-  -- for an initializer: what there is or was given, or the turn, for its kind and key
+  -- an initializer gets an answer or the turn, for its kind and key
   pub asked : (most : Option ℕ) (caller : InitializerData K) (waited : Waited (Answer K V E) (Turn K)) (then : InitializerData K) → Ends BeginsAs CollectsAs most caller waited then → HoldsOfWaited (IsGivenTo keeps caller.kind caller.key) (IsTurnFor caller.kind caller.key) waited
   asked most caller waited then ends =
       (ends-hold BeginsAs CollectsAs (λ it. it ≡ caller) (IsGivenTo keeps caller.kind caller.key) (IsTurnFor caller.kind caller.key) (IsTicketFor caller.kind caller.key)
@@ -52,7 +52,7 @@ module _ {K V : Type 0} (keeps : K → V → Type 0) where
   ended-for key ticket (NotYet same) of ends = same-ticket Compute key ticket same of ends
   ended-for key ticket Again of ends = tt
 
-  -- for who computes: the turn of a compute of its key
+  -- a compute gets the turn of a compute of its key
   pub computes : (most : Option ℕ) (caller : ComputerData K) (waited : Waited (Unit {0}) (ShownTurn K V)) (then : ComputerData K) → Ends BeginsComputing CollectsComputing most caller waited then → HoldsOfWaited (λ value. ⊥) (IsShownTurn keeps caller.key) waited
   computes most caller waited then ends =
       (ends-hold BeginsComputing CollectsComputing (λ it. it ≡ caller) (λ value. ⊥) (IsShownTurn keeps caller.key) (IsTicketFor Compute caller.key)

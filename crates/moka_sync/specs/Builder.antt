@@ -1,4 +1,4 @@
--- What a builder was told, and the settings of what it builds.
+-- The settings of a builder, and those of what it builds.
 use Rattle.std.specs.Prelude.{ℕ, ◌^◌, Bool, false, List, Option, Some, None, is_some, option_map, nat_eq, nat_lt, if◌then◌else◌}
 use Rattle.std.specs.Option.{option_or}
 use Rattle.std.specs.Duration.{as_nanos}
@@ -8,7 +8,7 @@ use Rattle.moka_policy.specs.declared.builder_utils.BuildError.{BuildError}
 use Rattle.moka_policy.specs.declared.builder_utils.BuildError.TheVariants.{NoSegments, TooManySegments}
 use Rattle.moka_state.specs.StateData.{SettingsData}
 
--- What a builder was told. Its weigher is a W, its expiry an X and its listener an L.
+-- The settings of a builder. Its weigher is a W, its expiry an X and its listener an L.
 pub record BuilderData (W X L : Type 0) : Type 0 where
   pub name : Option (List ℕ)
   pub max_capacity : Option ℕ
@@ -24,7 +24,7 @@ pub record BuilderData (W X L : Type 0) : Type 0 where
   pub first_number : ℕ
   pub num_segments : ℕ
 
--- Where nothing is said the cache is one segment without a bound, its policy is TinyLFU and its numbers begin with 0.
+-- A builder with no settings: one segment, no bound, TinyLFU, and sequence numbers from 0.
 abbrev pub nothing_said : {W X L : Type 0} → BuilderData W X L
 nothing_said = record {
   name = None;
@@ -42,18 +42,18 @@ nothing_said = record {
   num_segments = 1;
 }
 
--- Why a cache is not built with so many segments.
+-- The error of a builder that is asked for so many segments, if it fails.
 abbrev pub segments_refused : ℕ → Option BuildError
 segments_refused count =
     if nat_eq count 0 then Some NoSegments else (if nat_lt (2 ^ 63) count then Some TooManySegments else None)
 
--- Why nothing is built by what a builder was told: a life that is too long, or else the flush limit.
+-- The error of building, if it fails: a lifetime that is too long, else what is wrong with the flush limit.
 abbrev pub build_refused : {W X L : Type 0} → BuilderData W X L → Option BuildError
 build_refused told =
     option_or (too_long_of (option_map as_nanos told.time_to_live) (option_map as_nanos told.time_to_idle))
     (flush_refused_of told.flush_limit (is_some told.weigher))
 
--- The settings of a state that is built so, with this hasher.
+-- The settings of a state that a builder with these settings makes, with this hasher.
 abbrev pub settings_built : {H W X L : Type 0} → BuilderData W X L → H → SettingsData H W X
 settings_built told hasher = record {
   name = told.name;

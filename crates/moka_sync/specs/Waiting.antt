@@ -1,4 +1,4 @@
--- What callers ask for that wait for each other's turns, and what they are given.
+-- What callers that wait for each other's turns ask for, and what they get.
 use Rattle.std.specs.Prelude.{◌≡◌, IfSome}
 use Rattle.std.specs.Arc.{arc_value}
 use Rattle.moka_model.specs.declared.turns.Kind.{Kind}
@@ -16,50 +16,54 @@ use Rattle.moka_sync.specs.declared.value_initializer.Asked.{Asked}
 use Rattle.moka_sync.specs.declared.value_initializer.Asked.TheVariants as asked
 use Rattle.moka_sync.specs.declared.value_initializer.ShownTurn.{ShownTurn}
 
--- Who asks for a key as an initializer of a kind.
+-- A caller that asks for a key as an initializer of some kind.
 pub record InitializerData (K : Type 0) : Type 0 where
   pub key : K
   pub kind : Kind
 
--- Who asks for a key to compute its value.
+-- A caller that asks for a key to compute its value.
 pub record ComputerData (K : Type 0) : Type 0 where
   pub key : K
 
+-- The turn is of this kind and this key.
 abbrev pub IsTurnFor : {K : Type 0} → Kind → K → Turn K → Type 0
 IsTurnFor kind key turn = (turn.key.kind ≡ kind) × (arc_value turn.key.key ≡ key)
 
+-- The ticket is of this kind and this key.
 abbrev pub IsTicketFor : {K : Type 0} → Kind → K → Ticket K → Type 0
 IsTicketFor kind key ticket = (ticket.key.kind ≡ kind) × (arc_value ticket.key.key ≡ key)
 
+-- Two tickets have one name.
 abbrev pub IsSameTicket : {K : Type 0} → Ticket K → Ticket K → Type 0
 IsSameTicket ticket same = ticket_name same ≡ ticket_name ticket
 
 module _ {K V E : Type 0} (keeps : K → V → Type 0) where
-  -- what is given is kept, and is such as a turn of the kind may give
+  -- The value of an answer satisfies `keeps`, and the answer is one that a turn of the kind may give.
   abbrev pub IsGivenTo : Kind → K → Answer K V E → Type 0
   IsGivenTo kind key answer = GivenKeeps keeps key answer × AnswerFits kind answer
 
-  -- what a begin tells an initializer: what there is, the turn, or a ticket, each for its kind and key
+  -- What a begin returns to an initializer: an answer, a turn or a ticket, each for its kind and key.
   abbrev pub BeginTells : InitializerData K → Begun (Answer K V E) (Turn K) (Ticket K) → Type 0
   BeginTells it told = HoldsOfBegun (IsGivenTo it.kind it.key) (IsTurnFor it.kind it.key) (IsTicketFor it.kind it.key) told
 
-  -- what a ticket is told: what its turn gave, or that it is open still
+  -- What a collect returns: an answer for the kind and the key of the ticket, or the ticket itself.
   abbrev pub CollectTells : Ticket K → Collected (Answer K V E) (Ticket K) → Type 0
   CollectTells ticket told = HoldsOfCollected (IsGivenTo ticket.key.kind (arc_value ticket.key.key)) (IsSameTicket ticket) told
 
+  -- What a caller with an initializer gets in the end: an answer or a turn, each for its kind and key.
   abbrev pub AskedKeeps : Kind → K → Asked K V E → Type 0
   AskedKeeps kind key (asked.Answer answer) = IsGivenTo kind key answer
   AskedKeeps kind key (asked.Turn turn) = IsTurnFor kind key turn
 
 module _ {K V : Type 0} (keeps : K → V → Type 0) where
-  -- the turn of a compute of a key, whose shown value is kept, if one is shown
+  -- The turn of a compute of a key. The value that it was shown, if any, satisfies `keeps`.
   abbrev pub IsShownTurn : K → ShownTurn K V → Type 0
   IsShownTurn key it = IsTurnFor Compute key it.turn × IfSome it.shown (EntryKeeps keeps key)
 
-  -- what a begin tells who computes: no value is handed out without a turn
+  -- What a begin returns to a compute: a turn or a ticket, but never a value without a turn.
   abbrev pub ComputeTells : ComputerData K → Begun (Unit {0}) (ShownTurn K V) (Ticket K) → Type 0
   ComputeTells it told = HoldsOfBegun (λ value. ⊥) (IsShownTurn it.key) (IsTicketFor Compute it.key) told
 
--- what a ticket of a compute is told: nothing but that it is open still, or has ended
+-- What a collect returns to a compute: the ticket itself, or that the turn has ended, but never a value.
 abbrev pub ComputeEnds : {K : Type 0} → Ticket K → Collected (Unit {0}) (Ticket K) → Type 0
 ComputeEnds ticket told = HoldsOfCollected (λ value. ⊥) (IsSameTicket ticket) told

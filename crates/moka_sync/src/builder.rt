@@ -1,4 +1,4 @@
-//! Builds caches.
+//! The builder of owned and shared caches.
 ghost use Rattle.std.specs.Prelude.{◌≡◌, ◌≢◌, ◌≤◌, ◌^◌, true, Some, None, [], option_map, unwrap_or, IfSome, IfOk, IfErr, IsSome, OnOk};
 ghost use Rattle.std.specs.Arc.{arc_value};
 ghost use Rattle.std.specs.List.{AllByRecursion};
@@ -24,19 +24,21 @@ use std::marker::{Model, PhantomData};
 use std::sync::Arc;
 use std::time::Duration;
 
-// A cache's segment is named by some of the 64 bits of a hash.
+// The greatest number of segments: at most 63 of a hash's 64 bits choose one.
 const MAX_SEGMENTS: usize = 1 << 63;
 
-/// Of a builder: its caches are one segment.
+/// The type parameter of a builder whose caches have one segment.
 #[derive(Clone, Copy, Debug)]
 pub struct Single;
 
-/// Of a builder: its caches have several segments.
+/// The type parameter of a builder whose caches have several segments.
 #[derive(Clone, Copy, Debug)]
 pub struct Segmented;
 
-/// Builds a cache by settings, each of which is left out or set; set again, the later one counts. `T` is [`Single`], or
-/// [`Segmented`] after [`CacheBuilder::segments`]. No setter but `name` takes memory.
+/// Holds the settings of a cache, and builds it.
+///
+/// Each setting may be left out. One that is set again counts as set last. `T` is [`Single`], or
+/// [`Segmented`] after [`CacheBuilder::segments`]. Of the setters only `name` allocates.
 ///
 /// ```
 /// let builder = CacheBuilder::new(10_000)
@@ -89,7 +91,7 @@ impl<K: Hash + Drop, V: Clone, C: CacheTypes<K, V>, T> Model for CacheBuilder<K,
 }
 
 impl<K: Hash + Drop, V: Clone, C: CacheTypes<K, V>> Default for CacheBuilder<K, V, C, Single> {
-    /// Builds a cache without a bound.
+    /// Creates a builder with no settings: one segment, no bound, TinyLFU.
     fn default() -> Self
         ensures { result ≡ nothing_said }
     {
@@ -113,8 +115,11 @@ impl<K: Hash + Drop, V: Clone, C: CacheTypes<K, V>> Default for CacheBuilder<K, 
 }
 
 impl<K: Hash + Drop, V: Clone, C: CacheTypes<K, V>, T> CacheBuilder<K, V, C, T> {
-    /// What the cache is called: this name, copied. Without one it has none. Refused for want of memory alone, and then
-    /// nothing is left of the builder.
+    /// Sets the cache's name to a copy of `name`. Without this setting it has none.
+    ///
+    /// # Errors
+    ///
+    /// - `OutOfMemory`: copying the name failed. The builder is dropped.
     pub fn name(self, alloc: Global, name: &str) -> Result<Self, BuildError>
         ensures told { IfOk result (λ builder. builder ≡ record self { name = Some name.now }) }
         ensures cause { IfErr result (λ cause. cause ≡ BuildError.OutOfMemory) }
@@ -128,8 +133,11 @@ impl<K: Hash + Drop, V: Clone, C: CacheTypes<K, V>, T> CacheBuilder<K, V, C, T> 
         })
     }
 
-    /// How much may stay stored, by the weights of the values; without a weigher, how many keys. Up to 64 more keys may
-    /// wait for a maintenance. At 0 nothing is stored; without this setting there is no bound.
+    /// Sets the capacity: the bound on the total weight of the resident entries. Without a weigher
+    /// it is a number of entries.
+    ///
+    /// Pending entries do not count towards it. So without a weigher, up to 64 entries more may be
+    /// stored until a maintenance. At 0 nothing is stored. Without this setting there is no bound.
     pub fn max_capacity(self, max_capacity: u64) -> Self
         ensures { result ≡ record self { max_capacity = Some max_capacity } }
     {
@@ -139,8 +147,9 @@ impl<K: Hash + Drop, V: Clone, C: CacheTypes<K, V>, T> CacheBuilder<K, V, C, T> 
         }
     }
 
-    /// How many keys there is room for from the start; without it, for none. What is built takes the memory for them at
-    /// once, and no reply depends on it.
+    /// Sets for how many entries building allocates room. Without this setting, for none.
+    ///
+    /// What calls return does not depend on it.
     pub fn initial_capacity(self, number_of_entries: usize) -> Self
         ensures { result ≡ record self { initial_capacity = number_of_entries } }
     {
@@ -150,7 +159,8 @@ impl<K: Hash + Drop, V: Clone, C: CacheTypes<K, V>, T> CacheBuilder<K, V, C, T> 
         }
     }
 
-    /// Which keys leave where the cache has passed its capacity, and which new ones are admitted; without it TinyLFU.
+    /// Sets which entries are evicted for size, and which new ones are admitted. Without it:
+    /// TinyLFU.
     ///
     /// ```
     /// let builder = CacheBuilder::new(2).eviction_policy(EvictionPolicy::lru());
@@ -164,7 +174,9 @@ impl<K: Hash + Drop, V: Clone, C: CacheTypes<K, V>, T> CacheBuilder<K, V, C, T> 
         }
     }
 
-    /// Weighs each value when it is written, as the cache's types say; without one each weighs 1.
+    /// Sets the weigher, which weighs each entry when it is written. Without one every weight is 1.
+    ///
+    /// It must compute the weight that the cache's types name (`weight`).
     ///
     /// ```
     /// let builder = CacheBuilder::new(8).weigher(weigher).expire_after(expiry);
@@ -179,8 +191,12 @@ impl<K: Hash + Drop, V: Clone, C: CacheTypes<K, V>, T> CacheBuilder<K, V, C, T> 
         }
     }
 
-    /// Is told of each value that leaves a shared cache, once, outside of the cache's lock, by the call in which it left or by
-    /// another one that runs then; it may be told of all that may be stored. A state tells nobody, so what builds a state drops it.
+    /// Sets the listener of a shared cache. It is called once for each removed entry, with no lock
+    /// held.
+    ///
+    /// It runs in the call that removed the entry, or in another one that runs at the same time. It
+    /// must accept every entry that the cache may store. Owned caches call no listener: building
+    /// one drops it.
     pub fn eviction_listener(self, listener: C::Listener) -> Self
         requires { (key : K) (value : V) → C.keeps key value → C.Listener.hears listener key value }
         ensures { result ≡ record self { listener = Some listener } }
@@ -191,8 +207,11 @@ impl<K: Hash + Drop, V: Clone, C: CacheTypes<K, V>, T> CacheBuilder<K, V, C, T> 
         }
     }
 
-    /// How long a value lives after its write: at most 1000 years of 365 days, or nothing is built. It is not found from
-    /// that moment on. Without this setting its age does not matter.
+    /// Sets the time to live: how long an entry lives after it was written. It is expired from its
+    /// deadline on.
+    ///
+    /// The duration is at most 1000 years of 365 days, or building fails. Without this setting an
+    /// entry's age does not matter.
     pub fn time_to_live(self, duration: Duration) -> Self
         ensures { result ≡ record self { time_to_live = Some duration } }
     {
@@ -202,8 +221,10 @@ impl<K: Hash + Drop, V: Clone, C: CacheTypes<K, V>, T> CacheBuilder<K, V, C, T> 
         }
     }
 
-    /// How long a value lives after its last use, which is its write or a `get` that found it live: at most 1000 years of
-    /// 365 days, or nothing is built. Without this setting it does not matter when it was used.
+    /// Sets the time to idle: how long an entry lives after its last access or write.
+    ///
+    /// The duration is at most 1000 years of 365 days, or building fails. Without this setting it
+    /// does not matter when an entry was used.
     pub fn time_to_idle(self, duration: Duration) -> Self
         ensures { result ≡ record self { time_to_idle = Some duration } }
     {
@@ -213,7 +234,10 @@ impl<K: Hash + Drop, V: Clone, C: CacheTypes<K, V>, T> CacheBuilder<K, V, C, T> 
         }
     }
 
-    /// Gives values lives of their own, as the cache's types say, beside the two lives above: the earliest end counts.
+    /// Sets the expiry, which gives each entry a lifetime of its own, beside the time to live and
+    /// the time to idle. The earliest of the three ends counts.
+    ///
+    /// It must compute the lifetimes that the cache's types name (`lifetimes`).
     pub fn expire_after(self, expiry: C::Expiry) -> Self
         requires { C.Expiry.gives expiry (C.lifetimes expiry) }
         ensures { result ≡ record self { expiry = Some expiry } }
@@ -224,7 +248,7 @@ impl<K: Hash + Drop, V: Clone, C: CacheTypes<K, V>, T> CacheBuilder<K, V, C, T> 
         }
     }
 
-    /// The cache's values may be hidden by predicates, which is refused without this setting.
+    /// Allows invalidation by predicates, which fails without this setting.
     pub fn support_invalidation_closures(self) -> Self
         ensures { result ≡ record self { closures = true } }
     {
@@ -234,10 +258,12 @@ impl<K: Hash + Drop, V: Clone, C: CacheTypes<K, V>, T> CacheBuilder<K, V, C, T> 
         }
     }
 
-    /// How many values may leave in the maintenance that comes before a write where 64 or more keys
-    /// wait: at least 1, and no weigher stands beside it, or nothing is built. With it more than 64
-    /// keys may wait, and still no more than 64 more keys are stored than the capacity says. Without
-    /// it such a maintenance is whole.
+    /// Sets the flush limit: how many entries one flush may evict. A flush is the maintenance that
+    /// a write runs first if 64 or more entries are pending.
+    ///
+    /// The limit is at least 1, and there is no weigher beside it, or building fails. With a limit
+    /// more than 64 entries may be pending. At most the capacity plus 64 are stored all the same.
+    /// Without this setting a flush is a whole maintenance.
     pub fn flush_limit(self, limit: u64) -> Self
         ensures { result ≡ record self { flush_limit = Some limit } }
     {
@@ -247,8 +273,9 @@ impl<K: Hash + Drop, V: Clone, C: CacheTypes<K, V>, T> CacheBuilder<K, V, C, T> 
         }
     }
 
-    /// The number that the first write draws, 0 without this setting. Writes are refused when all numbers to 2^64 - 2
-    /// are drawn.
+    /// Sets the first sequence number, 0 without this setting.
+    ///
+    /// Writes fail once all numbers up to 2^64 - 2 are drawn.
     pub fn first_number(self, number: u64) -> Self
         ensures { result ≡ record self { first_number = number } }
     {
@@ -260,15 +287,22 @@ impl<K: Hash + Drop, V: Clone, C: CacheTypes<K, V>, T> CacheBuilder<K, V, C, T> 
 }
 
 impl<K: Hash + Drop, V: Clone, C: CacheTypes<K, V>> CacheBuilder<K, V, C, Single> {
-    /// Builds a cache that may store so much: with `max_capacity` told, and nothing else.
+    /// Creates a builder with this capacity and no other setting.
     pub fn new(max_capacity: u64) -> Self
         ensures { result ≡ record nothing_said { max_capacity = Some max_capacity } }
     {
         CacheBuilder::default().max_capacity(max_capacity)
     }
 
-    /// The builder of a cache of so many segments, with all that this one was told. Refused with `NoSegments` at 0, and
-    /// with `TooManySegments` above 2^63.
+    /// Sets the number of segments, and returns a builder of segmented caches with all other
+    /// settings.
+    ///
+    /// A cache gets this many segments, or the next power of two.
+    ///
+    /// # Errors
+    ///
+    /// - `NoSegments`: the number is 0.
+    /// - `TooManySegments`: the number is greater than 2^63.
     pub fn segments(
         self,
         num_segments: usize,
@@ -302,11 +336,19 @@ impl<K: Hash + Drop, V: Clone, C: CacheTypes<K, V>> CacheBuilder<K, V, C, Single
         })
     }
 
-    /// A cache without values, of these settings, as a plain value. The listener is dropped: a state calls none.
+    /// Builds an empty owned cache with these settings. Drops the listener, since a state calls
+    /// none.
     ///
-    /// Refused with `TimeToLiveTooLong` or else with `TimeToIdleTooLong` where that one is above 1000 years, else with
-    /// `ZeroFlushLimit` where the flush limit is 0, with `FlushLimitWithWeigher` where a weigher is set beside one, and else
-    /// for want of memory alone: of the source of frequencies, of the rows of the initial capacity, and of what it shares.
+    /// # Errors
+    ///
+    /// The first of these that applies:
+    ///
+    /// - `TimeToLiveTooLong`: the time to live is greater than 1000 years of 365 days.
+    /// - `TimeToIdleTooLong`: the time to idle is greater than that.
+    /// - `ZeroFlushLimit`: the flush limit is 0.
+    /// - `FlushLimitWithWeigher`: both a flush limit and a weigher are set.
+    /// - `OutOfMemory`: allocating the frequency source, the initial capacity or a shared setting
+    ///   failed.
     pub fn build_state(
         self,
         alloc: Global,
@@ -324,10 +366,14 @@ impl<K: Hash + Drop, V: Clone, C: CacheTypes<K, V>> CacheBuilder<K, V, C, Single
         Ok(state)
     }
 
-    /// A cache without values, of these settings, that threads share. It hashes keys by this hasher, and its calls are at
-    /// the moments that the clock tells; `waits` lets its lock wait.
+    /// Builds an empty shared cache with these settings.
     ///
-    /// Refused as [`CacheBuilder::build_state`] is.
+    /// `hasher` hashes its keys. `clock` gives the moments of its calls. `waits` lets its lock
+    /// wait.
+    ///
+    /// # Errors
+    ///
+    /// As [`CacheBuilder::build_state`].
     pub fn build_with_hasher<W: Drop>(
         self,
         alloc: Global,
@@ -356,7 +402,7 @@ impl<K: Hash + Drop, V: Clone, C: CacheTypes<K, V>> CacheBuilder<K, V, C, Single
         )
     }
 
-    // The state, and the listener that is still to be given a place.
+    // Builds the state, and returns the listener beside it.
     fn opened(
         self,
         alloc: Global,
@@ -379,11 +425,15 @@ impl<K: Hash + Drop, V: Clone, C: CacheTypes<K, V>> CacheBuilder<K, V, C, Single
 }
 
 impl<K: Hash + Drop, V: Clone, C: CacheTypes<K, V>> CacheBuilder<K, V, C, Segmented> {
-    /// A cache without values, of these settings, as a plain value, of as many segments as were
-    /// wanted, or of the next power of two. Each has its share of the capacity and of the initial
-    /// capacity. The listener is dropped: a state calls none.
+    /// Builds an empty owned cache of several segments with these settings. Drops the listener,
+    /// since a state calls none.
     ///
-    /// Refused as [`CacheBuilder::build_state`] is.
+    /// It has as many segments as were asked for, or the next power of two. Each has its share of
+    /// the capacity and of the initial capacity.
+    ///
+    /// # Errors
+    ///
+    /// As [`CacheBuilder::build_state`].
     pub fn build_segmented_state(
         self,
         alloc: Global,
@@ -410,7 +460,7 @@ impl<K: Hash + Drop, V: Clone, C: CacheTypes<K, V>> CacheBuilder<K, V, C, Segmen
 }
 
 impl<K: Hash + Drop, V: Clone, C: CacheTypes<K, V>, T> CacheBuilder<K, V, C, T> {
-    // The same builder, where its lives and its flush limit are accepted.
+    // Checks the lifetimes and the flush limit, and returns the builder unchanged.
     pub(crate) fn limited(self) -> Result<Self, BuildError>
         ensures same { IfOk result (λ builder. builder ≡ self) }
         ensures accepted { OnOk result (build_refused self ≡ None) }
@@ -421,7 +471,7 @@ impl<K: Hash + Drop, V: Clone, C: CacheTypes<K, V>, T> CacheBuilder<K, V, C, T> 
         Ok(self)
     }
 
-    // What a state is made from, and the listener that is still to be given a place.
+    // Makes the settings of a state, and returns the listener beside them.
     pub(crate) fn settled(
         self,
         alloc: Global,
@@ -468,8 +518,12 @@ where
     V: Clone,
     C: CacheTypes<K, V, Hasher = RandomState>,
 {
-    /// A cache without values, of these settings, that threads share, of keys that an attacker may pick. It is
-    /// [`CacheBuilder::build_with_hasher`] with this hasher.
+    /// Builds an empty shared cache as [`CacheBuilder::build_with_hasher`] does, with a random
+    /// hasher: for keys that an attacker may choose.
+    ///
+    /// # Errors
+    ///
+    /// As [`CacheBuilder::build_state`].
     pub fn build<W: Drop>(
         self,
         alloc: Global,
@@ -489,7 +543,7 @@ where
     }
 }
 
-// A state of these settings. Refused for want of memory alone.
+// Creates a state with these settings. Fails only with `OutOfMemory`.
 fn state_of<K: Hash + Drop, V: Clone, C: CacheTypes<K, V>>(
     alloc: Global,
     settings: Settings<K, V, C>,
@@ -512,7 +566,7 @@ fn state_of<K: Hash + Drop, V: Clone, C: CacheTypes<K, V>>(
     }
 }
 
-// Shares a value that there is.
+// Moves a value, if there is one, into an `Arc`. Fails only with `OutOfMemory`.
 fn shared<T: Drop>(alloc: Global, value: Option<T>) -> Result<Option<Arc<T>>, BuildError>
     ensures shared { IfOk result (λ shared. option_map arc_value shared ≡ value) }
     ensures cause { IfErr result (λ cause. cause ≡ BuildError.OutOfMemory) }
@@ -523,7 +577,7 @@ fn shared<T: Drop>(alloc: Global, value: Option<T>) -> Result<Option<Arc<T>>, Bu
     }
 }
 
-// Shares a value. Refused for want of memory alone.
+// Moves a value into an `Arc`. Fails only with `OutOfMemory`.
 pub(crate) fn share<T: Drop>(alloc: Global, value: T) -> Result<Arc<T>, BuildError>
     ensures shared { IfOk result (λ shared. arc_value shared ≡ value) }
     ensures cause { IfErr result (λ cause. cause ≡ BuildError.OutOfMemory) }
@@ -531,7 +585,7 @@ pub(crate) fn share<T: Drop>(alloc: Global, value: T) -> Result<Arc<T>, BuildErr
     Arc::new(alloc, value).map_err(|_| BuildError::OutOfMemory)
 }
 
-// Copies a name, where there is one.
+// Copies a name, if there is one. Fails only with `OutOfMemory`.
 fn copied(alloc: Global, name: Option<&str>) -> Result<Option<String>, BuildError>
     ensures copied { IfOk result (λ copy. option_map string_bytes copy ≡ option_map (λ name. name.now) name.entry) }
     ensures cause { IfErr result (λ cause. cause ≡ BuildError.OutOfMemory) }

@@ -1,4 +1,4 @@
-//! A cache that threads share.
+//! The cache that threads share: a state and its clock under one lock.
 ghost use Rattle.std.specs.Prelude.{◌≡◌, ◌⊎◌, [], option_map, Some, IfSome, IfOk, IfErr};
 ghost use Rattle.std.specs.Arc.{arc_value};
 ghost use Rattle.std.specs.Duration.{as_nanos};
@@ -26,25 +26,45 @@ use std::hash::{Hash, RandomState};
 use std::marker::Model;
 use std::sync::{Arc, Condvar, MutexGuard, Wait};
 
-/// What all clones of a cache share. The name and the policy are those of the state that went under the lock.
+/// What all clones of a cache share. The name and the policy are those of the state that went under
+/// the lock.
 #[derive(Drop)]
 pub(crate) struct Inside<K: Hash + Drop, V: Clone, C: CacheTypes<K, V>, W> {
+    /// The state and its clock, under the lock.
     pub locked: Opened<Locked<K, V, C>>,
-    /// Who waits for another's turn sleeps here until one has ended.
+    /// Where callers that wait for a turn sleep until some turn has ended.
     pub ended: Condvar,
+    /// The cache's name, if it has one.
     pub name: Option<String>,
+    /// The capacity and the lifetimes that it was built with.
     pub policy: Policy,
+    /// The listener, if there is one.
     pub listener: Option<Arc<Hearer<K, V, C>>>,
+    /// What keys and errors are allocated from when they are shared.
     pub alloc: Global,
+    /// Lets the lock and the sleepers wait.
     pub waits: W,
     ghost shows: { Shows locked.state.settings name policy },
 }
 
-/// A cache that threads share: each call is one step or some, each under a lock, at the moment that its clock tells then. A
-/// clone is the same cache. `W` lets the lock wait, as a `HostRuntime` does. A call costs what it costs a state, and the locks.
+/// A cache that threads use at once: a state and its clock under one lock. A clone is the same
+/// cache.
 ///
-/// Weigher, expiry, predicates, the source of frequencies and what says whether to replace a value are asked under the
-/// lock; initializers, the closures of computes and the listener are called outside of it, so they may use the cache.
+/// A call makes one or more steps. Each runs under the lock, at the moment that the clock gives
+/// then, in nanoseconds. `W` lets the lock wait, as a `HostRuntime` does. `keeps` is the value
+/// invariant of the cache's types `C`.
+///
+/// The weigher, the expiry, predicates, the frequency source and `replace_if` run under the lock.
+/// Initializers, closures of computes and the listener run with no lock held, so they may use the
+/// cache.
+///
+/// A failed call leaves the cache unchanged, except that loaders and computes may have recorded
+/// lookups and drawn sequence numbers.
+///
+/// # Complexity
+///
+/// A call on one key visits the entries that have the key's hash. Otherwise a call costs what it
+/// costs a state, and the locks.
 #[derive(Drop)]
 pub struct Cache<K: Hash + Drop, V: Clone, C: CacheTypes<K, V>, W> {
     pub(crate) inside: Arc<Inside<K, V, C, W>>,
@@ -71,7 +91,7 @@ impl<K: Hash + Drop, V: Clone, C: CacheTypes<K, V>, W: Drop> Clone for Cache<K, 
 }
 
 impl<K: Hash + Drop, V: Clone, C: CacheTypes<K, V>, W> Debug for Cache<K, V, C, W> {
-    /// Its name and its policy; what is stored is not shown, so no lock is taken.
+    /// Writes the cache's name and policy. Shows no entries, so it takes no lock.
     fn fmt<O: Write>(&self, f: &mut Formatter<O>) -> fmt::Result {
         f.debug_struct("Cache")
             .field("name", &self.inside.name)
@@ -81,21 +101,22 @@ impl<K: Hash + Drop, V: Clone, C: CacheTypes<K, V>, W> Debug for Cache<K, V, C, 
 }
 
 impl<K: Hash + Drop, V: Clone, C: CacheTypes<K, V>, W: Drop> Cache<K, V, C, W> {
-    /// What builds a cache by its settings.
+    /// Returns a builder with no settings.
     pub fn builder() -> CacheBuilder<K, V, C, Single>
         ensures { result ≡ nothing_said }
     {
         CacheBuilder::default()
     }
 
-    /// What it is called.
+    /// Returns the cache's name, or `None` if it has none.
     pub fn name(&self) -> Option<&str>
         ensures { option_map (λ name. name.now) result ≡ self.now.opening.settings.name }
     {
         self.inside.name.as_deref()
     }
 
-    /// How much it may store and how long its values live, as it was built. It is one segment.
+    /// Returns the capacity and the lifetimes that the cache was built with. The number of segments
+    /// is 1.
     pub fn policy(&self) -> Policy
         ensures max_capacity { result.max_capacity ≡ self.now.opening.settings.max_capacity }
         ensures num_segments { result.num_segments ≡ 1 }
@@ -115,7 +136,14 @@ where
     C: CacheTypes<K, V, Hasher = RandomState>,
     W: Drop,
 {
-    /// A cache that may store so much, of keys that an attacker may pick. Refused for want of memory alone.
+    /// Creates a cache of this capacity, for keys that an attacker may choose.
+    ///
+    /// `max_capacity` is a number of entries. `clock` gives the moments of the calls. `waits` lets
+    /// the lock wait.
+    ///
+    /// # Errors
+    ///
+    /// - `OutOfMemory`: an allocation failed.
     pub fn new(
         alloc: Global,
         max_capacity: u64,
@@ -134,10 +162,14 @@ where
 }
 
 impl<K: Hash + Drop, V: Clone, C: CacheTypes<K, V>, W: Wait> Cache<K, V, C, W> {
-    /// A copy of the live value of a key, which is then used: a recorded look. It stands in the cache's relation to the
-    /// key. Reads the rows that have the key's hash.
+    /// Returns a clone of the live value for `key`, or `None`. The value satisfies `keeps` with
+    /// `key`.
     ///
-    /// Refused for want of memory for the value's copy alone.
+    /// Counts as an access. The key's hash is noted, whether there is a value or not.
+    ///
+    /// # Errors
+    ///
+    /// - `OutOfMemory`: cloning the value failed.
     pub fn get(&self, key: &K) -> Result<Option<V>, Refused>
         ensures kept { IfOk result (λ found. IfSome found (C.keeps key.now)) }
         ensures cause { IfErr result (λ cause. cause ≡ Refused.OutOfMemory) }
@@ -145,16 +177,28 @@ impl<K: Hash + Drop, V: Clone, C: CacheTypes<K, V>, W: Wait> Cache<K, V, C, W> {
         self.lock().get(key)
     }
 
-    /// Whether a key has a live value. It is no use of the value, records nothing, and takes no memory.
+    /// Returns whether `key` has a live value.
+    ///
+    /// Does not count as an access, records nothing, and does not allocate.
     pub fn contains_key(&self, key: &K) -> bool {
         self.lock().contains_key(key)
     }
 
-    /// Writes a value for a key. The value that stands for the key, live or expired, leaves. Where 64 keys wait, a
-    /// maintenance comes first. The listener is told of what left once the lock is let go.
+    /// Inserts `value` under `key`, or overwrites the value that is stored there, live or expired.
     ///
-    /// Refused as the state's `insert` is: for want of memory, or of numbers. A refused write hands back the key and the
-    /// value, and changes nothing.
+    /// If 64 or more entries are pending, runs a maintenance first. Calls the listener for removed
+    /// entries once the lock is released. At a capacity of 0 nothing is stored.
+    ///
+    /// # Errors
+    ///
+    /// Hands back the key and the value.
+    ///
+    /// - `OutOfMemory`: an allocation failed.
+    /// - `NumbersUsedUp`: no sequence number is left for the write.
+    ///
+    /// # Complexity
+    ///
+    /// A maintenance visits the entries that [`Cache::run_pending_tasks`] visits.
     pub fn insert(&self, key: K, value: V) -> Result<(), InsertRefused<K, V>>
         requires { C.keeps key value }
         ensures key_back { IfErr result (λ refused. refused.key ≡ key) }
@@ -170,10 +214,17 @@ impl<K: Hash + Drop, V: Clone, C: CacheTypes<K, V>, W: Wait> Cache<K, V, C, W> {
         done
     }
 
-    /// The entry of the live value of a key; where there is none, this one is written, and the entry of a copy of it is
-    /// answered. Its value stands in the cache's relation to the key. An open turn of the key does not matter.
+    /// Returns the entry of the live value for `key`. If there is none, inserts `value` and returns
+    /// an entry with a clone of that value. The entry's value satisfies `keeps` with `key`.
     ///
-    /// Refused as the state's `or_insert` is, and hands back the value; then nothing has changed.
+    /// Does not wait for an open turn of the key. Calls the listener once the lock is released.
+    ///
+    /// # Errors
+    ///
+    /// Hands back the value.
+    ///
+    /// - `OutOfMemory`: an allocation or a clone failed.
+    /// - `NumbersUsedUp`: no sequence number is left for the write.
     pub fn or_insert(&self, key: &Arc<K>, value: V) -> Result<Entry<K, V>, OrInsertRefused<V>>
         requires { C.keeps (arc_value key.now) value }
         ensures kept { IfOk result (EntryKeeps C.keeps (arc_value key.now)) }
@@ -187,7 +238,9 @@ impl<K: Hash + Drop, V: Clone, C: CacheTypes<K, V>, W: Wait> Cache<K, V, C, W> {
         done
     }
 
-    /// Removes a key, where it is stored. Its value, live or expired, leaves. It takes no memory.
+    /// Removes the entry of `key`, live or expired, if there is one. Does not allocate.
+    ///
+    /// Calls the listener once the lock is released.
     pub fn invalidate(&self, key: &K) {
         let mut locked = self.lock();
         locked.invalidate(key);
@@ -196,10 +249,14 @@ impl<K: Hash + Drop, V: Clone, C: CacheTypes<K, V>, W: Wait> Cache<K, V, C, W> {
         self.let_go(gone);
     }
 
-    /// Removes a key, and answers a copy of its live value, which stands in the cache's relation to the key. What stood
-    /// for the key, live or expired, leaves.
+    /// Removes the entry of `key`, live or expired, and returns a clone of its live value. The
+    /// value satisfies `keeps` with `key`.
     ///
-    /// Refused for want of memory for the value's copy alone; then nothing has changed.
+    /// Calls the listener once the lock is released.
+    ///
+    /// # Errors
+    ///
+    /// - `OutOfMemory`: cloning the value failed.
     pub fn remove(&self, key: &K) -> Result<Option<V>, Refused>
         ensures kept { IfOk result (λ found. IfSome found (C.keeps key.now)) }
         ensures cause { IfErr result (λ cause. cause ≡ Refused.OutOfMemory) }
@@ -212,17 +269,31 @@ impl<K: Hash + Drop, V: Clone, C: CacheTypes<K, V>, W: Wait> Cache<K, V, C, W> {
         found
     }
 
-    /// Removes all keys: no value that stood is found from then on. Each leaves at a maintenance, or where its key is
-    /// written or removed. It takes no memory, and visits each row.
+    /// Invalidates all entries: no lookup finds a value that was stored before. Does not allocate.
+    ///
+    /// Each entry is removed by a maintenance, or when its key is written or removed.
+    ///
+    /// # Complexity
+    ///
+    /// Visits every entry.
     pub fn invalidate_all(&self) {
         self.lock().invalidate_all();
     }
 
-    /// Hides each value of which a predicate holds, and answers a new id, made of what the generator draws. What is written
-    /// later is not hidden. Asks the predicate once of each stored value.
+    /// Invalidates each entry of which `predicate` holds, and returns a new id, made of what
+    /// `generator` draws.
     ///
-    /// Refused with `InvalidationClosuresDisabled` where the cache was built without support for closures, and else with
-    /// `OutOfMemory`, for the id's text; then nothing is hidden.
+    /// Calls the predicate once for each stored entry. Entries that are written later are not
+    /// affected.
+    ///
+    /// # Errors
+    ///
+    /// - `InvalidationClosuresDisabled`: the cache was built without support for closures.
+    /// - `OutOfMemory`: allocating the id's text failed. The generator has been used.
+    ///
+    /// # Complexity
+    ///
+    /// Visits every entry.
     pub fn invalidate_entries_if<G: Rng>(
         &self,
         predicate: C::Predicate,
@@ -233,8 +304,16 @@ impl<K: Hash + Drop, V: Clone, C: CacheTypes<K, V>, W: Wait> Cache<K, V, C, W> {
         self.lock().invalidate_entries_if(predicate, generator)
     }
 
-    /// As [`Cache::invalidate_entries_if`] for a predicate that is shared already, without an id. It takes no memory, so it
-    /// is refused with `InvalidationClosuresDisabled` alone.
+    /// Invalidates as [`Cache::invalidate_entries_if`] does, by a shared predicate and without an
+    /// id. Does not allocate.
+    ///
+    /// # Errors
+    ///
+    /// - `InvalidationClosuresDisabled`: the cache was built without support for closures.
+    ///
+    /// # Complexity
+    ///
+    /// Visits every entry.
     pub fn invalidate_entries_with_arc_fun(
         &self,
         predicate: Arc<C::Predicate>,
@@ -246,7 +325,15 @@ impl<K: Hash + Drop, V: Clone, C: CacheTypes<K, V>, W: Wait> Cache<K, V, C, W> {
         self.lock().invalidate_entries_with_arc_fun(predicate)
     }
 
-    /// Runs a maintenance, as a state does. The listener is told of what left once the lock is let go.
+    /// Runs maintenance as a state does: evicts what is expired or invalidated, shrinks to the
+    /// capacity, and admits or drops each pending entry.
+    ///
+    /// Calls the listener for removed entries once the lock is released.
+    ///
+    /// # Complexity
+    ///
+    /// Visits the entries that are removed, the pending ones and their victims. After a mass
+    /// invalidation it also visits every resident entry.
     pub fn run_pending_tasks(&self) {
         let mut locked = self.lock();
         locked.run_pending_tasks();
@@ -255,7 +342,14 @@ impl<K: Hash + Drop, V: Clone, C: CacheTypes<K, V>, W: Wait> Cache<K, V, C, W> {
         self.let_go(gone);
     }
 
-    /// Runs a maintenance within a limit on how many may leave, and answers whether it left a part undone.
+    /// Runs maintenance, but evicts at most `limit` entries. Returns whether something is left to
+    /// do.
+    ///
+    /// Calls the listener for removed entries once the lock is released.
+    ///
+    /// # Complexity
+    ///
+    /// Visits no more entries than [`Cache::run_pending_tasks`].
     pub fn run_pending_tasks_up_to(&self, limit: u64) -> bool {
         let mut locked = self.lock();
         let is_cut = locked.run_pending_tasks_up_to(limit);
@@ -265,17 +359,18 @@ impl<K: Hash + Drop, V: Clone, C: CacheTypes<K, V>, W: Wait> Cache<K, V, C, W> {
         is_cut
     }
 
-    /// How many keys are stored, with those that wait and those whose values are expired.
+    /// Returns the number of stored entries, with those that are pending or expired.
     pub fn entry_count(&self) -> u64 {
         self.lock().entry_count()
     }
 
-    /// How heavy all that is stored is, up to `u64::MAX`.
+    /// Returns the total weight of the stored entries, with those that are pending or expired. It
+    /// is at most `u64::MAX`.
     pub fn weighted_size(&self) -> u64 {
         self.lock().weighted_size()
     }
 
-    // As `invalidate_entries_with_arc_fun` for a predicate that is lent.
+    // Invalidates as `invalidate_entries_with_arc_fun` does, by a predicate by reference.
     pub(crate) fn hide_where(&self, predicate: &C::Predicate) -> Result<(), PredicateError>
         requires tests { C.Predicate.tests predicate.now (C.test predicate.now) }
         ensures cause { IfErr result
@@ -284,13 +379,13 @@ impl<K: Hash + Drop, V: Clone, C: CacheTypes<K, V>, W: Wait> Cache<K, V, C, W> {
         self.lock().hide_where(predicate)
     }
 
-    // What stands under the lock, once nobody else has it.
+    // Locks the state and its clock, once nobody else holds the lock.
     pub(crate) fn lock(&self) -> MutexGuard<'_, Locked<K, V, C>> {
         self.inside.locked.lock(&self.inside.waits)
     }
 
-    // Tells the listener of what left, with no lock held: of the first notice, and of so many others at most, each taken
-    // under the lock by itself.
+    // Calls the listener with no lock held: for the first notice, and for at most `others` more.
+    // Each of these is taken under the lock by itself.
     pub(crate) fn let_go(&self, gone: Gone<K, V>)
         requires { IfSome gone.first (λ notice. C.keeps (arc_value notice.key) notice.value) }
     {
@@ -308,6 +403,7 @@ impl<K: Hash + Drop, V: Clone, C: CacheTypes<K, V>, W: Wait> Cache<K, V, C, W> {
         }
     }
 
+    // Calls the listener, if there is one.
     fn tell(&self, notice: Notice<K, V>)
         requires { C.keeps (arc_value notice.key) notice.value }
     {
@@ -318,9 +414,17 @@ impl<K: Hash + Drop, V: Clone, C: CacheTypes<K, V>, W: Wait> Cache<K, V, C, W> {
 }
 
 impl<K: Hash + Drop, V: Clone + Default, C: CacheTypes<K, V>, W: Wait> Cache<K, V, C, W> {
-    /// As [`Cache::or_insert`], of the default value, for who hands in the key.
+    /// Returns the entry of the live value for `key`. If there is none, inserts the default value,
+    /// as [`Cache::or_insert`] does.
     ///
-    /// It asks that the key keeps whatever value is the default. Refused as the state's `or_default` is.
+    /// The prover asks that every default value satisfies `keeps` with the key.
+    ///
+    /// # Errors
+    ///
+    /// Drops the key.
+    ///
+    /// - `OutOfMemory`: an allocation or a clone failed.
+    /// - `NumbersUsedUp`: no sequence number is left for the write.
     pub fn or_default(&self, key: K) -> Result<Entry<K, V>, Refused>
         requires { (value : V) → V.is_default value → C.keeps key value }
         ensures kept { IfOk result (EntryKeeps C.keeps key) }

@@ -1,4 +1,4 @@
-//! The forms of computes with a closure, which is asked with no lock held.
+//! Computes with a closure, which runs with no lock held.
 ghost use Rattle.std.specs.Prelude.{◌≡◌, Option, Result, IfOk, IfSome};
 ghost use Rattle.std.specs.Arc.{arc_value};
 ghost use Rattle.moka_model.specs.Entries.{entry_of};
@@ -18,7 +18,7 @@ use std::hash::Hash;
 use std::sync::{Arc, Wait};
 
 impl<K: Hash + Drop, V: Clone, C: CacheTypes<K, V>, W: Wait> Cache<K, V, C, W> {
-    // Asks what is to be done with the value of a key, and does it, in one turn of a compute.
+    // Asks the closure what to do with the value of a key, and does it, in one turn of a compute.
     pub(crate) fn compute_with<F: FnOnce(Option<Entry<K, V>>) -> Op<V> + Drop>(
         &self,
         key: Arc<K>,
@@ -35,7 +35,7 @@ impl<K: Hash + Drop, V: Clone, C: CacheTypes<K, V>, W: Wait> Cache<K, V, C, W> {
         self.end_compute(turn, f(shown))
     }
 
-    // As `compute_with`, for a closure that may fail; then the turn is abandoned.
+    // Does what `compute_with` does, for a closure that may fail. Then the turn is abandoned.
     pub(crate) fn try_compute_with<
         F: FnOnce(Option<Entry<K, V>>) -> Result<Op<V>, C::Error> + Drop,
     >(&self, key: Arc<K>, f: F) -> Result<Result<CompResult<K, V>, C::Error>, Refused>
@@ -56,7 +56,8 @@ impl<K: Hash + Drop, V: Clone, C: CacheTypes<K, V>, W: Wait> Cache<K, V, C, W> {
         }
     }
 
-    // As `compute_with`, for who puts a value in any case; it answers the entry that was put.
+    // Does what `compute_with` does, for a closure that always puts a value. Returns the entry that
+    // was put.
     pub(crate) fn upsert_with<F: FnOnce(Option<Entry<K, V>>) -> V + Drop>(
         &self,
         key: Arc<K>,
@@ -73,7 +74,7 @@ impl<K: Hash + Drop, V: Clone, C: CacheTypes<K, V>, W: Wait> Cache<K, V, C, W> {
         self.end_with_put(turn, f(shown))
     }
 
-    // Ends the turn of a compute with what is to be done; where that is refused, the turn is abandoned.
+    // Ends the turn of a compute with an operation. If that fails, abandons the turn.
     fn end_compute(&self, turn: Turn<K>, op: Op<V>) -> Result<CompResult<K, V>, Refused>
         requires kind { turn.key.kind ≡ Kind.Compute }
         requires kept { OutcomeKeeps {E = C.Error} (C.keeps (arc_value turn.key.key)) (Outcome.Op op) }
@@ -94,7 +95,7 @@ impl<K: Hash + Drop, V: Clone, C: CacheTypes<K, V>, W: Wait> Cache<K, V, C, W> {
         Err(cause)
     }
 
-    // Ends the turn of a compute with a value that is put, and answers its entry.
+    // Ends the turn of a compute with a value that is put, and returns its entry.
     fn end_with_put(&self, turn: Turn<K>, value: V) -> Result<Entry<K, V>, Refused>
         requires kind { turn.key.kind ≡ Kind.Compute }
         requires kept { C.keeps (arc_value turn.key.key) value }

@@ -1,4 +1,4 @@
-//! What shared caches have in common beside their calls.
+//! What both shared caches have in common beside their calls.
 
 use crate::cache::Cache;
 use crate::segment::SegmentedCache;
@@ -6,9 +6,9 @@ use moka_policy::policy::CacheTypes;
 use std::hash::Hash;
 use std::sync::Wait;
 
-/// Runs the pending maintenance of a shared cache.
+/// Runs the maintenance of a shared cache.
 pub trait ConcurrentCacheExt<K, V> {
-    /// As the cache's `run_pending_tasks`.
+    /// Calls the cache's `run_pending_tasks`.
     fn sync(&self);
 }
 

@@ -1,4 +1,4 @@
-//! The forms of initializers with a closure, as they answer entries. The closure is asked with no lock held.
+//! Loaders with a closure, which return entries. The closure runs with no lock held.
 ghost use Rattle.std.specs.Prelude.{◌≡◌, ◌≢◌, Option, Result, true, IfOk, IfSome, MatchOption, MatchResult};
 ghost use Rattle.std.specs.Arc.{arc_value};
 ghost use Rattle.moka_model.specs.Entries.{entry_of};
@@ -16,14 +16,14 @@ use moka_state::handles::Turn;
 use std::hash::Hash;
 use std::sync::{Arc, Wait};
 
-// None, where there might be a closure of this type.
+// Returns `None`, in place of a closure of this type.
 pub(crate) fn without<F: Drop>(_closure: F) -> Option<F> {
     None
 }
 
 impl<K: Hash + Drop, V: Clone, C: CacheTypes<K, V>, W: Wait> Cache<K, V, C, W> {
-    // The entry of a key's live value, where there is one and the caller, who is shown it, does not ask to replace it: a hit,
-    // which shares and allocates nothing but the copy. Where there is none nothing has changed.
+    // Returns the live entry of a key, unless `replace_if` returns true for its value. A hit
+    // allocates only the clone and shares the key; a miss changes nothing.
     pub(crate) fn look<F: FnMut(&V) -> bool + Drop>(
         &self,
         key: &K,
@@ -35,7 +35,7 @@ impl<K: Hash + Drop, V: Clone, C: CacheTypes<K, V>, W: Wait> Cache<K, V, C, W> {
         self.lock().look(key, replace_if)
     }
 
-    // A value that several may hold. Refused for want of memory alone.
+    // Moves a value into an `Arc`. Fails only with `OutOfMemory`.
     pub(crate) fn share<T: Drop>(&self, value: T) -> Result<Arc<T>, Refused>
         ensures { IfOk result (λ shared. arc_value shared ≡ value) }
     {
@@ -45,7 +45,7 @@ impl<K: Hash + Drop, V: Clone, C: CacheTypes<K, V>, W: Wait> Cache<K, V, C, W> {
         }
     }
 
-    // The entry of a value, where any live one is accepted.
+    // Returns the live entry of a key, or else that of what the closure returns.
     pub(crate) fn value_entry<F: FnOnce() -> V + Drop>(
         &self,
         key: K,
@@ -62,7 +62,8 @@ impl<K: Hash + Drop, V: Clone, C: CacheTypes<K, V>, W: Wait> Cache<K, V, C, W> {
         self.value_entry_shared(key, init, without(|_: &V| false))
     }
 
-    // As `value_entry`, for a caller who says whether to replace a live value. The key is shared first, on a hit too.
+    // Does what `value_entry` does, but `replace_if` may ask to replace a live value. Shares the
+    // key first, on a hit too.
     pub(crate) fn value_entry_if<F: FnOnce() -> V + Drop, P: FnMut(&V) -> bool + Drop>(
         &self,
         key: K,
@@ -78,7 +79,7 @@ impl<K: Hash + Drop, V: Clone, C: CacheTypes<K, V>, W: Wait> Cache<K, V, C, W> {
         self.value_entry_shared(key, init, Some(replace_if))
     }
 
-    // As `value_entry`, for a key that is shared, and with what says whether to replace a live value.
+    // Does what `value_entry` does, for a shared key, and with `replace_if` if there is one.
     pub(crate) fn value_entry_shared<F: FnOnce() -> V + Drop, P: FnMut(&V) -> bool + Drop>(
         &self,
         key: Arc<K>,
@@ -96,7 +97,8 @@ impl<K: Hash + Drop, V: Clone, C: CacheTypes<K, V>, W: Wait> Cache<K, V, C, W> {
         }
     }
 
-    // The entry of a value, if the closure gives one, where any live one is accepted.
+    // Returns the live entry of a key, or else that of what the closure returns, if it returns a
+    // value.
     pub(crate) fn optional_entry<F: FnOnce() -> Option<V> + Drop>(
         &self,
         key: K,
@@ -113,7 +115,7 @@ impl<K: Hash + Drop, V: Clone, C: CacheTypes<K, V>, W: Wait> Cache<K, V, C, W> {
         self.optional_entry_shared(key, init)
     }
 
-    // As `optional_entry`, for a key that is shared.
+    // Does what `optional_entry` does, for a shared key.
     pub(crate) fn optional_entry_shared<F: FnOnce() -> Option<V> + Drop>(
         &self,
         key: Arc<K>,
@@ -136,7 +138,8 @@ impl<K: Hash + Drop, V: Clone, C: CacheTypes<K, V>, W: Wait> Cache<K, V, C, W> {
         }
     }
 
-    // The entry of a value, or the error that the closure gave, where any live one is accepted.
+    // Returns the live entry of a key, or else that of what the closure returns, or the closure's
+    // error.
     pub(crate) fn tried_entry<F: FnOnce() -> Result<V, C::Error> + Drop>(
         &self,
         key: K,
@@ -153,7 +156,7 @@ impl<K: Hash + Drop, V: Clone, C: CacheTypes<K, V>, W: Wait> Cache<K, V, C, W> {
         self.tried_entry_shared(key, init)
     }
 
-    // As `tried_entry`, for a key that is shared.
+    // Does what `tried_entry` does, for a shared key.
     pub(crate) fn tried_entry_shared<F: FnOnce() -> Result<V, C::Error> + Drop>(
         &self,
         key: Arc<K>,
@@ -173,7 +176,7 @@ impl<K: Hash + Drop, V: Clone, C: CacheTypes<K, V>, W: Wait> Cache<K, V, C, W> {
         }
     }
 
-    // Ends a turn with an outcome; where that is refused, the turn is abandoned.
+    // Ends a turn with an outcome. If that fails, abandons the turn.
     fn end_turn(
         &self,
         turn: Turn<K>,
@@ -199,7 +202,7 @@ impl<K: Hash + Drop, V: Clone, C: CacheTypes<K, V>, W: Wait> Cache<K, V, C, W> {
         Err(cause)
     }
 
-    // Ends a turn with a value, and answers its entry.
+    // Ends a turn with a value, and returns its entry.
     fn end_with_value(&self, turn: Turn<K>, value: V) -> Result<Entry<K, V>, Refused>
         requires fits { Fits C.Error turn.key.kind (Outcome.Value value) }
         requires initializer { turn.key.kind ≢ Kind.Compute }
@@ -213,7 +216,8 @@ impl<K: Hash + Drop, V: Clone, C: CacheTypes<K, V>, W: Wait> Cache<K, V, C, W> {
         }
     }
 
-    // Ends a turn with an error, and answers it, shared. Where it finds no memory to be shared, the turn is abandoned.
+    // Ends a turn with an error, and returns the error in an `Arc`. If that cannot be allocated,
+    // abandons the turn.
     fn end_with_error(&self, turn: Turn<K>, error: C::Error) -> Result<Arc<C::Error>, Refused>
         requires kind { turn.key.kind ≡ Kind.Try }
     {
@@ -230,7 +234,7 @@ impl<K: Hash + Drop, V: Clone, C: CacheTypes<K, V>, W: Wait> Cache<K, V, C, W> {
 }
 
 impl<K: Hash + Clone + Drop, V: Clone, C: CacheTypes<K, V>, W: Wait> Cache<K, V, C, W> {
-    // A copy of a key that several may hold. Refused for want of memory alone.
+    // Clones a key into an `Arc`. Fails only with `OutOfMemory`.
     pub(crate) fn share_copy(&self, key: &K) -> Result<Arc<K>, Refused>
         ensures { IfOk result (λ shared. K.is_clone key.now (arc_value shared)) }
     {
@@ -240,7 +244,7 @@ impl<K: Hash + Clone + Drop, V: Clone, C: CacheTypes<K, V>, W: Wait> Cache<K, V,
         }
     }
 
-    // As `value_entry`, for who lends the key.
+    // Does what `value_entry` does, for a key by reference.
     pub(crate) fn value_entry_by_ref<F: FnOnce() -> V + Drop>(
         &self,
         key: &K,
@@ -258,7 +262,7 @@ impl<K: Hash + Clone + Drop, V: Clone, C: CacheTypes<K, V>, W: Wait> Cache<K, V,
         self.value_entry_shared(copy, init, without(|_: &V| false))
     }
 
-    // As `value_entry_if`, for who lends the key.
+    // Does what `value_entry_if` does, for a key by reference.
     pub(crate) fn value_entry_if_by_ref<F: FnOnce() -> V + Drop, P: FnMut(&V) -> bool + Drop>(
         &self,
         key: &K,
@@ -275,7 +279,7 @@ impl<K: Hash + Clone + Drop, V: Clone, C: CacheTypes<K, V>, W: Wait> Cache<K, V,
         self.value_entry_shared(copy, init, Some(replace_if))
     }
 
-    // As `optional_entry`, for who lends the key.
+    // Does what `optional_entry` does, for a key by reference.
     pub(crate) fn optional_entry_by_ref<F: FnOnce() -> Option<V> + Drop>(
         &self,
         key: &K,
@@ -294,7 +298,7 @@ impl<K: Hash + Clone + Drop, V: Clone, C: CacheTypes<K, V>, W: Wait> Cache<K, V,
         self.optional_entry_shared(copy, init)
     }
 
-    // As `tried_entry`, for who lends the key.
+    // Does what `tried_entry` does, for a key by reference.
     pub(crate) fn tried_entry_by_ref<F: FnOnce() -> Result<V, C::Error> + Drop>(
         &self,
         key: &K,
@@ -314,7 +318,7 @@ impl<K: Hash + Clone + Drop, V: Clone, C: CacheTypes<K, V>, W: Wait> Cache<K, V,
     }
 }
 
-// The entry of what an initializer of the kind `With` is given.
+// Returns the entry in the answer to an initializer of the kind `With`.
 fn entry_in<K: Drop, V: Drop, E: Drop>(answer: Answer<K, V, E>) -> Entry<K, V>
     requires { AnswerFits Kind.With answer }
     ensures { answer ≡ Answer.Entry result }
@@ -326,7 +330,7 @@ fn entry_in<K: Drop, V: Drop, E: Drop>(answer: Answer<K, V, E>) -> Entry<K, V>
     }
 }
 
-// The entry, if there is one, of what an initializer of the kind `Optionally` is given.
+// Returns the entry, if any, in the answer to an initializer of the kind `Optionally`.
 fn optional_in<K: Drop, V: Drop, E: Drop>(answer: Answer<K, V, E>) -> Option<Entry<K, V>>
     requires { AnswerFits Kind.Optionally answer }
     ensures { MatchOption result (answer ≡ Answer.Nothing) (λ entry. answer ≡ Answer.Entry entry) }
@@ -338,7 +342,7 @@ fn optional_in<K: Drop, V: Drop, E: Drop>(answer: Answer<K, V, E>) -> Option<Ent
     }
 }
 
-// The entry, or the error, of what an initializer of the kind `Try` is given.
+// Returns the entry or the error in the answer to an initializer of the kind `Try`.
 fn tried_in<K: Drop, V: Drop, E: Drop>(answer: Answer<K, V, E>) -> Result<Entry<K, V>, Arc<E>>
     requires { AnswerFits Kind.Try answer }
     ensures { MatchResult result (λ entry. answer ≡ Answer.Entry entry)

@@ -1,4 +1,4 @@
-//! The calls of one key on a shared cache. Closures are asked with no lock held.
+//! Selectors of a shared cache: a key, for one call. Closures run with no lock held.
 ghost use Rattle.std.specs.Prelude.{◌≡◌, Option, Result, true, IfOk, IfSome};
 ghost use Rattle.std.specs.Arc.{arc_value};
 ghost use Rattle.moka_model.specs.Entries.{entry_of};
@@ -14,15 +14,18 @@ use moka_policy::policy::{CacheTypes, Refused};
 use std::hash::Hash;
 use std::sync::{Arc, Wait};
 
-/// A key of a shared cache, for the one call that is made of it. [`Cache::entry`] makes it. Nothing is looked for until that
-/// call.
+/// A key of a shared cache, for exactly one call. [`Cache::entry`] makes it. Nothing is looked up
+/// before that call.
 pub struct OwnedKeyEntrySelector<'a, K: Hash + Drop, V: Clone, C: CacheTypes<K, V>, W> {
     cache: &'a Cache<K, V, C, W>,
     key: K,
 }
 
-/// As [`OwnedKeyEntrySelector`], of a key that is lent, and copied at the call: by the forms of initializers where no value is
-/// live, by the others and by `or_insert_with_if` in any case. [`Cache::entry_by_ref`] makes it.
+/// A key by reference of a shared cache, for exactly one call. [`Cache::entry_by_ref`] makes it.
+///
+/// The call clones the key. `or_insert`, `or_default`, `or_insert_with_if` and the computes always
+/// do. The other loaders clone it only on a miss. The prover asks of each call that a clone of a
+/// key equals it.
 pub struct RefKeyEntrySelector<'a, K: Hash + Drop, V: Clone, C: CacheTypes<K, V>, W> {
     cache: &'a Cache<K, V, C, W>,
     key: &'a K,
@@ -42,7 +45,7 @@ impl<K: Hash + Drop, V: Clone, C: CacheTypes<K, V>, W: Wait> Cache<K, V, C, W> {
 }
 
 impl<K: Hash + Clone + Drop, V: Clone, C: CacheTypes<K, V>, W: Wait> Cache<K, V, C, W> {
-    /// As [`Cache::entry`], for who lends the key.
+    /// Selects a key by reference, for one call.
     pub fn entry_by_ref<'a>(&'a self, key: &'a K) -> RefKeyEntrySelector<'a, K, V, C, W>
         ensures { result.key.now ≡ key.entry.now }
     {
@@ -57,10 +60,13 @@ impl<'a, K: Hash + Drop, V: Clone, C: CacheTypes<K, V>, W: Wait> OwnedKeyEntrySe
     C,
     W,
 > {
-    /// The entry of the key's live value; where there is none, of this one, which is written. No closure is asked and no turn
-    /// opened; an open turn does not matter.
+    /// Returns the live entry of the key. If there is none, inserts `value` and returns its entry.
     ///
-    /// Refused as [`Cache::or_insert`]; it then drops key and value, and has changed nothing.
+    /// Runs no closure, opens no turn, and does not wait for an open one.
+    ///
+    /// # Errors
+    ///
+    /// Drops the key and the value. As [`Cache::or_insert`].
     pub fn or_insert(self, value: V) -> Result<Entry<K, V>, Refused>
         requires keeps { C.keeps self.key value }
         ensures kept { IfOk result (EntryKeeps C.keeps self.entry.key) }
@@ -73,7 +79,12 @@ impl<'a, K: Hash + Drop, V: Clone, C: CacheTypes<K, V>, W: Wait> OwnedKeyEntrySe
         }
     }
 
-    /// The entry of the key's live value; where there is none, of what the closure gives, as [`Cache::get_with`].
+    /// Returns the live entry of the key. If there is none, runs `init` and inserts its result, as
+    /// [`Cache::get_with`] does.
+    ///
+    /// # Errors
+    ///
+    /// As [`Cache::get_with`].
     pub fn or_insert_with<F: FnOnce() -> V + Drop>(self, init: F) -> Result<Entry<K, V>, Refused>
         requires asks { F.IsAlwaysCallable init }
         requires keeps { (v : V) → F.post init v → C.keeps self.key v }
@@ -83,8 +94,12 @@ impl<'a, K: Hash + Drop, V: Clone, C: CacheTypes<K, V>, W: Wait> OwnedKeyEntrySe
         cache.value_entry(key, init)
     }
 
-    /// As [`OwnedKeyEntrySelector::or_insert_with`], for a caller who is shown the live value and says whether to replace it,
-    /// as [`Cache::get_with_if`].
+    /// Does what [`OwnedKeyEntrySelector::or_insert_with`] does, but treats a live value as absent
+    /// if `replace_if` returns true for it, as [`Cache::get_with_if`] does.
+    ///
+    /// # Errors
+    ///
+    /// As [`Cache::get_with`].
     pub fn or_insert_with_if<F: FnOnce() -> V + Drop, P: FnMut(&V) -> bool + Drop>(
         self,
         init: F,
@@ -99,7 +114,12 @@ impl<'a, K: Hash + Drop, V: Clone, C: CacheTypes<K, V>, W: Wait> OwnedKeyEntrySe
         cache.value_entry_if(key, init, replace_if)
     }
 
-    /// As [`OwnedKeyEntrySelector::or_insert_with`], for a closure that may give no value, as [`Cache::optionally_get_with`].
+    /// Does what [`OwnedKeyEntrySelector::or_insert_with`] does, for an `init` that may return
+    /// `None`, as [`Cache::optionally_get_with`] does.
+    ///
+    /// # Errors
+    ///
+    /// As [`Cache::get_with`].
     pub fn or_optionally_insert_with<F: FnOnce() -> Option<V> + Drop>(
         self,
         init: F,
@@ -113,7 +133,12 @@ impl<'a, K: Hash + Drop, V: Clone, C: CacheTypes<K, V>, W: Wait> OwnedKeyEntrySe
         cache.optional_entry(key, init)
     }
 
-    /// As [`OwnedKeyEntrySelector::or_insert_with`], for a closure that may fail, as [`Cache::try_get_with`].
+    /// Does what [`OwnedKeyEntrySelector::or_insert_with`] does, for an `init` that may fail, as
+    /// [`Cache::try_get_with`] does.
+    ///
+    /// # Errors
+    ///
+    /// As [`Cache::try_get_with`].
     pub fn or_try_insert_with<F: FnOnce() -> Result<V, C::Error> + Drop>(
         self,
         init: F,
@@ -127,12 +152,21 @@ impl<'a, K: Hash + Drop, V: Clone, C: CacheTypes<K, V>, W: Wait> OwnedKeyEntrySe
         cache.tried_entry(key, init)
     }
 
-    /// Asks the closure what is to be done with the key's value, and does it: it is shown the entry of the live value, if there
-    /// is one, and says to put a value, to remove the one that is there, or to leave it. While another caller computes the value
-    /// of the key it waits for its own turn. The closure is asked once at most, with no lock held.
+    /// Calls `f` with the live entry of the key, if there is one, and does what it returns.
     ///
-    /// It asks that the closure may be shown any entry whose value keeps the cache's relation, and that a value that it puts
-    /// does. Refused as a state's `begin_compute` and `finish` are; the turn is then abandoned.
+    /// `Op::Put` stores a value, `Op::Remove` removes the entry, `Op::Nop` changes nothing. While
+    /// another caller computes the key, waits for its own turn. `f` runs at most once, with no lock
+    /// held. The prover asks that `f` accepts every entry whose value satisfies `keeps`, and that
+    /// each value which it puts does.
+    ///
+    /// # Errors
+    ///
+    /// If the finish fails, abandons the turn.
+    ///
+    /// - `OutOfMemory`: an allocation or a clone failed.
+    /// - `NumbersUsedUp`: no sequence number is left, or the open turn has 2^64 - 1 unspent
+    ///   tickets.
+    /// - `UnknownTurn`, `UnknownTicket`: somebody else has spent the call's turn or ticket.
     pub fn and_compute_with<F: FnOnce(Option<Entry<K, V>>) -> Op<V> + Drop>(
         self,
         f: F,
@@ -149,8 +183,12 @@ impl<'a, K: Hash + Drop, V: Clone, C: CacheTypes<K, V>, W: Wait> OwnedKeyEntrySe
         cache.compute_with(key, f)
     }
 
-    /// As [`OwnedKeyEntrySelector::and_compute_with`], for a closure that may fail; then the turn is abandoned, the value is left
-    /// as it is, and the closure's error is answered.
+    /// Does what [`OwnedKeyEntrySelector::and_compute_with`] does, for an `f` that may fail. Then
+    /// it abandons the turn, leaves the entry as it is, and returns the error of `f`.
+    ///
+    /// # Errors
+    ///
+    /// The outer error is the cache's own: as [`OwnedKeyEntrySelector::and_compute_with`].
     pub fn and_try_compute_with<F: FnOnce(Option<Entry<K, V>>) -> Result<Op<V>, C::Error> + Drop>(
         self,
         f: F,
@@ -167,8 +205,12 @@ impl<'a, K: Hash + Drop, V: Clone, C: CacheTypes<K, V>, W: Wait> OwnedKeyEntrySe
         cache.try_compute_with(key, f)
     }
 
-    /// As [`OwnedKeyEntrySelector::and_compute_with`], for a closure that gives a value in any case: it is put, and the entry that
-    /// was put is answered.
+    /// Does what [`OwnedKeyEntrySelector::and_compute_with`] does, for an `f` that always returns a
+    /// value. Stores that, and returns its entry.
+    ///
+    /// # Errors
+    ///
+    /// As [`OwnedKeyEntrySelector::and_compute_with`].
     pub fn and_upsert_with<F: FnOnce(Option<Entry<K, V>>) -> V + Drop>(
         self,
         f: F,
@@ -192,7 +234,13 @@ impl<'a, K: Hash + Drop, V: Clone + Default, C: CacheTypes<K, V>, W: Wait> Owned
     C,
     W,
 > {
-    /// As [`OwnedKeyEntrySelector::or_insert`], of the default value. It asks that the key keeps whatever value is the default.
+    /// Does what [`OwnedKeyEntrySelector::or_insert`] does, with the default value.
+    ///
+    /// The prover asks that every default value satisfies `keeps` with the key.
+    ///
+    /// # Errors
+    ///
+    /// As [`Cache::or_default`].
     pub fn or_default(self) -> Result<Entry<K, V>, Refused>
         requires keeps { (value : V) → V.is_default value → C.keeps self.key value }
         ensures kept { IfOk result (EntryKeeps C.keeps self.entry.key) }
@@ -209,7 +257,7 @@ impl<'a, K: Hash + Clone + Drop, V: Clone, C: CacheTypes<K, V>, W: Wait> RefKeyE
     C,
     W,
 > {
-    /// As [`OwnedKeyEntrySelector::or_insert`].
+    /// Does what [`OwnedKeyEntrySelector::or_insert`] does.
     pub fn or_insert(self, value: V) -> Result<Entry<K, V>, Refused>
         requires copies { (a b : K) → K.is_clone a b → K.eq a b ≡ true }
         requires keeps { C.keeps self.key.now value }
@@ -223,7 +271,7 @@ impl<'a, K: Hash + Clone + Drop, V: Clone, C: CacheTypes<K, V>, W: Wait> RefKeyE
         }
     }
 
-    /// As [`OwnedKeyEntrySelector::or_insert_with`].
+    /// Does what [`OwnedKeyEntrySelector::or_insert_with`] does.
     pub fn or_insert_with<F: FnOnce() -> V + Drop>(self, init: F) -> Result<Entry<K, V>, Refused>
         requires copies { (a b : K) → K.is_clone a b → K.eq a b ≡ true }
         requires asks { F.IsAlwaysCallable init }
@@ -234,7 +282,7 @@ impl<'a, K: Hash + Clone + Drop, V: Clone, C: CacheTypes<K, V>, W: Wait> RefKeyE
         cache.value_entry_by_ref(key, init)
     }
 
-    /// As [`OwnedKeyEntrySelector::or_insert_with_if`].
+    /// Does what [`OwnedKeyEntrySelector::or_insert_with_if`] does.
     pub fn or_insert_with_if<F: FnOnce() -> V + Drop, P: FnMut(&V) -> bool + Drop>(
         self,
         init: F,
@@ -250,7 +298,7 @@ impl<'a, K: Hash + Clone + Drop, V: Clone, C: CacheTypes<K, V>, W: Wait> RefKeyE
         cache.value_entry_if_by_ref(key, init, replace_if)
     }
 
-    /// As [`OwnedKeyEntrySelector::or_optionally_insert_with`].
+    /// Does what [`OwnedKeyEntrySelector::or_optionally_insert_with`] does.
     pub fn or_optionally_insert_with<F: FnOnce() -> Option<V> + Drop>(
         self,
         init: F,
@@ -265,7 +313,7 @@ impl<'a, K: Hash + Clone + Drop, V: Clone, C: CacheTypes<K, V>, W: Wait> RefKeyE
         cache.optional_entry_by_ref(key, init)
     }
 
-    /// As [`OwnedKeyEntrySelector::or_try_insert_with`].
+    /// Does what [`OwnedKeyEntrySelector::or_try_insert_with`] does.
     pub fn or_try_insert_with<F: FnOnce() -> Result<V, C::Error> + Drop>(
         self,
         init: F,
@@ -280,7 +328,7 @@ impl<'a, K: Hash + Clone + Drop, V: Clone, C: CacheTypes<K, V>, W: Wait> RefKeyE
         cache.tried_entry_by_ref(key, init)
     }
 
-    /// As [`OwnedKeyEntrySelector::and_compute_with`].
+    /// Does what [`OwnedKeyEntrySelector::and_compute_with`] does.
     pub fn and_compute_with<F: FnOnce(Option<Entry<K, V>>) -> Op<V> + Drop>(
         self,
         f: F,
@@ -298,7 +346,7 @@ impl<'a, K: Hash + Clone + Drop, V: Clone, C: CacheTypes<K, V>, W: Wait> RefKeyE
         cache.compute_with(key, f)
     }
 
-    /// As [`OwnedKeyEntrySelector::and_try_compute_with`].
+    /// Does what [`OwnedKeyEntrySelector::and_try_compute_with`] does.
     pub fn and_try_compute_with<F: FnOnce(Option<Entry<K, V>>) -> Result<Op<V>, C::Error> + Drop>(
         self,
         f: F,
@@ -316,7 +364,7 @@ impl<'a, K: Hash + Clone + Drop, V: Clone, C: CacheTypes<K, V>, W: Wait> RefKeyE
         cache.try_compute_with(key, f)
     }
 
-    /// As [`OwnedKeyEntrySelector::and_upsert_with`].
+    /// Does what [`OwnedKeyEntrySelector::and_upsert_with`] does.
     pub fn and_upsert_with<F: FnOnce(Option<Entry<K, V>>) -> V + Drop>(
         self,
         f: F,
@@ -341,7 +389,7 @@ impl<
     C: CacheTypes<K, V>,
     W: Wait,
 > RefKeyEntrySelector<'a, K, V, C, W> {
-    /// As [`OwnedKeyEntrySelector::or_default`].
+    /// Does what [`OwnedKeyEntrySelector::or_default`] does.
     pub fn or_default(self) -> Result<Entry<K, V>, Refused>
         requires copies { (a b : K) → K.is_clone a b → K.eq a b ≡ true }
         requires keeps { (value : V) → V.is_default value → C.keeps self.key.now value }

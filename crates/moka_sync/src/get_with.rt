@@ -1,5 +1,6 @@
-//! The forms of initializers with a closure: the live value of a key, or else what the closure gives. Of callers with one key
-//! and kind one at a time runs its closure, and the others are given a copy of what came of it.
+//! Loaders of a shared cache: they return the live value, or run a closure and store its result.
+//! Concurrent calls for one key and kind are coalesced: one runs its closure, the others wait for
+//! the outcome.
 ghost use Rattle.std.specs.Prelude.{◌≡◌, Option, Result, true, IfOk, IfSome};
 
 use crate::cache::Cache;
@@ -9,13 +10,25 @@ use std::hash::Hash;
 use std::sync::{Arc, Wait};
 
 impl<K: Hash + Drop, V: Clone, C: CacheTypes<K, V>, W: Wait> Cache<K, V, C, W> {
-    /// A copy of the live value of a key; where there is none, of what the closure gives, which is written. While another
-    /// caller's closure works the value of the key out, it waits, and answers a copy of what came of that; where that was
-    /// abandoned it begins again. The closure is asked once at most, with no lock held.
+    /// Returns a clone of the live value for `key`. If there is none, runs `init`, inserts its
+    /// result and returns a clone of that.
     ///
-    /// It asks that what the closure gives keeps the cache's relation to the key. Refused as a state's `begin`, `collect`
-    /// and `finish` are; the turn is then abandoned. And with `WaitsAbandoned` where 200 turns that it waited for were
-    /// abandoned. On a live key it costs a `get`, and takes no memory but for the copy.
+    /// If another caller is computing the key, sleeps until that has ended, and returns a clone of
+    /// its value. If that was abandoned, begins again. `init` runs at most once, with no lock held.
+    /// A hit costs a `get`, and allocates only the clone.
+    ///
+    /// The prover asks that every result of `init` satisfies `keeps` with `key`. So does what is
+    /// returned.
+    ///
+    /// # Errors
+    ///
+    /// If storing the result fails, drops it and abandons the turn.
+    ///
+    /// - `OutOfMemory`: an allocation or a clone failed.
+    /// - `NumbersUsedUp`: no sequence number is left, or the open turn has 2^64 - 1 unspent
+    ///   tickets.
+    /// - `WaitsAbandoned`: the call waited for 200 turns, and each was abandoned.
+    /// - `UnknownTurn`, `UnknownTicket`: somebody else has spent the call's turn or ticket.
     ///
     /// ```
     /// let page = cache.get_with(number, || render(number))?;
@@ -29,10 +42,17 @@ impl<K: Hash + Drop, V: Clone, C: CacheTypes<K, V>, W: Wait> Cache<K, V, C, W> {
         Ok(entry.into_value())
     }
 
-    /// As [`Cache::get_with`], for a caller who is shown the live value, under the lock, and says whether to replace it: one
-    /// that is to be replaced is taken for none. It may be asked more than once. On a live key it takes memory for the key too.
+    /// Does what [`Cache::get_with`] does, but treats a live value as absent if `replace_if`
+    /// returns true for it.
+    ///
+    /// `replace_if` runs under the lock, and may run more than once. A hit allocates for the key
+    /// too.
     ///
     /// Deprecated in moka in favour of `entry` and `or_insert_with_if`.
+    ///
+    /// # Errors
+    ///
+    /// As [`Cache::get_with`].
     pub fn get_with_if<F: FnOnce() -> V + Drop, P: FnMut(&V) -> bool + Drop>(
         &self,
         key: K,
@@ -48,7 +68,12 @@ impl<K: Hash + Drop, V: Clone, C: CacheTypes<K, V>, W: Wait> Cache<K, V, C, W> {
         Ok(entry.into_value())
     }
 
-    /// As [`Cache::get_with`], for a closure that may give no value; then nothing is written, and none is answered.
+    /// Does what [`Cache::get_with`] does, for an `init` that may return `None`. Then it stores
+    /// nothing and returns `None`.
+    ///
+    /// # Errors
+    ///
+    /// As [`Cache::get_with`].
     pub fn optionally_get_with<F: FnOnce() -> Option<V> + Drop>(
         &self,
         key: K,
@@ -64,8 +89,14 @@ impl<K: Hash + Drop, V: Clone, C: CacheTypes<K, V>, W: Wait> Cache<K, V, C, W> {
         }
     }
 
-    /// As [`Cache::get_with`], for a closure that may fail; then nothing is written, and its error is answered, shared: by all
-    /// who waited for it too. Where the error finds no memory to be shared, the turn is abandoned and the call refused.
+    /// Does what [`Cache::get_with`] does, for an `init` that may fail. Then it stores nothing and
+    /// returns the error in an `Arc`, as do all calls that waited for it.
+    ///
+    /// # Errors
+    ///
+    /// The outer error is the cache's own: as [`Cache::get_with`], and
+    ///
+    /// - `OutOfMemory`: allocating the `Arc` failed. The turn is abandoned.
     pub fn try_get_with<F: FnOnce() -> Result<V, C::Error> + Drop>(
         &self,
         key: K,
@@ -83,7 +114,13 @@ impl<K: Hash + Drop, V: Clone, C: CacheTypes<K, V>, W: Wait> Cache<K, V, C, W> {
 }
 
 impl<K: Hash + Clone + Drop, V: Clone, C: CacheTypes<K, V>, W: Wait> Cache<K, V, C, W> {
-    /// As [`Cache::get_with`], for who lends the key: it is copied where no value is live.
+    /// Does what [`Cache::get_with`] does, for a key by reference. Clones the key on a miss.
+    ///
+    /// The prover asks that a clone of a key equals it.
+    ///
+    /// # Errors
+    ///
+    /// As [`Cache::get_with`].
     pub fn get_with_by_ref<F: FnOnce() -> V + Drop>(&self, key: &K, init: F) -> Result<V, Refused>
         requires copies { (a b : K) → K.is_clone a b → K.eq a b ≡ true }
         requires asks { F.IsAlwaysCallable init }
@@ -94,7 +131,14 @@ impl<K: Hash + Clone + Drop, V: Clone, C: CacheTypes<K, V>, W: Wait> Cache<K, V,
         Ok(entry.into_value())
     }
 
-    /// As [`Cache::optionally_get_with`], for who lends the key.
+    /// Does what [`Cache::optionally_get_with`] does, for a key by reference. Clones the key on a
+    /// miss.
+    ///
+    /// The prover asks that a clone of a key equals it.
+    ///
+    /// # Errors
+    ///
+    /// As [`Cache::get_with`].
     pub fn optionally_get_with_by_ref<F: FnOnce() -> Option<V> + Drop>(
         &self,
         key: &K,
@@ -111,7 +155,13 @@ impl<K: Hash + Clone + Drop, V: Clone, C: CacheTypes<K, V>, W: Wait> Cache<K, V,
         }
     }
 
-    /// As [`Cache::try_get_with`], for who lends the key.
+    /// Does what [`Cache::try_get_with`] does, for a key by reference. Clones the key on a miss.
+    ///
+    /// The prover asks that a clone of a key equals it.
+    ///
+    /// # Errors
+    ///
+    /// As [`Cache::try_get_with`].
     pub fn try_get_with_by_ref<F: FnOnce() -> Result<V, C::Error> + Drop>(
         &self,
         key: &K,

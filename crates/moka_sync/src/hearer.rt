@@ -1,4 +1,4 @@
-//! Who is told of the values that leave a shared cache.
+//! The listener of a shared cache, with the proof that it accepts every entry of the cache.
 ghost use Rattle.std.specs.Prelude.{◌≡◌, option_map, IfOk, IfErr, IfSome};
 ghost use Rattle.std.specs.Arc.{arc_value};
 
@@ -10,7 +10,7 @@ use std::hash::Hash;
 use std::marker::{Model, PhantomData};
 use std::sync::Arc;
 
-/// A listener that may be told of all that the cache keeps.
+/// A listener that accepts every pair of key and value that satisfies the cache's `keeps`.
 #[derive(Drop)]
 pub(crate) struct Hearer<K: Hash + Drop, V: Clone, C: CacheTypes<K, V>> {
     listener: C::Listener,
@@ -27,6 +27,7 @@ impl<K: Hash + Drop, V: Clone, C: CacheTypes<K, V>> Model for Hearer<K, V, C> {
 }
 
 impl<K: Hash + Drop, V: Clone, C: CacheTypes<K, V>> Hearer<K, V, C> {
+    // Wraps a listener that accepts every pair that `keeps` holds of.
     fn new(listener: C::Listener) -> Self
         requires { (key : K) (value : V) → C.keeps key value → C.Listener.hears listener key value }
         ensures { result ≡ listener }
@@ -37,7 +38,7 @@ impl<K: Hash + Drop, V: Clone, C: CacheTypes<K, V>> Hearer<K, V, C> {
         }
     }
 
-    // Shares a listener, where there is one. Refused for want of memory alone.
+    // Moves a listener, if there is one, into an `Arc`. Fails only with `OutOfMemory`.
     pub(crate) fn shared(
         alloc: Global,
         listener: Option<C::Listener>,
@@ -56,7 +57,7 @@ impl<K: Hash + Drop, V: Clone, C: CacheTypes<K, V>> Hearer<K, V, C> {
         }
     }
 
-    // Tells the listener of a value that left.
+    // Calls the listener with a removed entry.
     pub(crate) fn tell(&self, notice: Notice<K, V>)
         requires { C.keeps (arc_value notice.key) notice.value }
     {

@@ -1,4 +1,4 @@
-//! Caches that threads share, and what builds caches.
+//! Caches that threads share, and the builder of all caches.
 #![tactic(auto)]
 
 pub mod builder;

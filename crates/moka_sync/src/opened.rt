@@ -1,12 +1,12 @@
-//! A lock that contracts see as what it was made round.
+//! A lock whose contents contracts see as they were when the lock was made.
 ghost use Rattle.std.specs.Prelude.{◌≡◌};
 
 use moka_snapshot::snapshot::SharedSnapshot;
 use std::marker::Model;
 use std::sync::{Mutex, MutexGuard, Wait};
 
-/// A value under a lock. Contracts see it as the value was when the lock was made; what is under the lock later they do
-/// not know.
+/// A value under a lock. Contracts see the value as it was when the lock was made. What is under
+/// the lock later they do not know.
 #[derive(Drop)]
 pub(crate) struct Opened<T> {
     mutex: Mutex<T>,
@@ -20,7 +20,8 @@ impl<T> Model for Opened<T> {
 }
 
 impl<T> Opened<T> {
-    // Of any type, so that there is no other value here that could go under the lock.
+    // Puts a value under a lock. It takes any type, so no other value at hand here could go under
+    // the lock.
     pub(crate) fn new(value: T) -> Self
         ensures { result ≡ value }
     {
@@ -30,6 +31,7 @@ impl<T> Opened<T> {
         }
     }
 
+    // Locks the value, once nobody else holds the lock.
     pub(crate) fn lock<W: Wait>(&self, waits: &W) -> MutexGuard<'_, T> {
         self.mutex.lock(waits)
     }

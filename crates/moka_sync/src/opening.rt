@@ -1,4 +1,4 @@
-//! Makes the caches that threads share, of what their builder was told.
+//! Makes shared caches from the settings of their builder.
 ghost use Rattle.std.specs.Prelude.{◌≡◌, ◌≢◌, ◌<◌, ◌≤◌, ◌^◌, [], Some, None, length, option_map, unwrap_or, IfSome, IfOk, IfErr, IsSome, OnOk};
 ghost use Rattle.std.specs.Arc.{arc_value};
 ghost use Rattle.std.specs.List.{AllByRecursion};
@@ -24,7 +24,8 @@ use std::alloc::Global;
 use std::hash::{Hash, RandomState};
 use std::sync::{Arc, Condvar};
 
-// A cache without values of these settings, which are named so. Refused for want of memory alone.
+// Creates an empty cache of these settings, which is called by `name`. Fails only with
+// `OutOfMemory`.
 pub(crate) fn cache_of<K: Hash + Drop, V: Clone, C: CacheTypes<K, V>, W: Drop>(
     alloc: Global,
     settings: Settings<K, V, C>,
@@ -66,7 +67,8 @@ pub(crate) fn cache_of<K: Hash + Drop, V: Clone, C: CacheTypes<K, V>, W: Drop>(
     })
 }
 
-// What shared caches are made from: their settings, and the clock and the listener that clones and segments share.
+// What shared caches are made from: the settings, and the clock and the listener that clones and
+// segments share.
 #[derive(Drop)]
 pub(crate) struct CacheParts<K: Hash + Drop, V: Clone, C: CacheTypes<K, V>> {
     pub(crate) settings: Settings<K, V, C>,
@@ -75,7 +77,7 @@ pub(crate) struct CacheParts<K: Hash + Drop, V: Clone, C: CacheTypes<K, V>> {
 }
 
 impl<K: Hash + Drop, V: Clone, C: CacheTypes<K, V>, T> CacheBuilder<K, V, C, T> {
-    // What a cache with this hasher and this clock is made from. Refused for want of memory alone.
+    // Makes the parts of a cache with this hasher and this clock. Fails only with `OutOfMemory`.
     pub(crate) fn parts(
         self,
         alloc: Global,
@@ -111,12 +113,15 @@ impl<K: Hash + Drop, V: Clone, C: CacheTypes<K, V>, T> CacheBuilder<K, V, C, T> 
 }
 
 impl<K: Hash + Drop, V: Clone, C: CacheTypes<K, V>> CacheBuilder<K, V, C, Segmented> {
-    /// A cache without values, of these settings, that threads share, of as many segments as were wanted, or of the next
-    /// power of two. Each has its share of the capacity and of the initial capacity, and a source of frequencies of its own.
-    /// It hashes keys by this hasher, and its calls are at the moments that the clock tells; a copy of `waits` lets each lock
-    /// wait.
+    /// Builds an empty shared cache of several segments with these settings.
     ///
-    /// Refused as [`CacheBuilder::build_segmented_state`] is.
+    /// It has as many segments as were asked for, or the next power of two. Each has its share of
+    /// the capacity and of the initial capacity, and a frequency source of its own. `hasher` hashes
+    /// the keys. `clock` gives the moments of the calls. A clone of `waits` lets each lock wait.
+    ///
+    /// # Errors
+    ///
+    /// As [`CacheBuilder::build_segmented_state`].
     pub fn build_with_hasher<W: Clone + Drop>(
         self,
         alloc: Global,
@@ -164,8 +169,12 @@ where
     V: Clone,
     C: CacheTypes<K, V, Hasher = RandomState>,
 {
-    /// A cache without values, of these settings, that threads share, of several segments, and of keys that an attacker may
-    /// pick. It is [`CacheBuilder::build_with_hasher`] with this hasher.
+    /// Builds an empty shared cache of several segments as [`CacheBuilder::build_with_hasher`]
+    /// does, with a random hasher: for keys that an attacker may choose.
+    ///
+    /// # Errors
+    ///
+    /// As [`CacheBuilder::build_segmented_state`].
     pub fn build<W: Clone + Drop>(
         self,
         alloc: Global,
@@ -189,7 +198,8 @@ where
     }
 }
 
-// The segments of a cache of these settings, that look at one clock and have one listener. Refused for want of memory alone.
+// Creates the segments of a cache of these settings. They share one clock and one listener. Fails
+// only with `OutOfMemory`.
 fn segments_of<K: Hash + Drop, V: Clone, C: CacheTypes<K, V>, W: Clone + Drop>(
     alloc: Global,
     settings: &Settings<K, V, C>,
@@ -227,7 +237,7 @@ fn segments_of<K: Hash + Drop, V: Clone, C: CacheTypes<K, V>, W: Clone + Drop>(
     Ok(segments)
 }
 
-// One of so many segments.
+// Creates one of `count` segments, with its share of the capacities.
 fn one_of<K: Hash + Drop, V: Clone, C: CacheTypes<K, V>, W: Clone + Drop>(
     alloc: Global,
     settings: &Settings<K, V, C>,

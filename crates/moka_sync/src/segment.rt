@@ -1,4 +1,4 @@
-//! A cache of several segments that threads share. Each segment is a shared cache with a lock of its own.
+//! A shared cache of several segments. Each segment is a shared cache with a lock of its own.
 ghost use Rattle.std.specs.Prelude.{◌≡◌, ◌⊎◌, ◌↔◌, ◌<◌, ◌^◌, [], length, true, option_map, unwrap_or, IsOk, IfSome, IfOk, IfErr};
 ghost use Rattle.std.specs.Arc.{arc_value};
 ghost use Rattle.std.specs.Duration.{as_nanos};
@@ -26,21 +26,32 @@ use std::hash::{BuildHasher, Hash, Hasher, RandomState};
 use std::marker::Model;
 use std::sync::{Arc, Wait};
 
-/// What all clones of a cache of several segments share.
+/// What all clones of a segmented cache share.
 #[derive(Drop)]
 pub(crate) struct AllSegments<K: Hash + Drop, V: Clone, C: CacheTypes<K, V>, W> {
+    /// The settings of the whole.
     pub settings: Settings<K, V, C>,
+    /// How many bits of a hash choose a segment: fewer than 64.
     pub bits: u32,
+    /// The segments, 2^`bits` of them.
     pub segments: Vec<Cache<K, V, C, W>>,
     ghost named: { (bits < 64) × (length segments.items ≡ 2 ^ bits) },
 }
 
-/// A cache that threads share, of several segments with a lock each: a call of one key waits for calls of keys of its own
-/// segment alone. The highest bits of a key's hash name its segment, and each has its share of the capacity.
+/// A shared cache of several segments with a lock each. A call on one key waits only for calls in
+/// its own segment.
 ///
-/// A call of one key costs what it costs the [`Cache`] that is its segment, and hashes the key once more, with no lock held.
-/// Calls that go to all segments take one lock after another, so what others do meanwhile may be seen in some segments and
-/// not in others. A clone is the same cache.
+/// The highest bits of a key's hash choose its segment. Each segment has its share of the capacity.
+/// A clone is the same cache.
+///
+/// Calls that go to all segments take one lock after another. So what other threads do meanwhile
+/// may be seen in some segments and not in others. A failed call leaves the cache unchanged, except
+/// that loaders and computes may have recorded lookups and drawn sequence numbers.
+///
+/// # Complexity
+///
+/// A call on one key costs what it costs the [`Cache`] that is its segment. It hashes the key once
+/// more, with no lock held.
 #[derive(Drop)]
 pub struct SegmentedCache<K: Hash + Drop, V: Clone, C: CacheTypes<K, V>, W> {
     pub(crate) inside: Arc<AllSegments<K, V, C, W>>,
@@ -67,7 +78,7 @@ impl<K: Hash + Drop, V: Clone, C: CacheTypes<K, V>, W: Drop> Clone for Segmented
 }
 
 impl<K: Hash + Drop, V: Clone, C: CacheTypes<K, V>, W> Debug for SegmentedCache<K, V, C, W> {
-    /// Its name and its policy; what is stored is not shown, so no lock is taken.
+    /// Writes the cache's name and policy. Shows no entries, so it takes no lock.
     fn fmt<O: Write>(&self, f: &mut Formatter<O>) -> fmt::Result {
         f.debug_struct("SegmentedCache")
             .field("name", &self.inside.settings.name)
@@ -77,8 +88,13 @@ impl<K: Hash + Drop, V: Clone, C: CacheTypes<K, V>, W> Debug for SegmentedCache<
 }
 
 impl<K: Hash + Drop, V: Clone, C: CacheTypes<K, V>, W> SegmentedCache<K, V, C, W> {
-    /// What builds a cache of so many segments, or of the next power of two, by its settings. Refused with `NoSegments` at
-    /// 0, and with `TooManySegments` above 2^63.
+    /// Returns a builder of caches with this many segments, or the next power of two, and no other
+    /// setting.
+    ///
+    /// # Errors
+    ///
+    /// - `NoSegments`: the number is 0.
+    /// - `TooManySegments`: the number is greater than 2^63.
     pub fn builder(num_segments: usize) -> Result<CacheBuilder<K, V, C, Segmented>, BuildError>
         ensures told { IfOk result
             (λ builder. builder ≡ record nothing_said { num_segments = num_segments }) }
@@ -87,15 +103,15 @@ impl<K: Hash + Drop, V: Clone, C: CacheTypes<K, V>, W> SegmentedCache<K, V, C, W
         CacheBuilder::default().segments(num_segments)
     }
 
-    /// What it is called.
+    /// Returns the cache's name, or `None` if it has none.
     pub fn name(&self) -> Option<&str>
         ensures { option_map (λ name. name.now) result ≡ self.now.settings.name }
     {
         self.inside.settings.name.as_deref()
     }
 
-    /// How much it may store and how long its values live, as it was built, and how many segments it has: the number that
-    /// was wanted, or the next power of two.
+    /// Returns the capacity, the lifetimes and the number of segments that the cache was built
+    /// with. The number is the one that was asked for, or the next power of two.
     pub fn policy(&self) -> Policy
         ensures max_capacity { result.max_capacity ≡ self.now.settings.max_capacity }
         ensures num_segments { result.num_segments ≡ 2 ^ self.now.bits }
@@ -113,7 +129,7 @@ impl<K: Hash + Drop, V: Clone, C: CacheTypes<K, V>, W> SegmentedCache<K, V, C, W
         )
     }
 
-    // The segment of a key.
+    // Returns the segment of a key.
     pub(crate) fn segment(&self, key: &K) -> &Cache<K, V, C, W>
         ensures { IsSegmentOf self.now.bits
             ((⟦<C as StateView<K, V>>⟧.settings self.now.settings).behaviour.hash key.now)
@@ -132,10 +148,17 @@ where
     C: CacheTypes<K, V, Hasher = RandomState>,
     W: Clone + Drop,
 {
-    /// A cache that may store so much, of so many segments, or of the next power of two, and of keys that an attacker may
-    /// pick.
+    /// Creates a cache of this capacity and this many segments, or the next power of two, for keys
+    /// that an attacker may choose.
     ///
-    /// Refused with `NoSegments` at 0, with `TooManySegments` above 2^63, and else for want of memory alone.
+    /// `max_capacity` is a number of entries. `clock` gives the moments of the calls. A clone of
+    /// `waits` lets each lock wait.
+    ///
+    /// # Errors
+    ///
+    /// - `NoSegments`: the number of segments is 0.
+    /// - `TooManySegments`: the number of segments is greater than 2^63.
+    /// - `OutOfMemory`: an allocation failed.
     pub fn new(
         alloc: Global,
         max_capacity: u64,
@@ -161,7 +184,7 @@ where
 }
 
 impl<K: Hash + Drop, V: Clone, C: CacheTypes<K, V>, W: Wait> SegmentedCache<K, V, C, W> {
-    /// As [`Cache::get`], in the key's segment.
+    /// Calls [`Cache::get`] on the segment of `key`.
     pub fn get(&self, key: &K) -> Result<Option<V>, Refused>
         ensures kept { IfOk result (λ found. IfSome found (C.keeps key.now)) }
         ensures cause { IfErr result (λ cause. cause ≡ Refused.OutOfMemory) }
@@ -169,12 +192,12 @@ impl<K: Hash + Drop, V: Clone, C: CacheTypes<K, V>, W: Wait> SegmentedCache<K, V
         self.segment(key).get(key)
     }
 
-    /// As [`Cache::contains_key`], in the key's segment.
+    /// Calls [`Cache::contains_key`] on the segment of `key`.
     pub fn contains_key(&self, key: &K) -> bool {
         self.segment(key).contains_key(key)
     }
 
-    /// As [`Cache::insert`], in the key's segment: no number is left where that segment has drawn them all.
+    /// Calls [`Cache::insert`] on the segment of `key`. Each segment has its own sequence numbers.
     pub fn insert(&self, key: K, value: V) -> Result<(), InsertRefused<K, V>>
         requires { C.keeps key value }
         ensures key_back { IfErr result (λ refused. refused.key ≡ key) }
@@ -185,7 +208,7 @@ impl<K: Hash + Drop, V: Clone, C: CacheTypes<K, V>, W: Wait> SegmentedCache<K, V
         self.segment(&key).insert(key, value)
     }
 
-    /// As [`Cache::or_insert`], in the key's segment.
+    /// Calls [`Cache::or_insert`] on the segment of `key`.
     pub fn or_insert(&self, key: &Arc<K>, value: V) -> Result<Entry<K, V>, OrInsertRefused<V>>
         requires { C.keeps (arc_value key.now) value }
         ensures kept { IfOk result (EntryKeeps C.keeps (arc_value key.now)) }
@@ -194,12 +217,12 @@ impl<K: Hash + Drop, V: Clone, C: CacheTypes<K, V>, W: Wait> SegmentedCache<K, V
         self.segment(&**key).or_insert(key, value)
     }
 
-    /// As [`Cache::invalidate`], in the key's segment.
+    /// Calls [`Cache::invalidate`] on the segment of `key`.
     pub fn invalidate(&self, key: &K) {
         self.segment(key).invalidate(key);
     }
 
-    /// As [`Cache::remove`], in the key's segment.
+    /// Calls [`Cache::remove`] on the segment of `key`.
     pub fn remove(&self, key: &K) -> Result<Option<V>, Refused>
         ensures kept { IfOk result (λ found. IfSome found (C.keeps key.now)) }
         ensures cause { IfErr result (λ cause. cause ≡ Refused.OutOfMemory) }
@@ -207,18 +230,30 @@ impl<K: Hash + Drop, V: Clone, C: CacheTypes<K, V>, W: Wait> SegmentedCache<K, V
         self.segment(key).remove(key)
     }
 
-    /// As [`Cache::invalidate_all`], in one segment after another.
+    /// Calls [`Cache::invalidate_all`] on one segment after another.
+    ///
+    /// # Complexity
+    ///
+    /// Visits every entry.
     pub fn invalidate_all(&self) {
         for segment in &self.inside.segments {
             segment.invalidate_all();
         }
     }
 
-    /// Hides each value of which a predicate holds, in one segment after another. What is written to a segment later is not
-    /// hidden. Asks the predicate once of each stored value. It takes no memory.
+    /// Invalidates each entry of which `predicate` holds, in one segment after another. Does not
+    /// allocate.
     ///
-    /// Refused with `InvalidationClosuresDisabled` exactly where the cache was built without support for closures; then
-    /// nothing is hidden.
+    /// Calls the predicate once for each stored entry. What is written to a segment later is not
+    /// affected.
+    ///
+    /// # Errors
+    ///
+    /// - `InvalidationClosuresDisabled`: the cache was built without support for closures.
+    ///
+    /// # Complexity
+    ///
+    /// Visits every entry.
     pub fn invalidate_entries_if(&self, predicate: C::Predicate) -> Result<(), PredicateError>
         requires tests { C.Predicate.tests predicate (C.test predicate) }
         ensures accepted { IsOk result ↔ (self.now.settings.supports_closures ≡ true) }
@@ -228,7 +263,15 @@ impl<K: Hash + Drop, V: Clone, C: CacheTypes<K, V>, W: Wait> SegmentedCache<K, V
         self.hide_where(&predicate)
     }
 
-    /// As [`SegmentedCache::invalidate_entries_if`] for a predicate that is shared already.
+    /// Invalidates as [`SegmentedCache::invalidate_entries_if`] does, by a shared predicate.
+    ///
+    /// # Errors
+    ///
+    /// - `InvalidationClosuresDisabled`: the cache was built without support for closures.
+    ///
+    /// # Complexity
+    ///
+    /// Visits every entry.
     pub fn invalidate_entries_with_arc_fun(
         &self,
         predicate: Arc<C::Predicate>,
@@ -241,6 +284,7 @@ impl<K: Hash + Drop, V: Clone, C: CacheTypes<K, V>, W: Wait> SegmentedCache<K, V
         self.hide_where(&predicate)
     }
 
+    // Invalidates by a predicate by reference, in all segments or in none.
     fn hide_where(&self, predicate: &C::Predicate) -> Result<(), PredicateError>
         requires tests { C.Predicate.tests predicate.now (C.test predicate.now) }
         ensures accepted { IsOk result ↔ (self.now.settings.supports_closures ≡ true) }
@@ -251,21 +295,21 @@ impl<K: Hash + Drop, V: Clone, C: CacheTypes<K, V>, W: Wait> SegmentedCache<K, V
             return Err(PredicateError::InvalidationClosuresDisabled);
         }
         for segment in &self.inside.segments {
-            // No segment refuses: each was built with support for closures too.
+            // This never fails: each segment was built with support for closures too.
             let _ = segment.hide_where(predicate);
         }
         Ok(())
     }
 
-    /// As [`Cache::run_pending_tasks`], in one segment after another.
+    /// Calls [`Cache::run_pending_tasks`] on one segment after another.
     pub fn run_pending_tasks(&self) {
         for segment in &self.inside.segments {
             segment.run_pending_tasks();
         }
     }
 
-    /// As [`Cache::run_pending_tasks_up_to`], in one segment after another, each with the whole limit. Answers whether some
-    /// segment left a part undone.
+    /// Calls [`Cache::run_pending_tasks_up_to`] on one segment after another, each with the whole
+    /// limit. Returns whether any of them left something to do.
     pub fn run_pending_tasks_up_to(&self, limit: u64) -> bool {
         let mut is_cut = false;
         for segment in &self.inside.segments {
@@ -274,8 +318,8 @@ impl<K: Hash + Drop, V: Clone, C: CacheTypes<K, V>, W: Wait> SegmentedCache<K, V
         is_cut
     }
 
-    /// How many keys are stored in all segments together, with those that wait and those whose values are expired; up to
-    /// `u64::MAX`.
+    /// Returns the number of stored entries in all segments, with those that are pending or
+    /// expired. It is at most `u64::MAX`.
     pub fn entry_count(&self) -> u64 {
         let mut count: u64 = 0;
         for segment in &self.inside.segments {
@@ -284,7 +328,7 @@ impl<K: Hash + Drop, V: Clone, C: CacheTypes<K, V>, W: Wait> SegmentedCache<K, V
         count
     }
 
-    /// How heavy all that is stored is, in all segments together, up to `u64::MAX`.
+    /// Returns the total weight of the stored entries in all segments. It is at most `u64::MAX`.
     pub fn weighted_size(&self) -> u64 {
         let mut weight: u64 = 0;
         for segment in &self.inside.segments {
@@ -293,7 +337,7 @@ impl<K: Hash + Drop, V: Clone, C: CacheTypes<K, V>, W: Wait> SegmentedCache<K, V
         weight
     }
 
-    /// As [`Cache::iter`], over one segment after another.
+    /// Returns an iterator as [`Cache::iter`] does, over one segment after another.
     pub fn iter(&self) -> Iter<'_, K, V, Cache<K, V, C, W>>
         ensures caches { result.caches ≡ self.entry.now.segments }
         ensures start { result.cursor ≡ start }
@@ -303,7 +347,7 @@ impl<K: Hash + Drop, V: Clone, C: CacheTypes<K, V>, W: Wait> SegmentedCache<K, V
 }
 
 impl<K: Hash + Drop, V: Clone + Default, C: CacheTypes<K, V>, W: Wait> SegmentedCache<K, V, C, W> {
-    /// As [`Cache::or_default`], in the key's segment.
+    /// Calls [`Cache::or_default`] on the segment of `key`.
     pub fn or_default(&self, key: K) -> Result<Entry<K, V>, Refused>
         requires { (value : V) → V.is_default value → C.keeps key value }
         ensures kept { IfOk result (EntryKeeps C.keeps key) }
@@ -323,7 +367,7 @@ impl<'i, K: Hash + Drop, V: Clone, C: CacheTypes<K, V>, W: Wait> IntoIterator
 
     ghost into_iter_gives = { λ cache walk. (walk.caches ≡ cache.now.segments) × (walk.cursor ≡ start) };
 
-    /// As [`SegmentedCache::iter`].
+    /// Returns [`SegmentedCache::iter`].
     fn into_iter(self) -> Iter<'i, K, V, Cache<K, V, C, W>> {
         self.iter()
     }

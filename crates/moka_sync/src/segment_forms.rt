@@ -1,5 +1,5 @@
-//! The forms with a closure of a shared cache of several segments, each in the segment of its key. Closures are asked with no
-//! lock held.
+//! Loaders and selectors of a shared cache of several segments, each in the segment of its key.
+//! Closures run with no lock held.
 ghost use Rattle.std.specs.Prelude.{◌≡◌, Option, Result, true, IfOk, IfSome};
 
 use crate::entry_selector::{OwnedKeyEntrySelector, RefKeyEntrySelector};
@@ -9,14 +9,15 @@ use std::hash::Hash;
 use std::sync::{Arc, Wait};
 
 impl<K: Hash + Drop, V: Clone, C: CacheTypes<K, V>, W: Wait> SegmentedCache<K, V, C, W> {
-    /// As [`Cache::entry`](crate::cache::Cache::entry), in the key's segment.
+    /// Calls [`Cache::entry`](crate::cache::Cache::entry) on the segment of `key`.
     pub fn entry(&self, key: K) -> OwnedKeyEntrySelector<'_, K, V, C, W>
         ensures { result.key ≡ key }
     {
         self.segment(&key).entry(key)
     }
 
-    /// As [`Cache::get_with`](crate::cache::Cache::get_with), in the key's segment. The closure may use every segment.
+    /// Calls [`Cache::get_with`](crate::cache::Cache::get_with) on the segment of `key`. `init` may
+    /// use every segment.
     pub fn get_with<F: FnOnce() -> V + Drop>(&self, key: K, init: F) -> Result<V, Refused>
         requires asks { F.IsAlwaysCallable init }
         requires keeps { (v : V) → F.post init v → C.keeps key v }
@@ -25,7 +26,7 @@ impl<K: Hash + Drop, V: Clone, C: CacheTypes<K, V>, W: Wait> SegmentedCache<K, V
         self.segment(&key).get_with(key, init)
     }
 
-    /// [`SegmentedCache::get_with`] by its older name.
+    /// Calls [`SegmentedCache::get_with`], by its older name.
     ///
     /// Deprecated in moka in favour of `get_with`.
     pub fn get_or_insert_with<F: FnOnce() -> V + Drop>(&self, key: K, init: F) -> Result<V, Refused>
@@ -36,7 +37,7 @@ impl<K: Hash + Drop, V: Clone, C: CacheTypes<K, V>, W: Wait> SegmentedCache<K, V
         self.get_with(key, init)
     }
 
-    /// As [`Cache::get_with_if`](crate::cache::Cache::get_with_if), in the key's segment.
+    /// Calls [`Cache::get_with_if`](crate::cache::Cache::get_with_if) on the segment of `key`.
     ///
     /// Deprecated in moka in favour of `entry` and `or_insert_with_if`.
     pub fn get_with_if<F: FnOnce() -> V + Drop, P: FnMut(&V) -> bool + Drop>(
@@ -53,7 +54,8 @@ impl<K: Hash + Drop, V: Clone, C: CacheTypes<K, V>, W: Wait> SegmentedCache<K, V
         self.segment(&key).get_with_if(key, init, replace_if)
     }
 
-    /// As [`Cache::optionally_get_with`](crate::cache::Cache::optionally_get_with), in the key's segment.
+    /// Calls [`Cache::optionally_get_with`](crate::cache::Cache::optionally_get_with) on the
+    /// segment of `key`.
     pub fn optionally_get_with<F: FnOnce() -> Option<V> + Drop>(
         &self,
         key: K,
@@ -66,7 +68,7 @@ impl<K: Hash + Drop, V: Clone, C: CacheTypes<K, V>, W: Wait> SegmentedCache<K, V
         self.segment(&key).optionally_get_with(key, init)
     }
 
-    /// As [`Cache::try_get_with`](crate::cache::Cache::try_get_with), in the key's segment.
+    /// Calls [`Cache::try_get_with`](crate::cache::Cache::try_get_with) on the segment of `key`.
     pub fn try_get_with<F: FnOnce() -> Result<V, C::Error> + Drop>(
         &self,
         key: K,
@@ -79,7 +81,7 @@ impl<K: Hash + Drop, V: Clone, C: CacheTypes<K, V>, W: Wait> SegmentedCache<K, V
         self.segment(&key).try_get_with(key, init)
     }
 
-    /// [`SegmentedCache::try_get_with`] by its older name.
+    /// Calls [`SegmentedCache::try_get_with`], by its older name.
     ///
     /// Deprecated in moka in favour of `try_get_with`.
     pub fn get_or_try_insert_with<F: FnOnce() -> Result<V, C::Error> + Drop>(
@@ -96,14 +98,15 @@ impl<K: Hash + Drop, V: Clone, C: CacheTypes<K, V>, W: Wait> SegmentedCache<K, V
 }
 
 impl<K: Hash + Clone + Drop, V: Clone, C: CacheTypes<K, V>, W: Wait> SegmentedCache<K, V, C, W> {
-    /// As [`Cache::entry_by_ref`](crate::cache::Cache::entry_by_ref), in the key's segment.
+    /// Calls [`Cache::entry_by_ref`](crate::cache::Cache::entry_by_ref) on the segment of `key`.
     pub fn entry_by_ref<'a>(&'a self, key: &'a K) -> RefKeyEntrySelector<'a, K, V, C, W>
         ensures { result.key.now ≡ key.entry.now }
     {
         self.segment(key).entry_by_ref(key)
     }
 
-    /// As [`Cache::get_with_by_ref`](crate::cache::Cache::get_with_by_ref), in the key's segment.
+    /// Calls [`Cache::get_with_by_ref`](crate::cache::Cache::get_with_by_ref) on the segment of
+    /// `key`.
     pub fn get_with_by_ref<F: FnOnce() -> V + Drop>(&self, key: &K, init: F) -> Result<V, Refused>
         requires copies { (a b : K) → K.is_clone a b → K.eq a b ≡ true }
         requires asks { F.IsAlwaysCallable init }
@@ -113,7 +116,8 @@ impl<K: Hash + Clone + Drop, V: Clone, C: CacheTypes<K, V>, W: Wait> SegmentedCa
         self.segment(key).get_with_by_ref(key, init)
     }
 
-    /// As [`Cache::optionally_get_with_by_ref`](crate::cache::Cache::optionally_get_with_by_ref), in the key's segment.
+    /// Calls [`Cache::optionally_get_with_by_ref`](crate::cache::Cache::optionally_get_with_by_ref)
+    /// on the segment of `key`.
     pub fn optionally_get_with_by_ref<F: FnOnce() -> Option<V> + Drop>(
         &self,
         key: &K,
@@ -127,7 +131,8 @@ impl<K: Hash + Clone + Drop, V: Clone, C: CacheTypes<K, V>, W: Wait> SegmentedCa
         self.segment(key).optionally_get_with_by_ref(key, init)
     }
 
-    /// As [`Cache::try_get_with_by_ref`](crate::cache::Cache::try_get_with_by_ref), in the key's segment.
+    /// Calls [`Cache::try_get_with_by_ref`](crate::cache::Cache::try_get_with_by_ref) on the
+    /// segment of `key`.
     pub fn try_get_with_by_ref<F: FnOnce() -> Result<V, C::Error> + Drop>(
         &self,
         key: &K,

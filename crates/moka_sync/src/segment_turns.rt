@@ -1,4 +1,5 @@
-//! The calls of turns of a shared cache of several segments, each in the segment of the turn's key.
+//! Single flight by hand on a shared cache of several segments, each call in the segment of its
+//! key.
 ghost use Rattle.std.specs.Prelude.{◌≡◌, ◌≢◌, true, IfOk, IfErr, IfSome};
 ghost use Rattle.std.specs.Arc.{arc_value};
 ghost use Rattle.moka_turns.specs.Handles.{turn_name, ticket_name};
@@ -19,7 +20,7 @@ use std::hash::Hash;
 use std::sync::{Arc, Wait};
 
 impl<K: Hash + Drop, V: Clone, C: CacheTypes<K, V>, W: Wait> SegmentedCache<K, V, C, W> {
-    /// As [`Cache::begin`](crate::cache::Cache::begin), in the key's segment.
+    /// Calls [`Cache::begin`](crate::cache::Cache::begin) on the segment of `key`.
     pub fn begin<F: FnMut(&V) -> bool + Drop>(
         &self,
         key: &Arc<K>,
@@ -35,7 +36,7 @@ impl<K: Hash + Drop, V: Clone, C: CacheTypes<K, V>, W: Wait> SegmentedCache<K, V
         self.segment(&**key).begin(key, kind, replace_if)
     }
 
-    /// As [`Cache::begin_compute`](crate::cache::Cache::begin_compute), in the key's segment.
+    /// Calls [`Cache::begin_compute`](crate::cache::Cache::begin_compute) on the segment of `key`.
     pub fn begin_compute(&self, key: &Arc<K>, keep: bool) -> Result<BegunCompute<K, V>, Refused>
         ensures named { IfOk result (IsCompute (arc_value key.now)) }
         ensures kept { IfOk result (ShownKeepsFor C.keeps (arc_value key.now)) }
@@ -43,7 +44,7 @@ impl<K: Hash + Drop, V: Clone, C: CacheTypes<K, V>, W: Wait> SegmentedCache<K, V
         self.segment(&**key).begin_compute(key, keep)
     }
 
-    /// As [`Cache::finish`](crate::cache::Cache::finish), in the segment of the turn's key.
+    /// Calls [`Cache::finish`](crate::cache::Cache::finish) on the segment of the turn's key.
     pub fn finish(
         &self,
         turn: Turn<K>,
@@ -60,21 +61,21 @@ impl<K: Hash + Drop, V: Clone, C: CacheTypes<K, V>, W: Wait> SegmentedCache<K, V
         self.segment(turn.key()).finish(turn, outcome)
     }
 
-    /// As [`Cache::abandon`](crate::cache::Cache::abandon), in the segment of the turn's key.
+    /// Calls [`Cache::abandon`](crate::cache::Cache::abandon) on the segment of the turn's key.
     pub fn abandon(&self, turn: Turn<K>) -> Result<(), Refused>
         ensures cause { IfErr result (λ cause. cause ≡ Refused.UnknownTurn) }
     {
         self.segment(turn.key()).abandon(turn)
     }
 
-    /// As [`Cache::leave`](crate::cache::Cache::leave), in the segment of the ticket's key.
+    /// Calls [`Cache::leave`](crate::cache::Cache::leave) on the segment of the ticket's key.
     pub fn leave(&self, ticket: Ticket<K>) -> Result<(), Refused>
         ensures cause { IfErr result (λ cause. cause ≡ Refused.UnknownTicket) }
     {
         self.segment(ticket.key()).leave(ticket)
     }
 
-    /// As [`Cache::collect`](crate::cache::Cache::collect), in the segment of the ticket's key.
+    /// Calls [`Cache::collect`](crate::cache::Cache::collect) on the segment of the ticket's key.
     pub fn collect(&self, ticket: Ticket<K>) -> Result<Collected<K, V, C::Error>, CollectRefused<K>>
         ensures unspent { IfOk result
             (IfUnspent (λ same. ticket_name same ≡ ticket_name ticket)) }
@@ -88,9 +89,9 @@ impl<K: Hash + Drop, V: Clone, C: CacheTypes<K, V>, W: Wait> SegmentedCache<K, V
 }
 
 impl<K: Hash + Clone + Drop, V: Clone, C: CacheTypes<K, V>, W: Wait> SegmentedCache<K, V, C, W> {
-    /// As [`Cache::begin_by_ref`](crate::cache::Cache::begin_by_ref), in the key's segment.
+    /// Calls [`Cache::begin_by_ref`](crate::cache::Cache::begin_by_ref) on the segment of `key`.
     ///
-    /// It asks that a copy of a key equals it.
+    /// The prover asks that a clone of a key equals it.
     pub fn begin_by_ref<F: FnMut(&V) -> bool + Drop>(
         &self,
         key: &K,

@@ -1,4 +1,5 @@
-//! The calls of turns of a shared cache: one caller works out a value for a key, while others wait for what comes of it.
+//! Single flight by hand on a shared cache: one caller computes the value of a key, others wait for
+//! the outcome.
 ghost use Rattle.std.specs.Prelude.{◌≡◌, ◌≢◌, true, IfOk, IfErr, IfSome};
 ghost use Rattle.std.specs.Arc.{arc_value};
 ghost use Rattle.moka_turns.specs.Handles.{turn_name, ticket_name};
@@ -19,12 +20,20 @@ use std::hash::Hash;
 use std::sync::{Arc, Wait};
 
 impl<K: Hash + Drop, V: Clone, C: CacheTypes<K, V>, W: Wait> Cache<K, V, C, W> {
-    /// Begins to work out a value for a key, as an initializer of this kind, as a state's `begin` does: answers the live
-    /// value, unless the caller, who is shown it under the lock, asks to replace it; else a ticket for the open turn of
-    /// the kind and the key; and else a turn for the caller to end. It waits for nobody.
+    /// Begins a computation of the value for `key`, of this kind.
     ///
-    /// It asks for a kind other than `Compute`. Refused with `NumbersUsedUp` and with `OutOfMemory`, as that is; then
-    /// nothing has changed.
+    /// Looks the key up, as [`Cache::get`] does. Returns `Found` with the live entry, unless
+    /// `replace_if` returns true for its value. Otherwise returns `Wait` with a ticket if a turn of
+    /// this key and kind is open. Else returns `Run` with a turn, which the caller has to end.
+    /// `replace_if` runs under the lock. Never waits for a turn.
+    ///
+    /// The kind is not `Compute`.
+    ///
+    /// # Errors
+    ///
+    /// - `OutOfMemory`: an allocation or a clone failed.
+    /// - `NumbersUsedUp`: no sequence number is left, or the open turn has 2^64 - 1 unspent
+    ///   tickets.
     pub fn begin<F: FnMut(&V) -> bool + Drop>(
         &self,
         key: &Arc<K>,
@@ -40,10 +49,17 @@ impl<K: Hash + Drop, V: Clone, C: CacheTypes<K, V>, W: Wait> Cache<K, V, C, W> {
         self.lock().begin(key, kind, replace_if)
     }
 
-    /// Begins a compute of a key, as a state's `begin_compute` does: answers a turn, with the entry of the live value, if
-    /// there is one; or a ticket, where another's compute of the key is open. It waits for nobody.
+    /// Begins a compute of `key`.
     ///
-    /// Refused with `NumbersUsedUp` and with `OutOfMemory`, as that is; then nothing has changed.
+    /// Returns `Wait` with a ticket if another compute of the key is open. Otherwise returns `Run`
+    /// with a turn and the live entry, if there is one. With `keep`, the cache keeps a clone of the
+    /// live value, which `Op::Nop` returns. Never waits for a turn.
+    ///
+    /// # Errors
+    ///
+    /// - `OutOfMemory`: an allocation or a clone failed.
+    /// - `NumbersUsedUp`: no sequence number is left, or the open turn has 2^64 - 1 unspent
+    ///   tickets.
     pub fn begin_compute(&self, key: &Arc<K>, keep: bool) -> Result<BegunCompute<K, V>, Refused>
         ensures named { IfOk result (IsCompute (arc_value key.now)) }
         ensures kept { IfOk result (ShownKeepsFor C.keeps (arc_value key.now)) }
@@ -51,10 +67,20 @@ impl<K: Hash + Drop, V: Clone, C: CacheTypes<K, V>, W: Wait> Cache<K, V, C, W> {
         self.lock().begin_compute(key, keep)
     }
 
-    /// Ends a turn with what its initializer gave, as a state's `finish` does, and wakes those who wait for it.
+    /// Ends a turn with an outcome, and wakes the callers that wait for it. Stores a value as
+    /// [`Cache::insert`] does. Calls the listener once the lock is released.
     ///
-    /// It asks for an outcome that fits the turn's kind, and that a value that is written keeps the cache's relation. A
-    /// refused finish hands back the turn and the outcome, and changes nothing.
+    /// Returns the entry, nothing or the error, or the result of the compute. The outcome has to
+    /// fit the turn's kind. A value that is written has to satisfy `keeps` with the turn's key. So
+    /// does every value that is returned.
+    ///
+    /// # Errors
+    ///
+    /// Hands back the turn and the outcome.
+    ///
+    /// - `UnknownTurn`: it is no open turn of this cache.
+    /// - `NumbersUsedUp`: no sequence number is left for the write.
+    /// - `OutOfMemory`: an allocation or a clone failed.
     pub fn finish(
         &self,
         turn: Turn<K>,
@@ -77,10 +103,12 @@ impl<K: Hash + Drop, V: Clone, C: CacheTypes<K, V>, W: Wait> Cache<K, V, C, W> {
         done
     }
 
-    /// Ends a turn without an outcome, and wakes those who wait for it: they are told that it was abandoned. The turn is
-    /// spent in any case. It takes no memory.
+    /// Ends a turn without an outcome, and wakes the callers that wait for it: their `collect`
+    /// returns `Abandoned`. Spends the turn in any case. Does not allocate.
     ///
-    /// Refused with `UnknownTurn` alone, where it is no open turn of this cache; then nothing has changed.
+    /// # Errors
+    ///
+    /// - `UnknownTurn`: it is no open turn of this cache.
     pub fn abandon(&self, turn: Turn<K>) -> Result<(), Refused>
         ensures cause { IfErr result (λ cause. cause ≡ Refused.UnknownTurn) }
     {
@@ -89,21 +117,28 @@ impl<K: Hash + Drop, V: Clone, C: CacheTypes<K, V>, W: Wait> Cache<K, V, C, W> {
         done
     }
 
-    /// Spends a ticket and asks nothing. The ticket is spent in any case. It takes no memory.
+    /// Spends a ticket and collects nothing. The ticket is spent in any case. Does not allocate.
     ///
-    /// Refused with `UnknownTicket` alone, where no turn of this cache has its name and an unspent ticket; then nothing
-    /// has changed.
+    /// # Errors
+    ///
+    /// - `UnknownTicket`: no turn of this cache has the ticket's name and an unspent ticket.
     pub fn leave(&self, ticket: Ticket<K>) -> Result<(), Refused>
         ensures cause { IfErr result (λ cause. cause ≡ Refused.UnknownTicket) }
     {
         self.lock().leave(ticket)
     }
 
-    /// Asks what came of a turn, as a state's `collect` does: the ticket of an ended turn is spent, and answered a copy of
-    /// its outcome, whose value stands in the cache's relation to the ticket's key; that of an open one is handed back. It
-    /// waits for nobody.
+    /// Returns what came of a ticket's turn. Never waits for a turn.
     ///
-    /// Refused with `UnknownTicket` and with `OutOfMemory`, as that is; the ticket is handed back.
+    /// If the turn has ended, spends the ticket and returns a clone of the outcome. Its value
+    /// satisfies `keeps` with the ticket's key. If the turn is open, returns the ticket.
+    ///
+    /// # Errors
+    ///
+    /// Hands back the ticket.
+    ///
+    /// - `UnknownTicket`: no turn of this cache has the ticket's name and an unspent ticket.
+    /// - `OutOfMemory`: cloning the value or sharing the error failed.
     pub fn collect(&self, ticket: Ticket<K>) -> Result<Collected<K, V, C::Error>, CollectRefused<K>>
         ensures unspent { IfOk result
             (IfUnspent (λ same. ticket_name same ≡ ticket_name ticket)) }
@@ -117,9 +152,14 @@ impl<K: Hash + Drop, V: Clone, C: CacheTypes<K, V>, W: Wait> Cache<K, V, C, W> {
 }
 
 impl<K: Hash + Clone + Drop, V: Clone, C: CacheTypes<K, V>, W: Wait> Cache<K, V, C, W> {
-    /// As [`Cache::begin`], for who lends the key: it is copied where no acceptable value is live.
+    /// Does what [`Cache::begin`] does, for a key by reference. Clones the key if no acceptable
+    /// value is live. No clause says that a turn is of this kind: ask its `kind()` before a finish.
     ///
-    /// It asks that a copy of a key equals it.
+    /// The prover asks that a clone of a key equals it.
+    ///
+    /// # Errors
+    ///
+    /// As [`Cache::begin`].
     pub fn begin_by_ref<F: FnMut(&V) -> bool + Drop>(
         &self,
         key: &K,

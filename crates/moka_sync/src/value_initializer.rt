@@ -1,7 +1,8 @@
 //! Callers that wait for each other's turns.
 //!
-//! Who asks for a value that another works out sleeps until that one has ended, and is given a copy of what came of it.
-//! Where the other gave up it asks again, and works the value out itself if nobody else does by then.
+//! A caller whose value another one computes sleeps until that one has ended, and gets a clone of
+//! the outcome. If the other one gave up, it begins again, and computes the value itself if nobody
+//! else does by then.
 ghost use Rattle.std.specs.Prelude.{◌≡◌, ◌≢◌, IfOk};
 ghost use Rattle.std.specs.Arc.{arc_value};
 ghost use Rattle.moka_turns.specs.Handles.{ticket_name};
@@ -25,21 +26,23 @@ use std::hash::Hash;
 use std::marker::{Model, PhantomData};
 use std::sync::{Arc, Wait};
 
-/// What a caller with an initializer is given.
+/// What a caller with an initializer gets.
 pub(crate) enum Asked<K, V, E> {
-    /// What there is, or what another's initializer gave.
+    /// The live entry, or the outcome of another caller's initializer.
     Answer(Answer<K, V, E>),
-    /// The turn to work it out.
+    /// The turn to compute the value.
     Turn(Turn<K>),
 }
 
-/// The turn of a compute, with the entry of the live value, if there is one.
+/// The turn of a compute, with the live entry, if there is one.
 pub(crate) struct ShownTurn<K, V> {
+    /// The turn, to be ended by the caller.
     pub turn: Turn<K>,
+    /// The live entry that the begin of the compute found.
     pub shown: Option<Entry<K, V>>,
 }
 
-// A caller with an initializer of a kind, who may ask to replace a live value.
+// A caller with an initializer of some kind. It may ask to replace a live value.
 #[derive(Drop)]
 struct Initializer<K, V, P: FnMut(&V) -> bool> {
     key: Arc<K>,
@@ -199,7 +202,7 @@ impl<K: Hash + Drop, V: Clone, C: CacheTypes<K, V>, W: Wait> Caller<Cache<K, V, 
 }
 
 impl<K: Hash + Drop, V: Clone, C: CacheTypes<K, V>, W: Wait> Cache<K, V, C, W> {
-    // A begin whose caller says whether to replace a live value, and gets back what says so.
+    // Begins, and gives `replace_if` back, so that a later begin can use it again.
     fn begin_if<P: FnMut(&V) -> bool + Drop>(
         &self,
         key: &Arc<K>,
@@ -217,8 +220,8 @@ impl<K: Hash + Drop, V: Clone, C: CacheTypes<K, V>, W: Wait> Cache<K, V, C, W> {
         (begun, replace_if)
     }
 
-    // A collect that sleeps until some turn has ended, where this one has not yet. A ticket whose collect is refused is
-    // spent.
+    // Collects a ticket. If its turn is still open, sleeps until some turn has ended. If the
+    // collect fails, spends the ticket.
     fn collect_or_sleep(&self, ticket: Ticket<K>) -> Result<Collected<K, V, C::Error>, Refused>
         ensures unspent { IfOk result
             (IfUnspent (λ same. ticket_name same ≡ ticket_name ticket)) }
@@ -240,9 +243,9 @@ impl<K: Hash + Drop, V: Clone, C: CacheTypes<K, V>, W: Wait> Cache<K, V, C, W> {
         }
     }
 
-    // What there is for a key, or what another's initializer gave; or else the turn to work it out, once nobody else has
-    // it. Refused as a begin and a collect are, and with `WaitsAbandoned` where as many turns as may be waited for were
-    // abandoned.
+    // Returns the live entry or the outcome of another caller's initializer; else the turn, once
+    // nobody else has it. Fails as a begin or a collect does, and with `WaitsAbandoned` after
+    // `MAX_RETRIES` abandoned turns.
     pub(crate) fn ask<P: FnMut(&V) -> bool + Drop>(
         &self,
         key: Arc<K>,
@@ -262,7 +265,7 @@ impl<K: Hash + Drop, V: Clone, C: CacheTypes<K, V>, W: Wait> Cache<K, V, C, W> {
         }
     }
 
-    // The turn of a compute of a key, once nobody else has it. Refused as a begin and a collect are.
+    // Returns the turn of a compute, once nobody else has it. Fails as a begin or a collect does.
     pub(crate) fn ask_to_compute(&self, key: Arc<K>, keep: bool) -> Result<ShownTurn<K, V>, Refused>
         ensures { IfOk result (IsShownTurn C.keeps (arc_value key)) }
     {

@@ -1,4 +1,4 @@
-//! What walks ask of a shared cache. A walk holds no lock between two of its steps.
+//! Iteration over a shared cache. It holds no lock between two steps.
 ghost use Rattle.std.specs.Prelude.{◌≡◌, ◌∷◌, []};
 ghost use Rattle.moka_walks.specs.Walks.{start};
 
@@ -34,11 +34,18 @@ impl<K: Hash + Drop, V: Clone, C: CacheTypes<K, V>, W: Wait> ScanningGet<K, V>
 }
 
 impl<K: Hash + Drop, V: Clone, C: CacheTypes<K, V>, W: Wait> Cache<K, V, C, W> {
-    /// A walk over the pairs that are live when they come, each key once at most, in no order. It takes the lock at each step
-    /// and holds none between two of them, so the cache may be used meanwhile. A key that stands from the start to the end
-    /// comes; one that is written later may come or not.
+    /// Returns an iterator over the live pairs, each key at most once, in no order.
     ///
-    /// A step is refused for want of memory, for the list of the keys and for the copies; the walk then goes on.
+    /// It takes the lock at each step, and holds none between two steps, so the cache may be used
+    /// meanwhile. A key that is stored from the start to the end is yielded. One that is written
+    /// later may be yielded or not. Does not count as an access. Each value satisfies `keeps` with
+    /// its key.
+    ///
+    /// # Errors
+    ///
+    /// A step yields one `Err`, and the iteration goes on:
+    ///
+    /// - `OutOfMemory`: allocating the list of keys or cloning a value failed.
     ///
     /// ```
     /// for pair in cache.iter() {
@@ -65,7 +72,7 @@ impl<'i, K: Hash + Drop, V: Clone, C: CacheTypes<K, V>, W: Wait> IntoIterator
 
     ghost into_iter_gives = { λ cache walk. (walk.caches ≡ cache.now ∷ []) × (walk.cursor ≡ start) };
 
-    /// As [`Cache::iter`].
+    /// Returns [`Cache::iter`].
     fn into_iter(self) -> Iter<'i, K, V, Cache<K, V, C, W>> {
         self.iter()
     }

@@ -1,4 +1,4 @@
-//! What a builder builds, and what it refuses.
+//! What a builder builds, and what it rejects.
 use moka::common::builder_utils::{BuildError, ensure_expirations, ensure_flush_limit};
 use moka::policy::{EvictionPolicy, ManualClock, NoExpiry, NoListener, NoWeigher, Policy, Refused};
 use moka::ready::{FoldState, Plain};
@@ -20,8 +20,10 @@ fn hasher() -> FoldState {
     BuildHasherDefault::default()
 }
 
+// 1000 years of 365 days, in seconds.
 const LONGEST: u64 = 31_536_000_000;
 
+/// A time to live or to idle of more than 1000 years is rejected, the time to live first.
 #[test]
 fn a_life_of_1000_years_is_the_longest(rt: HostRuntime) {
     let longest = Duration::from_secs(LONGEST);
@@ -46,6 +48,7 @@ fn a_life_of_1000_years_is_the_longest(rt: HostRuntime) {
     }
 }
 
+/// A flush limit is at least 1 and not beside a weigher. Lifetimes are checked before it.
 #[test]
 fn a_flush_limit_is_not_0_and_beside_no_weigher(rt: HostRuntime) -> Result<(), Fail> {
     for (limit, has_weigher, refused) in [
@@ -74,6 +77,7 @@ fn a_flush_limit_is_not_0_and_beside_no_weigher(rt: HostRuntime) -> Result<(), F
     Ok(())
 }
 
+/// An initial capacity for which memory is lacking fails with `OutOfMemory`.
 #[test]
 fn more_rows_than_memory_are_refused(rt: HostRuntime) -> Result<(), Fail> {
     for rows in [1_099_511_627_776, usize::MAX] {
@@ -86,6 +90,7 @@ fn more_rows_than_memory_are_refused(rt: HostRuntime) -> Result<(), Fail> {
     Ok(())
 }
 
+/// An owned cache has the settings of its builder, of which the last one counts.
 #[test]
 fn a_state_is_built_by_the_settings(rt: HostRuntime) -> Result<(), Fail> {
     let value = Arc::new(rt.alloc(), 7)?;
@@ -103,7 +108,7 @@ fn a_state_is_built_by_the_settings(rt: HostRuntime) -> Result<(), Fail> {
     has_the_settings(&rt, &mut state, value)
 }
 
-// What owns a state does nothing else that can fail: each way out of it has to be shown to let the state go.
+// What owns a cache does nothing else that can fail: of each way out its drop has to be proved.
 fn has_the_settings(rt: &impl Abort, state: &mut State, value: Arc<u64>) -> Result<(), Fail> {
     assert_eq!(rt; state.name(), Some("tracked_sessions"));
     let policy = Policy::new(
@@ -118,6 +123,7 @@ fn has_the_settings(rt: &impl Abort, state: &mut State, value: Arc<u64>) -> Resu
     Ok(())
 }
 
+/// A cache may have 1 to 2^63 segments.
 #[test]
 fn a_cache_has_1_to_2_to_63_segments(rt: HostRuntime) {
     for (count, refused) in [
@@ -132,6 +138,7 @@ fn a_cache_has_1_to_2_to_63_segments(rt: HostRuntime) {
     }
 }
 
+/// Errors print as their names, and a failed insert says that key and value are handed back.
 #[test]
 fn refusals_say_what_was_refused(rt: HostRuntime) -> Result<(), Fail> {
     for (refusal, text) in [
@@ -163,7 +170,7 @@ type Shared<W> = Cache<u64, Arc<u64>, Plain<Clock>, W>;
 
 type State = CacheState<u64, Arc<u64>, Plain<Clock>>;
 
-// A builder to which all is told that takes memory: then, or when it builds.
+// Creates a builder with all settings that allocate, at once or when it builds.
 fn told(alloc: Global) -> Result<Builder, BuildError> {
     CacheBuilder::new(400)
         .initial_capacity(100)
@@ -181,7 +188,7 @@ fn built(rt: HostRuntime, clock: Clock) -> Result<Shared<HostRuntime>, BuildErro
     told(rt.alloc())?.build_with_hasher(rt.alloc(), hasher(), clock, rt)
 }
 
-// Shares a value. Where memory is refused, it asks once more.
+// Wraps a value in an `Arc`. Retries once if the allocation fails.
 fn shared<T: Drop>(alloc: Global, value: T) -> Result<Arc<T>, AllocError> {
     match Arc::new(alloc, value) {
         Ok(value) => Ok(value),
@@ -189,8 +196,7 @@ fn shared<T: Drop>(alloc: Global, value: T) -> Result<Arc<T>, AllocError> {
     }
 }
 
-// Where one request for memory is refused, whichever, a state is not built for want of memory, and one that is built anew
-// is as if nothing had been refused.
+// An owned cache whose build fails with `OutOfMemory` can be built anew, with the same result.
 #[test]
 fn a_state_is_built_anew_where_memory_was_refused(rt: HostRuntime) -> Result<(), Fail> {
     let alloc = rt.alloc();
@@ -212,7 +218,7 @@ fn is_as_told(rt: &impl Abort, state: &mut State, value: Arc<u64>) -> Result<(),
     Ok(())
 }
 
-// So it is with a cache that threads share.
+// The same for a shared cache.
 #[test]
 fn a_cache_is_built_anew_where_memory_was_refused(rt: HostRuntime) -> Result<(), Fail> {
     let alloc = rt.alloc();

@@ -1,4 +1,4 @@
-//! The tests of what builds caches, and of the cache that threads share.
+//! The tests of the builder, and of the shared cache.
 #![tactic(auto)]
 
 #[cfg(test)]

@@ -1,4 +1,4 @@
-//! A cache that threads share.
+//! A shared cache.
 use moka::policy::{EvictionPolicy, ManualClock, Policy, Refused};
 use moka::ready::{Plain, PlainRandom};
 use moka::sync::{Cache, CacheBuilder};
@@ -31,6 +31,7 @@ fn clock(alloc: Global) -> Result<Clock, AllocError> {
     Ok(Arc::new(alloc, ManualClock::new(0))?)
 }
 
+/// A cache made by `Cache::new` has the given capacity, and stores values.
 #[test]
 fn a_new_cache_stores_values(rt: HostRuntime) -> Result<(), Fail> {
     let keys = RandomState::new(&rt)?;
@@ -49,6 +50,7 @@ fn a_new_cache_stores_values(rt: HostRuntime) -> Result<(), Fail> {
     Ok(())
 }
 
+/// A call reads the clock, and a clock that goes back brings no expired value back.
 #[test]
 fn a_call_is_at_the_moment_of_the_clock(rt: HostRuntime) -> Result<(), Fail> {
     let clock = clock(rt.alloc())?;
@@ -64,6 +66,7 @@ fn a_call_is_at_the_moment_of_the_clock(rt: HostRuntime) -> Result<(), Fail> {
     Ok(())
 }
 
+/// A shared cache without a listener drops removed values at once.
 #[test]
 fn what_leaves_is_dropped(rt: HostRuntime) -> Result<(), Fail> {
     let cache = numbers(rt, &clock(rt.alloc())?)?;
@@ -80,7 +83,7 @@ fn what_leaves_is_dropped(rt: HostRuntime) -> Result<(), Fail> {
     Ok(())
 }
 
-// Writes 16 keys and looks each up. The answer is how many are found.
+// Inserts 16 keys and looks each up. Returns how many are found.
 fn work<W: Wait + Drop>(alloc: Global, cache: &Numbers<W>, first: u64) -> Result<u64, Refused> {
     let mut found = 0_u64;
     for key in first..first.saturating_add(16) {
@@ -95,6 +98,7 @@ fn work<W: Wait + Drop>(alloc: Global, cache: &Numbers<W>, first: u64) -> Result
     Ok(found)
 }
 
+/// Two threads find what each of them inserts.
 #[test]
 fn threads_share_a_cache(rt: HostRuntime) -> Result<(), Fail> {
     let alloc = rt.alloc();

@@ -19,13 +19,13 @@ weight_in-le Admitted weights = omega arith
 weight_in-le Waiting weights = omega arith
 
 module _ {K V : Type 0} where
-  -- rows whose weights are of 32 bits weigh less than as many times the least that is not
+  -- n rows with weights below 2^32 weigh at most n * 2^32 in total
   pub total-light : (rows : List (ℕ × Row K V)) → AllByRecursion (λ p. weight_of p < 2 ^ 32) rows → total weight_of rows ≤ length rows * (2 ^ 32)
   total-light [] light = omega arith
   total-light (p ∷ ps) light = let first = light.0 in let rest = total-light ps light.1 in omega arith
 
   module _ (n : ℕ) (row : Row K V) (rows : List (ℕ × Row K V)) (there : row_under n rows ≡ Some row) where
-    -- a row weighs what is left without it less than all,
+    -- the rows without one weigh less by that row's weight,
     pub total-without_row : total weight_of (without_row n rows) + row.info.policy_weight ≡ total weight_of rows
     total-without_row =
         let c = split_at_row n row rows there in
@@ -35,7 +35,7 @@ module _ {K V : Type 0} where
         let after = ap (total weight_of) c.2.rest in
         omega arith
 
-    -- and after a change of it all weigh by as much more as it does
+    -- and after a change of one row, the total changes by as much as that row's weight
     pub total-with_row : (change : Row K V → Row K V) → total weight_of (with_row n change rows) + row.info.policy_weight ≡ total weight_of rows + (change row).info.policy_weight
     total-with_row change =
         let c = split_at_row n row rows there in
@@ -45,7 +45,7 @@ module _ {K V : Type 0} where
         let after = ap (total weight_of) (c.2.changed change) in
         omega arith
 
-  -- where no two rows have one number, the row under that of one that waits is that one
+  -- if no two rows have the same number, the row with the number of a pending row is that row
   pub under-waiting : (n : ℕ) (row : Row K V) (admitted waiting : List (ℕ × Row K V)) → NumbersDiffer (admitted ++ waiting) → IsSome (row_under n waiting) → row_under n (admitted ++ waiting) ≡ Some row → row_under n waiting ≡ Some row
   under-waiting n row admitted waiting apart there is = go (row_under n waiting) refl there
     where
@@ -98,7 +98,7 @@ module _ {K V : Type 0} where
             (λ found. let o : order ≡ Admitted = rw found at is in let le = row-le n row admitted found in rw o (omega (arith, a)))
             (λ absent found. let o : order ≡ Waiting = rw absent at is in let le = row-le n row waiting found in rw o (omega (arith, w)))
 
-        -- and with another weight of it its order weighs as much more as it does
+        -- and if its weight changes, the total of its order changes by as much
         pub with-changed : (weight : ℕ) (after : Weights) → weight_in order after + row.info.policy_weight ≡ weight_in order weights + weight
             → weight_in (other order) after ≡ weight_in (other order) weights → AreWeightsWith n weight admitted waiting after
         with-changed weight after changed others = stands _

@@ -1,4 +1,5 @@
 pub mod Look
 pub mod Lookup
+pub mod Notices
 pub mod Table
 pub mod Target

@@ -1,5 +1,4 @@
--- What a table holds: the rows in their two orders, the notices not taken, whether a row may be hidden, and for how many
--- more rows it has room.
+-- The contents of a table, and what its calls change in them.
 use Rattle.std.specs.Prelude.{Bool, true, false, ◌||◌, ◌≡◌, ℕ, ◌+◌, ◌<◌, ◌≤◌, ◌^◌, List, [], ◌∷◌, ◌++◌, length, map, MatchOption}
 use Rattle.std.specs.Arc.{arc_value}
 use Rattle.std.specs.List.{AllByRecursion}
@@ -15,6 +14,8 @@ use Rattle.moka_table.specs.declared.table.Weights.{Weights}
 use Rattle.moka_ways.specs.Lives.{own_of}
 use Rattle.moka_rows.specs.Rows.{with_row, without_row, row_under}
 
+-- The contents of a table: the rows of both orders, the notices not taken, whether a row may be invalidated, and the
+-- number of rows that there is room for.
 pub record Contents (K V : Type 0) : Type 0 where
   pub admitted : List (ℕ × Row K V)
   pub waiting : List (ℕ × Row K V)
@@ -22,21 +23,21 @@ pub record Contents (K V : Type 0) : Type 0 where
   pub may_hide : Bool
   pub room : ℕ
 
--- how heavy the rows of an order are together
+-- The total weight of the rows of an order.
 abbrev pub weight_in : Order → Weights → ℕ
 weight_in Admitted weights = weights.admitted
 weight_in Waiting weights = weights.waiting
 
 module _ {K V : Type 0} where
-  -- all rows, with their numbers
+  -- All rows with their numbers, the resident ones first.
   abbrev pub entries : Contents K V → List (ℕ × Row K V)
   entries c = c.admitted ++ c.waiting
 
-  -- the keys of some rows, in their order
+  -- The keys of some rows, in their order.
   abbrev pub keys_of : List (ℕ × Row K V) → List K
   keys_of rows = map (λ p. arc_value p.1.key) rows
 
-  -- the write that a row stores
+  -- The write that a row stores.
   abbrev pub stored_write : Row K V → Write K V
   stored_write row =
       record {
@@ -50,60 +51,60 @@ module _ {K V : Type 0} where
         is_hidden = row.info.is_hidden;
       }
 
-  -- how heavy a row is
+  -- The weight of a row.
   abbrev pub weight_of : ℕ × Row K V → ℕ
   weight_of p = p.1.info.policy_weight
 
-  -- the writes that rows store, in their order
+  -- The writes that rows store, in their order.
   abbrev pub stored_writes : List (ℕ × Row K V) → List (Write K V)
   stored_writes ps = map (λ p. stored_write p.1) ps
 
-  -- what a notice says of a removal
+  -- The removal that a notice reports.
   abbrev pub removal_of : Notice K V → Removal K V
   removal_of notice = record { key = arc_value notice.key; value = notice.value; cause = notice.cause }
 
-  -- none of these rows is hidden
+  -- None of these rows is invalidated.
   abbrev pub AreShown : List (ℕ × Row K V) → Type 0
   AreShown rows = AllByRecursion (λ p. p.1.info.is_hidden ≡ false) rows
 
-  -- the row, hidden where it was, or where a test holds of its key and value
+  -- The row, invalidated if it was already or if a test holds of its key and value.
   abbrev pub hidden_if : (K → V → Bool) → Row K V → Row K V
   hidden_if test row =
       record row { info = record row.info { is_hidden = row.info.is_hidden || test (arc_value row.key) row.value } }
 
-  -- the same rows, each hidden where it was, or where a test holds of its key and value
+  -- The same rows, each invalidated if it was already or if a test holds of its key and value.
   abbrev pub hidden_where : (K → V → Bool) → List (ℕ × Row K V) → List (ℕ × Row K V)
   hidden_where test rows = map (λ p. (p.0, hidden_if test p.1)) rows
 
-  -- the same rows, each hidden: by a test that holds of everything
+  -- The same rows, all invalidated.
   abbrev pub all_hidden : List (ℕ × Row K V) → List (ℕ × Row K V)
   all_hidden rows = hidden_where (λ k v. true) rows
 
-  -- the rows, the notices and their orders are the same
+  -- The rows in their orders and the notices are the same.
   abbrev pub SameRows : Contents K V → Contents K V → Type 0
   SameRows old new = (new.admitted ≡ old.admitted) × (new.waiting ≡ old.waiting) × (new.notices ≡ old.notices)
 
-  -- The row under a number was used, which changed it: a waiting row stays in its place, an admitted one goes to
-  -- the end.
+  -- The row with a number was accessed, and changed by that. A pending row keeps its place, and a resident one becomes
+  -- the last.
   abbrev pub UsesRow : ℕ → (Row K V → Row K V) → Contents K V → Contents K V → Type 0
   UsesRow n change old new = MatchOption (row_under n old.admitted)
       ((new.admitted ≡ old.admitted) × (new.waiting ≡ with_row n change old.waiting))
       (λ row. (new.admitted ≡ without_row n old.admitted ++ (n, change row) ∷ []) × (new.waiting ≡ old.waiting))
 
-  -- the row under a number was taken out
+  -- The row with a number was removed.
   abbrev pub TakesRow : ℕ → Contents K V → Contents K V → Type 0
   TakesRow n old new = MatchOption (row_under n old.admitted)
       ((new.admitted ≡ old.admitted) × (new.waiting ≡ without_row n old.waiting))
       (λ _. (new.admitted ≡ without_row n old.admitted) × (new.waiting ≡ old.waiting))
 
-  -- the first admitted row was taken out, and noticed with this cause
+  -- The first resident row was removed, and a notice with this cause was added.
   pub record EvictsOne (cause : RemovalCause) (first : ℕ × Row K V) (old new : Contents K V) : Type 0 where
     pub admitted : old.admitted ≡ first ∷ new.admitted
     pub waiting : new.waiting ≡ old.waiting
     pub notices : new.notices ≡ old.notices ++ record { key = first.1.key; value = first.1.value; cause = cause } ∷ []
 
-  -- What a table keeps to: it has a place for a notice of each row, each weight is one of 32 bits, the weights of both
-  -- orders are those of their rows, and no row is hidden where none may be.
+  -- The invariant of a table. It has a place for a notice of each row, and each weight fits in 32 bits. The sums of the
+  -- weights are right, and no row is invalidated if none may be.
   pub record IsKept (admitted waiting : List (ℕ × Row K V)) (weights : Weights) (may_hide : Bool) (notices places : ℕ) : Type 0 where
     pub few : length (admitted ++ waiting) + notices ≤ places
     pub light : AllByRecursion (λ p. weight_of p < 2 ^ 32) (admitted ++ waiting)

@@ -1,4 +1,4 @@
--- Where a write goes, and what it does there.
+-- The targets of writes, and what a write does there.
 use Rattle.std.specs.Prelude.{⊤, ◌≡◌, ◌<◌, ◌≤◌, ℕ, Bool, false, not, ◌||◌, if◌then◌else◌, Option, IsSome, IfSome, Some, None, List, []}
 use Rattle.std.specs.Prelude.{◌∷◌, ◌++◌, length}
 use Rattle.std.specs.Arc.{arc_value}
@@ -21,7 +21,7 @@ use Rattle.moka_ways.specs.Lives.{own_of, IsDated}
 use Rattle.moka_table.specs.Lookup.{IsLookupOf}
 use Rattle.moka_table.specs.Table.{Contents, entries, UsesRow}
 
--- the target of a write of a key, by what a look for it found
+-- The target of a write of a key, given the result of its lookup.
 abbrev pub IsTargetFor : {K : Type 0} → K → Lookup K → Target K → Type 0
 IsTargetFor key (Stored number stored) (Over m k) = (m ≡ number) × (k ≡ stored)
 IsTargetFor key (Stored number stored) (New k) = ⊥
@@ -29,7 +29,7 @@ IsTargetFor key Absent (Over m k) = ⊥
 IsTargetFor key Absent (New k) = arc_value k ≡ key
 
 module _ {K V : Type 0} where
-  -- that target once some of the rows have left, among the rows that are there now
+  -- That target after some rows were removed, among the rows that are left.
   abbrev pub IsTargetNow : (K → K → Bool) → ℕ → Lookup K → Arc K Global → List (ℕ × Row K V) → Target K → Type 0
   IsTargetNow eq hash (Stored number stored) key rows (Over m k) =
       (k ≡ stored) × (row : Row K V) × (row_under m rows ≡ Some row) × IsRowOf eq (arc_value key) hash row
@@ -37,12 +37,12 @@ module _ {K V : Type 0} where
   IsTargetNow eq hash Absent key rows (Over m k) = ⊥
   IsTargetNow eq hash Absent key rows (New k) = k ≡ key
 
-  -- the target's row is there
+  -- The row of a target is stored.
   abbrev pub HasTarget : Target K → Contents K V → Type 0
   HasTarget (Over number key) c = IsSome (row_under number (entries c))
   HasTarget (New key) c = ⊤
 
-  -- The life of its own that a value gets at a target: over a live value that of an update, and else that of a creation.
+  -- The own lifetime of a value at a target: that of an update over a live value, and else that of a creation.
   abbrev pub IsOwnIn : Behaviour K V → Target K → V → ℕ → Contents K V → Option OwnLife → Type 0
   IsOwnIn behaviour (Over number key) value at c own = IfSome (row_under number (entries c)) (λ row.
       own ≡ given
@@ -51,7 +51,7 @@ module _ {K V : Type 0} where
       else behaviour.lifetimes.created (arc_value key) value at) at)
   IsOwnIn behaviour (New key) value at c own = own ≡ given (behaviour.lifetimes.created (arc_value key) value at) at
 
-  -- what is kept of a value that is written to a target at a moment, beside its deadline
+  -- The metadata of a value that is written to a target at a moment, except its deadline.
   pub record IsInfoOf (behaviour : Behaviour K V) (target : Target K) (value : V) (weight at : ℕ) (c : Contents K V)
       (info : EntryInfo) : Type 0 where
     pub modified : info.last_modified ≡ at
@@ -60,8 +60,8 @@ module _ {K V : Type 0} where
     pub shown : info.is_hidden ≡ false
     pub own : IsOwnIn behaviour target value at c (own_of info)
 
-  -- A value is put to a target. Over the value of a row it is a use of the row, and the value before is noticed under
-  -- the stored key; a new row waits behind all others.
+  -- A value is written to a target. Over a row's value this is an access, and adds a notice of the old value under the
+  -- stored key. A new row becomes the last pending one.
   abbrev pub Puts : Target K → ℕ → V → EntryInfo → Contents K V → Contents K V → Type 0
   Puts (Over number key) hash value info old new = IfSome (row_under number (entries old)) (λ row.
       UsesRow number (overwritten value info) old new
@@ -75,24 +75,24 @@ module _ {K V : Type 0} where
       × (new.waiting ≡ old.waiting ++ (number, record { key = key; hash = hash; value = value; info = info }) ∷ [])
       × (new.notices ≡ old.notices)
 
-  -- the place of a write of a key in a table: a maintenance comes first where 64 rows or more wait
+  -- The place of a write of a key in a table: a flush comes first if 64 or more rows are pending.
   abbrev pub IsPlaceOf : (K → K → Bool) → K → ℕ → Contents K V → Place K → Type 0
   IsPlaceOf eq key hash c (Now target) =
       (length c.waiting < 64) × (lookup : Lookup K) × IsLookupOf eq key hash (entries c) lookup × IsTargetFor key lookup target
   IsPlaceOf eq key hash c (Later lookup own) =
       (64 ≤ length c.waiting) × IsLookupOf eq key hash (entries c) lookup × (arc_value own ≡ key)
 
-  -- a row's value is live at a moment
+  -- Whether a row's value is live at a moment.
   abbrev pub is_live_row : ℕ → Option (Row K V) → Bool
   is_live_row at None = false
   is_live_row at (Some row) = not (row.info.is_hidden || has_come row.info.deadline at)
 
-  -- a target is over a value that is live at a moment
+  -- Whether a target is over a value that is live at a moment.
   abbrev pub is_over_live : Target K → ℕ → Contents K V → Bool
   is_over_live (Over number key) at c = is_live_row at (row_under number (entries c))
   is_over_live (New key) at c = false
 
-  -- A value is written to a target, with what is to be kept of it; this is whether a live value stood there.
+  -- A value is written to a target with its metadata; `replaced` is whether a live value was there.
   abbrev pub Writes : Behaviour K V → Lives → Target K → NewValue V → Contents K V → Contents K V → Bool → Type 0
   Writes behaviour lives target it old new replaced =
       (info : EntryInfo) × IsInfoOf behaviour target it.value it.weight it.now old info × IsDated lives info

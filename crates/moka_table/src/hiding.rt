@@ -1,4 +1,4 @@
-//! Rows of a table are hidden where a predicate holds of them, by a walk.
+//! Mass invalidation of a table: a walk that marks the rows of which a predicate holds.
 ghost use Rattle.std.specs.Prelude.{◌≡◌, ◌+◌, ◌≤◌, Bool, true, if◌then◌else◌, length, IsSome, IfSome};
 ghost use Rattle.std.specs.Arc.{arc_value};
 ghost use Rattle.moka_rows.specs.Rows.{row_under, with_row, hidden};
@@ -8,7 +8,7 @@ use crate::table::Table;
 use moka_policy::policy::Predicate;
 use moka_rows::rows::RowStore;
 
-/// Holds of each key and value.
+/// A predicate that holds of each key and value.
 struct Always;
 
 impl<K, V> Predicate<K, V> for Always {
@@ -20,7 +20,11 @@ impl<K, V> Predicate<K, V> for Always {
 }
 
 impl<K: Eq + Drop, V: Drop, R: RowStore<K, V>> Table<K, V, R> {
-    /// Hides each row, in its place. It visits each, and takes no memory, and none of the room.
+    /// Marks every row invalidated, in its place. Does not allocate, and uses no room.
+    ///
+    /// # Complexity
+    ///
+    /// Visits each row. `visits` counts the steps.
     pub fn hide_all(&mut self, visits: &mut u128)
         ensures admitted { self.new.admitted ≡ all_hidden self.old.admitted }
         ensures waiting { self.new.waiting ≡ all_hidden self.old.waiting }
@@ -31,9 +35,14 @@ impl<K: Eq + Drop, V: Drop, R: RowStore<K, V>> Table<K, V, R> {
         self.hide_where(&Always, visits);
     }
 
-    /// Hides each row of whose key and value a predicate holds, in its place; one that is hidden
-    /// already stays so. It asks the predicate once of each row, visits each, and takes no memory,
-    /// and none of the room.
+    /// Marks each row invalidated of whose key and value a predicate holds, in its place.
+    ///
+    /// A row that is invalidated already stays so. Calls the predicate once for each row. Does not
+    /// allocate, and uses no room.
+    ///
+    /// # Complexity
+    ///
+    /// Visits each row. `visits` counts the steps.
     pub fn hide_where<P: Predicate<K, V>>(&mut self, predicate: &P, visits: &mut u128)
         requires tests { (test : K → V → Bool) × P.tests predicate.now test }
         ensures admitted { (test : K → V → Bool) → P.tests predicate.now test →
@@ -49,7 +58,7 @@ impl<K: Eq + Drop, V: Drop, R: RowStore<K, V>> Table<K, V, R> {
     }
 }
 
-/// Hides each admitted row of which a predicate holds.
+/// Marks the resident rows invalidated of which a predicate holds.
 fn hide_admitted<K: Eq + Drop, V: Drop, R: RowStore<K, V>, P: Predicate<K, V>>(
     table: &mut Table<K, V, R>,
     predicate: &P,
@@ -70,7 +79,7 @@ fn hide_admitted<K: Eq + Drop, V: Drop, R: RowStore<K, V>, P: Predicate<K, V>>(
     }
 }
 
-/// Hides each row that waits and of which a predicate holds.
+/// Marks the pending rows invalidated of which a predicate holds.
 fn hide_waiting<K: Eq + Drop, V: Drop, R: RowStore<K, V>, P: Predicate<K, V>>(
     table: &mut Table<K, V, R>,
     predicate: &P,
@@ -91,7 +100,7 @@ fn hide_waiting<K: Eq + Drop, V: Drop, R: RowStore<K, V>, P: Predicate<K, V>>(
     }
 }
 
-/// Hides a row where a predicate holds of it.
+/// Marks a row invalidated if a predicate holds of its key and value.
 fn hide_if<K: Eq + Drop, V: Drop, R: RowStore<K, V>, P: Predicate<K, V>>(
     table: &mut Table<K, V, R>,
     number: usize,

@@ -1,4 +1,4 @@
-//! The rows of a cache beside the notices of what left, and where the value of a write goes.
+//! The table of a cache: its rows with the queue of notices, and the targets of writes.
 #![tactic(auto)]
 
 pub mod hiding;

@@ -1,16 +1,18 @@
-//! Looks of callers at live values: which are acceptable, and what is handed out.
-ghost use Rattle.std.specs.Prelude.{◌≡◌, Bool, Option, IsSome, IfSome, IfOk};
+//! Lookups of live values: which of them are acceptable to the caller, and what they return.
+ghost use Rattle.std.specs.Prelude.{◌≡◌, Bool, Option, IsSome, IfSome, IfOk, option_map, slice_get};
 ghost use Rattle.moka_model.specs.Entries.{entry_of};
 ghost use Rattle.moka_rows.specs.Rows.{row_under};
 ghost use Rattle.moka_table.specs.Look.{Accepts, IsSaid, IsEntryOfRow, is_yes};
-ghost use Rattle.moka_table.specs.Table.{entries};
+ghost use Rattle.moka_table.specs.Notices.{IsNoticeOf};
+ghost use Rattle.moka_table.specs.Table.{entries, removal_of};
 
 use crate::table::Table;
 use moka_model::entry::Entry;
+use moka_model::notification::Notice;
 use moka_rows::rows::RowStore;
 use std::alloc::AllocError;
 
-// Whether a caller who is shown a value asks to replace it.
+// Returns whether there is a closure and it asks to replace the value.
 fn asks_to_replace<V, F: FnMut(&V) -> bool + Drop>(value: &V, replace_if: Option<F>) -> bool
     requires { IfSome replace_if (λ f. F.IsAlwaysCallable f) }
     ensures { (said : Option Bool) × IsSaid F.FnMut replace_if value.now said
@@ -23,8 +25,10 @@ fn asks_to_replace<V, F: FnMut(&V) -> bool + Drop>(value: &V, replace_if: Option
 }
 
 impl<K: Eq + Drop, V: Clone, R: RowStore<K, V>> Table<K, V, R> {
-    /// The number of a key's row, where its value is live at a moment and the caller, who is shown it,
-    /// does not ask to replace it.
+    /// Returns the number of a key's row if its value is live at `now` and acceptable.
+    ///
+    /// A value is acceptable unless `replace_if` returns `true` for it. `replace_if` is called only
+    /// with a live value.
     pub fn acceptable<F: FnMut(&V) -> bool + Drop>(
         &self,
         key: &K,
@@ -47,8 +51,11 @@ impl<K: Eq + Drop, V: Clone, R: RowStore<K, V>> Table<K, V, R> {
         Some(number)
     }
 
-    /// What is handed out of a row: its key, and a copy of its value. Refused for want of memory
-    /// alone.
+    /// Returns an entry of a row: the stored key, and a clone of the value.
+    ///
+    /// # Errors
+    ///
+    /// - `AllocError`: an allocation failed.
     pub fn entry(&self, number: usize) -> Result<Entry<K, V>, AllocError>
         requires { IsSome (row_under number (entries self.now)) }
         ensures { IfOk result (λ entry. IfSome (row_under number (entries self.now)) (λ row.
@@ -58,5 +65,23 @@ impl<K: Eq + Drop, V: Clone, R: RowStore<K, V>> Table<K, V, R> {
         let key = row.key.clone()?;
         let value = row.value.clone()?;
         Ok(Entry::new(key, value, false, false))
+    }
+
+    /// Returns a clone of the notice that is taken next, if there is one.
+    ///
+    /// # Errors
+    ///
+    /// - `AllocError`: an allocation failed.
+    pub fn notice_copy(&self) -> Result<Option<Notice<K, V>>, AllocError>
+        ensures { IfOk result (IsNoticeOf V.is_clone
+            (option_map removal_of (slice_get self.now.notices 0))) }
+    {
+        let Some(notice) = self.first_notice() else {
+            return Ok(None);
+        };
+        let key = notice.key.clone()?;
+        let value = notice.value.clone()?;
+        let cause = notice.cause;
+        Ok(Some(Notice { key, value, cause }))
     }
 }

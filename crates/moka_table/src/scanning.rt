@@ -1,4 +1,4 @@
-//! What walks ask of a table.
+//! The keys of a table, for walks over a cache.
 ghost use Rattle.std.specs.Prelude.{◌≡◌, ◌+◌, ◌≤◌, ◌++◌, length, map, IfOk, OnOk};
 ghost use Rattle.std.specs.Arc.{arc_value};
 ghost use Rattle.moka_table.specs.Table.{entries, keys_of};
@@ -9,8 +9,16 @@ use std::alloc::{AllocError, Global};
 use std::sync::Arc;
 
 impl<K: Eq + Drop, V: Drop, R: RowStore<K, V>> Table<K, V, R> {
-    /// The key of each row, once, shared: those of the admitted in the order of use, and then those of
-    /// the rows that wait. It visits each. Refused for want of memory alone.
+    /// Returns the key of each row, shared and once. The resident rows come first, in access order,
+    /// and then the pending ones.
+    ///
+    /// # Errors
+    ///
+    /// - `AllocError`: an allocation failed.
+    ///
+    /// # Complexity
+    ///
+    /// Visits each row. `visits` counts the steps.
     pub fn keys(&self, alloc: Global, visits: &mut u128) -> Result<Vec<Arc<K>>, AllocError>
         ensures keys { IfOk result (λ keys. map arc_value keys.items ≡ keys_of (entries self.now)) }
         ensures visited { visits.new ≤ visits.old + length (entries self.now) }
@@ -22,7 +30,7 @@ impl<K: Eq + Drop, V: Drop, R: RowStore<K, V>> Table<K, V, R> {
     }
 }
 
-/// Adds the keys of the admitted rows.
+/// Appends the keys of the resident rows.
 fn add_admitted<K: Eq + Drop, V: Drop, R: RowStore<K, V>>(
     table: &Table<K, V, R>,
     keys: &mut Vec<Arc<K>>,
@@ -41,7 +49,7 @@ fn add_admitted<K: Eq + Drop, V: Drop, R: RowStore<K, V>>(
     Ok(())
 }
 
-/// Adds the keys of the rows that wait.
+/// Appends the keys of the pending rows.
 fn add_waiting<K: Eq + Drop, V: Drop, R: RowStore<K, V>>(
     table: &Table<K, V, R>,
     keys: &mut Vec<Arc<K>>,

@@ -1,5 +1,5 @@
-//! The rows of a cache beside the notices of what left, with room for one more notice for each row.
-ghost use Rattle.std.specs.Prelude.{◌≡◌, ℕ, ◌+◌, ◌-◌, ◌<◌, ◌≤◌, ◌^◌, true, false, List, [], ◌∷◌, ◌++◌, length, min, IsSome, IfSome, IfNone, IfOk, OnOk, OnErr, Some, None, MatchOption};
+//! The rows of a cache with a queue of notices, which has room for one more notice for each row.
+ghost use Rattle.std.specs.Prelude.{◌≡◌, ℕ, ◌+◌, ◌-◌, ◌<◌, ◌≤◌, ◌^◌, true, false, List, [], ◌∷◌, ◌++◌, length, min, slice_get, option_copied, IsSome, IfSome, IfNone, IfOk, OnOk, OnErr, Some, None, MatchOption};
 ghost use Rattle.std.specs.Option.{option_to_list};
 ghost use Rattle.std.specs.VecDeque.{deque_len, deque_capacity};
 ghost use Rattle.moka_model.specs.Maintenance.{total};
@@ -15,16 +15,16 @@ use std::collections::VecDeque;
 use std::marker::Model;
 use std::sync::Arc;
 
-/// Where a key's row is.
+/// Where the row of a key is.
 #[derive(Drop)]
 pub enum Lookup<K> {
-    /// Under this number, with the stored key.
+    /// In the row with this number. `key` is the stored key.
     Stored { number: usize, key: Arc<K> },
     /// Nowhere.
     Absent,
 }
 
-/// How heavy the rows of each order are together.
+/// The total weight of the rows of each order.
 #[derive(Clone, Copy)]
 struct Weights {
     admitted: u128,
@@ -32,7 +32,8 @@ struct Weights {
 }
 
 impl Weights {
-    /// The weights once a row of an order has another weight.
+    /// Returns the weights after a row of an order changed its weight from `before` to `after`.
+    #[inline(always)]
     fn with(self, order: Order, before: u32, after: u32) -> Weights
         requires before { before ≤ weight_in order self }
         requires fits { weight_in order self + after < 2 ^ 128 }
@@ -52,14 +53,21 @@ impl Weights {
     }
 }
 
-/// A store of rows, and the notices of the values that left it, in the order of leaving.
+/// A store of rows, and the notices of removed values in the order of their removal.
+///
+/// Each row has room for its notice from the start, so that a removal does not allocate.
 #[derive(Drop)]
 pub struct Table<K: Eq + Drop, V: Drop, R: RowStore<K, V>> {
     rows: R,
     notices: VecDeque<Notice<K, V>>,
     weights: Weights,
     may_hide: bool,
+    // For at least how many more rows and notices there is room.
+    sure: usize,
 }
+
+/// For how many rows room is made at once when there may be none.
+const AT_ONCE: usize = 16;
 
 impl<K: Eq + Drop, V: Drop, R: RowStore<K, V>> Model for Table<K, V, R> {
     ghost Value = { Contents K V };
@@ -69,17 +77,16 @@ impl<K: Eq + Drop, V: Drop, R: RowStore<K, V>> Model for Table<K, V, R> {
       waiting = R.waiting table.rows;
       notices = table.notices.items;
       may_hide = table.may_hide;
-      room = min (R.room table.rows)
-          (deque_capacity table.notices -
-          (length (R.admitted table.rows ++ R.waiting table.rows) + deque_len table.notices));
+      room = table.sure;
     } };
 
     ghost invariant = { λ table. IsKept (R.admitted table.rows) (R.waiting table.rows) table.weights
-        table.may_hide (deque_len table.notices) (deque_capacity table.notices) };
+        table.may_hide (deque_len table.notices + table.sure) (deque_capacity table.notices)
+        × (table.sure ≤ R.room table.rows) };
 }
 
 impl<K: Eq + Drop, V: Drop, R: RowStore<K, V>> Table<K, V, R> {
-    /// A table without rows and notices. It takes no memory.
+    /// Creates a table without rows and notices. Does not allocate.
     pub fn new(alloc: Global) -> Self
         ensures rows { entries result ≡ [] }
         ensures notices { result.notices ≡ [] }
@@ -93,10 +100,15 @@ impl<K: Eq + Drop, V: Drop, R: RowStore<K, V>> Table<K, V, R> {
                 waiting: 0,
             },
             may_hide: false,
+            sure: 0,
         }
     }
 
-    /// A table without rows and notices, with room for so many rows. Refused for want of memory alone.
+    /// Creates a table without rows and notices, with room for `capacity` rows.
+    ///
+    /// # Errors
+    ///
+    /// - `AllocError`: an allocation failed, or the store cannot number so many rows.
     pub fn with_capacity(alloc: Global, capacity: usize) -> Result<Self, AllocError>
         ensures rows { IfOk result (λ table. entries table ≡ []) }
         ensures notices { IfOk result (λ table. table.notices ≡ []) }
@@ -107,14 +119,23 @@ impl<K: Eq + Drop, V: Drop, R: RowStore<K, V>> Table<K, V, R> {
         Ok(table)
     }
 
-    /// How many notices have not been taken.
+    /// Returns the notice that is taken next, if there is one.
+    pub fn first_notice(&self) -> Option<&Notice<K, V>>
+        ensures { option_copied result ≡ slice_get self.now.notices 0 }
+    {
+        self.notices.front()
+    }
+
+    /// Returns how many notices have not been taken.
+    #[inline(always)]
     pub fn notice_count(&self) -> usize
         ensures { result ≡ length self.now.notices }
     {
         self.notices.len()
     }
 
-    /// The number of the row of a key, given the key's hash.
+    /// Returns the number of the row with a key, given the key's hash.
+    #[inline(always)]
     pub fn find(&self, key: &K, hash: u64) -> Option<usize>
         ensures found { IfSome result
             (λ number. IfSome (row_under number (entries self.now)) (IsRowOf K.eq key.now hash)) }
@@ -125,7 +146,8 @@ impl<K: Eq + Drop, V: Drop, R: RowStore<K, V>> Table<K, V, R> {
         self.rows.find(key, hash, &mut reads)
     }
 
-    /// The row under a number.
+    /// Returns the row with this number.
+    #[inline(always)]
     pub fn row(&self, number: usize) -> &Row<K, V>
         requires { IsSome (row_under number (entries self.now)) }
         ensures { row_under number (entries self.now) ≡ Some result.now }
@@ -133,7 +155,9 @@ impl<K: Eq + Drop, V: Drop, R: RowStore<K, V>> Table<K, V, R> {
         self.rows.row(number)
     }
 
-    /// The hash of the row under a number. The row itself is not read where the store knows better.
+    /// Returns the hash of the row with this number. Does not read the row if the store has the
+    /// hash elsewhere.
+    #[inline(always)]
     pub fn hash(&self, number: usize) -> u64
         requires { IsSome (row_under number (entries self.now)) }
         ensures { IfSome (row_under number (entries self.now)) (λ row. result ≡ row.hash) }
@@ -141,50 +165,57 @@ impl<K: Eq + Drop, V: Drop, R: RowStore<K, V>> Table<K, V, R> {
         self.rows.hash(number)
     }
 
-    /// How many rows there are.
+    /// Returns how many rows there are.
+    #[inline(always)]
     pub fn len(&self) -> usize
         ensures { result ≡ length (entries self.now) }
     {
         self.rows.len()
     }
 
-    /// How many rows are admitted.
+    /// Returns how many rows are resident.
+    #[inline(always)]
     pub fn admitted_len(&self) -> usize
         ensures { result ≡ length self.now.admitted }
     {
         self.rows.len() - self.waiting_len()
     }
 
-    /// How many rows wait.
+    /// Returns how many rows are pending.
+    #[inline(always)]
     pub fn waiting_len(&self) -> usize
         ensures { result ≡ length self.now.waiting }
     {
         self.rows.waiting_len()
     }
 
-    /// How heavy the admitted rows are together. It takes constant time.
+    /// Returns the total weight of the resident rows. Takes constant time.
+    #[inline(always)]
     pub fn admitted_weight(&self) -> u128
         ensures { result ≡ total weight_of self.now.admitted }
     {
         self.weights.admitted
     }
 
-    /// How heavy all rows are together. It takes constant time.
+    /// Returns the total weight of all rows. Takes constant time.
+    #[inline(always)]
     pub fn weight(&self) -> u128
         ensures { result ≡ total weight_of (entries self.now) }
     {
         self.weights.admitted + self.weights.waiting
     }
 
-    /// The number of the least recently used admitted row.
+    /// Returns the number of the least recently used resident row, if there is one.
+    #[inline(always)]
     pub fn first_admitted(&self) -> Option<usize>
         ensures { result ≡ first_number self.now.admitted }
     {
         self.rows.first_admitted()
     }
 
-    /// The number of the first admitted row, in the order of use, whose deadline has come. No two
-    /// rows have one number.
+    /// Returns the number of the first resident row, in access order, whose deadline has come at
+    /// `now`. No two rows have the same number.
+    #[inline(always)]
     pub fn first_expired(&self, now: u64) -> Option<usize>
         ensures first { result ≡ first_number (expired_at now self.now.admitted) }
         ensures apart { NumbersDiffer (entries self.now) }
@@ -193,7 +224,9 @@ impl<K: Eq + Drop, V: Drop, R: RowStore<K, V>> Table<K, V, R> {
         self.rows.first_expired(now)
     }
 
-    /// The number of the row that has waited longest. No two rows have one number.
+    /// Returns the number of the row that has been pending longest. No two rows have the same
+    /// number.
+    #[inline(always)]
     pub fn first_waiting(&self) -> Option<usize>
         ensures first { result ≡ first_number self.now.waiting }
         ensures apart { NumbersDiffer (entries self.now) }
@@ -201,8 +234,9 @@ impl<K: Eq + Drop, V: Drop, R: RowStore<K, V>> Table<K, V, R> {
         self.rows.first_waiting()
     }
 
-    /// The number of the row behind this one, in the order in which this one stands. No two rows
-    /// have one number. Counts one step in `visits`.
+    /// Returns the number of the next row in the order of this row, if there is one. No two rows
+    /// have the same number. Counts one step in `visits`.
+    #[inline(always)]
     pub fn next(&self, number: usize, visits: &mut u128) -> Option<usize>
         requires { IsSome (row_under number (entries self.now)) }
         ensures behind { MatchOption (row_under number self.now.admitted)
@@ -214,8 +248,12 @@ impl<K: Eq + Drop, V: Drop, R: RowStore<K, V>> Table<K, V, R> {
         self.rows.next(number, visits)
     }
 
-    /// Makes room for this many more rows and notices. Where memory is refused, all rows and
-    /// notices stay as they were.
+    /// Makes room for this many more rows and notices. All rows and notices stay as they were, also
+    /// if it fails.
+    ///
+    /// # Errors
+    ///
+    /// - `AllocError`: an allocation failed, or the store cannot number so many rows.
     pub fn reserve(&mut self, more: usize) -> Result<(), AllocError>
         ensures room { OnOk result (more ≤ self.new.room) }
         ensures more { OnOk result (self.old.room ≤ self.new.room) }
@@ -224,11 +262,21 @@ impl<K: Eq + Drop, V: Drop, R: RowStore<K, V>> Table<K, V, R> {
     {
         let rows = self.rows.len().checked_add(more).ok_or(AllocError)?;
         self.notices.reserve(rows)?;
-        self.rows.reserve(more)
+        let sure = self.sure.max(more);
+        // If this fails, the store's contract says nothing of the room that is left.
+        self.sure = 0;
+        self.rows.reserve(more)?;
+        self.sure = sure;
+        Ok(())
     }
 
-    /// Makes room for a write of a key, and looks where its row is. Where memory is refused,
-    /// nothing has changed.
+    /// Makes room for a write of a key, and returns where its row is. All rows and notices stay as
+    /// they were, also if it fails.
+    ///
+    /// # Errors
+    ///
+    /// - `AllocError`: an allocation failed, or the store cannot number more rows.
+    #[inline(always)]
     pub fn lookup(&mut self, key: &K, hash: u64) -> Result<Lookup<K>, AllocError>
         ensures lookup { IfOk result (IsLookupOf K.eq key.now hash (entries self.new)) }
         ensures room { OnOk result (0 < self.new.room) }
@@ -236,7 +284,9 @@ impl<K: Eq + Drop, V: Drop, R: RowStore<K, V>> Table<K, V, R> {
         ensures same { SameRows self.old self.new }
         ensures may_hide { self.new.may_hide ≡ self.old.may_hide }
     {
-        self.reserve(1)?;
+        if self.sure == 0 {
+            self.reserve(AT_ONCE)?;
+        }
         match self.find(key, hash) {
             None => Ok(Lookup::Absent),
             Some(number) => {
@@ -246,7 +296,8 @@ impl<K: Eq + Drop, V: Drop, R: RowStore<K, V>> Table<K, V, R> {
         }
     }
 
-    /// Adds a row as the last of those that wait, which is not hidden. It takes the room of one row.
+    /// Adds a row as the last pending one. It is not invalidated. Uses the room of one row.
+    #[inline(always)]
     pub fn add(&mut self, row: Row<K, V>)
         requires room { 0 < self.old.room }
         requires shown { row.info.is_hidden ≡ false }
@@ -259,10 +310,12 @@ impl<K: Eq + Drop, V: Drop, R: RowStore<K, V>> Table<K, V, R> {
     {
         self.weights.waiting += u128::from(row.info().policy_weight);
         self.rows.add(row);
+        self.sure -= 1;
     }
 
-    /// A use of a row, which keeps its weight, the moment of its last write, and whether it is
-    /// hidden.
+    /// Applies an access to a row. Keeps the weight, the moment of the last write and the mark
+    /// `is_hidden`.
+    #[inline(always)]
     pub fn touch(&mut self, number: usize, touch: Touch)
         requires { IsSome (row_under number (entries self.old)) }
         ensures rows { UsesRow number (touched touch) self.old self.new }
@@ -272,9 +325,13 @@ impl<K: Eq + Drop, V: Drop, R: RowStore<K, V>> Table<K, V, R> {
         self.rows.touch(number, touch);
     }
 
-    /// Gives the row another value, which is not hidden, and notices the one before under this key:
-    /// as removed, where it was hidden, as expired, where its deadline had come when the new one was
-    /// written, and else as replaced.
+    /// Replaces the value of a row by one that is not invalidated, and adds a notice of the old
+    /// one.
+    ///
+    /// The notice has the given key. Its cause is `Explicit` if the old value was invalidated. Else
+    /// it is `Expired` if the old deadline had come when the new value was written, and else
+    /// `Replaced`.
+    #[inline(always)]
     pub fn overwrite(&mut self, number: usize, key: Arc<K>, value: V, info: EntryInfo)
         requires stored { IsSome (row_under number (entries self.old)) }
         requires room { 0 < self.old.room }
@@ -297,13 +354,14 @@ impl<K: Eq + Drop, V: Drop, R: RowStore<K, V>> Table<K, V, R> {
             value: before.value,
             cause: was.cause(info.last_modified, RemovalCause::Replaced),
         };
+        self.sure -= 1;
         match self.notices.push_back(replaced) {
             Ok(()) => {}
             Err(_) => unreachable!(),
         }
     }
 
-    /// Hides a row, in its place. It takes no memory, and none of the room.
+    /// Marks a row invalidated, in its place. Does not allocate, and uses no room.
     pub fn hide(&mut self, number: usize)
         requires { IsSome (row_under number (entries self.old)) }
         ensures admitted { self.new.admitted ≡ with_row number hidden self.old.admitted }
@@ -316,7 +374,8 @@ impl<K: Eq + Drop, V: Drop, R: RowStore<K, V>> Table<K, V, R> {
         self.rows.hide(number);
     }
 
-    /// Whether a row may be hidden: where it says no, none is. It takes constant time.
+    /// Returns whether a row may be invalidated. If not, none is. Takes constant time.
+    #[inline(always)]
     pub fn may_hide(&self) -> bool
         ensures may_hide { result ≡ self.now.may_hide }
         ensures shown { result ≡ false → AreShown (entries self.now) }
@@ -324,7 +383,8 @@ impl<K: Eq + Drop, V: Drop, R: RowStore<K, V>> Table<K, V, R> {
         self.may_hide
     }
 
-    /// Notes that no row is hidden. It changes no row.
+    /// Records that no row is invalidated. Changes no row.
+    #[inline(always)]
     pub fn hides_nothing(&mut self)
         requires { AreShown (entries self.old) }
         ensures same { SameRows self.old self.new }
@@ -334,8 +394,9 @@ impl<K: Eq + Drop, V: Drop, R: RowStore<K, V>> Table<K, V, R> {
         self.may_hide = false;
     }
 
-    /// Admits a row that waits, as the most recently used. It takes no memory, and none of the
+    /// Makes a pending row resident, as the most recently used. Does not allocate, and uses no
     /// room.
+    #[inline(always)]
     pub fn admit(&mut self, number: usize)
         requires { IsSome (row_under number self.old.waiting) }
         ensures waiting { self.new.waiting ≡ without_row number self.old.waiting }
@@ -351,7 +412,8 @@ impl<K: Eq + Drop, V: Drop, R: RowStore<K, V>> Table<K, V, R> {
         self.weights.admitted += weight;
     }
 
-    /// Lets a row leave, and notices it with this cause. It takes no memory, and none of the room.
+    /// Removes a row, and adds a notice with this cause. Does not allocate, and uses no room.
+    #[inline(always)]
     pub fn evict(&mut self, number: usize, cause: RemovalCause)
         requires { IsSome (row_under number (entries self.old)) }
         ensures rows { TakesRow number self.old self.new }
@@ -370,8 +432,9 @@ impl<K: Eq + Drop, V: Drop, R: RowStore<K, V>> Table<K, V, R> {
         }
     }
 
-    /// Lets the least recently used admitted row leave, and notices it with this cause. It takes no
-    /// memory, and none of the room.
+    /// Removes the least recently used resident row, and adds a notice with this cause. Does not
+    /// allocate, and uses no room.
+    #[inline(always)]
     pub fn evict_first(&mut self, cause: RemovalCause)
         requires { 0 < length self.old.admitted }
         ensures evicted { (first : ℕ × Row K V) × EvictsOne cause first self.old self.new }
@@ -391,7 +454,8 @@ impl<K: Eq + Drop, V: Drop, R: RowStore<K, V>> Table<K, V, R> {
         }
     }
 
-    /// Takes the first notice.
+    /// Removes and returns the first notice, if there is one.
+    #[inline(always)]
     pub fn take_notice(&mut self) -> Option<Notice<K, V>>
         ensures notices { self.old.notices ≡ option_to_list result ++ self.new.notices }
         ensures none { IfNone result (self.old.notices ≡ []) }

@@ -1,4 +1,4 @@
-//! Where a write goes, once all memory for it is taken.
+//! The targets of writes. What a write allocates is allocated before it changes anything.
 ghost use Rattle.std.specs.Prelude.{◌≡◌, ◌<◌, false, IfOk, IfErr, OnOk};
 ghost use Rattle.moka_table.specs.Target.{IsTargetFor, IsTargetNow, HasTarget, IsInfoOf, Puts, IsPlaceOf, Writes, is_over_live};
 ghost use Rattle.moka_ways.specs.Lives.{IsDated};
@@ -16,44 +16,48 @@ use std::alloc::Global;
 use std::hash::Hash;
 use std::sync::Arc;
 
-/// Where the value of a write goes.
+/// Where a write puts its value.
 #[derive(Drop)]
 pub enum Target<K> {
-    /// Over the value of the row under this number, whose stored key this is.
+    /// Over the value of the row with this number. `key` is the stored key.
     Over { number: usize, key: Arc<K> },
     /// Into a new row, under this key.
     New { key: Arc<K> },
 }
 
-/// Where the value of a write goes, as it was found before the maintenance that may come first.
+/// Where a write puts its value, as found before the flush that may come first.
 #[derive(Drop)]
 pub enum Place<K> {
-    /// To this target: none comes first.
+    /// At this target. No flush comes first.
     Now(Target<K>),
-    /// Behind a maintenance, to this key, whose row was here before it.
+    /// Where the written `key` belongs after a flush. `lookup` is where its row was before.
     Later { lookup: Lookup<K>, key: Arc<K> },
 }
 
-/// A value that is to be written: with its key's hash, its weight under that key, and the moment of
-/// the write.
+/// A value to be written.
 #[derive(Drop)]
 pub struct NewValue<V> {
     /// The hash of its key.
     pub hash: u64,
     /// The value.
     pub value: V,
-    /// How heavy it is.
+    /// Its weight under that key.
     pub weight: u32,
-    /// When it is written.
+    /// When it is written, in nanoseconds.
     pub now: u64,
 }
 
-/// A write that finds as many keys waiting runs a maintenance first.
+/// From this many pending rows on, a write runs a flush first.
 const FLUSH_POINT: usize = 64;
 
 impl<K: Drop> Lookup<K> {
-    /// The target of a write of a key that was looked for. A key that has no row is shared; where
-    /// memory is refused it is handed back.
+    /// Returns the target of a write of a key, given where its row is. A key without a row is put
+    /// into an `Arc`.
+    ///
+    /// # Errors
+    ///
+    /// - The key itself: an allocation failed.
+    #[inline(always)]
     pub fn target<S: IntoShared<K>>(self, key: S, alloc: Global) -> Result<Target<K>, S>
         ensures target { IfOk result (IsTargetFor (S.key_of key) self) }
         ensures handed_back { IfErr result (λ back. back ≡ key) }
@@ -69,8 +73,9 @@ impl<K: Drop> Lookup<K> {
 }
 
 impl<K: Eq + Drop, V: Drop, R: RowStore<K, V>> Table<K, V, R> {
-    /// The target of a write of a key that was looked for before some rows left: its own row may be
-    /// one of them. It takes no memory.
+    /// Returns the target of a write of a key that was looked up before some rows were removed. Its
+    /// own row may be one of them. Does not allocate.
+    #[inline(always)]
     pub fn target_now(&self, lookup: Lookup<K>, key: Arc<K>, hash: u64) -> Target<K>
         ensures { IsTargetNow K.eq hash lookup key (entries self.now) result }
     {
@@ -86,8 +91,13 @@ impl<K: Eq + Drop, V: Drop, R: RowStore<K, V>> Table<K, V, R> {
         }
     }
 
-    /// Makes room for a write of a key, and finds its place. Where memory is refused, the key is
-    /// handed back and nothing has changed.
+    /// Makes room for a write of a key, and returns its place. All rows and notices stay as they
+    /// were, also if it fails.
+    ///
+    /// # Errors
+    ///
+    /// - The key itself: an allocation failed, or the store cannot number more rows.
+    #[inline(always)]
     pub fn place<S: IntoShared<K>>(
         &mut self,
         key: S,
@@ -116,7 +126,8 @@ impl<K: Eq + Drop, V: Drop, R: RowStore<K, V>> Table<K, V, R> {
         }
     }
 
-    // Whether a target is over a value that is live at a moment.
+    // Returns whether a target is over a value that is live at `now`.
+    #[inline(always)]
     fn is_over_live(&self, target: &Target<K>, now: u64) -> bool
         requires { HasTarget target.now self.now }
         ensures { result ≡ is_over_live target.now now self.now }
@@ -127,8 +138,11 @@ impl<K: Eq + Drop, V: Drop, R: RowStore<K, V>> Table<K, V, R> {
         }
     }
 
-    /// Puts a value to a target, at the moments of a write. It takes none of the memory that was
-    /// not made room for. A value is not hidden when it is put.
+    /// Writes a value and its metadata to a target, and adds a notice of the value that it
+    /// replaces.
+    ///
+    /// It uses the room that was made and does not allocate. The value is not invalidated.
+    #[inline(always)]
     pub fn put(&mut self, target: Target<K>, hash: u64, value: V, info: EntryInfo)
         requires stored { HasTarget target self.old }
         requires room { 0 < self.old.room }
@@ -149,8 +163,9 @@ impl<K: Eq + Drop, V: Drop, R: RowStore<K, V>> Table<K, V, R> {
 }
 
 impl<K: Hash + Drop, V: Clone, R: RowStore<K, V>> Table<K, V, R> {
-    /// What is to be kept of a value of this weight that a write puts to a target at a moment, with
-    /// its deadline. The expiry is asked here for the life of its own.
+    /// Returns the metadata, with the deadline, of a value that is written to a target at `now`.
+    /// Calls the expiry for the entry's own lifetime.
+    #[inline(always)]
     pub fn info_of<C: CacheTypes<K, V>>(
         &self,
         target: &Target<K>,
@@ -183,8 +198,9 @@ impl<K: Hash + Drop, V: Clone, R: RowStore<K, V>> Table<K, V, R> {
         lives.dated(info)
     }
 
-    /// Writes a value to a target, and answers whether a live value stood there. It takes none of the
-    /// memory that was not made room for.
+    /// Writes a value to a target, and returns whether a live value was there. It uses the room
+    /// that was made and does not allocate.
+    #[inline(always)]
     pub fn write<C: CacheTypes<K, V>>(
         &mut self,
         target: Target<K>,

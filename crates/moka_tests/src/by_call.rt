@@ -1,4 +1,4 @@
-//! The calls of a table, made as calls of the cache, and what they answer.
+//! Makes the calls of a table as calls of the cache.
 use crate::keys::Key;
 use crate::subject::{Answer, Call, Subject, shared};
 use crate::values::{EitherText, Given, Value, heavy, plain};
@@ -16,7 +16,7 @@ use std::sync::Arc;
 use std::test::Fail;
 
 impl<K: Key, H: BuildHasher + Default + Drop, R: RowStore<K, Value>> Subject<K, H, R> {
-    /// Makes a call.
+    /// Makes a call and returns its result.
     pub(crate) fn by_call(
         &mut self,
         rt: &impl Abort,
@@ -47,7 +47,7 @@ impl<K: Key, H: BuildHasher + Default + Drop, R: RowStore<K, Value>> Subject<K, 
         })
     }
 
-    /// A predicate that holds of each value with one of these texts.
+    /// Creates a predicate that holds of each value with one of these texts.
     pub(crate) fn predicate(
         &self,
         one: &'static str,
@@ -72,7 +72,7 @@ impl<K: Key, H: BuildHasher + Default + Drop, R: RowStore<K, Value>> Subject<K, 
         )
     }
 
-    /// Makes a call that is about one key and takes no value, or another one that makes no value and no predicate.
+    /// Makes a call that takes neither a value nor a predicate: about one key, or about none.
     fn by_call_of_key(&mut self, call: Call, now: u64) -> Answer {
         match call {
             Call::Get(number) => self.get(number, now),
@@ -100,7 +100,7 @@ impl<K: Key, H: BuildHasher + Default + Drop, R: RowStore<K, Value>> Subject<K, 
         found_or_refused(self.cache.remove(&K::of(number), now))
     }
 
-    /// Makes a call that is about no key, or does what a table does beside the calls of the cache.
+    /// Makes a call about no key, or does what a table does beside the calls of the cache.
     fn by_call_of_all(&mut self, call: Call, now: u64) -> Answer {
         match call {
             Call::InvalidateAll => self.invalidate_all(),
@@ -133,7 +133,7 @@ impl<K: Key, H: BuildHasher + Default + Drop, R: RowStore<K, Value>> Subject<K, 
         Answer::Done
     }
 
-    /// The number that a call asks for: the last of them is `Tested`.
+    /// Returns the number that a call asks for. The last case is `Tested`.
     fn count(&mut self, call: Call) -> u64 {
         match call {
             Call::EntryCount => self.cache.entry_count(),
@@ -145,7 +145,7 @@ impl<K: Key, H: BuildHasher + Default + Drop, R: RowStore<K, Value>> Subject<K, 
     }
 }
 
-/// What a refused write answers. Asserts that it handed back what it was given.
+/// Returns the result of a failed insert. Checks that it handed back its key and its value.
 fn handed_back<K: Key>(
     rt: &impl Abort,
     refused: InsertRefused<K, Value>,
@@ -160,7 +160,7 @@ fn handed_back<K: Key>(
     Answer::Refused(cause)
 }
 
-/// What a look or a removal answers.
+/// Returns the result of a lookup or a removal.
 fn found_or_refused(answer: Result<Option<Value>, Refused>) -> Answer {
     match answer {
         Ok(value) => found(value),
@@ -168,7 +168,7 @@ fn found_or_refused(answer: Result<Option<Value>, Refused>) -> Answer {
     }
 }
 
-/// What a look or a removal answers that was not refused.
+/// Returns the result of a lookup or a removal that succeeded.
 pub(crate) fn found(value: Option<Value>) -> Answer {
     match value {
         Some(value) => Answer::Found(value.given.text),
@@ -176,7 +176,7 @@ pub(crate) fn found(value: Option<Value>) -> Answer {
     }
 }
 
-/// What the call answers that takes a notice.
+/// Returns the result of `take_notice`.
 pub(crate) fn noticed<K: Key>(notice: Option<Notice<K, Value>>) -> Answer {
     match notice {
         Some(notice) => {
@@ -186,7 +186,7 @@ pub(crate) fn noticed<K: Key>(notice: Option<Notice<K, Value>>) -> Answer {
     }
 }
 
-/// What a call answers that hides values without an id.
+/// Returns the result of an invalidation by a predicate without an id.
 fn done_or_refused(answer: Result<(), PredicateError>) -> Answer {
     match answer {
         Ok(()) => Answer::Done,
@@ -194,7 +194,7 @@ fn done_or_refused(answer: Result<(), PredicateError>) -> Answer {
     }
 }
 
-/// What a refused predicate answers. Want of memory is that of every call.
+/// Returns the result of a rejected predicate. `OutOfMemory` is that of every call.
 pub(crate) fn refused_predicate(refused: PredicateError) -> Answer {
     match refused {
         PredicateError::OutOfMemory => Answer::Refused(Refused::OutOfMemory),
@@ -202,7 +202,7 @@ pub(crate) fn refused_predicate(refused: PredicateError) -> Answer {
     }
 }
 
-/// An id by its text, or its length where that is another one than an id's.
+/// Returns an id by its text, or its length if that is not an id's.
 fn id_of(id: &PredicateId) -> Answer {
     match id.as_bytes().first_chunk() {
         Some(text) if id.len() == 36 => Answer::Id(*text),

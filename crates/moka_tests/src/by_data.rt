@@ -1,4 +1,4 @@
-//! A weigher and an expiry that are made from data of the run.
+//! A weigher and an expiry that depend on data of the run.
 ghost use Rattle.std.specs.Prelude.{◌≡◌, ◌*◌, min, Some, None, IfOk, false, refl};
 ghost use Rattle.std.proofs.Math.Path.{◌∙◌};
 
@@ -14,7 +14,7 @@ use std::sync::Arc;
 use std::test::Fail;
 use std::time::Duration;
 
-/// Weighs each number as that many times `scale`, or by the greatest weight where that is more.
+/// Weighs each number as the number times `scale`, at most `u32::MAX`.
 #[derive(Drop)]
 struct Scaled {
     scale: u32,
@@ -28,7 +28,7 @@ impl Weigher<u64, u32> for Scaled {
     }
 }
 
-/// Lets each value live so many seconds after each write.
+/// Gives each value a lifetime of so many seconds from each write.
 #[derive(Drop)]
 struct Seconds {
     seconds: u64,
@@ -67,7 +67,7 @@ impl Expiry<u64, u32> for Seconds {
     }
 }
 
-/// The types of a cache of numbers, weighed by such a weigher and kept alive by such an expiry.
+/// The types of a cache of numbers with this weigher and this expiry.
 struct ByData;
 
 impl CacheTypes<u64, u32> for ByData {
@@ -139,8 +139,8 @@ fn opened(alloc: Global, scale: u32, seconds: u64) -> Result<Cache, Fail> {
 
 type Case = (u32, u64, u64, u64, u64);
 
-/// A scale and a life in seconds; the last moment of that life; and the weight of two values of 3 and 4, and of what a
-/// capacity of 20 leaves of them.
+/// A scale; a lifetime in seconds; its last moment in nanoseconds; and two weights. They are the
+/// weight of the values 3 and 4, and what is left after maintenance at a capacity of 20.
 const CACHES: [Case; 4] = [
     (1, 1, 999_999_999, 7, 7),
     (2, 60, 59_999_999_999, 14, 14),
@@ -148,6 +148,7 @@ const CACHES: [Case; 4] = [
     (9, 3, 2_999_999_999, 63, 0),
 ];
 
+/// Weights and lifetimes follow the data in the weigher and in the expiry.
 #[test]
 fn weighs_and_expires_by_data_of_the_run(rt: HostRuntime) -> Result<(), Fail> {
     for case in CACHES {
@@ -162,7 +163,7 @@ fn opens_and_weighs(rt: &impl Abort, alloc: Global, case: Case) -> Result<(), Fa
     Ok(())
 }
 
-// Writes two values, and looks at the end of their lives what they weigh.
+// Inserts two values, and checks their lifetime and their weight before and after maintenance.
 fn weighs(rt: &impl Abort, cache: &mut Cache, last: u64, written: u64, kept: u64) {
     insert(rt, cache, 1, 3);
     insert(rt, cache, 2, 4);

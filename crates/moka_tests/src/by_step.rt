@@ -1,4 +1,4 @@
-//! The calls of a table, made as steps of the cache, and what their replies say.
+//! Makes the calls of a table as steps of the cache.
 ghost use Rattle.std.specs.Prelude.{IfSome, IfOk};
 ghost use Rattle.moka_state.specs.Step.{StepKeeps};
 
@@ -16,14 +16,14 @@ use std::sync::Arc;
 use std::test::Fail;
 
 impl<K: Key, H: BuildHasher + Default + Drop, R: RowStore<K, Value>> Subject<K, H, R> {
-    /// A key for a step.
+    /// Creates a key for a step, and keeps a share.
     fn key(&mut self, number: u64) -> Result<Arc<K>, AllocError> {
         let key = shared(self.alloc, K::of(number))?;
         self.keys.push(key.clone()?)?;
         Ok(key)
     }
 
-    /// The step that is this call, if there is one.
+    /// Returns the step of this call, or `None` if it has none.
     pub(crate) fn step_of(
         &mut self,
         call: Call,
@@ -47,7 +47,7 @@ impl<K: Key, H: BuildHasher + Default + Drop, R: RowStore<K, Value>> Subject<K, 
         }
     }
 
-    /// The step that is a write.
+    /// Returns the step of an insert.
     fn write_step(
         &mut self,
         number: u64,
@@ -64,7 +64,7 @@ impl<K: Key, H: BuildHasher + Default + Drop, R: RowStore<K, Value>> Subject<K, 
         Ok(Some(Step::Insert { key, value, now }))
     }
 
-    /// The step that hides the values with these texts.
+    /// Returns the step that invalidates the values with these texts.
     fn hide_step(
         &mut self,
         one: &'static str,
@@ -79,7 +79,7 @@ impl<K: Key, H: BuildHasher + Default + Drop, R: RowStore<K, Value>> Subject<K, 
         Ok(Some(Step::InvalidateIf { predicate }))
     }
 
-    /// The step that is this call of a key, which takes no value: the last of them is `Remove`.
+    /// Returns the step of a call about one key that takes no value. The last case is `Remove`.
     fn key_step(
         &mut self,
         call: Call,
@@ -100,7 +100,7 @@ impl<K: Key, H: BuildHasher + Default + Drop, R: RowStore<K, Value>> Subject<K, 
         }))
     }
 
-    /// Makes a call as a step, where it is one.
+    /// Makes a call as a step if it has one, and as a call otherwise.
     pub(crate) fn by_step(
         &mut self,
         rt: &impl Abort,
@@ -114,7 +114,7 @@ impl<K: Key, H: BuildHasher + Default + Drop, R: RowStore<K, Value>> Subject<K, 
     }
 }
 
-/// The step that is this call, which is about no key and takes no predicate, if there is one.
+/// Returns the step of a call that takes neither a key nor a predicate, or `None` if it has none.
 fn step_of_all<K: Key, H: BuildHasher + Drop>(
     call: Call,
     now: u64,
@@ -135,7 +135,7 @@ fn step_of_all<K: Key, H: BuildHasher + Drop>(
     })
 }
 
-/// Whether there is a step for a call.
+/// Returns whether a call has a step.
 pub(crate) fn is_step(call: Call) -> bool {
     !matches!(
         call,
@@ -149,7 +149,7 @@ pub(crate) fn is_step(call: Call) -> bool {
     )
 }
 
-/// What replies say, behind other answers.
+/// Appends the results in the replies to other results.
 pub(crate) fn all_said<K: Key, C: CacheTypes<K, Value>>(
     mut answers: Vec<Answer>,
     replies: Vec<Reply<K, Value, C>>,
@@ -160,7 +160,7 @@ pub(crate) fn all_said<K: Key, C: CacheTypes<K, Value>>(
     Ok(answers)
 }
 
-/// What a reply says.
+/// Returns the result in a reply.
 fn said<K: Key, C: CacheTypes<K, Value>>(reply: Reply<K, Value, C>) -> Answer {
     match reply {
         Reply::Found(value) => found(value),

@@ -40,6 +40,7 @@ const ALL_CALLS: [Row; 19] = [
     (Call::NoticeCount, 3, Answer::Counted(0)),
 ];
 
+/// Each call returns what the table says, with distinct hashes and with one hash for all keys.
 #[test]
 fn answers_each_call(rt: HostRuntime) -> Result<(), Fail> {
     answers(&rt, rt.alloc(), UNLIMITED, &ALL_CALLS)?;
@@ -73,6 +74,7 @@ const TO_LIVE: [Row; 12] = [
     ),
 ];
 
+/// An expired entry is not found, also at an earlier moment, and is removed as `Expired`.
 #[test]
 fn ends_the_time_to_live(rt: HostRuntime) -> Result<(), Fail> {
     let rules = Rules {
@@ -82,7 +84,7 @@ fn ends_the_time_to_live(rt: HostRuntime) -> Result<(), Fail> {
     answers(&rt, rt.alloc(), rules, &TO_LIVE)
 }
 
-/// The first two are admitted, and the third waits.
+/// The first two entries are resident, and the third is pending.
 const HIDDEN: [Row; 22] = [
     (Call::Insert(1, "one"), 0, Answer::Done),
     (Call::Insert(2, "two"), 0, Answer::Done),
@@ -124,6 +126,7 @@ const HIDDEN: [Row; 22] = [
     (Call::TakeNotice, 0, Answer::NoNotice),
 ];
 
+/// After `invalidate_all` no entry is found, and each is removed later as `Explicit`.
 #[test]
 fn hides_all_and_removes(rt: HostRuntime) -> Result<(), Fail> {
     answers(&rt, rt.alloc(), UNLIMITED, &HIDDEN)
@@ -142,6 +145,7 @@ const USED: [Row; 4] = [
     (Call::Get(1), 13_000_000_000, Answer::Absent),
 ];
 
+/// A `get` renews the time to idle, and `contains_key` does not.
 #[test]
 fn ends_the_time_to_idle(rt: HostRuntime) -> Result<(), Fail> {
     let rules = Rules {
@@ -176,6 +180,7 @@ const AT_THE_LAST_NUMBER: [Row; 9] = [
     (Call::TakeNotice, 0, Answer::NoNotice),
 ];
 
+/// Without a sequence number left, inserts fail and the other calls work.
 #[test]
 fn refuses_where_the_numbers_are_used_up(rt: HostRuntime) -> Result<(), Fail> {
     let rules = Rules {
@@ -185,7 +190,7 @@ fn refuses_where_the_numbers_are_used_up(rt: HostRuntime) -> Result<(), Fail> {
     answers(&rt, rt.alloc(), rules, &AT_THE_LAST_NUMBER)
 }
 
-/// One of each, where one number is left.
+/// Steps of many kinds, while one sequence number is left.
 const ALL_STEPS: [Row; 11] = [
     (Call::Get(1), 0, Answer::Absent),
     (Call::Insert(1, "one"), 0, Answer::Done),
@@ -208,7 +213,7 @@ const ALL_STEPS: [Row; 11] = [
     (Call::TakeNotice, 0, Answer::NoNotice),
 ];
 
-/// It passes also where one request for memory is refused, whichever.
+/// Each step returns what the table says, also if any one allocation fails.
 #[test]
 fn answers_each_step(rt: HostRuntime) -> Result<(), Fail> {
     let rules = Rules {
@@ -218,7 +223,7 @@ fn answers_each_step(rt: HostRuntime) -> Result<(), Fail> {
     answers_patiently::<CacheRows<u64, Value>>(&rt, rt.alloc(), rules, &ALL_STEPS)
 }
 
-/// Those keys are equal where their last digits are.
+/// The keys are equal if their last digits are.
 const EQUAL_KEYS: [Row; 7] = [
     (Call::Insert(1, "one"), 0, Answer::Done),
     (Call::Insert(11, "eleven"), 1, Answer::Done),
@@ -237,6 +242,7 @@ const EQUAL_KEYS: [Row; 7] = [
     (Call::TakeNotice, 2, Answer::NoNotice),
 ];
 
+/// An overwrite keeps the stored key.
 #[test]
 fn keeps_the_key_of_the_first_write(rt: HostRuntime) -> Result<(), Fail> {
     answers_by::<LastDigit, ByNumber>(&rt, rt.alloc(), UNLIMITED, &EQUAL_KEYS)
@@ -252,18 +258,19 @@ const STORED_NOWHERE: [Row; 7] = [
     (Call::TakeNotice, 0, Answer::NoNotice),
 ];
 
+/// A capacity of 0 stores nothing, and an insert draws no sequence number.
 #[test]
 fn stores_nothing_at_a_capacity_of_0(rt: HostRuntime) -> Result<(), Fail> {
     let rules = Rules {
         max_capacity: Some(0),
-        // It draws no number either.
+        // None is left, and none is needed.
         first_number: u64::MAX,
         ..UNLIMITED
     };
     answers(&rt, rt.alloc(), rules, &STORED_NOWHERE)
 }
 
-/// A look that was refused was no use of the value, and its moment was not recorded: 2 is written at 0.
+/// A failed `get` is no access, and its moment is not recorded: key 2 is written at moment 0.
 const WITHOUT_COPIES: [Row; 9] = [
     (Call::Insert(1, "one"), 0, Answer::Done),
     (Call::RefuseCopies(true), 0, Answer::Done),
@@ -276,12 +283,13 @@ const WITHOUT_COPIES: [Row; 9] = [
     (Call::ContainsKey(1), 4_999_999_999, Answer::Contains(true)),
     (Call::ContainsKey(1), 5_000_000_000, Answer::Contains(false)),
     (Call::ContainsKey(2), 5_000_000_000, Answer::Contains(false)),
-    // A look that finds nothing needs no copy.
+    // A lookup that finds nothing clones nothing.
     (Call::Get(1), 5_000_000_000, Answer::Absent),
     (Call::Get(3), 5_000_000_000, Answer::Absent),
 ];
 
-/// Nor did it move its key behind the other, and its hash was not noted: 1 leaves for 3, which was looked for once.
+/// A failed `get` leaves the access order unchanged and notes no hash: key 1 is evicted for key 3,
+/// which was looked up once.
 const NOT_NOTED: [Row; 11] = [
     (Call::Insert(1, "one"), 0, Answer::Done),
     (Call::Insert(2, "two"), 0, Answer::Done),
@@ -300,6 +308,7 @@ const NOT_NOTED: [Row; 11] = [
     (Call::TakeNotice, 0, Answer::NoNotice),
 ];
 
+/// A `get` that cannot clone its value fails, and changes nothing.
 #[test]
 fn refuses_a_look_without_memory(rt: HostRuntime) -> Result<(), Fail> {
     let rules = Rules {
@@ -331,13 +340,13 @@ const WRITTEN: [Row; 10] = [
     (Call::EntryCount, 1, Answer::Counted(3)),
 ];
 
-/// It passes also where one request for memory is refused, whichever.
+/// Inserted values are found, also if any one allocation fails.
 #[test]
 fn keeps_its_values_where_a_call_is_refused(rt: HostRuntime) -> Result<(), Fail> {
     answers_patiently::<CacheRows<u64, Value>>(&rt, rt.alloc(), UNLIMITED, &WRITTEN)
 }
 
-/// So does this.
+/// The same over the plain row store.
 #[test]
 fn keeps_its_values_in_lists_where_a_call_is_refused(rt: HostRuntime) -> Result<(), Fail> {
     answers_patiently::<ListRows<u64, Value>>(&rt, rt.alloc(), UNLIMITED, &WRITTEN)

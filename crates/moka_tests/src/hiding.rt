@@ -1,4 +1,4 @@
-//! Removals of many values at once, and what they hide, by tables.
+//! Invalidation of many entries at once, by tables.
 use crate::keys::{ByNumber, Collides, LastDigit};
 use crate::subject::{
     Answer, CacheRows, Call, Row, Rules, UNLIMITED, answers, answers_between_requests, answers_by,
@@ -16,13 +16,13 @@ const EXPLICIT: RemovalCause = RemovalCause::Explicit;
 
 const DISABLED: Answer = Answer::NotHidden(PredicateError::InvalidationClosuresDisabled);
 
-/// Values may be hidden by predicates.
+/// Predicates are accepted.
 const HIDING: Rules = Rules {
     closures: true,
     ..UNLIMITED
 };
 
-/// Two are admitted, and the third waits.
+/// Of the three entries that are invalidated two are resident, and the third is pending.
 const SOME_HIDDEN: [Row; 20] = [
     (Call::Insert(0, "alice"), 0, Answer::Done),
     (Call::Insert(1, "bob"), 0, Answer::Done),
@@ -33,7 +33,7 @@ const SOME_HIDDEN: [Row; 20] = [
     (Call::EntryCount, 5, Answer::Counted(4)),
     (Call::TakeNotice, 5, Answer::NoNotice),
     (Call::ContainsKey(4), 5, Answer::Contains(false)),
-    // What is written later is not hidden.
+    // What is written later is not invalidated.
     (Call::Insert(3, "alice"), 10, Answer::Done),
     (Call::RunPendingTasks, 10, Answer::Done),
     (Call::TakeNotice, 10, Answer::Noticed(0, "alice", EXPLICIT)),
@@ -47,6 +47,7 @@ const SOME_HIDDEN: [Row; 20] = [
     (Call::EntryCount, 10, Answer::Counted(2)),
 ];
 
+/// A predicate invalidates the stored entries that it holds of, and no later ones.
 #[test]
 fn hides_what_a_predicate_holds_of(rt: HostRuntime) -> Result<(), Fail> {
     answers(&rt, rt.alloc(), HIDING, &SOME_HIDDEN)?;
@@ -54,7 +55,7 @@ fn hides_what_a_predicate_holds_of(rt: HostRuntime) -> Result<(), Fail> {
     answers_by::<LastDigit, ByNumber>(&rt, rt.alloc(), HIDING, &SOME_HIDDEN)
 }
 
-/// All are hidden, those that wait and those that are admitted, and each leaves for another reason.
+/// All entries are invalidated, pending and resident, and each is removed in another way.
 const TAKEN_AWAY: [Row; 24] = [
     (Call::Insert(1, "over"), 0, Answer::Done),
     (Call::Insert(2, "out"), 0, Answer::Done),
@@ -69,7 +70,7 @@ const TAKEN_AWAY: [Row; 24] = [
     (Call::Remove(4), 0, Answer::Absent),
     (Call::Get(1), 0, Answer::Found("anew")),
     (Call::Get(3), 0, Answer::Found("anew")),
-    // It has expired too, and was hidden before.
+    // Key 5 has expired too, and was invalidated before.
     (Call::RunPendingTasks, 10_000_000_000, Answer::Done),
     (Call::TakeNotice, 0, Answer::Noticed(1, "over", EXPLICIT)),
     (Call::TakeNotice, 0, Answer::Noticed(3, "over", EXPLICIT)),
@@ -91,7 +92,7 @@ const TAKEN_AWAY: [Row; 24] = [
     (Call::NoticeCount, 0, Answer::Counted(0)),
 ];
 
-/// The capacity is passed by what is hidden, which leaves before any that is not.
+/// Invalidated entries exceed the capacity, and are removed before any other.
 const OVER_THE_CAPACITY: [Row; 10] = [
     (Call::Insert(1, "one"), 0, Answer::Done),
     (Call::RunPendingTasks, 0, Answer::Done),
@@ -105,6 +106,7 @@ const OVER_THE_CAPACITY: [Row; 10] = [
     (Call::Get(3), 0, Answer::Found("three")),
 ];
 
+/// An invalidated entry is removed as `Explicit`, in whichever way it is removed.
 #[test]
 fn what_is_hidden_leaves_by_the_callers_wish(rt: HostRuntime) -> Result<(), Fail> {
     let rules = Rules {
@@ -123,7 +125,7 @@ fn what_is_hidden_leaves_by_the_callers_wish(rt: HostRuntime) -> Result<(), Fail
     Ok(())
 }
 
-/// A predicate is asked at its call alone, of the values that are stored then.
+/// A predicate is called only during its own invalidation, on the entries that are stored then.
 const TESTED: [Row; 17] = [
     (Call::InvalidateIf("one", ""), 0, Answer::Done),
     (Call::Tested, 0, Answer::Counted(0)),
@@ -144,12 +146,13 @@ const TESTED: [Row; 17] = [
     (Call::Tested, 0, Answer::Counted(5)),
 ];
 
+/// A predicate is called once for each stored entry.
 #[test]
 fn asks_a_predicate_once_of_each_stored_pair(rt: HostRuntime) -> Result<(), Fail> {
     answers(&rt, rt.alloc(), HIDING, &TESTED)
 }
 
-/// The numbers are those that the generator draws first of all.
+/// The number is the first of all that the generator draws.
 const WITHOUT_CLOSURES: [Row; 8] = [
     (Call::Insert(1, "one"), 0, Answer::Done),
     (Call::PredicateRoom, 0, DISABLED),
@@ -161,7 +164,7 @@ const WITHOUT_CLOSURES: [Row; 8] = [
     (Call::InvalidateAll, 0, Answer::Done),
 ];
 
-/// An id takes the first two numbers of the generator, and the next id those behind the third.
+/// An id takes the first two numbers of the generator, and the next id those after the third.
 const BY_ID: [Row; 12] = [
     (Call::PredicateRoom, 0, Answer::Done),
     (Call::Insert(1, "one"), 0, Answer::Done),
@@ -185,13 +188,14 @@ const BY_ID: [Row; 12] = [
     (Call::TakeNotice, 0, Answer::NoNotice),
 ];
 
+/// An id is drawn only if predicates are accepted.
 #[test]
 fn draws_an_id_where_predicates_are_supported(rt: HostRuntime) -> Result<(), Fail> {
     answers(&rt, rt.alloc(), UNLIMITED, &WITHOUT_CLOSURES)?;
     answers(&rt, rt.alloc(), HIDING, &BY_ID)
 }
 
-/// A removal that was refused left the value, and its moment was not recorded: 2 is written at 0.
+/// A failed removal leaves the entry, and its moment is not recorded: key 2 is written at moment 0.
 const NOT_REMOVED: [Row; 13] = [
     (Call::Insert(1, "one"), 0, Answer::Done),
     (Call::RefuseCopies(true), 0, Answer::Done),
@@ -204,7 +208,7 @@ const NOT_REMOVED: [Row; 13] = [
     (Call::Insert(2, "two"), 0, Answer::Done),
     (Call::ContainsKey(1), 4_999_999_999, Answer::Contains(true)),
     (Call::ContainsKey(2), 5_000_000_000, Answer::Contains(false)),
-    // A removal that finds no live value needs no copy.
+    // A removal that finds no live value clones nothing.
     (Call::Remove(3), 0, Answer::Absent),
     (Call::InvalidateAll, 0, Answer::Done),
     (Call::Remove(1), 0, Answer::Absent),
@@ -213,6 +217,7 @@ const NOT_REMOVED: [Row; 13] = [
     (Call::TakeNotice, 0, Answer::Noticed(2, "two", EXPLICIT)),
 ];
 
+/// A `remove` that cannot clone its value fails, and changes nothing.
 #[test]
 fn refuses_a_removal_without_memory(rt: HostRuntime) -> Result<(), Fail> {
     let rules = Rules {
@@ -222,7 +227,7 @@ fn refuses_a_removal_without_memory(rt: HostRuntime) -> Result<(), Fail> {
     answers(&rt, rt.alloc(), rules, &NOT_REMOVED)
 }
 
-/// Removals that take memory: for a copy, for a shared predicate, and for the text of an id.
+/// Removals that allocate: for a clone, for a shared predicate, and for the text of an id.
 const REMOVALS: [Row; 12] = [
     (Call::Insert(1, "one"), 0, Answer::Done),
     (Call::Insert(2, "two"), 0, Answer::Done),
@@ -238,13 +243,13 @@ const REMOVALS: [Row; 12] = [
     (Call::TakeNotice, 0, Answer::NoNotice),
 ];
 
-/// It passes also where one request for memory is refused, whichever.
+/// Removals and invalidations succeed, also if any one allocation fails.
 #[test]
 fn removes_where_a_call_is_refused(rt: HostRuntime) -> Result<(), Fail> {
     answers_patiently::<CacheRows<u64, Value>>(&rt, rt.alloc(), HIDING, &REMOVALS)
 }
 
-/// So does this.
+/// The same over the plain row store.
 #[test]
 fn removes_in_lists_where_a_call_is_refused(rt: HostRuntime) -> Result<(), Fail> {
     answers_patiently::<ListRows<u64, Value>>(&rt, rt.alloc(), HIDING, &REMOVALS)
@@ -270,8 +275,7 @@ const WITHOUT_MEMORY: [Row; 10] = [
     (Call::TakeNotice, 0, Answer::NoNotice),
 ];
 
-/// As in `memory`: it asks for memory just before and just behind the calls, which take none but what a value's copy takes,
-/// and here that is none.
+/// These calls allocate only what a clone of a value does, here nothing: seen as in `memory`.
 #[test]
 fn takes_no_memory_to_hide_all(rt: HostRuntime) -> Result<(), Fail> {
     answers_between_requests::<CacheRows<u64, Value>>(

@@ -1,4 +1,4 @@
-//! The keys of the tests, and what hashes them.
+//! The keys of the tests, and their hashers.
 ghost use Rattle.std.specs.Prelude.{◌%◌, nat_eq};
 ghost use Rattle.std.proofs.Common.{rules};
 ghost use Rattle.std.specs.Cmp.Rules.{comparing, hashing};
@@ -10,10 +10,10 @@ use std::hash::{BuildHasherDefault, Hash, Hasher};
 
 /// A key that a table names by a number.
 pub(crate) trait Key: Hash + Drop {
-    /// The key of a number.
+    /// Returns the key of a number.
     fn of(number: u64) -> Self;
 
-    /// The number of a key.
+    /// Returns the number of the key.
     fn number(&self) -> u64;
 }
 
@@ -27,7 +27,7 @@ impl Key for u64 {
     }
 }
 
-/// Keys that are equal where their last digits are.
+/// Keys that are equal if their last digits are.
 #[derive(Drop)]
 pub(crate) struct LastDigit(u64);
 
@@ -65,10 +65,10 @@ impl Key for LastDigit {
     }
 }
 
-/// Each number key has itself as its hash.
+/// Hashes each number key to itself.
 pub(crate) type ByNumber = BuildHasherDefault<NumberHash>;
 
-/// Every key has the same hash.
+/// Hashes every key to 0.
 #[derive(Clone, Copy, Default)]
 pub(crate) struct Collides;
 

@@ -1,7 +1,7 @@
-//! The tests of the cache, over the calls that its users make.
+//! Tests of the owned cache, through the calls that its users make.
 //!
-//! Almost all are tables: how a cache is built, and then calls, each with its moment and its answer. `subject` says what
-//! is done with a table, and what else holds after each call.
+//! Almost all are tables: the rules of a cache, and then calls, each with its moment and its
+//! expected result. `subject` says how a table runs and what else is checked after each call.
 #![tactic(auto)]
 
 #[cfg(test)]

@@ -1,4 +1,4 @@
-//! Maintenances and flushes within a limit, by tables.
+//! Maintenance and flushes with a limit, by tables.
 use crate::subject::{
     Answer, CacheRows, Call, Row, Rules, UNLIMITED, answers, answers_between_requests,
     answers_patiently, room,
@@ -12,14 +12,14 @@ use std::test::Fail;
 
 const SECOND: u64 = 1_000_000_000;
 
-/// A capacity of 2 and a life of 10 seconds.
+/// A capacity of 2 and a time to live of 10 seconds.
 const TWO: Rules = Rules {
     max_capacity: Some(2),
     time_to_live: Some(10),
     ..UNLIMITED
 };
 
-/// With a limit of 0 the keys that fit are admitted, and no other part is done.
+/// With a limit of 0 the entries that fit are admitted, and nothing else is done.
 const ONE_BY_ONE: [Row; 13] = [
     (Call::Insert(1, "one"), 0, Answer::Done),
     (Call::Insert(2, "two"), 0, Answer::Done),
@@ -64,7 +64,7 @@ const EXPIRED: [Row; 9] = [
     (Call::EntryCount, 0, Answer::Counted(0)),
 ];
 
-/// The moment is recorded where nothing may leave, too.
+/// The moment is recorded even if nothing may be evicted.
 const AT_NO_EARLIER_MOMENT: [Row; 5] = [
     (Call::Insert(1, "one"), 0, Answer::Done),
     (
@@ -81,6 +81,7 @@ const AT_NO_EARLIER_MOMENT: [Row; 5] = [
     (Call::EntryCount, 0, Answer::Counted(0)),
 ];
 
+/// Maintenance evicts at most as many entries as its limit, and returns whether work is left.
 #[test]
 fn does_as_many_parts_as_the_limit_lets(rt: HostRuntime) -> Result<(), Fail> {
     answers(&rt, rt.alloc(), TWO, &ONE_BY_ONE)?;
@@ -92,7 +93,8 @@ fn does_as_many_parts_as_the_limit_lets(rt: HostRuntime) -> Result<(), Fail> {
     answers(&rt, rt.alloc(), rules, &AT_NO_EARLIER_MOMENT)
 }
 
-/// Three keys that weigh 3 are admitted. The first that waits has to take the place of two, and the next one would fit.
+/// Three entries of weight 3 are resident. The first pending one needs the place of two, and the
+/// next one would fit.
 const TWO_AT_ONCE: [Row; 15] = [
     (Call::InsertHeavy(1, 3), 0, Answer::Done),
     (Call::InsertHeavy(2, 3), 0, Answer::Done),
@@ -111,6 +113,7 @@ const TWO_AT_ONCE: [Row; 15] = [
     (Call::WeightedSize, 0, Answer::Counted(8)),
 ];
 
+/// Maintenance stops at a pending entry that needs more evictions than the limit allows.
 #[test]
 fn stops_at_a_part_that_the_limit_does_not_let(rt: HostRuntime) -> Result<(), Fail> {
     let rules = Rules {
@@ -121,7 +124,7 @@ fn stops_at_a_part_that_the_limit_does_not_let(rt: HostRuntime) -> Result<(), Fa
     answers(&rt, rt.alloc(), rules, &TWO_AT_ONCE)
 }
 
-/// What is hidden stays so until it has left, however often a sweep is cut before it.
+/// An invalidated entry stays so until it is removed, however often a limit ends maintenance first.
 const HIDDEN: [Row; 15] = [
     (Call::Insert(1, "one"), 0, Answer::Done),
     (Call::Insert(2, "two"), 0, Answer::Done),
@@ -148,12 +151,13 @@ const HIDDEN: [Row; 15] = [
     (Call::EntryCount, 0, Answer::Counted(1)),
 ];
 
+/// An invalidated entry is found by no lookup, also if a limit ends maintenance before it.
 #[test]
 fn hides_until_it_has_left(rt: HostRuntime) -> Result<(), Fail> {
     answers(&rt, rt.alloc(), TWO, &HIDDEN)
 }
 
-/// What the calls within a limit answer where two keys are admitted and two wait.
+/// The expected results if two entries are resident and two are pending.
 const IN_SLICES: [Row; 6] = [
     (Call::RunPendingTasksUpTo(1), 0, Answer::Left(true)),
     (Call::NoticeCount, 0, Answer::Counted(1)),
@@ -163,6 +167,7 @@ const IN_SLICES: [Row; 6] = [
     (Call::RunPendingTasksUpTo(0), 0, Answer::Left(false)),
 ];
 
+/// Maintenance with a limit does not allocate.
 #[test]
 fn takes_no_memory_within_a_limit(rt: HostRuntime) -> Result<(), Fail> {
     let before = written(rt.alloc(), 1..5, 0)?;
@@ -175,14 +180,14 @@ fn takes_no_memory_within_a_limit(rt: HostRuntime) -> Result<(), Fail> {
     )
 }
 
-/// Writes of these keys at a moment.
+/// Returns inserts of these keys at a moment, in nanoseconds.
 fn written(alloc: Global, keys: Range<u64>, now: u64) -> Result<Vec<Row>, AllocError> {
     let mut rows = room(alloc, 90)?;
     add_writes(&mut rows, keys, "value", now)?;
     Ok(rows)
 }
 
-/// One more notice, and then none, and so many keys that are stored.
+/// Returns rows that expect one more notice, then none, and `count` stored entries.
 fn left(number: u64, cause: RemovalCause, count: u64) -> [Row; 3] {
     [
         (Call::TakeNotice, 0, Answer::Noticed(number, "value", cause)),
@@ -198,7 +203,8 @@ const FLUSHED_BY_ONE: Rules = Rules {
     ..UNLIMITED
 };
 
-/// Each flush lets one leave. The first admits ten keys, and an eleventh in the place of the oldest.
+/// Returns inserts with two flushes, each of which evicts one entry. The first admits ten keys, and
+/// an eleventh in the place of the oldest.
 fn many_writes(alloc: Global) -> Result<Vec<Row>, AllocError> {
     let mut rows = written(alloc, 1..66, 0)?;
     add_all(&mut rows, &left(1, RemovalCause::Size, 64))?;
@@ -208,27 +214,29 @@ fn many_writes(alloc: Global) -> Result<Vec<Row>, AllocError> {
     Ok(rows)
 }
 
-/// 64 keys wait and no notice does, and then one more is written.
+/// 64 entries are pending and no notice is queued; then one more is written.
 const ONE_MORE: [Row; 3] = [
     (Call::NoticeCount, 0, Answer::Counted(0)),
     (Call::EntryCount, 0, Answer::Counted(74)),
     (Call::Insert(76, "value"), 0, Answer::Done),
 ];
 
+/// A flush evicts no more entries than the flush limit.
 #[test]
 fn lets_no_more_leave_before_a_write_than_the_flush_limit(rt: HostRuntime) -> Result<(), Fail> {
     let rows = many_writes(rt.alloc())?;
     answers(&rt, rt.alloc(), FLUSHED_BY_ONE, rows.as_slice())
 }
 
-/// It passes also where one request for memory is refused, whichever.
+/// Flushes with a limit work, also if any one allocation fails.
 #[test]
 fn flushes_within_a_limit_where_memory_is_refused(rt: HostRuntime) -> Result<(), Fail> {
     let rows = many_writes(rt.alloc())?;
     answers_patiently::<CacheRows<u64, Value>>(&rt, rt.alloc(), FLUSHED_BY_ONE, rows.as_slice())
 }
 
-/// Two keys are admitted, and expire where two of those are written that wait.
+/// Returns inserts before which two resident entries expire. Each of the last two evicts one of
+/// them.
 fn cut_flushes(alloc: Global) -> Result<Vec<Row>, AllocError> {
     let mut rows = written(alloc, 1..3, 0)?;
     add_all(&mut rows, &[(Call::RunPendingTasks, 0, Answer::Done)])?;
@@ -238,13 +246,13 @@ fn cut_flushes(alloc: Global) -> Result<Vec<Row>, AllocError> {
     Ok(rows)
 }
 
-/// Adds the write of one key, before which another one expires.
+/// Adds an insert of one key, before which another one expires.
 fn add_expiry(rows: &mut Vec<Row>, key: u64, expired: u64) -> Result<(), AllocError> {
     rows.push((Call::Insert(key, "value"), 10 * SECOND, Answer::Done))?;
     add_all(rows, &left(expired, RemovalCause::Expired, 66))
 }
 
-/// A flush that is cut in its sweep leaves more than 64 keys waiting.
+/// A flush that ends while it evicts the expired leaves more than 64 entries pending.
 #[test]
 fn more_wait_where_a_flush_is_cut(rt: HostRuntime) -> Result<(), Fail> {
     let rows = cut_flushes(rt.alloc())?;

@@ -1,4 +1,4 @@
-//! The plain row store through its bound, by tables.
+//! The plain row store, called through its trait, by tables.
 ghost use Rattle.std.specs.Prelude.{◌++◌, IsSome, IfSome};
 ghost use Rattle.moka_state.specs.Rows.{row_under};
 
@@ -29,7 +29,7 @@ const LATER: EntryInfo = EntryInfo {
     is_hidden: false,
 };
 
-/// A use leaves the moment of the write.
+/// An access leaves the moment of the write unchanged.
 const USED: EntryInfo = EntryInfo {
     last_modified: 5,
     last_accessed: 8,
@@ -39,14 +39,14 @@ const USED: EntryInfo = EntryInfo {
     is_hidden: false,
 };
 
-/// A use at that moment.
+/// An access at the moment of `LATER`.
 const AT_LATER: Touch = Touch {
     last_accessed: 8,
     own_life: None,
     deadline: None,
 };
 
-/// A call of a store of rows; most are about the row of a key of a hash.
+/// A call of a row store. Most are about the row of a key with a hash.
 #[derive(Clone, Copy)]
 enum Call {
     Len,
@@ -54,12 +54,12 @@ enum Call {
     FirstAdmitted,
     FirstWaiting,
     AdmitFirst,
-    /// A row whose moments are `FIRST`.
+    /// Adds a row whose moments are `FIRST`.
     Add(u64, u64, &'static str),
     Of(u64, u64, Use),
 }
 
-/// What is done with a row. A use of it is at `LATER`.
+/// What is done with a row. Accesses and overwrites are at the moment of `LATER`.
 #[derive(Clone, Copy)]
 enum Use {
     Find,
@@ -76,14 +76,14 @@ enum Answer {
     Done,
     Counted(usize),
     Is(bool),
-    /// The row of this key, by its number.
+    /// The row of this key, found by its row number.
     Key(u64),
     Value(&'static str, EntryInfo),
     Before(&'static str),
     Absent,
 }
 
-/// The number of a key of this hash.
+/// Returns the row number of a key with this hash.
 fn number_of<R: RowStore<u64, &'static str>>(rows: &R, key: u64, hash: u64) -> Option<usize>
     ensures { IfSome result (λ number. IsSome (row_under number (R.admitted rows.now ++ R.waiting rows.now))) }
 {
@@ -91,14 +91,14 @@ fn number_of<R: RowStore<u64, &'static str>>(rows: &R, key: u64, hash: u64) -> O
     rows.find(&key, hash, &mut reads)
 }
 
-/// The number of the row that has waited longest.
+/// Returns the row number of the row that has been pending longest.
 fn first_waiting<R: RowStore<u64, &'static str>>(rows: &R) -> Option<usize>
     ensures { IfSome result (λ number. IsSome (row_under number (R.waiting rows.now))) }
 {
     rows.first_waiting()
 }
 
-/// The row of a number, by the keys of the numbers that were given out.
+/// Returns the key of a row number, by the row numbers and keys that were added.
 fn row_of(keys: &[(usize, u64)], number: Option<usize>) -> Answer {
     for (given, key) in keys {
         if number == Some(*given) {
@@ -108,12 +108,12 @@ fn row_of(keys: &[(usize, u64)], number: Option<usize>) -> Answer {
     Answer::Absent
 }
 
-/// The value of a row, with its moments.
+/// Returns the value of a row with its moments.
 fn value_of(row: &Row<u64, &'static str>) -> Answer {
     Answer::Value(row.value, row.info())
 }
 
-/// Makes a use of the row under a number.
+/// Does something with the row of a number.
 fn used<R: RowStore<u64, &'static str>>(
     rows: &mut R,
     keys: &[(usize, u64)],
@@ -136,7 +136,7 @@ fn used<R: RowStore<u64, &'static str>>(
     }
 }
 
-/// Makes a use of the row of a key, where there is one.
+/// Does something with the row of a key, if there is one.
 fn used_of<R: RowStore<u64, &'static str>>(
     rows: &mut R,
     keys: &[(usize, u64)],
@@ -150,7 +150,7 @@ fn used_of<R: RowStore<u64, &'static str>>(
     }
 }
 
-/// Admits the row that has waited longest.
+/// Admits the row that has been pending longest.
 fn admit_first<R: RowStore<u64, &'static str>>(rows: &mut R) -> Answer {
     match first_waiting(rows) {
         Some(number) => {
@@ -161,7 +161,7 @@ fn admit_first<R: RowStore<u64, &'static str>>(rows: &mut R) -> Answer {
     }
 }
 
-/// Adds a row, and answers its number.
+/// Adds a row, and returns its number.
 fn add<R: RowStore<u64, &'static str>>(
     alloc: Global,
     rows: &mut R,
@@ -179,7 +179,7 @@ fn add<R: RowStore<u64, &'static str>>(
     }))
 }
 
-/// Makes a call.
+/// Makes a call and returns its result.
 fn made<R: RowStore<u64, &'static str>>(
     alloc: Global,
     rows: &mut R,
@@ -201,7 +201,7 @@ fn made<R: RowStore<u64, &'static str>>(
     })
 }
 
-/// Each call answers what the table says.
+/// Checks that each call returns what the table says.
 fn answers<R: RowStore<u64, &'static str>>(
     rt: &impl Abort,
     alloc: Global,
@@ -256,6 +256,7 @@ const KEPT: [(Call, Answer); 21] = [
     (Call::Len, Answer::Counted(0)),
 ];
 
+/// The store finds, reads, overwrites, touches and removes rows.
 #[test]
 fn keeps_rows_in_lists(rt: HostRuntime) -> Result<(), Fail> {
     answers::<ListRows<u64, &'static str>>(&rt, rt.alloc(), &KEPT)
@@ -280,7 +281,7 @@ const ADMITTED: [(Call, Answer); 22] = [
     (Call::Of(1, 7, Use::Next), Answer::Key(2)),
     (Call::Of(2, 7, Use::Next), Answer::Absent),
     (Call::Of(2, 7, Use::IsAdmitted), Answer::Is(true)),
-    // A use of an admitted row makes it the most recently used.
+    // An access makes a resident row the most recently used.
     (Call::Of(1, 7, Use::Touch), Answer::Done),
     (Call::FirstAdmitted, Answer::Key(2)),
     (
@@ -290,6 +291,7 @@ const ADMITTED: [(Call, Answer); 22] = [
     (Call::FirstAdmitted, Answer::Key(1)),
 ];
 
+/// The store keeps pending rows in arrival order and resident rows in access order.
 #[test]
 fn admits_rows_in_lists(rt: HostRuntime) -> Result<(), Fail> {
     answers::<ListRows<u64, &'static str>>(&rt, rt.alloc(), &ADMITTED)

@@ -1,4 +1,4 @@
-//! Thousands of calls, none of which is refused, by tables that are made.
+//! Thousands of calls, none of which fails, by generated tables.
 use crate::keys::ByNumber;
 use crate::subject::{
     Answer, CacheRows, Call, Row, Rules, UNLIMITED, answered_alike, answers, answers_as_its_twin,
@@ -12,14 +12,14 @@ use std::alloc::{AllocError, Global};
 use std::process::Abort;
 use std::test::Fail;
 
-/// Numbers in no order that shows, the same in each run.
+/// Pseudorandom numbers, the same in each run.
 #[derive(Drop)]
 struct Numbers {
     last: u64,
 }
 
 impl Numbers {
-    /// One of so many numbers, from 0 on.
+    /// Returns a number below `bound`, or 0 if that is 0.
     fn below(&mut self, bound: u64) -> u64 {
         self.last = self
             .last
@@ -30,7 +30,7 @@ impl Numbers {
             .unwrap_or(0)
     }
 
-    /// A life of up to 20 seconds for half of all values.
+    /// Returns a lifetime of less than 20 seconds in half of all calls, and else none.
     fn life(&mut self) -> Option<u64> {
         let seconds = self.below(40);
         if seconds < 20 { Some(seconds) } else { None }
@@ -40,7 +40,7 @@ impl Numbers {
         self.below(2) == 0
     }
 
-    /// Rules of which each number is below this one.
+    /// Returns rules in which each number is below `greatest`.
     fn rules(&mut self, greatest: u64) -> Rules {
         Rules {
             max_capacity: Some(self.below(greatest)),
@@ -66,7 +66,7 @@ impl Numbers {
         }
     }
 
-    /// A call for one of so many keys.
+    /// Returns a call about one of so many keys.
     fn call(&mut self, keys: u64) -> Call {
         let key = self.below(keys);
         match self.below(20) {
@@ -82,7 +82,7 @@ impl Numbers {
         }
     }
 
-    /// A maintenance, or more often a look.
+    /// Returns a maintenance, or more often a lookup.
     fn look_or_maintenance(&mut self, key: u64) -> Call {
         if self.below(20) == 0 {
             Call::RunPendingTasks
@@ -91,7 +91,7 @@ impl Numbers {
         }
     }
 
-    /// A removal, of one key or of more.
+    /// Returns a removal of one key or an invalidation of many.
     fn removal(&mut self, key: u64) -> Call {
         match self.below(10) {
             0 => Call::InvalidateAll,
@@ -101,7 +101,8 @@ impl Numbers {
     }
 }
 
-/// So many calls for so many keys. Most moments are up to a second behind the one before, and a few go back.
+/// Returns `len` calls about so many keys. Most moments are less than a second after the one
+/// before, and a few go back.
 fn calls(alloc: Global, len: usize, keys: u64) -> Result<Vec<Row>, AllocError> {
     let mut numbers = Numbers { last: keys };
     let mut rows = room(alloc, len)?;
@@ -117,12 +118,13 @@ fn calls(alloc: Global, len: usize, keys: u64) -> Result<Vec<Row>, AllocError> {
     Ok(rows)
 }
 
-/// Each call answers what the table says over the store of the caches, which is quick enough for long tables.
+/// Checks a table over the store of the caches, which is fast enough for long tables.
 fn in_a_slab(rt: &impl Abort, alloc: Global, rules: Rules, rows: &[Row]) -> Result<(), Fail> {
     answers_over::<u64, ByNumber, CacheRows<u64, Value>>(rt, alloc, rules, rows)
 }
 
-/// A capacity under either policy, with or without weights and with all kinds of lives, and none at all.
+/// A capacity with either policy, with or without weights and with all kinds of lifetimes, and none
+/// at all.
 const ALL_RULES: [Rules; 6] = [
     UNLIMITED,
     Rules {
@@ -163,6 +165,7 @@ const ALL_RULES: [Rules; 6] = [
     },
 ];
 
+/// None of thousands of calls fails, under any of the rules.
 #[test]
 fn refuses_none_of_thousands_of_calls(rt: HostRuntime) -> Result<(), Fail> {
     for (len, keys) in [(1000, 3), (3000, 80), (5000, 2000)] {
@@ -174,7 +177,7 @@ fn refuses_none_of_thousands_of_calls(rt: HostRuntime) -> Result<(), Fail> {
     Ok(())
 }
 
-/// Each key by its own hash, and all by one.
+/// Both row stores give the same results, with distinct hashes and with one hash for all keys.
 #[test]
 fn both_stores_answer_alike(rt: HostRuntime) -> Result<(), Fail> {
     for (len, keys) in [(1000, 3), (1000, 200)] {
@@ -192,7 +195,7 @@ fn both_stores_answer_alike(rt: HostRuntime) -> Result<(), Fail> {
     Ok(())
 }
 
-/// Keys that come and go, most of them often enough that all lists of a store grow more than once.
+/// Rules under which keys come and go so often that all lists of a store grow more than once.
 const FEW: Rules = Rules {
     max_capacity: Some(5),
     initial_capacity: 3,
@@ -201,24 +204,24 @@ const FEW: Rules = Rules {
     ..UNLIMITED
 };
 
-/// It passes also where one request for memory is refused, whichever.
+/// A cache in which any one allocation fails gives the same results as one in which none does.
 #[test]
 fn a_slab_answers_as_its_twin(rt: HostRuntime) -> Result<(), Fail> {
     let rows = calls(rt.alloc(), 60, 30)?;
     answers_as_its_twin::<CacheRows<u64, Value>>(&rt, rt.alloc(), FEW, rows.as_slice())
 }
 
-/// So does this.
+/// The same over the plain row store.
 #[test]
 fn lists_answer_as_their_twin(rt: HostRuntime) -> Result<(), Fail> {
     let rows = calls(rt.alloc(), 60, 30)?;
     answers_as_its_twin::<ListRows<u64, Value>>(&rt, rt.alloc(), FEW, rows.as_slice())
 }
 
-/// How many keys are written one after another.
+/// The number of keys that are written one after another.
 const MANY: u64 = 3000;
 
-/// Adds their writes, each with a look behind it.
+/// Adds an insert of each key, and a lookup after it.
 fn add_writes_and_looks(rows: &mut Vec<Row>) -> Result<(), AllocError> {
     for key in 0..MANY {
         rows.push((Call::Insert(key, "any"), key, Answer::Done))?;
@@ -228,7 +231,7 @@ fn add_writes_and_looks(rows: &mut Vec<Row>) -> Result<(), AllocError> {
     Ok(())
 }
 
-/// Adds their removals, with a maintenance between two of them.
+/// Adds an invalidation of each key, with one maintenance among them.
 fn add_removals(rows: &mut Vec<Row>) -> Result<(), AllocError> {
     for key in 0..MANY {
         rows.push((Call::Invalidate(key), MANY, Answer::Done))?;
@@ -240,7 +243,7 @@ fn add_removals(rows: &mut Vec<Row>) -> Result<(), AllocError> {
     Ok(())
 }
 
-/// Each number of stored keys up to that comes by, and each number of notices.
+/// An insert succeeds at every number of stored entries and of notices up to 3000.
 #[test]
 fn refuses_no_write_at_any_length(rt: HostRuntime) -> Result<(), Fail> {
     let mut rows = room(rt.alloc(), 15_010)?;
@@ -259,6 +262,7 @@ const FEW_CALLS: [Row; 5] = [
     (Call::EntryCount, u64::MAX, Answer::Accepted),
 ];
 
+/// Caches with settings of all sizes work, up to `u64::MAX`.
 #[test]
 fn opens_with_all_settings(rt: HostRuntime) -> Result<(), Fail> {
     let mut numbers = Numbers { last: 0 };

@@ -1,4 +1,4 @@
-//! Maintenances, by tables.
+//! Maintenance, by tables.
 use crate::subject::{
     Answer, CacheRows, Call, Row, Rules, UNLIMITED, answers, answers_patiently, room,
 };
@@ -33,7 +33,7 @@ const IN_ORDER_OF_USE: [Row; 17] = [
     (Call::EntryCount, 0, Answer::Counted(3)),
 ];
 
-/// A write over a stored value is a use too, and the moment of a maintenance is recorded.
+/// An overwrite is an access, too.
 const OVERWRITTEN: [Row; 9] = [
     (Call::Insert(1, "one"), 0, Answer::Done),
     (Call::Insert(2, "two"), 0, Answer::Done),
@@ -54,6 +54,7 @@ const OVERWRITTEN: [Row; 9] = [
     ),
 ];
 
+/// Maintenance evicts the least recently used entries first.
 #[test]
 fn lets_the_least_recently_used_leave(rt: HostRuntime) -> Result<(), Fail> {
     let rules = Rules {
@@ -93,6 +94,7 @@ const EXPIRED_WAITING: [Row; 5] = [
     (Call::TakeNotice, 0, Answer::NoNotice),
 ];
 
+/// Maintenance evicts expired entries, resident or pending.
 #[test]
 fn lets_the_expired_leave(rt: HostRuntime) -> Result<(), Fail> {
     let rules = Rules {
@@ -110,7 +112,7 @@ const TEN: Rules = Rules {
     ..UNLIMITED
 };
 
-/// Writes of the keys 1 to 64, all of which wait then, with room for some rows more.
+/// Returns inserts of the keys 1 to 64, all of which are then pending, and room for `more` rows.
 fn filled(alloc: Global, more: usize) -> Result<Vec<Row>, AllocError> {
     let mut rows = room(alloc, more.saturating_add(66))?;
     add_writes(&mut rows, 1..65, "first", 0)?;
@@ -123,14 +125,14 @@ const ALL_WAIT: [Row; 2] = [
     (Call::NoticeCount, 0, Answer::Counted(0)),
 ];
 
-/// One key more, before which all leave that wait and do not fit.
+/// One more key. The flush before it keeps only as many entries as fit.
 const ONE_MORE: [Row; 3] = [
     (Call::Insert(65, "first"), 0, Answer::Done),
     (Call::EntryCount, 0, Answer::Counted(11)),
     (Call::NoticeCount, 0, Answer::Counted(54)),
 ];
 
-/// It passes also where one request for memory is refused, whichever.
+/// An insert that finds 64 pending entries flushes first, also if any one allocation fails.
 #[test]
 fn flushes_before_a_write_that_finds_64_keys_waiting(rt: HostRuntime) -> Result<(), Fail> {
     let mut rows = filled(rt.alloc(), 57)?;
@@ -139,7 +141,7 @@ fn flushes_before_a_write_that_finds_64_keys_waiting(rt: HostRuntime) -> Result<
     answers_patiently::<CacheRows<u64, Value>>(&rt, rt.alloc(), TEN, rows.as_slice())
 }
 
-/// The key that is written is let go by the flush before its write, which then finds it not stored.
+/// The flush before the write evicts the entry of its key, so the write finds it not stored.
 const OVER_A_VALUE_THAT_LEAVES: [Row; 4] = [
     (Call::Insert(1, "again"), 0, Answer::Done),
     (Call::EntryCount, 0, Answer::Counted(11)),
@@ -151,7 +153,7 @@ const OVER_A_VALUE_THAT_LEAVES: [Row; 4] = [
     (Call::ContainsKey(1), 0, Answer::Contains(true)),
 ];
 
-/// It passes also where one request for memory is refused, whichever.
+/// An overwrite flushes first, too, also if any one allocation fails.
 #[test]
 fn flushes_before_an_overwrite(rt: HostRuntime) -> Result<(), Fail> {
     let mut rows = filled(rt.alloc(), 4)?;
@@ -169,6 +171,7 @@ const REFUSED: [Row; 3] = [
     (Call::NoticeCount, 0, Answer::Counted(0)),
 ];
 
+/// An insert that fails for lack of a sequence number does not flush.
 #[test]
 fn does_not_flush_before_a_refused_write(rt: HostRuntime) -> Result<(), Fail> {
     let mut rows = filled(rt.alloc(), 3)?;
@@ -180,8 +183,8 @@ fn does_not_flush_before_a_refused_write(rt: HostRuntime) -> Result<(), Fail> {
     answers(&rt, rt.alloc(), rules, rows.as_slice())
 }
 
-/// Three keys are admitted, the order of their use is 3, 1, 2, and the notes of their looks are 1, 2, 2. A fourth comes
-/// three times, after no look for it, after one, and after two.
+/// Three entries are resident. Their access order is 3, 1, 2, and they were looked up 1, 2 and 2
+/// times. A fourth key is inserted three times: after no lookup, after one, and after two.
 const ADMISSIONS: [Row; 22] = [
     (Call::Insert(1, "one"), 0, Answer::Done),
     (Call::Insert(2, "two"), 0, Answer::Done),
@@ -219,8 +222,8 @@ const ADMISSIONS: [Row; 22] = [
     (Call::ContainsKey(4), 0, Answer::Contains(true)),
 ];
 
-/// Two are admitted, and were looked for 2 and 3 times. Of two that wait then the first was looked for once and loses
-/// against 1; the second was looked for 3 times and wins against it.
+/// Two entries are resident, and were looked up 2 and 3 times. Of two pending ones the first was
+/// looked up once and loses against key 1. The second was looked up 3 times and wins against it.
 const CONTENDERS: [Row; 20] = [
     (Call::Insert(1, "one"), 0, Answer::Done),
     (Call::Insert(2, "two"), 0, Answer::Done),
@@ -252,6 +255,7 @@ const CONTENDERS: [Row; 20] = [
     (Call::ContainsKey(4), 0, Answer::Contains(true)),
 ];
 
+/// TinyLFU admits an entry only if it was looked up more often than its victim.
 #[test]
 fn admits_what_is_looked_for_more_often(rt: HostRuntime) -> Result<(), Fail> {
     let rules = Rules {

@@ -1,9 +1,9 @@
-//! What memory is taken and kept.
+//! What is allocated, and what is kept.
 //!
-//! That a call takes no memory is seen where requests are refused. In a run of the tests by
-//! `rt try --test --fail-alloc N` the Nth request of each test is refused, so each test here, which asks for memory just
-//! before and just behind the calls that take none, fails at some N for want of the first, and at N + 1 for want of the
-//! second.
+//! That a call does not allocate shows if allocations fail. In a run of the tests by `rt try --test
+//! --fail-alloc N` the Nth allocation of each test fails. Each test here allocates just before and
+//! just after the calls that do not. So it fails at some N for lack of the first of these, and at N
+//! + 1 for lack of the second.
 use crate::subject::{
     Answer, CacheRows, Call, Row, Rules, UNLIMITED, answers, answers_between_requests,
     answers_patiently,
@@ -13,8 +13,8 @@ use moka_base::notification::RemovalCause;
 use moka_state::list_rows::ListRows;
 use std::test::Fail;
 
-/// A value that leaves in each way, and whose notice is taken then. What is kept after each call is counted with each
-/// table; here it is nothing in the end.
+/// An entry is removed in each way, and its notice is taken. What is kept is counted after each
+/// call of a table; here it is nothing in the end.
 const ALL_LEAVE: [Row; 19] = [
     (Call::Insert(1, "replaced"), 0, Answer::Done),
     (Call::Insert(1, "removed"), 0, Answer::Done),
@@ -57,6 +57,7 @@ const ALL_LEAVE: [Row; 19] = [
     (Call::NoticeCount, 0, Answer::Counted(0)),
 ];
 
+/// Nothing is kept of an entry that was removed and whose notice was taken.
 #[test]
 fn keeps_nothing_that_left(rt: HostRuntime) -> Result<(), Fail> {
     let rules = Rules {
@@ -76,7 +77,7 @@ const BEFORE: [Row; 6] = [
     (Call::Insert(1, "again"), 5_000_000_000, Answer::Done),
 ];
 
-/// Of the keys that are admitted 2 was used first, so it leaves for 3, and then 1 for 4.
+/// Of the resident entries 2 was used first, so it is evicted for 3, and then 1 for 4.
 const WITHOUT_MEMORY: [Row; 24] = [
     (Call::Get(3), 5_000_000_000, Answer::Found("three")),
     (Call::Get(5), 5_000_000_000, Answer::Absent),
@@ -124,6 +125,7 @@ const WITHOUT_MEMORY: [Row; 24] = [
     (Call::NoticeCount, 0, Answer::Counted(0)),
 ];
 
+/// Calls other than inserts do not allocate, beyond clones of values.
 #[test]
 fn takes_no_memory_but_for_writes(rt: HostRuntime) -> Result<(), Fail> {
     let rules = Rules {
@@ -140,7 +142,7 @@ fn takes_no_memory_but_for_writes(rt: HostRuntime) -> Result<(), Fail> {
     )
 }
 
-/// 3 was looked for once, 4 not, and nor were those that are admitted.
+/// Key 3 was looked up once. Key 4 was not, and neither were the resident keys.
 const BY_FREQUENCY: [Row; 7] = [
     (Call::Get(3), 5_000_000_000, Answer::Found("three")),
     (Call::RunPendingTasks, 5_000_000_000, Answer::Done),
@@ -163,6 +165,7 @@ const BY_FREQUENCY: [Row; 7] = [
     (Call::EntryCount, 0, Answer::Counted(2)),
 ];
 
+/// Admission by frequency does not allocate.
 #[test]
 fn takes_no_memory_to_judge_by_frequency(rt: HostRuntime) -> Result<(), Fail> {
     let rules = Rules {
@@ -190,6 +193,7 @@ const AT_A_CAPACITY_OF_0: [Row; 8] = [
     (Call::TakeNotice, 0, Answer::NoNotice),
 ];
 
+/// An insert at a capacity of 0 does not allocate.
 #[test]
 fn takes_no_memory_to_write_at_a_capacity_of_0(rt: HostRuntime) -> Result<(), Fail> {
     let rules = Rules {
@@ -220,8 +224,7 @@ const OPENED: [Row; 8] = [
     (Call::TakeNotice, 0, Answer::NoNotice),
 ];
 
-/// A cache with room from the start takes memory when it is made. Where that is refused, whichever request it is, it is
-/// for want of memory, and one that is made anew answers as if nothing had been refused.
+/// Opening with an initial capacity fails only with `OutOfMemory`; a second attempt then works.
 #[test]
 fn opens_with_room_from_the_start(rt: HostRuntime) -> Result<(), Fail> {
     let rules = Rules {

@@ -1,4 +1,4 @@
-//! The call that finds a value or writes one, where memory or a copy is refused.
+//! `or_insert` if an allocation or a clone fails.
 use crate::keys::ByNumber;
 use crate::subject::{CacheRows, UNLIMITED, opened, shared};
 use crate::values::{Types, Value, Watch, plain};
@@ -13,16 +13,16 @@ use std::test::Fail;
 
 type Cache = State<u64, Value, Types<ByNumber>, CacheRows<u64, Value>>;
 
-/// The numbers of keys and of notices.
+/// Returns the entry count and the notice count.
 fn sizes(cache: &Cache) -> (u64, usize) {
     (cache.entry_count(), cache.notice_count())
 }
 
-/// What is answered: the text, and whether it is fresh.
+/// The text of the returned entry, and whether the entry is fresh.
 type Answered = (&'static str, bool);
 
-/// The text that is answered, and whether it is fresh. One that is refused has changed nothing, handed back its value,
-/// and is made once more.
+/// Calls `or_insert` and returns its result. A failed call changed nothing, handed back its value,
+/// and is repeated.
 fn or_inserted(rt: &impl Abort, cache: &mut Cache, key: &Arc<u64>, value: Value) -> Answered {
     let before = sizes(cache);
     let text = value.given.text;
@@ -40,7 +40,7 @@ fn answered(entry: &Entry<u64, Value>) -> Answered {
     (entry.value().given.text, entry.is_fresh())
 }
 
-/// The value of a refused call, which is refused for want of memory.
+/// Returns the value that a failed call handed back. Checks that it failed with `OutOfMemory`.
 fn handed_back(rt: &impl Abort, refused: OrInsertRefused<Value>, text: &'static str) -> Value {
     let OrInsertRefused { value, cause } = refused;
     assert_eq!(rt; (cause, value.given.text), (Refused::OutOfMemory, text));
@@ -54,7 +54,7 @@ fn or_inserted_again(rt: &impl Abort, cache: &mut Cache, key: &Arc<u64>, value: 
     }
 }
 
-/// Asserts what is answered where this text is to be written.
+/// Checks the result of an `or_insert` of this text.
 fn answers(
     rt: &impl Abort,
     cache: &mut Cache,
@@ -68,7 +68,7 @@ fn answers(
     Ok(())
 }
 
-/// The first of two values is written, and the second finds it.
+/// Checks that the first of two values is stored, and that the second call finds it.
 fn writes_one(
     rt: &impl Abort,
     alloc: Global,
@@ -94,6 +94,7 @@ fn writes_all(
     Ok(())
 }
 
+/// `or_insert` stores a value once, also if any one allocation fails.
 #[test]
 fn answers_where_memory_is_refused(rt: HostRuntime) -> Result<(), Fail> {
     let watch = shared(rt.alloc(), Watch::new())?;

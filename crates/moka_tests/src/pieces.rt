@@ -1,4 +1,4 @@
-//! The pieces that a cache is made of, one by one.
+//! The parts that a cache is made of, one by one.
 use crate::keys::ByNumber;
 use moka_base::notification::RemovalCause;
 use moka_base::policy::{
@@ -11,6 +11,7 @@ use std::process::Abort;
 use std::test::Fail;
 use std::time::Duration;
 
+/// The default eviction policy is TinyLFU.
 #[test]
 fn tiny_lfu_is_the_default_policy(rt: HostRuntime) -> Result<(), Fail> {
     assert!(rt; EvictionPolicy::default().is_tiny_lfu());
@@ -19,6 +20,7 @@ fn tiny_lfu_is_the_default_policy(rt: HostRuntime) -> Result<(), Fail> {
     Ok(())
 }
 
+/// `NumberHash` hashes a number to itself.
 #[test]
 fn hashes_a_number_to_itself(rt: HostRuntime) {
     assert_eq!(rt; NumberHash::default().finish(), 0);
@@ -30,6 +32,7 @@ fn hashes_a_number_to_itself(rt: HostRuntime) {
     }
 }
 
+/// Errors and causes of removals print as their names.
 #[test]
 fn says_what_was_lacking_and_why_a_value_left(rt: HostRuntime) -> Result<(), Fail> {
     says_what_was_lacking(&rt, rt.alloc())?;
@@ -54,13 +57,14 @@ fn says_why_a_value_left(rt: &impl Abort, alloc: Global) -> Result<(), Fail> {
     Ok(())
 }
 
-/// Asserts the weight of a value under the key 3.
+/// Checks the weight of a value under the key 3.
 fn weighed<W: Weigher<u64, u64>>(rt: &impl Abort, weigher: &W, expected: u32)
     requires { (weight : _) × W.weighs weigher.now weight }
 {
     assert_eq!(rt; weigher.weigh(&3, &10), expected);
 }
 
+/// A closure weighs entries; without a weigher each weighs 1.
 #[test]
 fn a_closure_weighs(rt: HostRuntime) -> Result<(), Fail> {
     let weigher = WeighBy::new(|key: &u64, _value: &u64| if *key == 3 { 2 } else { 1 });
@@ -69,7 +73,7 @@ fn a_closure_weighs(rt: HostRuntime) -> Result<(), Fail> {
     Ok(())
 }
 
-/// Asserts of which of two values a predicate holds.
+/// Checks which of the keys 3 and 4 a predicate holds of.
 fn tested<P: Predicate<u64, u64>>(rt: &impl Abort, predicate: &P, expected: [bool; 2])
     requires { (test : _) × P.tests predicate.now test }
 {
@@ -77,12 +81,14 @@ fn tested<P: Predicate<u64, u64>>(rt: &impl Abort, predicate: &P, expected: [boo
     assert_eq!(rt; predicate.holds(&4, &0), expected[1]);
 }
 
+/// `NoPredicate` holds of nothing.
 #[test]
 fn no_predicate_holds_of_nothing(rt: HostRuntime) -> Result<(), Fail> {
     tested(&rt, &NoPredicate, [false, false]);
     Ok(())
 }
 
+/// `Expired` and `Size` are evictions, `Explicit` and `Replaced` are not.
 #[test]
 fn tells_evictions(rt: HostRuntime) -> Result<(), Fail> {
     let causes = [
@@ -97,7 +103,8 @@ fn tells_evictions(rt: HostRuntime) -> Result<(), Fail> {
     Ok(())
 }
 
-/// Asserts the lives that an expiry gives to a value after a creation, a look and an update, the last two with a rest.
+/// Checks the lifetimes that an expiry gives after a creation, an access and an update. The last
+/// two have 3 seconds left.
 fn lived<E: Expiry<u64, u64>>(rt: &impl Abort, expiry: &E, expected: [Option<Duration>; 3])
     requires { (lives : _) × E.gives expiry.now lives }
 {
@@ -107,6 +114,7 @@ fn lived<E: Expiry<u64, u64>>(rt: &impl Abort, expiry: &E, expected: [Option<Dur
     assert_eq!(rt; expiry.expire_after_update(&1, &2, 7, rest), expected[2]);
 }
 
+/// Closures give lifetimes after a creation, an access and an update.
 #[test]
 fn closures_give_lives(rt: HostRuntime) -> Result<(), Fail> {
     let life = Duration::from_secs(9);
@@ -123,6 +131,7 @@ fn closures_give_lives(rt: HostRuntime) -> Result<(), Fail> {
     Ok(())
 }
 
+/// `NoExpiry` leaves the remaining lifetime unchanged.
 #[test]
 fn without_an_expiry_the_rest_stays(rt: HostRuntime) -> Result<(), Fail> {
     let rest = Some(Duration::from_secs(3));
@@ -130,7 +139,7 @@ fn without_an_expiry_the_rest_stays(rt: HostRuntime) -> Result<(), Fail> {
     Ok(())
 }
 
-/// A source that has noted nothing. Where memory is refused, it asks once more.
+/// Creates an empty frequency source. Retries once if an allocation fails.
 fn opened<F: FrequencySource>(rt: &impl Abort, alloc: Global) -> Result<F, Refused> {
     match F::opening(alloc) {
         Ok(source) => Ok(source),
@@ -141,7 +150,7 @@ fn opened<F: FrequencySource>(rt: &impl Abort, alloc: Global) -> Result<F, Refus
     }
 }
 
-/// Asserts the estimates of some hashes after some notes, each of a hash so many times.
+/// Checks the estimates of some hashes after some notes, each of a hash so many times.
 fn estimates<F: FrequencySource>(
     rt: &impl Abort,
     alloc: Global,
@@ -177,10 +186,11 @@ fn estimates_all<F: FrequencySource>(
     }
 }
 
-/// After so many notes of one hash its estimate is this, by a table of one counter and a sketch of one in each row.
+/// Notes of one hash, and its estimate then, by a table of one counter and a sketch of one in each
+/// row.
 const ESTIMATES: [(u64, u8); 6] = [(9, 9), (10, 5), (19, 14), (20, 7), (29, 15), (30, 7)];
 
-/// They pass also where one request for memory is refused, whichever.
+/// An estimate counts up to 15 and is halved at every tenth note, also if any one allocation fails.
 #[test]
 fn estimates_notes(rt: HostRuntime) -> Result<(), Fail> {
     for (times, count) in ESTIMATES {
@@ -190,7 +200,7 @@ fn estimates_notes(rt: HostRuntime) -> Result<(), Fail> {
     Ok(())
 }
 
-/// Asserts the estimate of two hashes after so many notes of one.
+/// Checks the estimate of two hashes after so many notes of one.
 fn estimates_after<F: FrequencySource>(
     rt: &impl Abort,
     alloc: Global,
@@ -200,6 +210,7 @@ fn estimates_after<F: FrequencySource>(
     estimates::<F>(rt, alloc, &[(3, times)], &[(3, count), (5, count)])
 }
 
+/// In a `CountTable` hashes with the same lowest bits share a counter.
 #[test]
 fn hashes_share_counters_by_their_lowest_bits(rt: HostRuntime) -> Result<(), Fail> {
     let notes = [(5, 1), (69, 1), (133, 1)];
@@ -213,7 +224,7 @@ const SKETCHED: [(&[(u64, u64)], &[(u64, u8)]); 6] = [
     (&[(1, 2), (5, 1)], &[(9, 3), (2, 0)]),
     // They share three, and each has one of its own.
     (&[(1, 3), (16_385, 1)], &[(16_385, 1), (1, 3), (2, 0)]),
-    // Each of four others shares another counter with it.
+    // Each of the four noted hashes shares another counter with the first that is estimated.
     (
         &[
             (1, 1),
@@ -224,11 +235,11 @@ const SKETCHED: [(&[(u64, u64)], &[(u64, u8)]); 6] = [
         &[(4_398_314_962_945, 1), (1, 1)],
     ),
     (&[(1, 30), (2, 9)], &[(1, 15), (2, 9)]),
-    // The fortieth note halves.
+    // The fortieth note halves all counters.
     (&[(1, 30), (2, 10)], &[(1, 7), (2, 5)]),
 ];
 
-/// It passes also where one request for memory is refused, whichever.
+/// A sketch estimates by the least of four counters, also if any one allocation fails.
 #[test]
 fn a_sketch_takes_the_least_of_four_counters(rt: HostRuntime) -> Result<(), Fail> {
     for (notes, expected) in SKETCHED {

@@ -1,10 +1,11 @@
-//! How a table is done: by the calls of a cache, by its steps, and by its runs.
+//! Runs a table: by the calls of a cache, by its steps, and by its runs.
 //!
-//! After each call, and each run, this holds too:
-//! - the cache keeps no more values alive than are stored or wait to be noticed, and at the end no more keys of steps;
-//! - where there is a capacity and each value weighs one, no more keys are stored than it allows, and 64;
-//! - a call that was refused has left the numbers of keys and notices and the weight as they were, no expiry was asked,
-//!   and a write has handed back its key and its value.
+//! This is checked after each call and each run, too:
+//! - No more values are alive than are stored or queued in notices. At the end, no more keys of
+//!   steps are.
+//! - With a capacity and without a weigher, at most the capacity plus 64 entries are stored.
+//! - A failed call left the entry count, the notice count and the weight unchanged, and called no
+//!   expiry. A failed insert handed back its key and its value.
 ghost use Rattle.std.specs.Prelude.{◌≡◌, ◌≢◌, false, Some, None, IsSome, IfSome, IfOk, []};
 ghost use Rattle.std.specs.List.{AllByRecursion};
 ghost use Rattle.moka_state.specs.Step.{StepKeeps};
@@ -29,27 +30,34 @@ use std::sync::Arc;
 use std::test::Fail;
 use std::time::Duration;
 
-/// The store in which the caches keep their rows.
+/// The row store of the caches.
 pub(crate) type CacheRows<K, V> = DueRows<K, V>;
 
-/// How a cache is built: its capacities and its policy, its lives in seconds, its flush limit, its first number, and
-/// whether values may be hidden by predicates, are weighed and have lives of their own. A limit of 0, and one beside a
-/// weigher, is none.
+/// How a cache is built. A flush limit of 0 counts as none, and so does one beside a weigher.
 #[derive(Clone, Copy)]
 pub(crate) struct Rules {
+    /// The bound on the number of entries, or on their total weight if they are weighed.
     pub max_capacity: Option<u64>,
+    /// The entries for which room is allocated at the start.
     pub initial_capacity: usize,
     pub is_tiny_lfu: bool,
+    /// In seconds.
     pub time_to_live: Option<u64>,
+    /// In seconds.
     pub time_to_idle: Option<u64>,
+    /// Whether predicates are accepted.
     pub closures: bool,
+    /// The greatest number of evictions in a flush.
     pub flush_limit: Option<u64>,
+    /// The first sequence number.
     pub first_number: u64,
+    /// Whether there is a weigher. Without one each entry weighs 1.
     pub is_weighed: bool,
+    /// Whether entries have lifetimes of their own.
     pub may_expire: bool,
 }
 
-/// No capacity, no lives, and values that weigh one.
+/// No capacity and no lifetimes. Each entry weighs 1.
 pub(crate) const UNLIMITED: Rules = Rules {
     max_capacity: None,
     initial_capacity: 0,
@@ -64,7 +72,7 @@ pub(crate) const UNLIMITED: Rules = Rules {
 };
 
 impl Rules {
-    /// The flush limit of a cache with these rules.
+    /// Returns the flush limit of a cache with these rules.
     fn limit(self) -> Option<u64>
         ensures limits { result ≢ Some 0 }
         ensures unweighed { IsSome result → self.is_weighed ≡ false }
@@ -76,23 +84,23 @@ impl Rules {
     }
 }
 
-/// A call of a cache, or what a table does beside it.
+/// A call of a cache, or something that a table does beside one.
 #[derive(Clone, Copy)]
 pub(crate) enum Call {
     Get(u64),
     ContainsKey(u64),
-    /// A write of a plain value.
+    /// Inserts a plain value.
     Insert(u64, &'static str),
-    /// A write of a value of so much weight.
+    /// Inserts a value of this weight.
     InsertHeavy(u64, u32),
-    /// A write of any value.
+    /// Inserts any value.
     InsertGiven(u64, Given),
     Invalidate(u64),
     Remove(u64),
     InvalidateAll,
-    /// It hides each value that has one of these two texts.
+    /// Invalidates each entry whose value has one of these two texts.
     InvalidateIf(&'static str, &'static str),
-    /// So does this, which answers an id.
+    /// The same, and returns an id.
     InvalidateById(&'static str, &'static str),
     PredicateRoom,
     RunPendingTasks,
@@ -101,17 +109,17 @@ pub(crate) enum Call {
     WeightedSize,
     TakeNotice,
     NoticeCount,
-    /// How often the weigher, the expiry and the values' copies were asked so far.
+    /// Returns how often the weigher, the expiry and the values' `Clone` were called so far.
     Asked,
-    /// How often predicates were asked so far.
+    /// Returns how often predicates were called so far.
     Tested,
-    /// The next number of the generator that ids are drawn from.
+    /// Draws the next number of the generator that makes ids.
     Draw,
-    /// From now on the copies of values are refused, or no more.
+    /// Sets whether cloning a value fails from now on.
     RefuseCopies(bool),
 }
 
-/// What a call answers.
+/// The result of a call.
 #[derive(Clone, Copy, Debug, PartialEq)]
 pub(crate) enum Answer {
     Found(&'static str),
@@ -123,18 +131,18 @@ pub(crate) enum Answer {
     Noticed(u64, &'static str, RemovalCause),
     NoNotice,
     Refused(Refused),
-    /// A predicate was refused, for want of another thing than memory.
+    /// A predicate was rejected for another reason than `OutOfMemory`.
     NotHidden(PredicateError),
     /// The text of an id.
     Id([u8; 36]),
     Asked(Counts),
-    /// What the call of a turn answers: no table has one.
+    /// The result of a call about a turn. No table makes one.
     OfTurn,
-    /// In a table: whatever it is, but no refusal.
+    /// In a table: any result but `Refused`.
     Accepted,
 }
 
-/// A row of a table: a call, its moment, and its answer.
+/// A row of a table: a call, its moment in nanoseconds, and its expected result.
 pub(crate) type Row = (Call, u64, Answer);
 
 /// How the calls of a table are made.
@@ -145,24 +153,24 @@ pub(crate) enum Way {
     Runs,
 }
 
-/// A cache under test, over a store of rows.
+/// A cache under test, over a row store.
 #[derive(Drop)]
 pub(crate) struct Subject<K: Key, H: BuildHasher + Drop, R: RowStore<K, Value>> {
     pub cache: State<K, Value, Types<H>, R>,
     rules: Rules,
-    /// What ids are drawn from.
+    /// The generator of ids.
     pub generator: SplitMix64,
     pub watch: Arc<Watch>,
-    /// How many share the watch beside the values.
+    /// How many shares of the watch there are beside those of the values.
     watchers: usize,
     /// The keys of the steps.
     pub keys: Vec<Arc<K>>,
-    /// Whether a request for memory may be refused, once; what was refused for that is then done again.
+    /// Whether one allocation may fail. A call that fails for that reason is repeated.
     is_patient: bool,
     pub alloc: Global,
 }
 
-/// Shares a value. Where memory is refused, it asks once more, as each helper below does.
+/// Wraps a value in an `Arc`. Retries once if the allocation fails, as each helper below does.
 pub(crate) fn shared<T: Drop>(alloc: Global, value: T) -> Result<Arc<T>, AllocError> {
     match Arc::new(alloc, value) {
         Ok(value) => Ok(value),
@@ -173,7 +181,7 @@ pub(crate) fn shared<T: Drop>(alloc: Global, value: T) -> Result<Arc<T>, AllocEr
     }
 }
 
-/// A list with room for so many.
+/// Creates a list with room for `len` items.
 pub(crate) fn room<T: Drop>(alloc: Global, len: usize) -> Result<Vec<T>, AllocError>
     ensures { IfOk result (λ items. items.items ≡ []) }
 {
@@ -183,6 +191,7 @@ pub(crate) fn room<T: Drop>(alloc: Global, len: usize) -> Result<Vec<T>, AllocEr
     }
 }
 
+/// Creates the settings of a cache with these rules.
 pub(crate) fn settings<K: Key, H: BuildHasher + Default + Drop>(
     alloc: Global,
     rules: Rules,
@@ -220,7 +229,7 @@ pub(crate) fn settings<K: Key, H: BuildHasher + Default + Drop>(
     })
 }
 
-/// A cache with these rules, built once more where memory is refused that may be.
+/// Creates a cache with these rules. Retries once if an allocation fails and `is_patient` is set.
 pub(crate) fn opened<K: Key, H: BuildHasher + Default + Drop, R: RowStore<K, Value>>(
     alloc: Global,
     rules: Rules,
@@ -237,7 +246,7 @@ pub(crate) fn opened<K: Key, H: BuildHasher + Default + Drop, R: RowStore<K, Val
 }
 
 impl<K: Key, H: BuildHasher + Default + Drop, R: RowStore<K, Value>> Subject<K, H, R> {
-    /// A cache for so many rows.
+    /// Creates a cache and room for the keys of so many rows.
     fn new(alloc: Global, rules: Rules, is_patient: bool, rows: usize) -> Result<Self, Fail> {
         let watch = shared(alloc, Watch::new())?;
         let cache = opened(alloc, rules, is_patient, &watch)?;
@@ -255,7 +264,7 @@ impl<K: Key, H: BuildHasher + Default + Drop, R: RowStore<K, Value>> Subject<K, 
         })
     }
 
-    /// The number of keys and of notices, and the weight of all.
+    /// Returns the entry count, the notice count and the total weight.
     fn sizes(&self) -> [u64; 3] {
         [
             self.cache.entry_count(),
@@ -264,7 +273,7 @@ impl<K: Key, H: BuildHasher + Default + Drop, R: RowStore<K, Value>> Subject<K, 
         ]
     }
 
-    /// Does a row by a call or a step.
+    /// Runs a row by a call or a step, and checks its result.
     fn row(&mut self, rt: &impl Abort, way: Way, row: Row, place: usize) -> Result<(), Fail> {
         let found = self.answer(rt, way, row)?;
         fits(rt, found, row.2, place);
@@ -272,7 +281,8 @@ impl<K: Key, H: BuildHasher + Default + Drop, R: RowStore<K, Value>> Subject<K, 
         Ok(())
     }
 
-    /// What a row answers by a call or a step. Where it is refused for want of memory, and that may be, it is done again.
+    /// Returns the result of a row. Repeats its call if it failed with `OutOfMemory` and one
+    /// failure is allowed.
     fn answer(&mut self, rt: &impl Abort, way: Way, row: Row) -> Result<Answer, Fail> {
         let (call, now, expected) = row;
         let before = (self.sizes(), self.watch.counts());
@@ -284,8 +294,8 @@ impl<K: Key, H: BuildHasher + Default + Drop, R: RowStore<K, Value>> Subject<K, 
         self.by(rt, way, call, now)
     }
 
-    /// Whether this answer is the last one, and its call is not to be done again. Asserts that a refused call left all as it
-    /// was.
+    /// Returns whether the result is final, so that its call is not repeated. Checks that a failed
+    /// call changed nothing.
     fn is_done(
         &self,
         rt: &impl Abort,
@@ -307,7 +317,7 @@ impl<K: Key, H: BuildHasher + Default + Drop, R: RowStore<K, Value>> Subject<K, 
         }
     }
 
-    /// Asserts that a refused call changed no number and asked no expiry.
+    /// Checks that a failed call left the sizes unchanged and called no expiry.
     fn is_unchanged(&self, rt: &impl Abort, before: ([u64; 3], Counts)) {
         let (sizes, counts) = before;
         assert!(rt; self.sizes() == sizes, "the sizes after a refusal");
@@ -317,7 +327,7 @@ impl<K: Key, H: BuildHasher + Default + Drop, R: RowStore<K, Value>> Subject<K, 
         );
     }
 
-    /// The steps of some rows.
+    /// Creates the steps of some rows.
     fn steps(&mut self, rows: &[Row]) -> Result<Vec<Step<K, Value, Types<H>>>, AllocError>
         ensures { IfOk result (λ steps. AllByRecursion
             (StepKeeps ⟦<Types<H> as CacheTypes<K, Value>>⟧.keeps
@@ -334,7 +344,7 @@ impl<K: Key, H: BuildHasher + Default + Drop, R: RowStore<K, Value>> Subject<K, 
         Ok(steps)
     }
 
-    /// What one run of rows answers, all of them steps.
+    /// Makes one run of rows, all of them steps, and returns the results.
     fn answers(&mut self, rows: &[Row]) -> Result<Result<Vec<Answer>, Refused>, AllocError> {
         let steps = self.steps(rows)?;
         let answers = room(self.alloc, rows.len())?;
@@ -344,7 +354,7 @@ impl<K: Key, H: BuildHasher + Default + Drop, R: RowStore<K, Value>> Subject<K, 
         }
     }
 
-    /// What one run of rows answers, which is done again where it is refused and that may be.
+    /// Does the same, and repeats the run if it failed and one failure is allowed.
     fn answers_patiently(&mut self, rt: &impl Abort, rows: &[Row]) -> Result<Vec<Answer>, Fail> {
         let before = (self.sizes(), self.watch.counts());
         match self.answers(rows)? {
@@ -357,7 +367,8 @@ impl<K: Key, H: BuildHasher + Default + Drop, R: RowStore<K, Value>> Subject<K, 
         }
     }
 
-    /// Does rows, all of them steps, by one run. It answers false where memory for a step was refused that may be.
+    /// Makes one run of rows, all of them steps. Returns false if a step failed with an allowed
+    /// `OutOfMemory`.
     fn run(&mut self, rt: &impl Abort, rows: &[Row], place: usize) -> Result<bool, Fail> {
         let answers = self.answers_patiently(rt, rows)?;
         if !fit(rt, answers.as_slice(), rows, self.is_patient, place) {
@@ -367,7 +378,7 @@ impl<K: Key, H: BuildHasher + Default + Drop, R: RowStore<K, Value>> Subject<K, 
         Ok(true)
     }
 
-    /// Does rows by runs as long as can be: of all calls that are steps, up to the next that is none.
+    /// Runs rows in runs as long as possible: each ends at the next call that is no step.
     fn runs(&mut self, rt: &impl Abort, rows: &[Row]) -> Result<bool, Fail> {
         let mut next: Vec<Row> = room(self.alloc, rows.len())?;
         for (place, row) in rows.iter().enumerate() {
@@ -380,7 +391,7 @@ impl<K: Key, H: BuildHasher + Default + Drop, R: RowStore<K, Value>> Subject<K, 
         self.run(rt, next.as_slice(), rows.len())
     }
 
-    /// Does the rows so far by one run, and then a row that is no step.
+    /// Runs the rows so far in one run, and then a row that is no step.
     fn run_and_call(
         &mut self,
         rt: &impl Abort,
@@ -396,7 +407,7 @@ impl<K: Key, H: BuildHasher + Default + Drop, R: RowStore<K, Value>> Subject<K, 
         Ok(true)
     }
 
-    /// Does a table. The answer is whether it went through.
+    /// Runs a table. Returns whether it was completed.
     fn table(&mut self, rt: &impl Abort, way: Way, rows: &[Row]) -> Result<bool, Fail> {
         match way {
             Way::Runs => {
@@ -410,7 +421,7 @@ impl<K: Key, H: BuildHasher + Default + Drop, R: RowStore<K, Value>> Subject<K, 
         Ok(true)
     }
 
-    /// Does rows by calls or steps.
+    /// Runs rows by calls or by steps.
     fn rows(&mut self, rt: &impl Abort, way: Way, rows: &[Row]) -> Result<(), Fail> {
         for (place, row) in rows.iter().enumerate() {
             self.row(rt, way, *row, place)?;
@@ -418,7 +429,8 @@ impl<K: Key, H: BuildHasher + Default + Drop, R: RowStore<K, Value>> Subject<K, 
         Ok(())
     }
 
-    /// The keys of steps that are kept alive are those of what is stored or waits to be noticed. By calls there are none.
+    /// Checks that the keys of steps still alive are those of stored entries and queued notices.
+    /// Calls make none.
     fn keeps_no_more_keys(&self, rt: &impl Abort, way: Way) {
         let is_by_calls = matches!(way, Way::Calls);
         assert!(rt;
@@ -427,7 +439,7 @@ impl<K: Key, H: BuildHasher + Default + Drop, R: RowStore<K, Value>> Subject<K, 
         );
     }
 
-    /// How many keys of steps are kept alive.
+    /// Returns how many shares of the steps' keys there are beside those of `keys`.
     fn keys_alive(&self) -> u64 {
         let mut keys = 0_u64;
         for key in self.keys.iter() {
@@ -436,20 +448,20 @@ impl<K: Key, H: BuildHasher + Default + Drop, R: RowStore<K, Value>> Subject<K, 
         keys
     }
 
-    /// How many values are stored or wait to be noticed.
+    /// Returns how many values are stored or queued in notices.
     fn values_kept(&self) -> u64 {
         let [entries, notices, _] = self.sizes();
         entries.wrapping_add(notices)
     }
 
-    /// What holds after each call.
+    /// Checks what holds after each call: the number of values alive, and the capacity.
     fn holds(&self, rt: &impl Abort) {
         let values = Arc::strong_count(&self.watch).wrapping_sub(self.watchers) as u64;
         assert_eq!(rt; values, self.values_kept(), "values that are kept alive");
         assert!(rt; self.is_within_its_capacity(), "keys that are stored");
     }
 
-    /// Whether no more keys are stored than may be, where each weighs one.
+    /// Returns whether at most the capacity plus 64 entries are stored, if each weighs 1.
     fn is_within_its_capacity(&self) -> bool {
         match self.rules.max_capacity {
             Some(capacity) if !self.rules.is_weighed => {
@@ -459,7 +471,7 @@ impl<K: Key, H: BuildHasher + Default + Drop, R: RowStore<K, Value>> Subject<K, 
         }
     }
 
-    /// Does rows by calls, as another does over another store, and asserts that both answer alike.
+    /// Runs rows by calls in two caches over different stores, and checks that the results agree.
     fn rows_as<S: RowStore<K, Value>>(
         &mut self,
         rt: &impl Abort,
@@ -487,7 +499,7 @@ impl<K: Key, H: BuildHasher + Default + Drop, R: RowStore<K, Value>> Subject<K, 
         Ok(())
     }
 
-    /// Does the first rows by calls, and then the others between two requests for memory of its own.
+    /// Runs the first rows by calls, and then the others between two allocations of its own.
     fn rows_between_requests(
         &mut self,
         rt: &impl Abort,
@@ -501,7 +513,7 @@ impl<K: Key, H: BuildHasher + Default + Drop, R: RowStore<K, Value>> Subject<K, 
         Ok(())
     }
 
-    /// What the calls of rows answer.
+    /// Runs rows by calls and returns their results.
     fn all_answers(&mut self, rt: &impl Abort, rows: &[Row]) -> Result<Vec<Answer>, Fail> {
         let mut answers = room(self.alloc, rows.len())?;
         for row in rows {
@@ -513,19 +525,19 @@ impl<K: Key, H: BuildHasher + Default + Drop, R: RowStore<K, Value>> Subject<K, 
     }
 }
 
-/// Asserts that one request for memory is met.
+/// Checks that one allocation succeeds.
 fn takes_memory(rt: &impl Abort, alloc: Global, otherwise: &str) {
     assert!(rt; Arc::new(alloc, 0_u64).is_ok(), "{otherwise}");
 }
 
-/// Whether the expiry was not asked between two counts.
+/// Returns whether the expiry was not called between two counts.
 fn asked_no_more(before: Counts, now: Counts) -> bool {
     let [_, created, looked_at, updated, _] = before;
     let [_, created_now, looked_at_now, updated_now, _] = now;
     created_now == created && looked_at_now == looked_at && updated_now == updated
 }
 
-/// Asserts that an answer is the expected one.
+/// Checks a result against the expected one.
 fn fits(rt: &impl Abort, found: Answer, expected: Answer, place: usize) {
     if expected == Answer::Accepted {
         assert!(rt;
@@ -537,7 +549,8 @@ fn fits(rt: &impl Abort, found: Answer, expected: Answer, place: usize) {
     }
 }
 
-/// Asserts that answers are the expected ones. It answers false where memory for a step was refused that may be.
+/// Checks results against the expected ones. Returns false if a step failed with an allowed
+/// `OutOfMemory`.
 fn fit(rt: &impl Abort, answers: &[Answer], rows: &[Row], is_patient: bool, place: usize) -> bool {
     assert!(rt; answers.len() == rows.len(), "as many replies as steps");
     for (found, (_, _, expected)) in answers.iter().zip(rows) {
@@ -549,7 +562,7 @@ fn fit(rt: &impl Abort, answers: &[Answer], rows: &[Row], is_patient: bool, plac
     true
 }
 
-/// Does a table once, over a store of rows. The answer is whether it went through.
+/// Runs a table once, over a row store. Returns whether it was completed.
 fn done<K: Key, H: BuildHasher + Default + Drop, R: RowStore<K, Value>>(
     rt: &impl Abort,
     alloc: Global,
@@ -562,8 +575,8 @@ fn done<K: Key, H: BuildHasher + Default + Drop, R: RowStore<K, Value>>(
     subject.table(rt, way, rows)
 }
 
-/// Each call of a table at its moment answers what the table says, in each way, with these keys and this hasher, over
-/// this store.
+/// Checks a table by calls, by steps and by runs, with these keys and this hasher, over one row
+/// store.
 pub(crate) fn answers_over<K: Key, H: BuildHasher + Default + Drop, R: RowStore<K, Value>>(
     rt: &impl Abort,
     alloc: Global,
@@ -576,7 +589,7 @@ pub(crate) fn answers_over<K: Key, H: BuildHasher + Default + Drop, R: RowStore<
     Ok(())
 }
 
-/// So it is over either store.
+/// Does the same over both row stores.
 pub(crate) fn answers_by<K: Key, H: BuildHasher + Default + Drop>(
     rt: &impl Abort,
     alloc: Global,
@@ -587,7 +600,7 @@ pub(crate) fn answers_by<K: Key, H: BuildHasher + Default + Drop>(
     answers_over::<K, H, ListRows<K, Value>>(rt, alloc, rules, rows)
 }
 
-/// Two stores answer each call of a table alike, with these keys and this hasher.
+/// Checks that two row stores give the same results for a table, with these keys and this hasher.
 pub(crate) fn answered_alike<
     K: Key,
     H: BuildHasher + Default + Drop,
@@ -598,7 +611,7 @@ pub(crate) fn answered_alike<
     answers_as::<K, H, R, S>(rt, alloc, rules, &mut one, rows)
 }
 
-/// So does another with this one.
+/// Runs the table in a second cache and compares the results with those of the first.
 fn answers_as<
     K: Key,
     H: BuildHasher + Default + Drop,
@@ -615,8 +628,8 @@ fn answers_as<
     one.rows_as(rt, &mut other, rows)
 }
 
-/// Each call of a table answers what the table says, over either store, with number keys, each of which is its own hash.
-/// Where all keys have one hash, both stores answer alike.
+/// Checks a table over both row stores, with number keys that are their own hashes. Also checks
+/// that both stores agree if all keys have one hash.
 pub(crate) fn answers(
     rt: &impl Abort,
     alloc: Global,
@@ -632,7 +645,7 @@ pub(crate) fn answers(
     >(rt, alloc, rules, rows)
 }
 
-/// So it is also where one request for memory is refused, whichever: what was refused is then done again.
+/// Checks a table over one row store while any one allocation may fail. What failed is repeated.
 pub(crate) fn answers_patiently<R: RowStore<u64, Value>>(
     rt: &impl Abort,
     alloc: Global,
@@ -647,8 +660,10 @@ pub(crate) fn answers_patiently<R: RowStore<u64, Value>>(
     Ok(())
 }
 
-/// Does the first calls, and then the others between two requests for memory of its own. In a run where the last request
-/// before those calls is the one that is refused, the next request of all is the one behind them, unless they took memory.
+/// Runs the first calls, and then the others between two allocations of its own.
+///
+/// If the last allocation before those calls is the one that fails, the next one of all is the
+/// allocation after them, unless they allocate.
 pub(crate) fn answers_between_requests<R: RowStore<u64, Value>>(
     rt: &impl Abort,
     alloc: Global,
@@ -660,8 +675,8 @@ pub(crate) fn answers_between_requests<R: RowStore<u64, Value>>(
     subject.rows_between_requests(rt, before, rows)
 }
 
-/// What the calls of a table answer, of which one request for memory may be refused, whichever: what was refused, and has
-/// changed nothing, is then done again.
+/// Returns the results of a table while any one allocation may fail. A failed call changed nothing
+/// and is repeated.
 fn answers_of<R: RowStore<u64, Value>>(
     rt: &impl Abort,
     alloc: Global,
@@ -672,7 +687,7 @@ fn answers_of<R: RowStore<u64, Value>>(
     subject.all_answers(rt, rows)
 }
 
-/// Two caches over this store answer alike, of which at most one is refused a request for memory.
+/// Checks that two caches over this store give the same results if an allocation fails in one.
 pub(crate) fn answers_as_its_twin<R: RowStore<u64, Value>>(
     rt: &impl Abort,
     alloc: Global,

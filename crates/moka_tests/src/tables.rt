@@ -1,4 +1,4 @@
-//! Tables that are made, row by row.
+//! Builds tables, row by row.
 use crate::subject::{Answer, Call, Row};
 use moka_base::notification::RemovalCause;
 use std::alloc::AllocError;
@@ -12,7 +12,7 @@ pub(crate) fn add_all(table: &mut Vec<Row>, rows: &[Row]) -> Result<(), AllocErr
     Ok(())
 }
 
-/// Adds a write of each of these keys, with this text at this moment.
+/// Adds an insert of each of these keys, with this text, at this moment in nanoseconds.
 pub(crate) fn add_writes(
     table: &mut Vec<Row>,
     keys: Range<u64>,
@@ -25,7 +25,7 @@ pub(crate) fn add_writes(
     Ok(())
 }
 
-/// Adds that the notice of each of these keys is taken, which had this text and left for this cause.
+/// Adds a `take_notice` for each of these keys, with this text and this cause.
 pub(crate) fn add_notices(
     table: &mut Vec<Row>,
     keys: Range<u64>,

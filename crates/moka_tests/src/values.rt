@@ -1,4 +1,4 @@
-//! The values of the tests, and what weighs them and gives them lives of their own.
+//! The values of the tests, with their weigher, their expiry and their predicate.
 ghost use Rattle.std.specs.Prelude.{◌≡◌, ◌-◌, ◌*◌, ◌||◌, Some, option_map, refl, if◌then◌else◌};
 ghost use Rattle.std.specs.Option.{option_or};
 ghost use Rattle.std.specs.Str.{bytes_eq};
@@ -14,22 +14,22 @@ use std::hash::BuildHasher;
 use std::sync::Arc;
 use std::time::Duration;
 
-/// What a table says of a value.
+/// The data of a value in a table.
 #[derive(Clone, Copy)]
 pub(crate) struct Given {
-    /// What it says.
+    /// The text by which it is known.
     pub text: &'static str,
-    /// How heavy it is, where a cache weighs.
+    /// The weight, if the cache has a weigher.
     pub weight: u32,
-    /// The life of its own that it gets when it is created, in seconds.
+    /// The lifetime that it gets when it is created, in seconds.
     pub life: Option<u64>,
-    /// The one that it gets at each look, in seconds; else it keeps what is left.
+    /// The lifetime that it gets at each access, in seconds. Without one it keeps what is left.
     pub life_after_look: Option<u64>,
-    /// Whether a look in place of that gives it a life as long as it has been there.
+    /// Whether an access instead gives it a lifetime as long as the time since its write.
     pub doubles: bool,
 }
 
-/// A value that weighs one and has no life of its own.
+/// Returns a value that weighs 1 and has no lifetime of its own.
 pub(crate) const fn plain(text: &'static str) -> Given {
     Given {
         text,
@@ -40,7 +40,7 @@ pub(crate) const fn plain(text: &'static str) -> Given {
     }
 }
 
-/// A value that weighs so much.
+/// Returns a value of this weight.
 pub(crate) const fn heavy(weight: u32) -> Given {
     Given {
         text: "heavy",
@@ -51,7 +51,8 @@ pub(crate) const fn heavy(weight: u32) -> Given {
     }
 }
 
-/// What the values of a cache share: it counts what is done with them, and says whether they can be copied.
+/// What the values of a cache share. It counts what is done with them, and sets whether they can be
+/// cloned. It is also the weigher and the expiry.
 #[derive(Drop)]
 pub(crate) struct Watch {
     weighed: Cell<u64>,
@@ -63,7 +64,8 @@ pub(crate) struct Watch {
     tested: Cell<u64>,
 }
 
-/// How often a weigher was asked; an expiry after a creation, a look and an update; and a value for a copy.
+/// How often the weigher was called; the expiry after a creation, an access and an update; and a
+/// value's `Clone`.
 pub(crate) type Counts = [u64; 5];
 
 impl Watch {
@@ -89,12 +91,12 @@ impl Watch {
         ]
     }
 
-    /// How often predicates were asked.
+    /// Returns how often predicates were called.
     pub(crate) fn tested(&self) -> u64 {
         self.tested.get()
     }
 
-    /// Forgets what was counted since.
+    /// Sets the counts back to these.
     pub(crate) fn set_back(&self, counts: Counts) {
         let [weighed, created, looked_at, updated, copied] = counts;
         self.weighed.set(weighed);
@@ -104,7 +106,7 @@ impl Watch {
         self.copied.set(copied);
     }
 
-    /// Whether a copy of a value is refused from now on.
+    /// Sets whether cloning a value fails from now on.
     pub(crate) fn refuse_copies(&self, refuses: bool) {
         self.refuses_copies.set(refuses);
     }
@@ -165,7 +167,8 @@ impl<K> Expiry<K, Value> for Watch {
     }
 }
 
-/// Holds of each value that has one of two texts. It shares the watch of its cache, so that none is kept alive.
+/// Holds of each value with one of two texts. It shares the watch of its cache, so that one that is
+/// kept alive would be counted.
 #[derive(Drop)]
 pub(crate) struct EitherText {
     one: &'static str,
@@ -196,7 +199,7 @@ impl<K> Predicate<K, Value> for EitherText {
     }
 }
 
-/// A value. Each shares the watch of its cache, which therefore says how many of them there are.
+/// A value. Each shares the watch of its cache, so the number of shares counts the values.
 #[derive(Drop)]
 pub(crate) struct Value {
     pub given: Given,

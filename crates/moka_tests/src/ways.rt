@@ -1,4 +1,4 @@
-//! Caches whose values are weighed and have lives of their own, by tables.
+//! Weights and lifetimes of single entries, by tables.
 use crate::subject::{Answer, Call, Row, Rules, UNLIMITED, answers, room};
 use crate::values::Given;
 use moka_base::notification::RemovalCause;
@@ -13,16 +13,16 @@ const WEIGHED: Rules = Rules {
 
 type Write = (u64, u32, &'static [(u64, RemovalCause)], u64);
 
-/// Writes, each with a maintenance behind it: the key, its weight, the keys and causes that then left, and the weight of
-/// all.
+/// Inserts, each with a maintenance after it: the key, its weight, the keys and causes of the
+/// removals, and the total weight.
 const WEIGHTS: [Write; 7] = [
     (1, 4, &[], 4),
     (2, 4, &[], 8),
-    // It has room beside neither of them.
+    // It does not fit beside either of them.
     (3, 7, &[(1, RemovalCause::Size), (2, RemovalCause::Size)], 7),
     // It is heavier than the capacity.
     (4, 11, &[(4, RemovalCause::Size)], 7),
-    // A lighter value for the same key leaves room for another.
+    // A lighter value for the same key leaves room for another entry.
     (3, 2, &[(3, RemovalCause::Replaced)], 2),
     (5, 8, &[], 10),
     // A heavier one takes the room of the least recently used.
@@ -44,7 +44,7 @@ fn add_write(rows: &mut Vec<Row>, write: Write) -> Result<(), AllocError> {
     Ok(())
 }
 
-/// Adds that the notices of these keys are taken.
+/// Adds a `take_notice` for each of these keys.
 fn add_notices_of(rows: &mut Vec<Row>, left: &[(u64, RemovalCause)]) -> Result<(), AllocError> {
     for (key, cause) in left {
         let noticed = Answer::Noticed(*key, "heavy", *cause);
@@ -53,6 +53,7 @@ fn add_notices_of(rows: &mut Vec<Row>, left: &[(u64, RemovalCause)]) -> Result<(
     Ok(())
 }
 
+/// The total weight is kept within the capacity.
 #[test]
 fn keeps_the_weight_within_the_capacity(rt: HostRuntime) -> Result<(), Fail> {
     let mut rows = room(rt.alloc(), 64)?;
@@ -75,12 +76,13 @@ const GREATEST_WEIGHTS: [Row; 6] = [
     (Call::NoticeCount, 0, Answer::Counted(0)),
 ];
 
+/// The greatest weights add up.
 #[test]
 fn adds_the_greatest_weights(rt: HostRuntime) -> Result<(), Fail> {
     answers(&rt, rt.alloc(), WEIGHED, &GREATEST_WEIGHTS)
 }
 
-/// It lives 5 seconds, and after a look 3 more.
+/// It lives 5 seconds from its write, and 3 seconds from each access.
 const LOOKED_AT: Given = Given {
     text: "looked at",
     weight: 7,
@@ -89,14 +91,14 @@ const LOOKED_AT: Given = Given {
     doubles: false,
 };
 
-/// It lives 5 seconds, whether it is looked at or not.
+/// It lives 5 seconds, accessed or not.
 const LEFT_ALONE: Given = Given {
     text: "left alone",
     life_after_look: None,
     ..LOOKED_AT
 };
 
-/// It lives 5 seconds, and a look at it after some while gives it the same while again.
+/// It lives 5 seconds. An access gives it a lifetime as long as the time since its write.
 const DOUBLED: Given = Given {
     text: "doubled",
     life_after_look: None,
@@ -123,6 +125,7 @@ const OWN_LIVES: [Row; 12] = [
     (Call::Get(3), 15_000_000_000, Answer::Absent),
 ];
 
+/// An expiry gives single entries lifetimes of their own.
 #[test]
 fn gives_values_lives_of_their_own(rt: HostRuntime) -> Result<(), Fail> {
     let rules = Rules {
@@ -133,7 +136,8 @@ fn gives_values_lives_of_their_own(rt: HostRuntime) -> Result<(), Fail> {
     answers(&rt, rt.alloc(), rules, &OWN_LIVES)
 }
 
-/// How often were asked, in this order: the weigher; the expiry after a creation, a look, an update; values for copies.
+/// The counts are those of the weigher; of the expiry after a creation, an access and an update;
+/// and of clones of values.
 const QUESTIONS: [Row; 38] = [
     (Call::Asked, 0, Answer::Asked([0, 0, 0, 0, 0])),
     (Call::Insert(1, "one"), 0, Answer::Done),
@@ -142,7 +146,7 @@ const QUESTIONS: [Row; 38] = [
     (Call::Asked, 1, Answer::Asked([1, 1, 1, 0, 1])),
     (Call::Insert(1, "again"), 2, Answer::Done),
     (Call::Asked, 2, Answer::Asked([2, 1, 1, 1, 1])),
-    // Neither by a question, nor where there is no value.
+    // None is called by `contains_key`, nor if there is no value.
     (Call::ContainsKey(1), 3, Answer::Contains(true)),
     (Call::ContainsKey(2), 3, Answer::Contains(false)),
     (Call::Get(2), 3, Answer::Absent),
@@ -157,7 +161,7 @@ const QUESTIONS: [Row; 38] = [
     (Call::Invalidate(2), 3, Answer::Done),
     (Call::RunPendingTasks, 3, Answer::Done),
     (Call::Asked, 3, Answer::Asked([2, 1, 1, 1, 1])),
-    // Nor of an expired value.
+    // Nor for an expired value.
     (
         Call::ContainsKey(1),
         10_000_000_002,
@@ -165,15 +169,15 @@ const QUESTIONS: [Row; 38] = [
     ),
     (Call::Get(1), 10_000_000_002, Answer::Absent),
     (Call::Asked, 0, Answer::Asked([2, 1, 1, 1, 1])),
-    // A write over an expired value creates one.
+    // An insert over an expired entry is a creation.
     (Call::Insert(1, "anew"), 0, Answer::Done),
     (Call::Asked, 0, Answer::Asked([3, 2, 1, 1, 1])),
-    // A look whose copy is refused asks for that copy, and the expiry not.
+    // A lookup whose clone fails calls `Clone`, and not the expiry.
     (Call::RefuseCopies(true), 0, Answer::Done),
     (Call::Get(1), 0, Answer::Refused(Refused::OutOfMemory)),
     (Call::RefuseCopies(false), 0, Answer::Done),
     (Call::Asked, 0, Answer::Asked([3, 2, 1, 1, 2])),
-    // What leaves is asked for nothing, nor what is admitted.
+    // Neither removals nor admissions call any.
     (Call::Invalidate(1), 0, Answer::Done),
     (Call::Insert(2, "two"), 0, Answer::Done),
     (Call::Insert(3, "three"), 0, Answer::Done),
@@ -182,7 +186,7 @@ const QUESTIONS: [Row; 38] = [
     (Call::Asked, 0, Answer::Asked([5, 4, 1, 1, 2])),
     (Call::Get(3), 0, Answer::Found("three")),
     (Call::Asked, 0, Answer::Asked([5, 4, 2, 1, 3])),
-    // No number is left: it is refused before anything is asked.
+    // No sequence number is left: the insert fails before any is called.
     (
         Call::Insert(4, "four"),
         0,
@@ -197,6 +201,7 @@ const QUESTIONS: [Row; 38] = [
     (Call::EntryCount, 0, Answer::Counted(1)),
 ];
 
+/// The weigher, the expiry and `Clone` are called no more often than needed.
 #[test]
 fn asks_no_more_than_it_says(rt: HostRuntime) -> Result<(), Fail> {
     let rules = Rules {
@@ -219,6 +224,7 @@ const UNASKED: [Row; 6] = [
     (Call::Asked, 0, Answer::Asked([0, 0, 0, 0, 0])),
 ];
 
+/// At a capacity of 0 neither the weigher nor the expiry is called.
 #[test]
 fn asks_nothing_at_a_capacity_of_0(rt: HostRuntime) -> Result<(), Fail> {
     let rules = Rules {

@@ -1,4 +1,4 @@
--- The words of the laws of turns, over lists of accepted steps.
+-- The terms of the laws about turns, over lists of accepted steps.
 use Rattle.std.specs.Prelude.{⊤, ◌≡◌, ◌≢◌, ◌↔◌, ◌≤◌, ◌<◌, ℕ, ◌+◌, ◌==◌, if◌then◌else◌, true, false, Bool, Option, Some, None}
 use Rattle.std.specs.Prelude.{List, [], ◌∷◌, ◌++◌, filter}
 use Rattle.moka_model.specs.declared.turns.Kind.{Kind}
@@ -18,7 +18,7 @@ use Rattle.moka_model.specs.Calls.{StillNone, Unchanged, Inserted, ReplacedWith,
 use Rattle.moka_model.specs.Calls.{IsLegal, acceptable, accepted, accepted_beside, entry_of, live_at}
 
 module _ {V E : Type 0} where
-  -- an outcome that is handed in and what its turn ends with
+  -- The turn ends with this, finished with that outcome.
   abbrev pub HandsIn : Outcome V E → End V E → Type 0
   HandsIn (outcomes.Value v) (Value u replaced) = v ≡ u
   HandsIn outcomes.Nothing Nothing = ⊤
@@ -27,63 +27,68 @@ module _ {V E : Type 0} where
   HandsIn outcome end = ⊥
 
 module _ {K V E : Type 0} where
-  -- how often a turn was waited for, how often a ticket of it was spent, and how often it was ended
+  -- How often one move waits for the turn with this number.
   abbrev pub waits_in : ℕ → Option (Move K V E) → ℕ
   waits_in number (Some (Waited n)) = if n == number then 1 else 0
   waits_in number m = 0
 
+  -- How often some steps wait for it.
   abbrev pub waits_of : ℕ → List (AcceptedStep K V E) → ℕ
   waits_of number [] = 0
   waits_of number (d ∷ ds) = waits_in number d.move + waits_of number ds
 
+  -- How often one move spends a ticket of it.
   abbrev pub spent_in : ℕ → Option (Move K V E) → ℕ
   spent_in number (Some (Spent n)) = if n == number then 1 else 0
   spent_in number m = 0
 
+  -- How often some steps spend a ticket of it.
   abbrev pub spent_of : ℕ → List (AcceptedStep K V E) → ℕ
   spent_of number [] = 0
   spent_of number (d ∷ ds) = spent_in number d.move + spent_of number ds
 
+  -- How often one move ends it.
   abbrev pub ends_in : ℕ → Option (Move K V E) → ℕ
   ends_in number (Some (Ended n end)) = if n == number then 1 else 0
   ends_in number m = 0
 
+  -- How often some steps end it.
   abbrev pub ends_of : ℕ → List (AcceptedStep K V E) → ℕ
   ends_of number [] = 0
   ends_of number (d ∷ ds) = ends_in number d.move + ends_of number ds
 
--- The place of a step in a list, with those before it.
+-- A place of an element in a list, with those before it.
 pub record Place {A : Type 0} (a : A) (all : List A) : Type 0 where
   pub later : List A
   pub before : List A
   pub place : all ≡ later ++ a ∷ before
 
 module _ {K V E : Type 0} where
-  -- no number names two turns
+  -- No number names two turns.
   abbrev pub NumbersName : List (AcceptedStep K V E) → Type 0
   NumbersName ds =
       (before middle after : List (Turn K V E)) (a b : Turn K V E) → turns ds ≡ before ++ a ∷ (middle ++ b ∷ after)
       → a.name.number ≢ b.name.number
 
-  -- the tickets of a turn: its waits are those spent and those unspent
+  -- The waits for each turn are as many as its spent and unspent tickets together.
   abbrev pub TicketsMatch : List (AcceptedStep K V E) → Type 0
   TicketsMatch ds =
       (before after : List (Turn K V E)) (t : Turn K V E) → turns ds ≡ before ++ t ∷ after
       → waits_of t.name.number ds ≡ spent_of t.name.number ds + t.unspent
 
-  -- a call that ends the turn of a number so: a finish that hands it in, or an abandon
+  -- The call ends the turn with this number so: a finish with that outcome, or an abandon.
   abbrev pub EndedBy : ℕ → End V E → Call K V E → Type 0
   EndedBy number end (Finish name outcome at) = (number ≡ name.number) × HandsIn outcome end
   EndedBy number end (Abandon name) = (number ≡ name.number) × (end ≡ Abandoned)
   EndedBy number end call = ⊥
 
-  -- a call that spends a ticket of the turn of a number: a collect that is answered, or a leave
+  -- The call spends a ticket of the turn with this number: a collect with a result, or a leave.
   abbrev pub SpentBy : ℕ → Call K V E → Answer K V E → Type 0
   SpentBy number (Collect name) answer = (number ≡ name.number) × (answer ≢ NotYet)
   SpentBy number (Leave name) answer = number ≡ name.number
   SpentBy number call answer = ⊥
 
-  -- a call without a move
+  -- The call does nothing to turns.
   abbrev pub IsIdle : Call K V E → Answer K V E → Type 0
   IsIdle call (Run name shown) = ⊥
   IsIdle call (Wait name) = ⊥
@@ -93,7 +98,7 @@ module _ {K V E : Type 0} where
   IsIdle (Collect name) answer = answer ≡ NotYet
   IsIdle call answer = ⊤
 
-  -- the move of an accepted call shows in the call and its answer
+  -- What an accepted call does to turns, as its call and its result show it.
   abbrev pub Shows : Call K V E → Answer K V E → Option (Move K V E) → Type 0
   Shows call answer None = IsIdle call answer
   Shows call answer (Some (Opened name look kept)) = (shown : Option (Entry K V)) × (answer ≡ Run name shown)
@@ -102,7 +107,7 @@ module _ {K V E : Type 0} where
   Shows call answer (Some (Spent number)) = SpentBy number call answer
 
 module _ {K V E : Type 0} (eq : K → K → Bool) where
-  -- A turn of the name was ended so by a step, and every wait for it stands before that step.
+  -- A turn of the name was ended with this by a step, and every wait for it came before that step.
   pub record IsOutcome (ds : List (AcceptedStep K V E)) (name : Name K) (end : End V E) : Type 0 where
     pub turn : Turn K V E
     pub same : same_name eq turn.name name ≡ true
@@ -112,30 +117,31 @@ module _ {K V E : Type 0} (eq : K → K → Bool) where
     pub waits_before : waits_of turn.name.number ds ≡ waits_of turn.name.number place.before
 
 module _ {K V E : Type 0} (eq : K → K → Bool) (settings : Settings K V) where
-  -- a begin of an initializer answers `Run`
+  -- A begin of an initializer returns `Run`.
   abbrev pub Runs : List (AcceptedStep K V E) → K → Kind → Option Bool → ℕ → Type 0
   Runs ds k kind replace at =
       (name : Name K) × (it : Accepted K V E) × (accepted eq settings ds (Begin k kind replace at) ≡ Some it)
       × (it.answer ≡ Run name None)
 
-  -- exactly where no acceptable value is live and no turn of the key and kind is open
+  -- A begin of an initializer returns `Run` exactly if no acceptable value is live and no turn of the key and kind is
+  -- open.
   abbrev pub OpensExactly : List (AcceptedStep K V E) → Type 0
   OpensExactly ds = (k : K) (kind : Kind) → kind ≢ Compute → (replace : Option Bool) (at : ℕ) →
       Runs ds k kind replace at
       ↔ ((acceptable replace (live_at eq settings k at (events_in ds)) ≡ None) × (filter (is_open_for eq kind k) (turns ds) ≡ []))
 
-  -- a begin of a compute answers `Run`
+  -- A begin of a compute returns `Run`.
   abbrev pub RunsCompute : List (AcceptedStep K V E) → K → Bool → ℕ → Type 0
   RunsCompute ds k keep at =
       (name : Name K) × (shown : Option (Entry K V)) × (it : Accepted K V E)
       × (accepted eq settings ds (BeginCompute k keep at) ≡ Some it) × (it.answer ≡ Run name shown)
 
-  -- exactly where no compute turn of the key is open
+  -- A begin of a compute returns `Run` exactly if no compute of the key is open.
   abbrev pub ComputesExactly : List (AcceptedStep K V E) → Type 0
   ComputesExactly ds = (k : K) (keep : Bool) (at : ℕ) →
       RunsCompute ds k keep at ↔ (filter (is_open_for eq Compute k) (turns ds) ≡ [])
 
-  -- What a compute is answered that begins and ends in one go: by what is live, and by what is to be done.
+  -- What a compute without a step between its begin and its finish returns, by the live entry and the operation.
   abbrev pub computed_at_once : K → Option (Write K V) → Op V → Answer K V E
   computed_at_once k None (ops.Put v) = Inserted (fresh_entry k v false)
   computed_at_once k (Some w) (ops.Put v) = ReplacedWith (fresh_entry k v true)
@@ -144,7 +150,7 @@ module _ {K V E : Type 0} (eq : K → K → Bool) (settings : Settings K V) wher
   computed_at_once k None ops.Nop = StillNone k
   computed_at_once k (Some w) ops.Nop = Unchanged (entry_under k w.value)
 
-  -- So is one that keeps a copy, where its look leaves what is live as it was.
+  -- A compute that keeps a clone returns that, if its lookup does not change the live entry.
   abbrev pub ComputesAtOnce : List (AcceptedStep K V E) → Type 0
   ComputesAtOnce ds = (k : K) (at : ℕ) (op : Op V) (name : Name K) (shown : Option (Entry K V)) (begun : Accepted K V E)
       → accepted eq settings ds (BeginCompute k true at) ≡ Some begun → begun.answer ≡ Run name shown
@@ -152,20 +158,20 @@ module _ {K V E : Type 0} (eq : K → K → Bool) (settings : Settings K V) wher
       → (it : Accepted K V E) × (accepted eq settings (begun.step ∷ ds) (Finish name (outcomes.Op op) at) ≡ Some it)
       × (it.answer ≡ computed_at_once k (live_at eq settings k at (events_in ds)) op)
 
-  -- a begin that is answered with a value gives one that is live and acceptable
+  -- A begin that returns a value returns one that is live and acceptable.
   abbrev pub FindsAcceptable : List (AcceptedStep K V E) → Type 0
   FindsAcceptable ds = (k : K) (kind : Kind) → kind ≢ Compute → (replace : Option Bool) (at : ℕ) (e : Entry K V) (it : Accepted K V E)
       → accepted eq settings ds (Begin k kind replace at) ≡ Some it → it.answer ≡ Entered e
       → (w : Write K V) × (acceptable replace (live_at eq settings k at (events_in ds)) ≡ Some w) × (e ≡ entry_of w)
 
-  -- each step of a list is an accepted call whose move shows
+  -- Each step of the list is that of an accepted call, which shows what the step does to turns.
   abbrev pub MovesShow : List (AcceptedStep K V E) → Type 0
   MovesShow ds = (d : AcceptedStep K V E) (p : Place d ds) →
       (call : Call K V E) × (it : Accepted K V E) × (accepted eq settings p.before call ≡ Some it) × (it.step ≡ d)
       × Shows call it.answer d.move
 
-  -- What a state that keeps the held turns alone rests on: every call is answered from them, each step makes them from
-  -- those before it, and each has a number of its own below the next.
+  -- Why a state needs to keep only the held turns. They determine every result, each step makes them from those before
+  -- it, and each has a number of its own below the next.
   pub record HeldSuffice (ds : List (AcceptedStep K V E)) : Type 0 where
     pub answered : (call : Call K V E) → accepted_beside eq settings (events_in ds) (held_turns ds) call ≡ accepted eq settings ds call
     pub made : (d : AcceptedStep K V E) → IsLegal eq settings (d ∷ ds) →
@@ -174,11 +180,11 @@ module _ {K V E : Type 0} (eq : K → K → Bool) (settings : Settings K V) wher
     pub are_held : AreHeld (held_turns ds)
     pub below : (t : Turn K V E) → IsIn t (held_turns ds) → t.name.number < next_number settings (events_in ds)
 
-  -- a collect of a name is answered with this
+  -- A collect of the name returns this.
   abbrev pub Collects : List (AcceptedStep K V E) → Name K → Answer K V E → Type 0
   Collects ds name answer = (it : Accepted K V E) × (accepted eq settings ds (Collect name) ≡ Some it) × (it.answer ≡ answer)
 
-  -- What is collected is the outcome of a turn of that name.
+  -- What a collect returns is the outcome of a turn of that name.
   pub record CollectsGive (ds : List (AcceptedStep K V E)) : Type 0 where
     pub value : (name : Name K) (e : Entry K V) → Collects ds name (Entered e) →
         (e.key ≡ name.key) × (e.fresh ≡ false) × IsOutcome eq ds name (Value e.value e.replaced)

@@ -1,4 +1,4 @@
--- The worked cases of turns. Keys, values and errors are numbers.
+-- Settings and calls of the worked cases of turns. Keys, values and errors are numbers.
 use Rattle.std.specs.Prelude.{ℕ, Bool, true, false, Option, Some, None, List, [], ◌∷◌}
 use Rattle.moka_model.specs.declared.turns.Kind.{Kind}
 use Rattle.moka_model.specs.declared.turns.Kind.TheVariants.{With, Optionally, Try, Compute}
@@ -11,12 +11,13 @@ use Rattle.moka_model.specs.Steps.{AcceptedStep}
 use Rattle.moka_model.specs.Calls.{Call, Get, ContainsKey, Insert, Remove, TakeNotice, OrInsert}
 use Rattle.moka_model.specs.Calls.{Begin, BeginCompute, Finish, Abandon, Collect, Leave, Answer, Entry, accepted, answer_of, after}
 
--- what calls answer in order; none where one is refused by its name
+-- What calls return, in order; none if a call is rejected.
 module _ {K V E : Type 0} (eq : K → K → Bool) (settings : Settings K V) where
   abbrev pub answers : List (Call K V E) → List (AcceptedStep K V E) → List (Option (Answer K V E))
   answers [] steps = []
   answers (call ∷ calls) steps = answer_of (accepted eq settings steps call) ∷ answers calls (after eq settings call steps)
 
+-- The settings of the worked cases: LRU, without capacity and lifetimes.
 abbrev pub plain : Settings ℕ ℕ
 plain = record {
   time_to_live = None;
@@ -29,29 +30,32 @@ plain = record {
   frequency = λ notes hash. 0;
 }
 
+-- The name of a turn.
 abbrev pub name_of : ℕ → Kind → ℕ → Name ℕ
 name_of number kind k = record { number = number; kind = kind; key = k }
 
+-- An entry.
 abbrev pub entry : ℕ → ℕ → Bool → Bool → Entry ℕ ℕ
 entry k v fresh replaced = record { key = k; value = v; fresh = fresh; replaced = replaced }
 
--- a turn is opened, waited for and ended; its value is removed, its ticket is spent, and another turn has another number
+-- A turn is opened, waited for and finished; its value is removed, its ticket is spent, and another turn has another
+-- number.
 abbrev pub one_turn : List (Call ℕ ℕ ℕ)
 one_turn =
     Begin 5 With None 0 ∷ Begin 5 With None 0 ∷ Get 5 0 ∷ Finish (name_of 0 With 5) (outcomes.Value 7) 0 ∷ Remove 5 0
     ∷ Collect (name_of 0 With 5) ∷ Collect (name_of 0 With 5) ∷ Begin 5 With None 0 ∷ []
 
--- two kinds never mix
+-- Two kinds of one key have separate turns.
 abbrev pub two_kinds : List (Call ℕ ℕ ℕ)
 two_kinds =
     Begin 5 With None 0 ∷ Begin 5 With None 0 ∷ Begin 5 Try None 0 ∷ Finish (name_of 1 Try 5) (outcomes.Failed 9) 0
     ∷ Collect (name_of 0 With 5) ∷ Finish (name_of 0 With 5) (outcomes.Value 7) 0 ∷ Collect (name_of 0 With 5) ∷ []
 
--- an abandoned turn gives nothing
+-- An abandoned turn gives its ticket no value.
 abbrev pub abandoned : List (Call ℕ ℕ ℕ)
 abandoned = Begin 5 With None 0 ∷ Begin 5 With None 0 ∷ Abandon (name_of 0 With 5) ∷ Collect (name_of 0 With 5) ∷ Begin 5 With None 0 ∷ []
 
--- four computes of one key, one of which is waited for
+-- Four computes of one key, one of which is waited for.
 abbrev pub computes : List (Call ℕ ℕ ℕ)
 computes =
     BeginCompute 5 true 0 ∷ Finish (name_of 0 Compute 5) (outcomes.Op (Put 1)) 0
@@ -59,13 +63,13 @@ computes =
     ∷ BeginCompute 5 true 0 ∷ Finish (name_of 4 Compute 5) (outcomes.Op ops.Remove) 0 ∷ ContainsKey 5 0
     ∷ BeginCompute 5 true 0 ∷ BeginCompute 5 true 0 ∷ Finish (name_of 5 Compute 5) (outcomes.Op Nop) 0 ∷ Collect (name_of 5 Compute 5) ∷ []
 
--- a value that is turned down is replaced
+-- A value that is turned down is replaced.
 abbrev pub turned_down : List (Call ℕ ℕ ℕ)
 turned_down =
     Insert 1 30 0 ∷ Begin 1 With (Some true) 0 ∷ Finish (name_of 1 With 1) (outcomes.Value 31) 0
     ∷ Begin 1 With (Some false) 0 ∷ TakeNotice ∷ []
 
--- a value that is kept aside or not, and one that is inserted or not
+-- An `or_insert` that inserts and one that finds, and computes that do nothing, without and with a kept value.
 abbrev pub others : List (Call ℕ ℕ ℕ)
 others =
     OrInsert 1 3 0 ∷ OrInsert 1 6 0 ∷ BeginCompute 1 false 0 ∷ Finish (name_of 1 Compute 1) (outcomes.Op Nop) 0 ∷ BeginCompute 1 true 0

@@ -1,4 +1,5 @@
-//! The laws of turns, over every list of accepted steps, and worked cases. No code rests on them.
+//! Laws about turns (single-flight permits), for every list of accepted steps, and worked cases. No
+//! code depends on them.
 #![tactic(auto)]
 
 pub mod turn_laws;

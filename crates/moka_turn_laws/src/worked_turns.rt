@@ -1,11 +1,12 @@
-//! Worked cases of turns: each computes.
+//! Worked cases of turns. The prover computes each.
 ghost use Rattle.std.specs.Prelude.{◌≡◌, nat_eq, true, false, Some, None, [], ◌∷◌};
 ghost use Rattle.moka_model.specs.declared.notification.RemovalCause.TheVariants.{Replaced};
 ghost use Rattle.moka_model.specs.declared.turns.Kind.TheVariants.{With, Try, Compute};
 ghost use Rattle.moka_model.specs.Calls.{Found, Contains, Done, Noticed, Entered, Run, Wait, GaveError, StillNone, Unchanged, Inserted, ReplacedWith, Removed, NotYet, WasAbandoned, HasEnded};
 ghost use Rattle.moka_turn_laws.specs.WorkedTurns.{answers, plain, name_of, entry, one_turn, two_kinds, abandoned, computes, turned_down, others};
 
-/// Turns of initializers.
+/// Turns of initializers: one turn with a waiting caller, two kinds, an abandoned turn, and a
+/// replaced value.
 pub fn initializers()
     ensures of_one_turn { answers nat_eq plain one_turn [] ≡ Some (Run (name_of 0 With 5) None) ∷ Some (Wait (name_of 0 With 5)) ∷ Some (Found None)
         ∷ Some (Entered (entry 5 7 true false)) ∷ Some (Found (Some 7)) ∷ Some (Entered (entry 5 7 false false)) ∷ None ∷ Some (Run (name_of 2 With 5) None) ∷ [] }
@@ -17,7 +18,8 @@ pub fn initializers()
         ∷ Some (Entered (entry 1 31 false false)) ∷ Some (Noticed (Some (record { key = 1; value = 30; cause = Replaced }))) ∷ [] }
 {}
 
-/// Turns of computes.
+/// Turns of computes: a put, an overwrite, a removal and a `Nop`, a waiting caller, and a `Nop`
+/// with and without a kept value.
 pub fn of_computes()
     ensures four { answers nat_eq plain computes [] ≡ Some (Run (name_of 0 Compute 5) None) ∷ Some (Inserted (entry 5 1 true false))
         ∷ Some (Run (name_of 2 Compute 5) (Some (entry 5 1 false false))) ∷ Some (ReplacedWith (entry 5 2 true true)) ∷ Some (Run (name_of 4 Compute 5) (Some (entry 5 2 false false)))

@@ -34,7 +34,7 @@ leb_some n h = let it = leb-true 1 n h in omega (arith, it)
 leb_none : (n : ℕ) → nat_le 1 n ≡ false → n ≡ 0
 leb_none n h = let it = leb-false 1 n h in omega (arith, it)
 
--- kinds are equal, as their type compares them, where they are the same
+-- the type's comparison of kinds is `same_kind`
 pub kinds-same : (a b : Kind) → sameb the_type a b ≡ same_kind a b
 kinds-same With With = refl
 kinds-same With Optionally = refl
@@ -56,7 +56,7 @@ kinds-same Compute Compute = refl
 pub by_kinds : {K X : Type 0} (eq : K → K → Bool) (q p : TurnKey K) (new here old : Option X) → new ≡ cond ((q.hash == p.hash) && (sameb the_type q.kind p.kind && eq (arc_value q.key) (arc_value p.key))) here old → new ≡ cond (same_key eq q p) here old
 by_kinds eq q p new here old is = is ∙ ap (λ b. cond ((q.hash == p.hash) && (b && eq (arc_value q.key) (arc_value p.key))) here old) (kinds-same q.kind p.kind)
 
--- a stored key that a look for another one finds has its kind, and an equal key
+-- a stored table key that a lookup finds has the kind that was looked up, and an equal key
 pub own-parts : {K V : Type 0} (eq : K → K → Bool) (q : TurnKey K) (rows : List (TurnKey K × OpenTurn V)) (own : TurnKey K) → lookup_key (λ p. (q.hash == p.hash) && (sameb the_type q.kind p.kind && eq (arc_value q.key) (arc_value p.key))) rows ≡ Some own
     → (own.kind ≡ q.kind) × (eq (arc_value q.key) (arc_value own.key) ≡ true)
 own-parts eq q rows own is =
@@ -65,7 +65,7 @@ own-parts eq q rows own is =
     let two = and_parts (sameb the_type q.kind own.kind) (eq (arc_value q.key) (arc_value own.key)) one.1 in
     (sym (same_kind-is q.kind own.kind (sym (kinds-same q.kind own.kind) ∙ two.0)), two.1)
 
--- whether a row that is found has a number
+-- whether an entry that is found has a number
 module _ {V : Type 0} (number : ℕ) where
   abbrev Tells : Bool → Option (OpenTurn V) → Type 0
   Tells b o = MatchOption o (b ≡ false) (λ row. b ≡ (row.number == number))
@@ -89,7 +89,7 @@ module _ {A B : Type 0} (P : A → B → Type 0) where
   agree-none None (Some b) agree is = absurd agree
   agree-none (Some a) b agree is = cc
 
-  -- what is there on the one side is there on the other
+  -- if a value is present on one side, one is on the other
   pub agree-some : (a : Option A) (b : Option B) (y : B) → Agree P a b → b ≡ Some y → (x : A) × (a ≡ Some x) × P x y
   agree-some None None y agree is = cc
   agree-some None (Some b) y agree is = absurd agree
@@ -105,7 +105,7 @@ module _ {A B : Type 0} (P : A → B → Type 0) where
 module _ {K V E : Type 0} (eq : K → K → Bool) (laws : IsEquivalence eq) (is_clone : V → V → Type 0) (hash_of : K → ℕ) (respects : (a b : K) → eq a b ≡ true → hash_of a ≡ hash_of b)
     (ts : List (Turn K V E)) (sound : AreSound eq ts) (old_open : TurnKey K → Option (OpenTurn V)) (old_ended : ℕ → Option (EndedTurn K V E))
     (keeps : Keeps eq is_clone hash_of ts old_open old_ended) (q : TurnKey K) (hashed : q.hash ≡ hash_of (arc_value q.key)) (row : OpenTurn V) (there : old_open q ≡ Some row) where
-  -- the turn that the row stands for
+  -- the turn of the entry
   pub the_turn : (t : Turn K V E) × (found (is_open_for eq q.kind (arc_value q.key)) ts ≡ Some t) × IsOpenRow eq is_clone t row
   the_turn = agree-some (IsOpenRow eq is_clone) (found (is_open_for eq q.kind (arc_value q.key)) ts) (old_open q) row (keeps.opened_is q hashed) there
 
@@ -124,7 +124,7 @@ module _ {K V E : Type 0} (eq : K → K → Bool) (laws : IsEquivalence eq) (is_
   pub own_name : (same_kind t.name.kind q.kind ≡ true) × (eq t.name.key (arc_value q.key) ≡ true)
   own_name = and_parts (same_kind t.name.kind q.kind) (eq t.name.key (arc_value q.key)) (and_parts (is_open t) (is_for eq q.kind (arc_value q.key) t) member.1).1
 
-  -- another key of the same kind and an equal key is the turn's too,
+  -- the turn is also found by another table key that is equal,
   pub passes : (p : TurnKey K) → same_key eq q p ≡ true → is_open_for eq p.kind (arc_value p.key) t ≡ true
   passes p same =
       let one = and_parts (q.hash == p.hash) (same_kind q.kind p.kind && eq (arc_value q.key) (arc_value p.key)) same in
@@ -134,7 +134,7 @@ module _ {K V E : Type 0} (eq : K → K → Bool) (laws : IsEquivalence eq) (is_
       (subst (λ k. same_kind t.name.kind k ≡ true) (same_kind-is q.kind p.kind two.0) own_name.0)
       (laws.congr t.name.key (arc_value q.key) (arc_value p.key) own_name.1 ∙ two.1))
 
-  -- and one that is not is of another turn
+  -- and not by one that is not equal
   pub fails : (p : TurnKey K) → p.hash ≡ hash_of (arc_value p.key) → same_key eq q p ≡ false → is_open_for eq p.kind (arc_value p.key) t ≡ false
   fails p hashed_p other = go (is_open_for eq p.kind (arc_value p.key) t) refl
     where
@@ -148,11 +148,11 @@ module _ {K V E : Type 0} (eq : K → K → Bool) (laws : IsEquivalence eq) (is_
           let same : same_key eq q p ≡ true = and_from (q.hash == p.hash) (same_kind q.kind p.kind && eq (arc_value q.key) (arc_value p.key)) (eq-eqb q.hash p.hash hashes) (and_from (same_kind q.kind p.kind) (eq (arc_value q.key) (arc_value p.key)) kinds keys) in
           let no = sym same ∙ other in cc
 
-  -- it has the number of its row
+  -- it has the number of its entry
   pub abandoned-number : t.name.number ≡ row.number
   abandoned-number = sym stands_for.number
 
-  -- it ends, and is kept under a key that is found with its own
+  -- it ends, and is kept under the table key that was stored
   module _ (own_key : TurnKey K) (own_kind : own_key.kind ≡ q.kind) (own_same : eq (arc_value q.key) (arc_value own_key.key) ≡ true) (given : TurnEnd V E) (final : End V E) (copied : 0 < row.unspent → IsCopiedEnd is_clone (Some final) (Some (end_of given))) (new_open : TurnKey K → Option (OpenTurn V)) (new_ended : ℕ → Option (EndedTurn K V E)) (opened : (p : TurnKey K) → new_open p ≡ cond (same_key eq q p) None (old_open p))
       (waited : 0 < row.unspent → (m : ℕ) → new_ended m ≡ cond (row.number == m) (Some (record { key = own_key; end = given; unspent = row.unspent })) (old_ended m))
       (alone : row.unspent ≡ 0 → (m : ℕ) → new_ended m ≡ old_ended m) where
@@ -203,7 +203,7 @@ module _ {K V E : Type 0} (eq : K → K → Bool) (laws : IsEquivalence eq) (is_
     pub end-keeps : Keeps eq is_clone hash_of ts_after new_open new_ended
     end-keeps = record { opened_is = opened_after; ended_is = ended_after }
 
--- A turn of a name, by its key and its number.
+-- The turn with a name, by its key and its number.
 module _ {K V E : Type 0} (eq : K → K → Bool) (is_clone : V → V → Type 0) (hash_of : K → ℕ) (ts : List (Turn K V E)) (sound : AreSound eq ts)
     (opened : TurnKey K → Option (OpenTurn V)) (ended : ℕ → Option (EndedTurn K V E)) (keeps : Keeps eq is_clone hash_of ts opened ended) (q : TurnKey K) (hashed : q.hash ≡ hash_of (arc_value q.key)) (number : ℕ) where
   name_parts : (u : Turn K V E) → is_open_as eq (name_of q number) u ≡ true → (u.name.number ≡ number) × (is_open_for eq q.kind (arc_value q.key) u ≡ true)
@@ -212,7 +212,7 @@ module _ {K V E : Type 0} (eq : K → K → Bool) (is_clone : V → V → Type 0
       let two = and_parts (u.name.number == number) (is_for eq q.kind (arc_value q.key) u) one.1 in
       (eqb-true u.name.number number two.0, and_from (is_open u) (is_for eq q.kind (arc_value q.key) u) one.0 two.1)
 
-  -- where the open turn has another number, or there is none, no open turn has the name
+  -- if the open turn has another number, or there is none, no open turn has the name
   pub unknown : ((row : OpenTurn V) → opened q ≡ Some row → row.number ≢ number) → found (is_open_as eq (name_of q number)) ts ≡ None
   unknown other = found-none (is_open_as eq (name_of q number)) ts (λ u is. go u is (is_open_as eq (name_of q number) u) refl)
     where
@@ -224,7 +224,7 @@ module _ {K V E : Type 0} (eq : K → K → Bool) (is_clone : V → V → Type 0
           let row = some-agree (IsOpenRow eq is_clone) (found (is_open_for eq q.kind (arc_value q.key)) ts) (opened q) u (keeps.opened_is q hashed) first in
           absurd (other row.0 row.1 (row.2.number ∙ parts.0))
 
-  -- where it has the number, it has the name
+  -- if it has the number, it has the name
   pub known : (t : Turn K V E) → found (is_open_for eq q.kind (arc_value q.key)) ts ≡ Some t → t.name.number ≡ number → found (is_open_as eq (name_of q number)) ts ≡ Some t
   known t first same =
       let member = found-is (is_open_for eq q.kind (arc_value q.key)) ts t first in

@@ -1,4 +1,4 @@
--- What a begin is told, by what a look in the table finds.
+-- The result of beginning a turn, by what a lookup in the table finds.
 use Rattle.std.proofs.Common.{◌≡◌, ◌≢◌, ℕ, ◌<◌, ◌==◌, ◌^◌, ◌-◌, Bool, true, false, Option, Some, None, IsSome, is_some, List, refl, sym, ap, ◌∙◌, subst, arith}
 use Rattle.std.specs.Arc.{arc_value}
 use Rattle.std.specs.Option.{MatchOption}
@@ -20,12 +20,12 @@ use Rattle.moka_turns.specs.Begun.{IsBegun}
 use Rattle.moka_turns.proofs.Abandons.{the_turn, unknown, known}
 use Rattle.moka_turns.proofs.Opens.{none-agree}
 
--- what is not there is not there
+-- an absent value is not present
 pub nobody : {A : Type 0} (o : Option A) → o ≡ None → IsSome o → ⊥
 nobody None is some = let off : false ≡ true = some in cc
 nobody (Some x) is some = cc
 
--- of two rows that are there under one key the one has the number of the other
+-- two results of one lookup have the same number
 pub same-there : {V : Type 0} (o : Option (OpenTurn V)) (row other : OpenTurn V) → o ≡ Some row → o ≡ Some other → row.number ≡ other.number
 same-there {V} o row other is there = let e : row ≡ other = cc in ap (λ (r : OpenTurn V). r.number) e
 
@@ -36,13 +36,13 @@ module _ {K V E : Type 0} (eq : K → K → Bool) (laws : IsEquivalence eq) (is_
     abbrev Begun : Option (Turn K V E) → Type 0
     Begun o = IsBegun After q number may_wait ts o result
 
-    -- where a turn is open
+    -- if a turn is open
     pub by-open : (row : OpenTurn V) → opened q ≡ Some row → ((t : Turn K V E) → IsOpenRow eq is_clone t row → Begun (Some t)) → Begun (found (is_open_for eq q.kind (arc_value q.key)) ts)
     by-open row there told =
         let it = the_turn eq laws is_clone hash_of respects ts sound opened ended keeps q hashed row there in
         subst Begun (sym it.1) (told it.0 it.2)
 
-    -- and where none is
+    -- and if none is
     pub by-none : opened q ≡ None → Begun None → Begun (found (is_open_for eq q.kind (arc_value q.key)) ts)
     by-none absent told =
         let none = none-agree (IsOpenRow eq is_clone) (found (is_open_for eq q.kind (arc_value q.key)) ts) (opened q) (keeps.opened_is q hashed) absent in
@@ -64,7 +64,7 @@ module _ {K V E : Type 0} (eq : K → K → Bool) (laws : IsEquivalence eq) (is_
         → IsBegun After q number may_wait ts (found (is_open_for eq q.kind (arc_value q.key)) ts) (Ok (Run turn))
     opens absent left turn named after = by-none After number may_wait (Ok (Run turn)) absent (named, left, after)
 
-  -- how a turn of a number is told, by the row of its kind and key
+  -- the result for the open turn with a number, by the entry of its kind and key
   pub told-open : (number : ℕ) (row : OpenTurn V) → opened q ≡ Some row → row.number ≡ number → (result : Option ℕ) → IsSome result → MatchOption (found (is_open_as eq (name_of q number)) ts) (result ≡ None) (λ t. IsSome result × (t.name.number ≡ number))
   told-open number row there same result some =
       let it = the_turn eq laws is_clone hash_of respects ts sound opened ended keeps q hashed row there in

@@ -15,7 +15,7 @@ use Rattle.moka_turns.proofs.Searches.{found-one, at_most_one, found-other}
 use Rattle.moka_turns.proofs.Opens.{and-false}
 use Rattle.moka_turns.proofs.Abandons.{the_turn, member, is_open_now, passes, fails}
 
--- what is there, with what holds of it
+-- a value that is present, and what holds of it
 pub if-there : {A : Type 0} (P : A → Type 0) (o : Option A) → IsSome o → IfSome o P → (x : A) × (o ≡ Some x) × P x
 if-there P None some holds = let off : false ≡ true = some in cc
 if-there P (Some x) some holds = (x, refl, holds)
@@ -29,7 +29,7 @@ given-there P None x there holds = cc
 given-there P (Some y) x there holds = let e : y ≡ x = cc in subst P e holds
 
 module _ {K V E : Type 0} where
-  -- a change that a test does not see changes what is found
+  -- if a change does not affect a test, the test finds the changed turn
   found-map : (test : Turn K V E → Bool) (f : Turn K V E → Turn K V E) → ((u : Turn K V E) → test (f u) ≡ test u) → (ts : List (Turn K V E)) → found test (map f ts) ≡ option_map f (found test ts)
   found-map test f unseen [] = refl
   found-map test f unseen (t ∷ ts) = go (test t) refl (found-map test f unseen ts)

@@ -18,7 +18,7 @@ use Rattle.moka_turns.proofs.Searches.{found-none, found-one, at_most_one, found
 use Rattle.moka_turns.proofs.Opens.{and-false}
 use Rattle.moka_turns.proofs.Abandons.{agree-some, some-agree, kinds-same, the_turn, member}
 
--- what a test of what is there tells
+-- what the result b of a test P says of an optional value: it is P of the value, and false without one
 module _ {A : Type 0} (P : A → Bool) where
   abbrev pub TellsOf : Option A → Bool → Type 0
   TellsOf o b = MatchOption o (b ≡ false) (λ x. b ≡ P x)
@@ -31,7 +31,7 @@ module _ {A : Type 0} (P : A → Bool) where
   passes-there None b is some = let off : false ≡ true = sym is ∙ some in cc
   passes-there (Some y) b is some = (y, refl, sym is ∙ some)
 
--- an ended turn is of a key, as the kinds' type compares them
+-- whether an ended turn has a kind and key: the type's comparison of kinds and `same_kind` agree
 pub its-kinds : {K V E : Type 0} (eq : K → K → Bool) (q : TurnKey K) (o : Option (EndedTurn K V E)) (b : Bool)
     → MatchOption o (b ≡ false) (λ row. b ≡ (sameb the_type row.key.kind q.kind && eq (arc_value row.key.key) (arc_value q.key)))
     → MatchOption o (b ≡ false) (λ row. b ≡ (same_kind row.key.kind q.kind && eq (arc_value row.key.key) (arc_value q.key)))
@@ -59,7 +59,7 @@ module _ {K V E : Type 0} (eq : K → K → Bool) (laws : IsEquivalence eq) (is_
   the_one : (t : Turn K V E) → IsIn t ts → has_ticket_as eq (name_of q number) t ≡ true → found (has_ticket_as eq (name_of q number)) ts ≡ Some t
   the_one t is on_t = found-one (has_ticket_as eq (name_of q number)) ts t is on_t (λ u is_u on_u. numbered-alone ts sound.0 u t is_u is ((parts u on_u).1 ∙ sym (parts t on_t).1))
 
-  -- the open turn of the key, where it has the number and an unspent ticket, has the name
+  -- the open turn of the key has the name, if it has the number and an unspent ticket
   pub awaited : (row : OpenTurn V) (there : opened q ≡ Some row) → row.number ≡ number → nat_le 1 row.unspent ≡ true
       → found (has_ticket_as eq (name_of q number)) ts ≡ Some ((the_turn eq laws is_clone hash_of respects ts sound opened ended keeps q hashed row there).0)
   awaited row there same has =
@@ -68,7 +68,7 @@ module _ {K V E : Type 0} (eq : K → K → Bool) (laws : IsEquivalence eq) (is_
       the_one it.0 inside.0 (from_parts it.0 (ap (nat_le 1) (sym it.2.unspent) ∙ has) (sym it.2.number ∙ same) (and_parts (is_open it.0) (is_for eq q.kind (arc_value q.key) it.0) inside.1).1)
 
   module _ (row : EndedTurn K V E) (there : ended number ≡ Some row) where
-    -- the ended turn of the number
+    -- the ended turn with the number
     pub the_ended : (t : Turn K V E) × (found (is_ended_as number) ts ≡ Some t) × IsEndedRow eq is_clone t row
     the_ended = agree-some (IsEndedRow eq is_clone) (found (is_ended_as number) ts) (ended number) row (keeps.ended_is number) there
 
@@ -88,7 +88,7 @@ module _ {K V E : Type 0} (eq : K → K → Bool) (laws : IsEquivalence eq) (is_
         closed false is = refl
         closed true is = cc
 
-    -- it has the name, where it is of the kind and the key
+    -- it has the name, if it has the kind and the key
     pub kept : (same_kind row.key.kind q.kind && eq (arc_value row.key.key) (arc_value q.key)) ≡ true → found (has_ticket_as eq (name_of q number)) ts ≡ Some t
     kept same =
         let both = and_parts (same_kind row.key.kind q.kind) (eq (arc_value row.key.key) (arc_value q.key)) same in
@@ -176,7 +176,7 @@ module _ {K V E : Type 0} (eq : K → K → Bool) (laws : IsEquivalence eq) (is_
   abbrev pub is_its : EndedTurn K V E → Bool
   is_its row = same_kind row.key.kind q.kind && eq (arc_value row.key.key) (arc_value q.key)
 
-  -- where neither is there, no turn with an unspent ticket has the name
+  -- without either, no turn with an unspent ticket has the name
   pub no-ticket : (a : Bool) → TellsOf is_awaited (opened q) a → a ≡ false → (b : Bool) → TellsOf is_its (ended number) b → b ≡ false → found (has_ticket_as eq (name_of q number)) ts ≡ None
   no-ticket a tells_a not_a b tells_b not_b = found-none (has_ticket_as eq (name_of q number)) ts (λ u is. go u is (has_ticket_as eq (name_of q number) u) refl)
     where

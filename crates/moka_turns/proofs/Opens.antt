@@ -26,11 +26,11 @@ module _ {A B : Type 0} (P : A → B → Type 0) where
   none-agree (Some a) (Some b) agree is = cc
 
 module _ {K V E : Type 0} where
-  -- one more that does not pass is not found
+  -- a turn that is appended and fails a test does not change what the test finds
   found-before : (test : Turn K V E → Bool) (ts : List (Turn K V E)) (u : Turn K V E) → test u ≡ false → found test (ts ++ u ∷ []) ≡ found test ts
   found-before test ts u fails = ap first_of (filter-append test ts (u ∷ []) ∙ ap (λ b. filter test ts ++ cond b (u ∷ []) []) fails ∙ append-nil (filter test ts))
 
-  -- and one that does, where none did, is found
+  -- and one that passes it is found, if none did before
   found-last : (test : Turn K V E → Bool) (ts : List (Turn K V E)) (u : Turn K V E) → found test ts ≡ None → test u ≡ true → found test (ts ++ u ∷ []) ≡ Some u
   found-last test ts u none passes =
       ap first_of (filter-append test ts (u ∷ []) ∙ ap (λ l. l ++ filter test (u ∷ [])) (first-none (filter test ts) none) ∙ ap (λ b. cond b (u ∷ []) []) passes)

@@ -1,4 +1,4 @@
--- Searches among turns of which no two have one number, and what an end makes of them.
+-- Searches among turns with different numbers, and how the end of a turn changes their results.
 use Rattle.std.proofs.Common.{◌≡◌, ◌≢◌, inl, inr, ⊎_elim, ℕ, ◌==◌, ◌≤◌, Bool, true, false, cond, not, ◌&&◌, nat_le, Option, Some, None, List, [], ◌∷◌, map, filter, length, refl, sym, ap, ◌∙◌, subst, arith}
 use Rattle.std.proofs.lemmas.Bool.{and_parts, and_from, cond-true, cond-false, eq-eqb, ne_eqb, eqb-true}
 use Rattle.std.proofs.lemmas.Bool.Decides.{eqb_tells}
@@ -39,7 +39,7 @@ module _ {K V E : Type 0} where
   pub found-none : (test : Turn K V E → Bool) (ts : List (Turn K V E)) → ((u : Turn K V E) → IsIn u ts → test u ≡ false) → found test ts ≡ None
   found-none test ts none = ap first_of (filter-none test ts none)
 
-  -- one that passes, where no other does, is what is found
+  -- if exactly one turn passes a test, it is the one found
   pub found-one : (test : Turn K V E → Bool) (ts : List (Turn K V E)) (t : Turn K V E) → IsIn t ts → test t ≡ true → ((u : Turn K V E) → IsIn u ts → test u ≡ true → u ≡ t) → found test ts ≡ Some t
   found-one test ts t is passes alone_there = go (found test ts) refl
     where
@@ -47,7 +47,7 @@ module _ {K V E : Type 0} where
       go (Some u) e = let it = found-is test ts u e in e ∙ ap (λ v. Some v) (alone_there u it.0 it.1)
       go None e = absurd (subst (IsIn t) (first-none (filter test ts) e) (in_filtered test t ts is passes))
 
-  -- a change of the turn of a number is not seen by a test that this turn fails before and after
+  -- a change of the turn with a number does not change what a test finds, if that turn fails it before and after
   pub found-other : (test : Turn K V E → Bool) (number : ℕ) (change : Turn K V E → Turn K V E) (ts : List (Turn K V E)) → ((u : Turn K V E) → IsIn u ts → u.name.number ≡ number → (test u ≡ false) × (test (change u) ≡ false))
       → filter test (map (numbered number change) ts) ≡ filter test ts
   found-other test number change [] fails = refl
@@ -58,7 +58,7 @@ module _ {K V E : Type 0} where
       (λ differs. rw (cond-false (t.name.number == number) (change t) t differs.0) (ap (λ l. cond (test t) (t ∷ l) l) more))
       (eqb_tells t.name.number number)
 
--- what an end makes of the searches: t is the turn that ends, and it was open
+-- how searches change if the open turn t ends
 module _ {K V E : Type 0} (eq : K → K → Bool) (ts : List (Turn K V E)) (apart : AreApart ts) (one : (kind : Kind) (k : K) → length (filter (is_open_for eq kind k) ts) ≤ 1)
     (t : Turn K V E) (is : IsIn t ts) (open_now : is_open t ≡ true) (end : End V E) where
   abbrev pub after_end : List (Turn K V E)
@@ -67,7 +67,7 @@ module _ {K V E : Type 0} (eq : K → K → Bool) (ts : List (Turn K V E)) (apar
   same_turn : (u : Turn K V E) → IsIn u ts → u.name.number ≡ t.name.number → u ≡ t
   same_turn u is_u same = numbered-alone ts apart u t is_u is same
 
-  -- of its kind and key none is open any more,
+  -- no turn of its kind and key is open any more,
   pub none-open : (kind : Kind) (k : K) → is_open_for eq kind k t ≡ true → found (is_open_for eq kind k) after_end ≡ None
   none-open kind k passes = found-none (is_open_for eq kind k) after_end each
     where
@@ -82,18 +82,18 @@ module _ {K V E : Type 0} (eq : K → K → Bool) (ts : List (Turn K V E)) (apar
               cases false h = h
               cases true h = absurd (other (ap (λ (w : Turn K V E). w.name.number) (at_most_one (is_open_for eq kind k) ts (one kind k) v t is_v is (ap (is_open_for eq kind k) e ∙ h) passes)))
 
-  -- and of all others what was open is open.
+  -- and for every other kind and key the same turn is open.
   pub others-open : (kind : Kind) (k : K) → is_open_for eq kind k t ≡ false → found (is_open_for eq kind k) after_end ≡ found (is_open_for eq kind k) ts
   others-open kind k fails = ap first_of (found-other (is_open_for eq kind k) t.name.number (ended_with end) ts (λ u is_u same. (ap (is_open_for eq kind k) (same_turn u is_u same) ∙ fails, refl)))
 
-  -- Of other numbers the same turns are ended,
+  -- For every other number the same ended turn is found,
   pub others-ended : (number : ℕ) → number ≢ t.name.number → found (is_ended_as number) after_end ≡ found (is_ended_as number) ts
   others-ended number other = ap first_of (found-other (is_ended_as number) t.name.number (ended_with end) ts (λ u is_u same. (fails u same, fails (ended_with end u) same)))
     where
       fails : (u : Turn K V E) → u.name.number ≡ t.name.number → is_ended_as number u ≡ false
       fails u same = ap (λ b. b && (not (is_open u) && has_ticket u)) (ne_eqb u.name.number number (λ e. other (sym e ∙ same)))
 
-  -- and of its own, it is where it has unspent tickets.
+  -- and for its own number it is found if it has unspent tickets.
   pub own-ended : has_ticket t ≡ true → found (is_ended_as t.name.number) after_end ≡ Some (ended_with end t)
   own-ended has = found-one (is_ended_as t.name.number) after_end (ended_with end t) there passes each
     where
@@ -123,7 +123,7 @@ module _ {K V E : Type 0} (eq : K → K → Bool) (ts : List (Turn K V E)) (apar
               ∙ ap (λ b. (t.name.number == t.name.number) && b) none ∙ ap (λ b. b && false) (eq-eqb t.name.number t.name.number refl)
           go (v, is_v, left other e) = ap (is_ended_as t.name.number) (sym e) ∙ ap (λ b. b && (not (is_open v) && has_ticket v)) (ne_eqb v.name.number t.name.number other)
 
-  -- before that it was not ended
+  -- before that no ended turn had its number
   pub own-before : found (is_ended_as t.name.number) ts ≡ None
   own-before = found-none (is_ended_as t.name.number) ts each
     where

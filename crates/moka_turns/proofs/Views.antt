@@ -1,4 +1,4 @@
--- The turns of a table's entries are those that its look-ups find.
+-- The turns of a table's entries are those that its lookups find.
 use Rattle.std.proofs.Common.{◌≡◌, ℕ, ◌==◌, nat_eq, Bool, true, false, cond, ◌&&◌, Option, Some, None, List, [], ◌∷◌, ◌++◌, map, option_map, filter, refl, sym, ap, ◌∙◌, subst, append-nil}
 use Rattle.std.specs.Arc.{arc_value}
 use Rattle.std.specs.Cmp.{IsEquivalence}
@@ -42,13 +42,13 @@ by-false true true = refl
 by-false true false = refl
 by-false false b = refl
 
--- what an open turn is in a table
+-- the table entry of an open turn
 abbrev row_of : {K V E : Type 0} → Turn K V E → OpenTurn V
 row_of t = record { number = t.name.number; shown = t.shown; kept = t.kept; unspent = t.unspent }
 
 module _ {K V : Type 0} (E : Type 0) (eq : K → K → Bool) (laws : IsEquivalence eq) (hash_of : K → ℕ) (respects : (a b : K) → eq a b ≡ true → hash_of a ≡ hash_of b) where
   module _ (q : TurnKey K) (hashed : q.hash ≡ hash_of (arc_value q.key)) where
-    -- an entry is found by its kind and key where it is found with the hash
+    -- an entry with the hash of its key that is found by kind and key is one that is found by the whole table key
     same-test : (e : TurnKey K × OpenTurn V) → (is_hashed hash_of e && is_open_for eq q.kind (arc_value q.key) (open_turn {E = E} e)) ≡ same_key eq q e.0
     same-test e = go (eq (arc_value q.key) (arc_value e.0.key)) refl
       where
@@ -145,7 +145,7 @@ module _ {K V E : Type 0} (eq : K → K → Bool) (laws : IsEquivalence eq) (is_
   by-ended-turn m (Some a) None is = absurd is
   by-ended-turn m (Some a) (Some b) is = record { kind = is.kind; key = is.key; end = is.end; unspent = is.unspent }
 
-  -- what a table keeps, by its look-ups, is what a state keeps, by kinds and keys
+  -- what a table keeps, by its lookups, is what a state keeps, by kinds and keys
   pub keeps-holds : (ts : List (Turn K V E)) → Keeps eq is_clone hash_of ts (λ q. lookup (same_key eq q) opened) (λ m. lookup (nat_eq m) ended) → Holds eq is_clone ts (turns_in hash_of opened ended)
   keeps-holds ts keeps = record {
     opened = λ kind k.
@@ -157,7 +157,7 @@ module _ {K V E : Type 0} (eq : K → K → Bool) (laws : IsEquivalence eq) (is_
         (by-ended-row m (found (is_ended_as m) ts) (lookup (nat_eq m) ended) (keeps.ended_is m));
   }
 
-  -- and the other way
+  -- and conversely
   pub holds-keeps : (ts : List (Turn K V E)) → Holds eq is_clone ts (turns_in hash_of opened ended) → Keeps eq is_clone hash_of ts (λ q. lookup (same_key eq q) opened) (λ m. lookup (nat_eq m) ended)
   holds-keeps ts holds = record {
     opened_is = λ q hashed.
@@ -169,7 +169,7 @@ module _ {K V E : Type 0} (eq : K → K → Bool) (laws : IsEquivalence eq) (is_
   }
 
 module _ {K : Type 0} (eq : K → K → Bool) where
-  -- the test of a table's key, as its type compares keys
+  -- whether two table keys are equal, as their type compares them
   abbrev pub is_at : TurnKey K → TurnKey K → Bool
   is_at q p = q.hash == p.hash && (sameb the_type q.kind p.kind && eq (arc_value q.key) (arc_value p.key))
 
@@ -181,7 +181,7 @@ module _ {K : Type 0} (eq : K → K → Bool) where
 
 module _ {K V E : Type 0} (eq : K → K → Bool) (laws : IsEquivalence eq) (is_clone : V → V → Type 0) (hash_of : K → ℕ) (respects : (a b : K) → eq a b ≡ true → hash_of a ≡ hash_of b)
     (opened : List (TurnKey K × OpenTurn V)) (ended : List (ℕ × EndedTurn K V E)) (ts : List (Turn K V E)) where
-  -- the same of a table's own look-ups
+  -- the same for a table's own lookups
   pub table-holds : Keeps eq is_clone hash_of ts (λ q. lookup (is_at eq q) opened) (λ m. lookup (nat_eq m) ended) → Holds eq is_clone ts (turns_in hash_of opened ended)
   table-holds keeps = keeps-holds eq laws is_clone hash_of respects opened ended ts (record {
     opened_is = λ q hashed. subst (Agree (IsOpenRow eq is_clone) (found (is_open_for eq q.kind (arc_value q.key)) ts)) (lookup-kinds eq q opened) (keeps.opened_is q hashed);

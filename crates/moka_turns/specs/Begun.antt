@@ -1,4 +1,4 @@
--- What a begin in a table is told.
+-- The result of beginning a turn in a table.
 use Rattle.std.specs.Prelude.{⊤, ◌≡◌, ◌≢◌, ℕ, Bool, true, false, Option, Some, None, List, Result, Ok, Err}
 use Rattle.std.specs.Arc.{arc_value}
 use Rattle.moka_model.specs.declared.turns.Kind.{Kind}
@@ -13,9 +13,9 @@ use Rattle.moka_turns.specs.declared.begin.TurnBegun.TheVariants.{Run, Wait}
 use Rattle.moka_turns.specs.Keeps.{name_of}
 use Rattle.moka_turns.specs.Handles.{turn_name, ticket_name}
 
--- What a begin for a kind and a key is told, with the number that it would draw, and by the open turn of the kind and key, if
--- there is one: it waits for that, and else opens one, and `After` holds of the turns then. Numbers are used up where none is
--- left for a turn, or for a ticket.
+-- The result of beginning a turn of a kind and key. It depends on the number that the turn would draw, and on the open
+-- turn of the kind and key. If there is one, the caller waits for it, and else a turn is opened; then `After` holds of
+-- the turns. `NumbersUsedUp` is returned if no number is left for a turn, or none for a ticket.
 abbrev pub IsBegun : {K V E : Type 0} → (List (Turn K V E) → Type 0) → TurnKey K → ℕ → Bool → List (Turn K V E) →
     Option (Turn K V E) → Result (TurnBegun K) Refused → Type 0
 IsBegun After q number may_wait ts None (Ok (Run turn)) =
@@ -29,20 +29,20 @@ IsBegun After q number may_wait ts (Some t) (Err NumbersUsedUp) = (may_wait ≡ 
 IsBegun After q number may_wait ts (Some t) (Err TurnIsOpen) = may_wait ≡ false
 IsBegun After q number may_wait ts o result = ⊥
 
--- what a ticket that is given out, or refused, is to who begins
+-- The result of waiting for a turn, as the result of beginning one.
 abbrev pub as_waiting : {K : Type 0} → Result (Ticket K) Refused → Result (TurnBegun K) Refused
 as_waiting (Ok ticket) = Ok (Wait ticket)
 as_waiting (Err cause) = Err cause
 
-abbrev pub IfRun : {K : Type 0} → Type 0 → TurnBegun K → Type 0  -- P holds where a turn was opened
+abbrev pub IfRun : {K : Type 0} → Type 0 → TurnBegun K → Type 0  -- P holds if a turn was opened
 IfRun P (Run turn) = P
 IfRun P (Wait ticket) = ⊤
 
-abbrev pub IfWait : {K : Type 0} → Type 0 → TurnBegun K → Type 0  -- P holds where another's turn is to be waited for
+abbrev pub IfWait : {K : Type 0} → Type 0 → TurnBegun K → Type 0  -- P holds if the caller has to wait for a turn
 IfWait P (Run turn) = ⊤
 IfWait P (Wait ticket) = P
 
--- what is handed out has this kind, and this very key
+-- The turn or the ticket has this kind, and exactly this key.
 abbrev pub IsNamed : {K : Type 0} → Kind → K → TurnBegun K → Type 0
 IsNamed kind key (Run turn) = (turn.key.kind ≡ kind) × (arc_value turn.key.key ≡ key)
 IsNamed kind key (Wait ticket) = (ticket.key.kind ≡ kind) × (arc_value ticket.key.key ≡ key)

@@ -2,14 +2,14 @@
 use Rattle.std.specs.Prelude.{◌≡◌, ◌<◌, ℕ, Option, IsSome, IfSome}
 use Rattle.moka_turns.specs.declared.table.OpenTurn.{OpenTurn}
 
--- a turn is open that has this number
+-- There is an open turn, and it has this number.
 abbrev pub IsOpenAs : {V : Type 0} → ℕ → Option (OpenTurn V) → Type 0
 IsOpenAs number o = IsSome o × IfSome o (λ row. row.number ≡ number)
 
--- a turn is open that has this number and so many unspent tickets
+-- There is an open turn, and it has this number and this many unspent tickets.
 abbrev pub IsOpenWith : {V : Type 0} → ℕ → ℕ → Option (OpenTurn V) → Type 0
 IsOpenWith number waiting o = IsSome o × IfSome o (λ row. (row.number ≡ number) × (row.unspent ≡ waiting))
 
--- a turn is open that has this number, and may end with this: where somebody waits something is kept
+-- There is an open turn, and it has this number. If it has unspent tickets, there is an end to keep for them.
 abbrev pub IsOpenFor : {V A : Type 0} → ℕ → Option A → Option (OpenTurn V) → Type 0
 IsOpenFor number end o = IsSome o × IfSome o (λ row. (row.number ≡ number) × (0 < row.unspent → IsSome end))

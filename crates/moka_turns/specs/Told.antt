@@ -1,4 +1,4 @@
--- What a ticket is told.
+-- The result of collecting a ticket.
 use Rattle.std.specs.Prelude.{⊤, ◌≡◌, Bool, true, false, Option, Some, None, Result, Ok, Err}
 use Rattle.std.specs.declared.sync.Arc.{Arc}
 use Rattle.std.specs.declared.alloc.Global.{Global}
@@ -12,15 +12,15 @@ use Rattle.moka_policy.specs.declared.policy.Refused.TheVariants.{OutOfMemory, U
 use Rattle.moka_turns.specs.declared.handles.CollectRefused.{CollectRefused}
 use Rattle.moka_turns.specs.Keeps.{end_of}
 
-abbrev pub TakesCopy : {V E : Type 0} → Option (End V E) → Type 0  -- a copy of it takes memory
+abbrev pub TakesCopy : {V E : Type 0} → Option (End V E) → Type 0  -- cloning this end can fail
 TakesCopy (Some (turning.Value v replaced)) = ⊤
 TakesCopy (Some (turning.Failed e)) = ⊤
 TakesCopy end = ⊥
 
 module _ {K V E : Type 0} where
-  -- By the turn that has the ticket's name and an unspent ticket: it is known where there is one; while it is open its ticket is
-  -- told so; and once it has ended, a copy of its end, and then `After` holds. Where it is known it is refused only where that
-  -- copy takes memory.
+  -- The result of collecting a ticket, by the turn that has its name and an unspent ticket. Without one it is
+  -- `UnknownTicket`. While the turn is open, it is `NotYet`. Once it has ended, it is a clone of its end, and `After`
+  -- holds; or it is `OutOfMemory`, if that clone can fail.
   abbrev pub IsTold : (V → V → Type 0) → (Turn K V E → Type 0) → Option (Turn K V E) → Result (Told K V E) (CollectRefused K) → Type 0
   IsTold is_clone After None (Err refused) = refused.cause ≡ UnknownTicket
   IsTold is_clone After None (Ok told) = ⊥
@@ -28,14 +28,17 @@ module _ {K V E : Type 0} where
   IsTold is_clone After (Some t) (Ok (NotYet ticket)) = t.end ≡ None
   IsTold is_clone After (Some t) (Ok (Ended key end)) = IsCopiedEnd is_clone t.end (Some (end_of end)) × After t
 
+  -- P holds of the ticket if the turn is open.
   abbrev pub IfNotYet : (Ticket K → Type 0) → Told K V E → Type 0
   IfNotYet P (NotYet ticket) = P ticket
   IfNotYet P (Ended key end) = ⊤
 
+  -- P holds of the key if the turn has ended.
   abbrev pub IfEnded : (Arc K Global → Type 0) → Told K V E → Type 0
   IfEnded P (NotYet ticket) = ⊤
   IfEnded P (Ended key end) = P key
 
+  -- The ticket was not spent.
   abbrev pub IsUnspent : Result (Told K V E) (CollectRefused K) → Type 0
   IsUnspent (Ok (Ended key end)) = ⊥
   IsUnspent told = ⊤

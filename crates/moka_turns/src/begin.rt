@@ -1,4 +1,4 @@
-//! The begin of a turn in a table.
+//! The begin of a turn in a table of turns.
 ghost use Rattle.std.specs.Prelude.{◌≡◌, ◌≢◌, ℕ, Bool, Option, List, true, nat_eq, None, IsSome, is_some, IfOk, IfErr, OnErr};
 ghost use Rattle.std.specs.Arc.{arc_value};
 ghost use Rattle.indexmap.specs.IndexMap.{get, IsUnchanged};
@@ -15,19 +15,27 @@ use crate::table::{OpenTurn, Turns};
 use crate::turn_key::TurnKey;
 use moka_policy::policy::Refused;
 
-/// What the begin of a turn is told.
+/// The result of beginning a turn.
 pub enum TurnBegun<K> {
-    /// The turn was opened, and is the caller's to end.
+    /// The turn was opened. The caller has to end it.
     Run(Turn<K>),
-    /// Another's turn of that kind and key is open.
+    /// A turn of that kind and key is open already. The caller has to wait for it.
     Wait(Ticket<K>),
 }
 
 impl<K: Eq + Drop, V: Clone, E: Drop> Turns<K, V, E> {
-    /// Waits for the open turn of a kind and a key, where there is one, and else opens one under this
-    /// number. Refused with `TurnIsOpen` where it may not wait and would, with `NumbersUsedUp` where
-    /// the number is the greatest or as many wait as can be counted, and with `OutOfMemory`; then every
-    /// turn stays as it was. To wait takes no memory.
+    /// Returns a ticket of the open turn of a kind and key, or opens a turn with this sequence
+    /// number.
+    ///
+    /// `may_wait` is whether the caller may wait for an open turn. Waiting does not allocate. A
+    /// failed call leaves every turn as it was.
+    ///
+    /// # Errors
+    ///
+    /// - `TurnIsOpen`: a turn is open, and the caller may not wait for it.
+    /// - `NumbersUsedUp`: `number` is the greatest one, or the open turn has as many unspent
+    ///   tickets as can be counted.
+    /// - `OutOfMemory`: an allocation failed.
     pub fn begin(
         &mut self,
         key: TurnKey<K>,
@@ -59,7 +67,7 @@ impl<K: Eq + Drop, V: Clone, E: Drop> Turns<K, V, E> {
         self.open(key, number)
     }
 
-    /// Whether a turn of a kind and a key is open.
+    /// Returns whether a turn of a kind and key is open.
     pub fn is_awaitable(&self, key: &TurnKey<K>) -> bool
         ensures { result ≡ is_some (get ⟦<TurnKey<K> as PartialEq>⟧.eq self.now.opened key.now) }
     {
@@ -69,7 +77,7 @@ impl<K: Eq + Drop, V: Clone, E: Drop> Turns<K, V, E> {
         }
     }
 
-    // Waits for the open turn of a kind and a key.
+    // Returns a ticket of the open turn of a kind and key, if the caller may wait.
     fn wait_for(&mut self, key: TurnKey<K>, may_wait: bool) -> Result<TurnBegun<K>, Refused>
         requires { IsSome (get ⟦<TurnKey<K> as PartialEq>⟧.eq self.old.opened key) }
         ensures begins { (number : ℕ) (hash_of : K → ℕ) (ts : List (turning.Turn K V E))
@@ -97,8 +105,12 @@ impl<K: Eq + Drop, V: Clone, E: Drop> Turns<K, V, E> {
         }
     }
 
-    /// Waits for the open turn of a kind and a key, which is there. Refused with `NumbersUsedUp` where as
-    /// many wait as can be counted; then every turn stays as it was. It takes no memory.
+    /// Returns a ticket of the open turn of a kind and key. There has to be one. Does not allocate.
+    ///
+    /// # Errors
+    ///
+    /// - `NumbersUsedUp`: the turn has as many unspent tickets as can be counted. Every turn stays
+    ///   as it was.
     pub fn wait_open(&mut self, key: TurnKey<K>) -> Result<Ticket<K>, Refused>
         requires { IsSome (get ⟦<TurnKey<K> as PartialEq>⟧.eq self.old.opened key) }
         ensures begins { (number : ℕ) (hash_of : K → ℕ) (ts : List (turning.Turn K V E))
@@ -122,7 +134,7 @@ impl<K: Eq + Drop, V: Clone, E: Drop> Turns<K, V, E> {
         }
     }
 
-    // Opens a turn of a kind and a key, under this number.
+    // Opens a turn of a kind and key with this number.
     fn open(&mut self, key: TurnKey<K>, number: u64) -> Result<TurnBegun<K>, Refused>
         requires absent { get ⟦<TurnKey<K> as PartialEq>⟧.eq self.old.opened key ≡ None }
         requires number { number ≢ greatest_number }
@@ -147,9 +159,15 @@ impl<K: Eq + Drop, V: Clone, E: Drop> Turns<K, V, E> {
         Ok(TurnBegun::Run(turn))
     }
 
-    /// Opens a turn of a kind and a key, of which none is open, under this number: with whether its
-    /// look found a live value, and the copy of that which is kept aside, if one is. Refused for want of
-    /// memory alone; then every turn stays as it was.
+    /// Opens a turn of a kind and key with this sequence number. None of that kind and key may be
+    /// open.
+    ///
+    /// `shown` is whether the turn's lookup found a live value. `kept` is the clone of that value
+    /// that is kept aside, if one is.
+    ///
+    /// # Errors
+    ///
+    /// - `OutOfMemory`: an allocation failed. Every turn stays as it was.
     pub fn open_shown(
         &mut self,
         key: TurnKey<K>,

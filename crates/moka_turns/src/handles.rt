@@ -1,4 +1,4 @@
-//! What a caller holds of a turn. Neither may be let go: each is spent by one call, once.
+//! What a caller holds of a turn. Neither handle can be dropped: one call consumes each.
 ghost use Rattle.std.specs.Prelude.{◌≡◌, IfOk};
 ghost use Rattle.std.specs.Arc.{arc_value};
 ghost use Rattle.moka_turns.specs.Keeps.{name_of};
@@ -9,50 +9,50 @@ use moka_policy::policy::Refused;
 use std::alloc::AllocError;
 use std::sync::Arc;
 
-/// The right and the duty to end a turn. Dropping one does not compile.
+/// The right and the duty to end a turn: the single-flight permit. Dropping one does not compile.
 pub struct Turn<K> {
     pub(crate) key: TurnKey<K>,
     pub(crate) number: u64,
 }
 
-/// The right and the duty to ask what came of a turn, or to leave it. Dropping one does not
-/// compile.
+/// The right to the result of someone else's turn. It has to be collected or left; dropping one
+/// does not compile.
 pub struct Ticket<K> {
     pub(crate) key: TurnKey<K>,
     pub(crate) number: u64,
 }
 
-/// A refused `collect`, with the ticket that it was given.
+/// A failed `collect`.
 pub struct CollectRefused<K> {
     /// The ticket, as it was given.
     pub ticket: Ticket<K>,
-    /// Why it was refused.
+    /// Why the call failed.
     pub cause: Refused,
 }
 
 impl<K> Turn<K> {
-    /// Its number.
+    /// Returns the sequence number of the turn.
     pub fn number(&self) -> u64
         ensures { result ≡ self.now.number }
     {
         self.number
     }
 
-    /// Its kind.
+    /// Returns the kind of the turn.
     pub fn kind(&self) -> Kind
         ensures { result ≡ self.now.key.kind }
     {
         self.key.kind
     }
 
-    /// Its key.
+    /// Returns the key of the turn.
     pub fn key(&self) -> &K
         ensures { result.now ≡ arc_value self.now.key.key }
     {
         &*self.key.key
     }
 
-    /// The same turn, found by this hash of its key.
+    /// Returns the same turn with this hash of its key, by which it is found.
     pub fn rehashed(self, hash: u64) -> Turn<K>
         ensures hash { result.key.hash ≡ hash }
         ensures name { name_of result.key result.number ≡ name_of self.key self.number }
@@ -67,7 +67,11 @@ impl<K> Turn<K> {
 }
 
 impl<K: Drop> Turn<K> {
-    /// A share of its key. Refused for want of memory alone.
+    /// Returns the key of the turn, shared.
+    ///
+    /// # Errors
+    ///
+    /// - `AllocError`: an allocation failed.
     pub fn shared_key(&self) -> Result<Arc<K>, AllocError>
         ensures { IfOk result (λ key. arc_value key ≡ arc_value self.now.key.key) }
     {
@@ -76,28 +80,28 @@ impl<K: Drop> Turn<K> {
 }
 
 impl<K> Ticket<K> {
-    /// The number of its turn.
+    /// Returns the sequence number of the ticket's turn.
     pub fn number(&self) -> u64
         ensures { result ≡ self.now.number }
     {
         self.number
     }
 
-    /// The kind of its turn.
+    /// Returns the kind of the ticket's turn.
     pub fn kind(&self) -> Kind
         ensures { result ≡ self.now.key.kind }
     {
         self.key.kind
     }
 
-    /// The key of its turn.
+    /// Returns the key of the ticket's turn.
     pub fn key(&self) -> &K
         ensures { result.now ≡ arc_value self.now.key.key }
     {
         &*self.key.key
     }
 
-    /// The same ticket, whose turn is found by this hash of its key.
+    /// Returns the same ticket with this hash of its key, by which its turn is found.
     pub fn rehashed(self, hash: u64) -> Ticket<K>
         ensures hash { result.key.hash ≡ hash }
         ensures name { name_of result.key result.number ≡ name_of self.key self.number }

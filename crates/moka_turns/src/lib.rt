@@ -1,4 +1,5 @@
-//! Turns: who works out a value for a key, who waits for it, and what came of it.
+//! Turns, which make single flight: one caller computes a value for a key, and others wait for its
+//! result.
 #![tactic(auto)]
 
 pub mod begin;

@@ -1,5 +1,5 @@
-//! Turns and tickets of a name, and names of them, for who does calls that stand as data. No library
-//! above hands this module on: with it a turn could be made up.
+//! Turns and tickets from names, and names from them, for callers whose calls are data. No library
+//! above exports this module, since it can forge a turn.
 ghost use Rattle.std.specs.Prelude.{◌≡◌};
 ghost use Rattle.moka_turns.specs.Handles.{turn_name, ticket_name, name_by};
 
@@ -7,7 +7,7 @@ use crate::handles::{Ticket, Turn};
 use crate::turn_key::TurnKey;
 use crate::turn_name::TurnName;
 
-/// The turn of a name. Its key has no hash yet.
+/// Creates the turn with this name. Its key has no hash yet.
 pub fn turn_of<K>(name: TurnName<K>) -> Turn<K>
     ensures name { turn_name result ≡ name_by name }
     ensures kind { result.key.kind ≡ name.kind }
@@ -20,7 +20,7 @@ pub fn turn_of<K>(name: TurnName<K>) -> Turn<K>
     }
 }
 
-/// A ticket for the turn of a name. Its key has no hash yet.
+/// Creates a ticket of the turn with this name. Its key has no hash yet.
 pub fn ticket_of<K>(name: TurnName<K>) -> Ticket<K>
     ensures { ticket_name result ≡ name_by name }
 {
@@ -31,7 +31,7 @@ pub fn ticket_of<K>(name: TurnName<K>) -> Ticket<K>
     }
 }
 
-/// The name of a turn, which is no more.
+/// Returns the name of a turn, and consumes the turn.
 pub fn name_of_turn<K>(turn: Turn<K>) -> TurnName<K>
     ensures { name_by result ≡ turn_name turn }
 {
@@ -40,7 +40,7 @@ pub fn name_of_turn<K>(turn: Turn<K>) -> TurnName<K>
     TurnName { number, kind, key }
 }
 
-/// The name of a ticket's turn. The ticket is no more.
+/// Returns the name of a ticket's turn, and consumes the ticket.
 pub fn name_of_ticket<K>(ticket: Ticket<K>) -> TurnName<K>
     ensures { name_by result ≡ ticket_name ticket }
 {

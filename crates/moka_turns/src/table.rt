@@ -1,6 +1,6 @@
-//! The table of turns: those that are open, by kind and key, and those that are ended and have
-//! unspent tickets, by their numbers.
-ghost use Rattle.std.specs.Prelude.{◌≡◌, ◌≢◌, ℕ, ◌+◌, ◌-◌, ◌<◌, ◌≤◌, ◌^◌, None, Some, IsSome, IfSome, IfNone, IfOk, IfErr, OnSome, OnOk, nat_eq, option_copied, if◌then◌else◌, nat_lt};
+//! The table of turns: the open ones by kind and key, and the ended ones with unspent tickets by
+//! number.
+ghost use Rattle.std.specs.Prelude.{◌≡◌, ◌≢◌, ℕ, ◌+◌, ◌-◌, ◌<◌, ◌≤◌, ◌^◌, None, Some, IsSome, IfSome, IfNone, IfOk, IfErr, OnSome, OnOk, nat_eq, option_copied, option_map, if◌then◌else◌, nat_lt};
 ghost use Rattle.indexmap.specs.IndexMap.{get, get_key, spare, index_map_len, Updates, IsEmpty, IsUnchanged};
 ghost use Rattle.std.specs.Prelude.{Option, List, true, false, ◌==◌, ◌&&◌, nat_le, MatchOption};
 ghost use Rattle.std.specs.Arc.{arc_value};
@@ -25,11 +25,11 @@ use std::sync::Arc;
 /// An open turn.
 #[derive(Drop)]
 pub struct OpenTurn<V> {
-    /// Its number.
+    /// Its sequence number.
     pub number: u64,
-    /// Whether its look found a live value.
+    /// Whether its lookup found a live value.
     pub shown: bool,
-    /// The copy of that value that was kept aside, if one was.
+    /// The clone of that value that was kept aside, if one was.
     pub kept: Option<V>,
     /// How many of its tickets are unspent.
     pub unspent: u64,
@@ -38,15 +38,15 @@ pub struct OpenTurn<V> {
 /// What a turn ended with.
 #[derive(Drop)]
 pub enum TurnEnd<V, E> {
-    /// A value, and whether a live one stood at its write.
+    /// A value, and whether it was written over a live one.
     Value(V, bool),
-    /// There is no value.
+    /// No value.
     Nothing,
     /// An error in place of a value.
     Failed(Arc<E>),
-    /// It was a compute: what it gave is its caller's own.
+    /// It was a compute. Its result belongs to its caller only.
     Computed,
-    /// It ended without an outcome.
+    /// It was abandoned, without an outcome.
     Abandoned,
 }
 
@@ -65,16 +65,19 @@ type Open<K, V> = IndexMap<TurnKey<K>, OpenTurn<V>, BuildHasherDefault<AsIs>>;
 
 type Ended<K, V, E> = IndexMap<u64, EndedTurn<K, V, E>, BuildHasherDefault<AsIs>>;
 
-/// What a ticket is told. As long as its turn is open, the ticket is handed back.
+/// The result of collecting a ticket.
 pub enum Told<K, V, E> {
-    /// Its turn is open.
+    /// The turn is open. This is the ticket, unspent.
     NotYet(Ticket<K>),
-    /// Its turn has ended, with this; and this is its key.
+    /// The turn has ended. These are the ticket's key, and a clone of what the turn ended with.
     Ended(Arc<K>, TurnEnd<V, E>),
 }
 
-/// The turns that are kept: one is found without a look at others, whether open or ended. Each open
-/// turn has the room that it may need once it is ended, so nothing but `reserve` takes memory.
+/// The turns that a cache keeps. An open or ended one is found by its hash, without visiting
+/// others.
+///
+/// Each open turn has the room that it needs once it has ended. So the table allocates in `reserve`
+/// only.
 #[derive(Drop)]
 pub struct Turns<K: Eq + Drop, V: Drop, E: Drop> {
     opened: Open<K, V>,
@@ -83,7 +86,7 @@ pub struct Turns<K: Eq + Drop, V: Drop, E: Drop> {
 }
 
 impl<K: Eq + Drop, V: Drop, E: Drop> Turns<K, V, E> {
-    /// No turns. It takes no memory.
+    /// Creates a table without turns. Does not allocate.
     pub fn new(alloc: Global) -> Self
         ensures opened { (key : TurnKey K) → get ⟦<TurnKey<K> as PartialEq>⟧.eq result.opened key ≡ None }
         ensures ended { (number : ℕ) → get nat_eq result.ended number ≡ None }
@@ -95,21 +98,25 @@ impl<K: Eq + Drop, V: Drop, E: Drop> Turns<K, V, E> {
         }
     }
 
-    /// The open turn of a kind and a key.
+    /// Returns the open turn of a kind and key, if there is one.
     pub fn find(&self, key: &TurnKey<K>) -> Option<&OpenTurn<V>>
         ensures { option_copied result ≡ get ⟦<TurnKey<K> as PartialEq>⟧.eq self.now.opened key.now }
     {
         self.opened.get(key)
     }
 
-    /// The ended turn of a number.
+    /// Returns the ended turn with this number, if there is one.
     pub fn ended(&self, number: u64) -> Option<&EndedTurn<K, V, E>>
         ensures { option_copied result ≡ get nat_eq self.now.ended number }
     {
         self.ended.get(&number)
     }
 
-    /// Makes room for one more turn. Where memory is refused, every turn stays as it was.
+    /// Makes room for one more turn. Every turn stays as it was, also if it fails.
+    ///
+    /// # Errors
+    ///
+    /// - `AllocError`: an allocation failed.
     pub fn reserve(&mut self) -> Result<(), AllocError>
         ensures room { OnOk result (HasRoom self.new.opened self.new.ended) }
         ensures opened { IsUnchanged self.old.opened self.new.opened }
@@ -119,7 +126,8 @@ impl<K: Eq + Drop, V: Drop, E: Drop> Turns<K, V, E> {
         self.opened.reserve(1)
     }
 
-    // Gives out one more ticket of an open turn, and answers its number.
+    // Gives out one more ticket of an open turn, and returns its number, or `None` at the greatest
+    // count.
     fn one_more(&mut self, key: &TurnKey<K>) -> Option<u64>
         requires { IsSome (get ⟦<TurnKey<K> as PartialEq>⟧.eq self.old.opened key.now) }
         ensures number { IfSome result (λ number. IfSome (get ⟦<TurnKey<K> as PartialEq>⟧.eq self.old.opened key.now)
@@ -137,8 +145,9 @@ impl<K: Eq + Drop, V: Drop, E: Drop> Turns<K, V, E> {
         Some(turn.number)
     }
 
-    /// Ends the open turn of a kind and a key, and answers it. While it has unspent tickets it is kept
-    /// with its end. It takes no memory.
+    /// Ends the open turn of a kind and key, and returns it. There has to be one.
+    ///
+    /// While it has unspent tickets, the turn is kept with its end. Does not allocate.
     pub fn end(&mut self, key: TurnKey<K>, end: TurnEnd<V, E>) -> OpenTurn<V>
         requires { IsSome (get ⟦<TurnKey<K> as PartialEq>⟧.eq self.old.opened key) }
         ensures turn { Some result ≡ get ⟦<TurnKey<K> as PartialEq>⟧.eq self.old.opened key }
@@ -163,7 +172,7 @@ impl<K: Eq + Drop, V: Drop, E: Drop> Turns<K, V, E> {
         turn
     }
 
-    /// Spends a ticket of an open turn. It takes no memory.
+    /// Spends a ticket of the open turn of a kind and key. Does not allocate.
     pub fn leave_open(&mut self, key: &TurnKey<K>)
         requires { IfSome (get ⟦<TurnKey<K> as PartialEq>⟧.eq self.old.opened key.now) (λ turn. 0 < turn.unspent) }
         ensures spent { IfSome (get ⟦<TurnKey<K> as PartialEq>⟧.eq self.old.opened key.now)
@@ -175,8 +184,8 @@ impl<K: Eq + Drop, V: Drop, E: Drop> Turns<K, V, E> {
         }
     }
 
-    /// Spends a ticket of an ended turn. With its last ticket the turn is let go, and answered. It
-    /// takes no memory.
+    /// Spends a ticket of an ended turn. If it was the last one, removes the turn and returns it.
+    /// Does not allocate.
     pub fn leave_ended(&mut self, number: u64) -> Option<EndedTurn<K, V, E>>
         requires { IsSome (get nat_eq self.old.ended number) }
         ensures spent { IfSome (get nat_eq self.old.ended number)
@@ -193,7 +202,7 @@ impl<K: Eq + Drop, V: Drop, E: Drop> Turns<K, V, E> {
         None
     }
 
-    // Whether an ended turn has one unspent ticket at most.
+    // Returns whether an ended turn has at most one unspent ticket.
     fn is_last(&self, number: u64) -> bool
         ensures { IfSome (get nat_eq self.now.ended number)
             (λ turn. kept_ended (one_less turn) ≡ (if result then None else Some (one_less turn))) }
@@ -204,7 +213,7 @@ impl<K: Eq + Drop, V: Drop, E: Drop> Turns<K, V, E> {
         }
     }
 
-    // Whether the open turn of a kind and a key has this number, and an unspent ticket.
+    // Returns whether the open turn of a kind and key has this number and an unspent ticket.
     fn is_awaited(&self, key: &TurnKey<K>, number: u64) -> bool
         ensures { MatchOption (get ⟦<TurnKey<K> as PartialEq>⟧.eq self.now.opened key.now) (result ≡ false)
             (λ turn. result ≡ (turn.number == number && nat_le 1 turn.unspent)) }
@@ -215,7 +224,7 @@ impl<K: Eq + Drop, V: Drop, E: Drop> Turns<K, V, E> {
         }
     }
 
-    // Whether the ended turn of a number is of a kind and a key.
+    // Returns whether the ended turn with this number is of a kind and key.
     fn is_its(&self, key: &TurnKey<K>, number: u64) -> bool
         ensures { MatchOption (get nat_eq self.now.ended number) (result ≡ false)
             (λ turn. result ≡ (⟦<Kind as PartialEq>⟧.eq turn.key.kind key.now.kind && K.eq (arc_value turn.key.key) (arc_value key.now.key))) }
@@ -226,7 +235,7 @@ impl<K: Eq + Drop, V: Drop, E: Drop> Turns<K, V, E> {
         }
     }
 
-    // Whether the open turn of a kind and a key has this number.
+    // Returns whether the open turn of a kind and key has this number.
     fn is_open(&self, key: &TurnKey<K>, number: u64) -> bool
         ensures { MatchOption (get ⟦<TurnKey<K> as PartialEq>⟧.eq self.now.opened key.now) (result ≡ false) (λ turn. result ≡ (turn.number == number)) }
     {
@@ -238,7 +247,7 @@ impl<K: Eq + Drop, V: Drop, E: Drop> Turns<K, V, E> {
 }
 
 impl<K: Eq + Drop, V: Clone, E: Drop> Turns<K, V, E> {
-    /// Opens a turn. It takes no memory.
+    /// Adds an open turn. Its room has to be made before. Does not allocate.
     pub fn add(&mut self, key: TurnKey<K>, turn: OpenTurn<V>)
         requires absent { get ⟦<TurnKey<K> as PartialEq>⟧.eq self.old.opened key ≡ None }
         requires room { HasRoom self.old.opened self.old.ended }
@@ -259,8 +268,9 @@ impl<K: Eq + Drop, V: Clone, E: Drop> Turns<K, V, E> {
         }
     }
 
-    /// Ends a turn without an outcome, where it is an open turn of this table; it is spent in any
-    /// case. Whether it was one. It takes no memory.
+    /// Ends a turn without an outcome, and returns whether it was an open turn of this table.
+    ///
+    /// Consumes the turn in either case. Does not allocate.
     pub fn abandon(&mut self, turn: Turn<K>) -> bool
         ensures abandons { (hash_of : K → ℕ) (ts : List (turning.Turn K V E))
             → ((a b : K) → K.eq a b ≡ true → hash_of a ≡ hash_of b)
@@ -280,9 +290,10 @@ impl<K: Eq + Drop, V: Clone, E: Drop> Turns<K, V, E> {
         true
     }
 
-    /// Gives out one more ticket of the open turn of a kind and a key, and answers the turn's number;
-    /// none where its tickets are as many as can be counted, and then nothing has changed. It takes no
-    /// memory.
+    /// Gives out one more ticket of the open turn of a kind and key, and returns the turn's number.
+    ///
+    /// Returns `None` if its tickets are as many as can be counted; then nothing has changed. Does
+    /// not allocate.
     pub fn wait(&mut self, key: &TurnKey<K>) -> Option<u64>
         requires { IsSome (get ⟦<TurnKey<K> as PartialEq>⟧.eq self.old.opened key.now) }
         ensures keeps { IfSome result (λ number. (hash_of : K → ℕ) (ts : List (turning.Turn K V E))
@@ -305,8 +316,10 @@ impl<K: Eq + Drop, V: Clone, E: Drop> Turns<K, V, E> {
         }
     }
 
-    /// Spends a ticket, where a turn of this table has its name and an unspent ticket; the ticket is
-    /// spent in any case. Whether there was one. It takes no memory.
+    /// Spends a ticket, and returns whether a turn of this table had its name and an unspent
+    /// ticket.
+    ///
+    /// Consumes the ticket in either case. Does not allocate.
     pub fn leave(&mut self, ticket: Ticket<K>) -> bool
         ensures leaves { (hash_of : K → ℕ) (ts : List (turning.Turn K V E))
             → ((a b : K) → K.eq a b ≡ true → hash_of a ≡ hash_of b)
@@ -330,7 +343,7 @@ impl<K: Eq + Drop, V: Clone, E: Drop> Turns<K, V, E> {
         false
     }
 
-    // A copy of the end of an ended turn.
+    // Returns a clone of what an ended turn ended with.
     fn copy_of(&self, number: u64) -> Result<TurnEnd<V, E>, AllocError>
         requires { IsSome (get nat_eq self.now.ended number) }
         ensures copy { IfOk result (λ copy. IfSome (get nat_eq self.now.ended number)
@@ -344,10 +357,72 @@ impl<K: Eq + Drop, V: Clone, E: Drop> Turns<K, V, E> {
         }
     }
 
-    /// Spends a ticket of an ended turn, and answers a copy of the turn's end. Where the turn is open,
-    /// the ticket is handed back unspent. Refused with `UnknownTicket` where no turn of this table has its
-    /// name and an unspent ticket, and with `OutOfMemory` where the copy is refused memory; then the
-    /// ticket is handed back, and nothing has changed.
+    /// Returns a clone of what the turn with this key and number ended with. Returns `None` if the
+    /// turn is open, or if no turn with an unspent ticket has this key and number.
+    ///
+    /// # Errors
+    ///
+    /// - `AllocError`: an allocation failed.
+    pub fn end_copy(
+        &self,
+        key: &TurnKey<K>,
+        number: u64,
+    ) -> Result<Option<TurnEnd<V, E>>, AllocError>
+        ensures { IfOk result (λ copy. (hash_of : K → ℕ) (ts : List (turning.Turn K V E))
+            → ((a b : K) → K.eq a b ≡ true → hash_of a ≡ hash_of b)
+            → ((u v w : V) → V.is_clone u v → V.is_clone v w → V.is_clone u w)
+            → key.now.hash ≡ hash_of (arc_value key.now.key)
+            → AreSound K.eq ts
+            → Keeps K.eq V.is_clone hash_of ts (get ⟦<TurnKey<K> as PartialEq>⟧.eq self.now.opened) (get nat_eq self.now.ended)
+            → IfSome (found (has_ticket_as K.eq (name_of key.now number)) ts)
+            (λ t. IsCopiedEnd V.is_clone t.end (option_map end_of copy))) }
+    {
+        if self.is_awaited(key, number) {
+            return Ok(None);
+        }
+        if !self.is_its(key, number) {
+            return Ok(None);
+        }
+        match self.copy_of(number) {
+            Ok(end) => Ok(Some(end)),
+            Err(refused) => Err(refused),
+        }
+    }
+
+    /// Returns a clone of the value that was kept aside for the open turn with this key and number.
+    /// Returns `None` if there is no such turn or no such value.
+    ///
+    /// # Errors
+    ///
+    /// - `AllocError`: an allocation failed.
+    pub fn kept_copy(&self, key: &TurnKey<K>, number: u64) -> Result<Option<V>, AllocError>
+        ensures { IfOk result (λ copy. (hash_of : K → ℕ) (ts : List (turning.Turn K V E))
+            → ((a b : K) → K.eq a b ≡ true → hash_of a ≡ hash_of b)
+            → ((u v w : V) → V.is_clone u v → V.is_clone v w → V.is_clone u w)
+            → key.now.hash ≡ hash_of (arc_value key.now.key)
+            → AreSound K.eq ts
+            → Keeps K.eq V.is_clone hash_of ts (get ⟦<TurnKey<K> as PartialEq>⟧.eq self.now.opened) (get nat_eq self.now.ended)
+            → IfSome (found (is_open_as K.eq (name_of key.now number)) ts)
+            (λ t. IsCopyOf V.is_clone t.kept copy)) }
+    {
+        let Some(row) = self.opened.get(key) else {
+            return Ok(None);
+        };
+        if row.number != number {
+            return Ok(None);
+        }
+        row.kept_copy()
+    }
+
+    /// Spends a ticket of an ended turn, and returns a clone of what the turn ended with.
+    ///
+    /// Returns the ticket unspent if the turn is open. A failed call changes nothing, and hands
+    /// back the ticket.
+    ///
+    /// # Errors
+    ///
+    /// - `UnknownTicket`: no turn of this table has the ticket's name and an unspent ticket.
+    /// - `OutOfMemory`: cloning what the turn ended with failed.
     pub fn collect(&mut self, ticket: Ticket<K>) -> Result<Told<K, V, E>, CollectRefused<K>>
         ensures collects { (hash_of : K → ℕ) (ts : List (turning.Turn K V E))
             → ((a b : K) → K.eq a b ≡ true → hash_of a ≡ hash_of b)
@@ -381,7 +456,8 @@ impl<K: Eq + Drop, V: Clone, E: Drop> Turns<K, V, E> {
         Ok(Told::Ended(key, end))
     }
 
-    /// How many tickets of a turn are unspent; none where it is no open turn of this table.
+    /// Returns how many tickets of a turn are unspent, or `None` if it is no open turn of this
+    /// table.
     pub fn waiting_for(&self, turn: &Turn<K>) -> Option<u64>
         ensures there { IfSome result (λ waiting.
             IsOpenWith turn.now.number waiting
@@ -401,7 +477,7 @@ impl<K: Eq + Drop, V: Clone, E: Drop> Turns<K, V, E> {
         }
     }
 
-    // Ends the open turn of a kind and a key, for which nobody waits.
+    // Ends the open turn of a kind and key, for which nobody waits, and returns it.
     fn close(&mut self, key: &TurnKey<K>) -> OpenTurn<V>
         requires known { IsSome (get ⟦<TurnKey<K> as PartialEq>⟧.eq self.old.opened key.now) }
         ensures turn { Some result
@@ -416,8 +492,9 @@ impl<K: Eq + Drop, V: Clone, E: Drop> Turns<K, V, E> {
         turn
     }
 
-    /// Ends an open turn, and answers what was kept of it. What came of it is kept for those who wait,
-    /// and need be handed in only where somebody does. It takes no memory.
+    /// Ends an open turn, and returns its entry in the table. Does not allocate.
+    ///
+    /// `end` is kept for the callers that wait. It may be `None` only if no ticket is unspent.
     pub fn finish(&mut self, turn: Turn<K>, end: Option<TurnEnd<V, E>>) -> OpenTurn<V>
         requires { IsOpenFor turn.number end
             (get ⟦<TurnKey<K> as PartialEq>⟧.eq self.old.opened turn.key) }
@@ -441,8 +518,8 @@ impl<K: Eq + Drop, V: Clone, E: Drop> Turns<K, V, E> {
         }
     }
 
-    // Ends the open turn of a kind and a key as a compute. While it has unspent tickets it is kept, under
-    // the key that it was opened with.
+    // Ends the open turn of a kind and key as a compute. While it has unspent tickets it is kept,
+    // under the key with which it was opened.
     fn end_computed(&mut self, key: &TurnKey<K>) -> OpenTurn<V>
         requires { IsSome (get ⟦<TurnKey<K> as PartialEq>⟧.eq self.old.opened key.now) }
         ensures turn { Some result ≡ get ⟦<TurnKey<K> as PartialEq>⟧.eq self.old.opened key.now }
@@ -472,8 +549,9 @@ impl<K: Eq + Drop, V: Clone, E: Drop> Turns<K, V, E> {
         row
     }
 
-    /// Ends the open turn of a compute, and answers its key and what was kept of it. Those who wait are
-    /// told that it has ended. It takes no memory.
+    /// Ends the open turn of a compute, and returns its key and its entry in the table.
+    ///
+    /// The callers that wait learn only that it has ended. Does not allocate.
     pub fn finish_computed(&mut self, turn: Turn<K>) -> (Arc<K>, OpenTurn<V>)
         requires { IsOpenAs turn.number
             (get ⟦<TurnKey<K> as PartialEq>⟧.eq self.old.opened turn.key) }
@@ -496,8 +574,27 @@ impl<K: Eq + Drop, V: Clone, E: Drop> Turns<K, V, E> {
     }
 }
 
+impl<V: Clone> OpenTurn<V> {
+    // Returns a clone of the value that was kept aside, if one was. Fails only if cloning it does.
+    fn kept_copy(&self) -> Result<Option<V>, AllocError>
+        ensures { IfOk result (IsCopyOf V.is_clone self.now.kept) }
+    {
+        match &self.kept {
+            Some(value) => match value.clone() {
+                Ok(copy) => Ok(Some(copy)),
+                Err(refused) => Err(refused),
+            },
+            None => Ok(None),
+        }
+    }
+}
+
 impl<V: Clone, E: Drop> TurnEnd<V, E> {
-    /// A copy. Refused for want of memory alone, and only where it has a value or an error.
+    /// Returns a clone.
+    ///
+    /// # Errors
+    ///
+    /// - `AllocError`: an allocation failed. Only for a value or an error.
     pub fn copied(&self) -> Result<TurnEnd<V, E>, AllocError>
         ensures copy { IfOk result (λ copy.
             IsCopiedEnd V.is_clone (Some (end_of self.now)) (Some (end_of copy))) }

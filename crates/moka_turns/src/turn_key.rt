@@ -1,12 +1,12 @@
-//! What an open turn is found by.
+//! The key by which a table finds an open turn.
 use moka_model::turns::Kind;
 use std::hash::{Hash, Hasher};
 use std::sync::Arc;
 
-/// A kind and a key, with the key's hash, which it is hashed by.
+/// A kind and a key, hashed by the key's hash.
 #[derive(PartialEq, Eq, Drop)]
 pub struct TurnKey<K> {
-    /// The key's hash.
+    /// The hash of the key.
     pub hash: u64,
     /// The kind.
     pub kind: Kind,

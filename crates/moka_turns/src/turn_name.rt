@@ -2,11 +2,12 @@
 use moka_model::turns::Kind;
 use std::sync::Arc;
 
-/// What a turn and its tickets are called, in calls that stand as data. It names a turn, and is none:
-/// who has a name holds no turn and no ticket.
+/// The name of a turn and of its tickets, for calls that are data.
+///
+/// It is no turn and no ticket: having it gives no right to either.
 #[derive(Debug, Drop)]
 pub struct TurnName<K> {
-    /// The number that the turn drew.
+    /// The sequence number that the turn drew.
     pub number: u64,
     /// Its kind.
     pub kind: Kind,

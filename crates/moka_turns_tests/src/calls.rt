@@ -1,4 +1,4 @@
-//! The calls of a table of turns as data, and what they answer.
+//! The calls of a table of turns as data, and their results.
 use moka_model::turns::Kind;
 use moka_turns::table::{EndedTurn, OpenTurn, TurnEnd, Turns};
 use moka_turns::turn_key::TurnKey;
@@ -15,13 +15,13 @@ pub enum Final {
     Abandoned,
 }
 
-/// A call of a table of turns. Those about an open turn name its kind and its key, and those about an
-/// ended one its number.
+/// A call of a table of turns. Those about an open turn name its kind and key, those about an ended
+/// one its number.
 #[derive(Clone, Copy)]
 pub enum Call {
     Find(Kind, u64),
     Ended(u64),
-    /// Opens a turn under a number, where none is open.
+    /// Opens a turn with a number if none of its kind and key is open.
     Open(Kind, u64, u64),
     Wait(Kind, u64),
     End(Kind, u64, Final),
@@ -29,19 +29,20 @@ pub enum Call {
     LeaveEnded(u64),
 }
 
-/// What a call answers.
+/// The result of a call.
 #[derive(Clone, Copy, Debug, PartialEq)]
 pub enum Answer {
     Done,
     Absent,
     Number(u64),
-    /// The number of an open turn, and how many of its tickets are unspent.
+    /// The number of an open turn, and how many of its tickets are neither collected nor left.
     Open(u64, u64),
-    /// An ended turn: its kind and key, what it ended with, and how many of its tickets are unspent.
+    /// An ended turn: its kind and key, what it ended with, and how many of its tickets are neither
+    /// collected nor left.
     Kept(Kind, u64, Final, u64),
 }
 
-/// What the turn of a kind and a key is found by. All even keys have one hash, and all odd ones.
+/// Creates the key of a turn. All even keys have one hash, and all odd ones another.
 pub fn key_of(alloc: Global, kind: Kind, key: u64) -> Result<TurnKey<u64>, AllocError> {
     Ok(TurnKey {
         hash: key % 2,
@@ -50,7 +51,7 @@ pub fn key_of(alloc: Global, kind: Kind, key: u64) -> Result<TurnKey<u64>, Alloc
     })
 }
 
-/// An end, as a table keeps it.
+/// Creates an end as a table keeps it.
 pub fn end_of(alloc: Global, end: Final) -> Result<TurnEnd<u64, u64>, AllocError> {
     Ok(match end {
         Final::Value(value, replaced) => TurnEnd::Value(value, replaced),
@@ -61,7 +62,7 @@ pub fn end_of(alloc: Global, end: Final) -> Result<TurnEnd<u64, u64>, AllocError
     })
 }
 
-/// What a turn has ended with.
+/// Returns what a turn ended with.
 pub fn final_of(end: &TurnEnd<u64, u64>) -> Final {
     match end {
         TurnEnd::Value(value, replaced) => Final::Value(*value, *replaced),
@@ -72,7 +73,7 @@ pub fn final_of(end: &TurnEnd<u64, u64>) -> Final {
     }
 }
 
-/// A turn that nobody waits for yet.
+/// Creates a turn that nobody waits for yet.
 pub fn new_turn<V>(number: u64) -> OpenTurn<V> {
     OpenTurn {
         number,
@@ -82,7 +83,7 @@ pub fn new_turn<V>(number: u64) -> OpenTurn<V> {
     }
 }
 
-/// Opens a turn, where none of its kind and key is open. Whether it did.
+/// Opens a turn if none of its kind and key is open. Returns whether it did.
 pub fn open<V: Clone, E: Drop>(
     turns: &mut Turns<u64, V, E>,
     key: TurnKey<u64>,
@@ -96,7 +97,7 @@ pub fn open<V: Clone, E: Drop>(
     Ok(true)
 }
 
-/// Waits for an open turn, and answers its number.
+/// Takes a ticket of an open turn, and returns the turn's number.
 pub fn wait<V: Clone, E: Drop>(turns: &mut Turns<u64, V, E>, key: &TurnKey<u64>) -> Option<u64> {
     if turns.find(key).is_none() {
         return None;
@@ -104,7 +105,7 @@ pub fn wait<V: Clone, E: Drop>(turns: &mut Turns<u64, V, E>, key: &TurnKey<u64>)
     turns.wait(key)
 }
 
-/// Ends an open turn, and answers what was kept of it.
+/// Ends an open turn, and returns it.
 pub fn end<V: Clone, E: Drop>(
     turns: &mut Turns<u64, V, E>,
     key: TurnKey<u64>,
@@ -116,7 +117,7 @@ pub fn end<V: Clone, E: Drop>(
     Some(turns.end(key, end))
 }
 
-/// Spends a ticket of an open turn, where it has one. Whether it has.
+/// Leaves a ticket of an open turn if it has one. Returns whether it had.
 pub fn leave_open<V: Clone, E: Drop>(turns: &mut Turns<u64, V, E>, key: &TurnKey<u64>) -> bool {
     let waits = match turns.find(key) {
         Some(turn) => turn.unspent > 0,
@@ -128,7 +129,7 @@ pub fn leave_open<V: Clone, E: Drop>(turns: &mut Turns<u64, V, E>, key: &TurnKey
     waits
 }
 
-/// Spends a ticket of an ended turn, which is answered with its last one.
+/// Leaves a ticket of an ended turn. Returns the turn with its last ticket.
 pub fn leave_ended<V: Clone, E: Drop>(
     turns: &mut Turns<u64, V, E>,
     number: u64,
@@ -162,7 +163,7 @@ fn done(done: bool) -> Answer {
     if done { Answer::Done } else { Answer::Absent }
 }
 
-/// Makes a call.
+/// Makes a call and returns its result.
 fn made(alloc: Global, turns: &mut Turns<u64, u64, u64>, call: Call) -> Result<Answer, AllocError> {
     Ok(match call {
         Call::Find(kind, key) => opened(turns.find(&key_of(alloc, kind, key)?)),
@@ -181,7 +182,7 @@ fn made(alloc: Global, turns: &mut Turns<u64, u64, u64>, call: Call) -> Result<A
     })
 }
 
-/// What a new table answers to some calls, in turn.
+/// Returns the results of some calls of a new table.
 pub fn answers(alloc: Global, calls: &[Call]) -> Result<Vec<Answer>, AllocError> {
     let mut turns = Turns::new(alloc);
     let mut found = Vec::new(alloc);

@@ -1,4 +1,4 @@
-//! The table of turns against what its calls say, by tables of calls.
+//! The tests of the table of turns, by tables of calls.
 #![tactic(auto)]
 
 #[cfg(test)]

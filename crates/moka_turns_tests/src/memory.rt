@@ -1,5 +1,5 @@
-//! What memory is taken, and what a refused call leaves. Each test passes, or says where it was refused, also where one
-//! request for memory is refused, whichever: `scripts/refused_memory` tries each.
+//! What is allocated, and what a failed call leaves. If any one allocation fails, each test passes,
+//! or says where it failed: `scripts/refused_memory` tries each.
 use crate::calls::{end, key_of, leave_ended, leave_open, open, wait};
 use moka_model::turns::Kind;
 use moka_turns::table::{TurnEnd, Turns};
@@ -9,10 +9,10 @@ use std::process::Abort;
 use std::sync::Arc;
 use std::test::Fail;
 
-/// Turns that give texts for numbers.
+/// Turns that compute texts for numbers.
 type Texts = Turns<u64, String, u64>;
 
-/// What the turn of a key is found by. Where memory is refused, it asks once more.
+/// Creates the key of a turn. Retries once if an allocation fails.
 fn given(alloc: Global, key: u64) -> Result<TurnKey<u64>, AllocError> {
     match key_of(alloc, Kind::With, key) {
         Ok(key) => Ok(key),
@@ -20,7 +20,7 @@ fn given(alloc: Global, key: u64) -> Result<TurnKey<u64>, AllocError> {
     }
 }
 
-/// Opens a turn. Where memory is refused, it asks once more.
+/// Opens a turn. Retries once if an allocation fails.
 fn opens(alloc: Global, turns: &mut Texts, key: u64, number: u64) -> Result<bool, AllocError> {
     match open(turns, given(alloc, key)?, number) {
         Ok(opened) => Ok(opened),
@@ -28,10 +28,10 @@ fn opens(alloc: Global, turns: &mut Texts, key: u64, number: u64) -> Result<bool
     }
 }
 
-/// How many turns are opened: room has to grow some times.
+/// The number of turns that are opened: room has to grow some times.
 const TURNS: u64 = 9;
 
-// The four parts of the next test: the table is lent to each, since a body that owns it is dear to prove.
+// The four parts of the next test borrow the table, since a body that owns it is slow to prove.
 fn open_all(rt: &impl Abort, alloc: Global, turns: &mut Texts) -> Result<(), Fail> {
     for key in 0..TURNS {
         assert!(rt; opens(alloc, turns, key, key + 100)?);
@@ -71,13 +71,14 @@ fn keeps_all(rt: &impl Abort, alloc: Global, turns: &mut Texts) -> Result<(), Fa
     Ok(())
 }
 
+/// Every turn is kept, also if any one allocation fails.
 #[test]
 fn every_turn_is_kept_where_memory_is_refused(rt: HostRuntime) -> Result<(), Fail> {
     let mut turns = Texts::new(rt.alloc());
     keeps_all(&rt, rt.alloc(), &mut turns)
 }
 
-/// The text of a copy of an end.
+/// Returns the text in a clone of an end.
 fn copied(end: &TurnEnd<String, u64>) -> Result<Option<String>, AllocError> {
     Ok(match end.copied()? {
         TurnEnd::Value(text, _) => Some(text),
@@ -85,7 +86,7 @@ fn copied(end: &TurnEnd<String, u64>) -> Result<Option<String>, AllocError> {
     })
 }
 
-/// A text. Where memory is refused, it asks once more.
+/// Creates a text. Retries once if the allocation fails.
 fn text(alloc: Global, it: &str) -> Result<String, AllocError> {
     match String::from_str(alloc, it) {
         Ok(text) => Ok(text),
@@ -93,6 +94,7 @@ fn text(alloc: Global, it: &str) -> Result<String, AllocError> {
     }
 }
 
+/// An end is cloned, also if any one allocation fails.
 #[test]
 fn an_end_is_copied_where_memory_is_refused(rt: HostRuntime) -> Result<(), Fail> {
     let last = TurnEnd::Value(text(rt.alloc(), "worked out")?, false);
@@ -104,7 +106,7 @@ fn an_end_is_copied_where_memory_is_refused(rt: HostRuntime) -> Result<(), Fail>
     Ok(())
 }
 
-// A turn that has room is waited for three times, and left once.
+// Takes three tickets of a turn that has room, and leaves one.
 fn wait_in_room(rt: &impl Abort, turns: &mut Texts, key: &TurnKey<u64>) {
     for _ in 0..3 {
         assert_eq!(rt; wait(turns, key), Some(10));
@@ -112,7 +114,7 @@ fn wait_in_room(rt: &impl Abort, turns: &mut Texts, key: &TurnKey<u64>) {
     assert!(rt; leave_open(turns, key));
 }
 
-// It ends, and the two who still wait leave it.
+// Ends the turn, and leaves the other two tickets.
 fn end_in_room(rt: &impl Abort, turns: &mut Texts, same: TurnKey<u64>) {
     assert!(rt; end(turns, same, TurnEnd::Computed).is_some());
     assert!(rt; leave_ended(turns, 10).is_none());
@@ -131,6 +133,7 @@ fn takes_none_in_room(rt: &impl Abort, alloc: Global, turns: &mut Texts) -> Resu
     Ok(())
 }
 
+/// Calls about turns do not allocate once there is room.
 #[test]
 fn takes_no_memory_once_there_is_room(rt: HostRuntime) -> Result<(), Fail> {
     let mut turns = Texts::new(rt.alloc());

@@ -1,11 +1,11 @@
-//! Tables of calls with their answers.
+//! Tables of calls with their results.
 use crate::calls::{Answer, Call, Final, answers, end_of, final_of};
 use moka_model::turns::Kind;
 use std::alloc::Global;
 use std::process::Abort;
 use std::test::Fail;
 
-/// Each call answers what the table says.
+/// Checks that each call returns what the table says.
 fn answers_table(rt: &impl Abort, alloc: Global, table: &[(Call, Answer)]) -> Result<(), Fail> {
     let mut calls = Vec::new(alloc);
     for (call, _) in table {
@@ -18,7 +18,7 @@ fn answers_table(rt: &impl Abort, alloc: Global, table: &[(Call, Answer)]) -> Re
     Ok(())
 }
 
-/// Turns that are open. Keys 1 and 3 have one hash, and key 1 has turns of two kinds.
+/// Open turns. Keys 1 and 3 have one hash, and key 1 has turns of two kinds.
 const OPEN: [(Call, Answer); 21] = [
     (Call::Find(Kind::With, 1), Answer::Absent),
     (Call::Wait(Kind::With, 1), Answer::Absent),
@@ -33,7 +33,7 @@ const OPEN: [(Call, Answer); 21] = [
     (Call::Find(Kind::Try, 1), Answer::Absent),
     (Call::Find(Kind::With, 3), Answer::Open(13, 0)),
     (Call::Find(Kind::With, 2), Answer::Absent),
-    // Who waits for the turn of one kind is no concern of the other's.
+    // The tickets of a turn of one kind do not count for one of another kind.
     (Call::Wait(Kind::With, 1), Answer::Number(10)),
     (Call::Wait(Kind::With, 1), Answer::Number(10)),
     (Call::Wait(Kind::Compute, 1), Answer::Number(12)),
@@ -44,12 +44,12 @@ const OPEN: [(Call, Answer); 21] = [
     (Call::Ended(10), Answer::Absent),
 ];
 
-/// What is kept of turn 10 of key 1 once it has ended: two of its tickets are unspent, and then one.
+/// What is kept of turn 10 of key 1 once it has ended: two of its tickets are open, and then one.
 const TWICE: Answer = Answer::Kept(Kind::With, 1, Final::Value(5, true), 2);
 
 const ONCE: Answer = Answer::Kept(Kind::With, 1, Final::Value(5, true), 1);
 
-/// Turns that end: one that two wait for, one that is waited for no more, and one that is abandoned.
+/// Turns that end: one with two tickets, one with none left, and one that is abandoned.
 const ENDED: [(Call, Answer); 23] = [
     (Call::LeaveEnded(10), Answer::Absent),
     (Call::Open(Kind::With, 1, 10), Answer::Done),
@@ -61,7 +61,7 @@ const ENDED: [(Call, Answer); 23] = [
     ),
     (Call::Find(Kind::With, 1), Answer::Absent),
     (Call::Ended(10), TWICE),
-    // Another turn of its kind and key is another turn.
+    // A later turn of its kind and key is another turn.
     (Call::Open(Kind::With, 1, 11), Answer::Done),
     (Call::Wait(Kind::With, 1), Answer::Number(11)),
     (Call::LeaveOpen(Kind::With, 1), Answer::Done),
@@ -76,7 +76,7 @@ const ENDED: [(Call, Answer); 23] = [
         Call::End(Kind::Try, 2, Final::Abandoned),
         Answer::Open(12, 1),
     ),
-    // With its last ticket each is let go, and answered.
+    // With its last ticket an ended turn is removed and returned.
     (Call::LeaveEnded(10), Answer::Absent),
     (Call::Ended(10), ONCE),
     (
@@ -90,16 +90,19 @@ const ENDED: [(Call, Answer); 23] = [
     (Call::LeaveEnded(10), Answer::Absent),
 ];
 
+/// Calls about open turns return what the table says.
 #[test]
 fn open_turns_answer_the_table(rt: HostRuntime) -> Result<(), Fail> {
     answers_table(&rt, rt.alloc(), &OPEN)
 }
 
+/// Calls about ended turns return what the table says.
 #[test]
 fn ended_turns_answer_the_table(rt: HostRuntime) -> Result<(), Fail> {
     answers_table(&rt, rt.alloc(), &ENDED)
 }
 
+/// A clone of an end equals the end.
 #[test]
 fn each_end_is_copied(rt: HostRuntime) -> Result<(), Fail> {
     for end in [

@@ -1,4 +1,4 @@
-//! The calls of a selector as what they are made of: a begin, and a finish of what it hands out.
+//! The calls of a selector, made of a begin and of what ends the turn that it returns.
 ghost use Rattle.std.specs.Prelude.{◌≡◌, ◌≢◌, ℕ};
 ghost use Rattle.moka_model.specs.declared.turns.Kind.{Kind};
 ghost use Rattle.moka_state.specs.Finish.{Fits, outcome_of};
@@ -10,7 +10,7 @@ use moka::sync::value_initializer::{Begun, BegunCompute, Kind, Outcome};
 use std::alloc::Global;
 use std::sync::Arc;
 
-/// What a call answers.
+/// Returns the result of a call.
 pub(crate) fn told_by_turns<S: Turns>(
     subject: &mut S,
     alloc: Global,
@@ -37,8 +37,8 @@ pub(crate) fn told_by_turns<S: Turns>(
     }
 }
 
-/// The entry of a live value that is not this one, or what comes of a turn that ends with this
-/// outcome.
+/// Returns the entry of a live value that is not `unwanted`, or what comes of a turn that is
+/// finished with this outcome.
 fn entered<S: Turns>(
     subject: &mut S,
     key: &Arc<u64>,
@@ -77,8 +77,8 @@ fn tries_to_enter<S: Turns>(
     }
 }
 
-/// What became of the value of a key, or the error where there is one in place of what is to be
-/// done.
+/// Returns the result of a compute. If there is an error instead of an operation, abandons the turn
+/// and returns the error.
 fn computed<S: Turns>(subject: &mut S, key: &Arc<u64>, doing: Result<Doing, u64>) -> Told {
     match subject.begin_compute(key) {
         Ok(BegunCompute::Run(turn, shown)) => match doing {

@@ -1,4 +1,4 @@
-//! The caches under test and their twins, and who hears what leaves them.
+//! The shared caches under test, their twins, and the listener.
 ghost use Rattle.std.specs.Prelude.{◌≡◌, ◌%◌, nat_eq, refl};
 ghost use Rattle.std.proofs.Math.Path.{◌∙◌};
 ghost use Rattle.moka_model.specs.Lives.{no_lifetimes};
@@ -33,13 +33,13 @@ impl Predicate<u64, u64> for Odd {
     }
 }
 
-/// What left: its key, its value, and why.
+/// A removal: the key, the value and the cause.
 pub(crate) type Left = (u64, u64, RemovalCause);
 
-/// What was heard and not yet asked for, in its order.
+/// The removals that were heard and not yet asked for, in their order.
 pub(crate) type Queue = Mutex<VecDeque<Left>>;
 
-/// Notes what it hears.
+/// A listener that queues what it hears.
 #[derive(Drop)]
 pub(crate) struct Notes<W> {
     queue: Arc<Queue>,
@@ -51,7 +51,7 @@ impl<W: Wait> Listener<u64, u64> for Notes<W> {
 
     ghost hears = { λ _ _ _. ⊤ };
 
-    /// What finds no room is not noted, so whoever asks for it misses it.
+    /// Queues a removal, or drops it if there is no room, so that a test misses it.
     fn removed(&self, key: Arc<u64>, value: u64, cause: RemovalCause)
         requires { ⊤ }
     {
@@ -61,11 +61,13 @@ impl<W: Wait> Listener<u64, u64> for Notes<W> {
 
 pub(crate) type Clock = Arc<ManualClock>;
 
-/// A number is its own hash, so its highest bits name its segment.
+/// Hashes a number to itself, so that its highest bits choose its segment.
 type Hasher = BuildHasherDefault<NumberHash>;
 
-/// The types of a cache with a listener. Initializers may fail with a number. A source of few frequencies is quickly made, and
-/// many caches are, where each request for memory is refused in turn.
+/// The types of a cache with a listener. Initializers may fail with a number.
+///
+/// The frequency source is small, so that it is made quickly: many caches are made when each
+/// allocation fails in turn.
 pub(crate) struct NumberTypes<L> {
     types: PhantomData<L>,
 }
@@ -104,7 +106,7 @@ impl<L: Listener<u64, u64> + Drop> CacheTypes<u64, u64> for NumberTypes<L> {
     ghost copies_compose = { λ _ _ _ a b. b ∙ a };
 }
 
-/// The types of the caches.
+/// The types of the shared caches.
 pub(crate) type Types<W> = NumberTypes<Notes<W>>;
 
 /// The types of their twins.
@@ -118,7 +120,7 @@ pub(crate) type PlainState = CacheState<u64, u64, PlainTypes>;
 
 pub(crate) type PlainSegments = SegmentedState<u64, u64, PlainTypes>;
 
-/// What tells a shared cache the moment, and hears what leaves it.
+/// The clock of a shared cache, and what its listener heard.
 #[derive(Drop)]
 pub(crate) struct Heard<W> {
     clock: Clock,
@@ -127,22 +129,22 @@ pub(crate) struct Heard<W> {
     pub alloc: Global,
 }
 
-/// A cache that threads share, each of whose calls goes through a clone of the cache of the call
-/// before, and what its listener heard.
+/// A shared cache and what its listener heard. Each call goes through a clone of the cache of the
+/// call before.
 #[derive(Drop)]
 pub(crate) struct SharedNumbers<W: Wait + Drop> {
     pub cache: Numbers<W>,
     pub heard: Heard<W>,
 }
 
-/// The same of four segments.
+/// The same with four segments.
 #[derive(Drop)]
 pub(crate) struct SharedSegments<W: Wait + Drop> {
     pub cache: SegmentedNumbers<W>,
     pub heard: Heard<W>,
 }
 
-/// The plain twin of a shared cache, which is told the moment.
+/// The twin of a shared cache: an owned cache, with the moment of the next call in nanoseconds.
 #[derive(Drop)]
 pub(crate) struct Twin {
     pub state: PlainState,
@@ -150,7 +152,7 @@ pub(crate) struct Twin {
     pub alloc: Global,
 }
 
-/// The plain twin of a shared cache of four segments.
+/// The twin of a shared cache with four segments.
 #[derive(Drop)]
 pub(crate) struct SegmentedTwin {
     pub state: PlainSegments,
@@ -158,7 +160,7 @@ pub(crate) struct SegmentedTwin {
     pub alloc: Global,
 }
 
-/// Shares a value. Where memory is refused, it asks once more.
+/// Wraps a value in an `Arc`. Retries once if the allocation fails.
 pub(crate) fn shared<T: Drop>(alloc: Global, value: T) -> Result<Arc<T>, AllocError> {
     match Arc::new(alloc, value) {
         Ok(value) => Ok(value),
@@ -166,10 +168,10 @@ pub(crate) fn shared<T: Drop>(alloc: Global, value: T) -> Result<Arc<T>, AllocEr
     }
 }
 
-/// More than may leave in one call.
+/// More removals than one call can make.
 pub(crate) const ROOM: usize = 64;
 
-/// Room for what is heard. Where memory is refused, it asks once more.
+/// Creates room for what is heard. Retries once if the allocation fails.
 fn room(alloc: Global) -> Result<VecDeque<Left>, AllocError> {
     match VecDeque::with_capacity(alloc, ROOM) {
         Ok(room) => Ok(room),
@@ -178,7 +180,7 @@ fn room(alloc: Global) -> Result<VecDeque<Left>, AllocError> {
 }
 
 impl<W: Wait + Copy + Drop> Heard<W> {
-    /// Nothing is heard yet, at moment 0.
+    /// Creates a clock at moment 0 and an empty queue.
     fn new(waits: W, alloc: Global) -> Result<Self, AllocError> {
         Ok(Heard {
             clock: shared(alloc, ManualClock::new(0))?,
@@ -192,7 +194,7 @@ impl<W: Wait + Copy + Drop> Heard<W> {
         Ok(self.clock.clone()?)
     }
 
-    /// The listener that is heard here.
+    /// Returns the listener that fills this queue.
     fn notes(&self) -> Result<Notes<W>, AllocError> {
         Ok(Notes {
             queue: self.queue.clone()?,
@@ -202,24 +204,24 @@ impl<W: Wait + Copy + Drop> Heard<W> {
 }
 
 impl<W: Wait> Heard<W> {
-    /// Sets the clock.
+    /// Sets the clock, in nanoseconds.
     pub(crate) fn set(&self, now: u64) {
         self.clock.set(now);
     }
 
-    /// What was heard first, if anything was.
+    /// Returns the first removal that was heard and not yet taken, if there is one.
     pub(crate) fn take(&self) -> Option<Left> {
         self.queue.lock(&self.waits).pop_front()
     }
 }
 
-/// What the caches and their twins are called.
+/// The name of the caches and of their twins.
 pub(crate) const NAME: &str = "twins";
 
-/// How many keys one cache may store, and each of four segments.
+/// The capacity of one cache, and of each of four segments, in entries.
 pub(crate) const CAPACITY: u64 = 4;
 
-/// A builder of caches whose values live ten seconds, and may be hidden.
+/// Returns a builder of caches with a time to live of ten seconds, which accept predicates.
 fn told<C: CacheTypes<u64, u64>>(
     alloc: Global,
     capacity: u64,
@@ -240,7 +242,7 @@ fn cache_by<W: Wait + Copy + Drop>(heard: &Heard<W>) -> Result<Numbers<W>, Build
         .build_with_hasher(heard.alloc, Hasher::default(), clock, heard.waits)
 }
 
-/// A shared cache. Where memory is refused, it is built anew.
+/// Builds a shared cache. Retries once if an allocation fails.
 pub(crate) fn cache<W: Wait + Copy + Drop>(rt: W, alloc: Global) -> Result<SharedNumbers<W>, Fail> {
     let heard = Heard::new(rt, alloc)?;
     let cache = match cache_by(&heard) {
@@ -262,7 +264,7 @@ fn segmented_cache_by<W: Wait + Copy + Drop>(
         .build_with_hasher(heard.alloc, Hasher::default(), clock, heard.waits)
 }
 
-/// A shared cache of four segments. Where memory is refused, it is built anew.
+/// Builds a shared cache with four segments. Retries once if an allocation fails.
 pub(crate) fn segmented_cache<W: Wait + Copy + Drop>(
     rt: W,
     alloc: Global,
@@ -279,7 +281,7 @@ fn state_by(alloc: Global) -> Result<PlainState, BuildError> {
     told(alloc, CAPACITY)?.build_state(alloc, Hasher::default())
 }
 
-/// The twin of a shared cache. Where memory is refused, it is built anew.
+/// Builds the twin of a shared cache. Retries once if an allocation fails.
 pub(crate) fn state(alloc: Global) -> Result<Twin, Fail> {
     let state = match state_by(alloc) {
         Err(BuildError::OutOfMemory) => state_by(alloc)?,
@@ -298,7 +300,7 @@ fn segments_by(alloc: Global) -> Result<PlainSegments, BuildError> {
         .build_segmented_state(alloc, Hasher::default())
 }
 
-/// The twin of a shared cache of four segments. Where memory is refused, it is built anew.
+/// Builds the twin of a shared cache with four segments. Retries once if an allocation fails.
 pub(crate) fn segmented_state(alloc: Global) -> Result<SegmentedTwin, Fail> {
     let state = match segments_by(alloc) {
         Err(BuildError::OutOfMemory) => segments_by(alloc)?,

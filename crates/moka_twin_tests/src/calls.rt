@@ -3,7 +3,7 @@
 use moka::common::entry::Entry;
 use moka::ops::compute::Op;
 
-/// A call of one key that writes nothing.
+/// A call about one key that writes nothing.
 #[derive(Clone, Copy, Debug)]
 pub(crate) enum Look {
     Get,
@@ -12,7 +12,7 @@ pub(crate) enum Look {
     Remove,
 }
 
-/// A call of one key that writes a value.
+/// A call about one key that writes a value.
 #[derive(Clone, Copy, Debug)]
 pub(crate) enum Write {
     Insert(u64),
@@ -20,7 +20,7 @@ pub(crate) enum Write {
     OrDefault,
 }
 
-/// A call that is of no key.
+/// A call about no key.
 #[derive(Clone, Copy, Debug)]
 pub(crate) enum All {
     InvalidateAll,
@@ -37,35 +37,36 @@ pub(crate) enum All {
     Policy,
 }
 
-/// A call that asks a closure for a value, which is this one.
+/// A loader, with the value that its initializer returns.
 #[derive(Clone, Copy, Debug)]
 pub(crate) enum Form {
     With(u64),
-    /// Where a live value of the second number is turned down. It lends no key.
+    /// Replaces a live value equal to the second number. Takes no key by reference.
     WithIf(u64, u64),
     Optionally(Option<u64>),
     Try(Result<u64, u64>),
-    /// `get_with` and `try_get_with` by their older names, where they have them. They lend no key.
+    /// `get_with` and `try_get_with` by their older names, if the cache has them. Take no key by
+    /// reference.
     OlderWith(u64),
     OlderTry(Result<u64, u64>),
 }
 
-/// What a closure says is to become of a value.
+/// The operation that a closure returns.
 #[derive(Clone, Copy, Debug)]
 pub(crate) enum Doing {
     Nop,
-    /// One more than what is live is put, or 1.
+    /// Puts the live value plus 1, or 1 if there is none.
     Count,
     Remove,
 }
 
-/// The call of a selector.
+/// A call of a selector.
 #[derive(Clone, Copy, Debug)]
 pub(crate) enum Selected {
     OrDefault,
     OrInsert(u64),
     OrInsertWith(u64),
-    /// Where a live value of the second number is turned down.
+    /// Replaces a live value equal to the second number.
     OrInsertWithIf(u64, u64),
     OrOptionallyInsertWith(Option<u64>),
     OrTryInsertWith(Result<u64, u64>),
@@ -74,24 +75,24 @@ pub(crate) enum Selected {
     AndUpsertWith,
 }
 
-/// Calls of turns, in which each turn and each ticket is spent.
+/// Calls about turns. Each of them consumes every turn and ticket that it gets.
 #[derive(Clone, Copy, Debug)]
 pub(crate) enum Turned {
-    /// A begin where a live value of that number is turned down; what it hands out is spent.
+    /// A begin that replaces a live value equal to this number. What it returns is consumed.
     Begin(u64),
     BeginByRef(u64),
     BeginCompute,
-    /// One begins, another waits, and is told what came of it: this value.
+    /// One caller begins, another waits and collects this value.
     Value(u64),
     Nothing,
     Failed(u64),
     Computed(Doing),
     Abandoned,
-    /// The other leaves before it ends.
+    /// The other caller leaves before the turn ends.
     Left(u64),
 }
 
-/// How a key is handed in: as the caller's own, or lent.
+/// How a key is passed: by value or by reference.
 #[derive(Clone, Copy, Debug)]
 pub(crate) enum Key {
     Owned(u64),
@@ -110,7 +111,7 @@ pub(crate) enum Call {
     Walk,
 }
 
-/// One more than what is shown.
+/// Returns the value of an entry plus 1, or 1 if there is none.
 pub(crate) fn next_of(shown: Option<Entry<u64, u64>>) -> u64 {
     match shown {
         Some(entry) => entry.value().wrapping_add(1),

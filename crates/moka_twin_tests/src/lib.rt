@@ -1,5 +1,5 @@
-//! The twin test of the caches that threads share: every call of theirs beside the same call of a
-//! plain state.
+//! The twin test of the shared caches: makes each of their calls, and the same call of an owned
+//! cache, and compares.
 #![tactic(auto)]
 
 #[cfg(test)]

@@ -1,9 +1,9 @@
-//! The calls that a cache and its twin are given, each at so many seconds from the beginning of its
-//! list. The keys are of all four segments, and odd and even values are among them.
+//! The calls that a cache and its twin get, each at so many seconds from the start of its list. The
+//! keys belong to all four segments, and there are odd and even values.
 
 use crate::calls::{All, Call, Doing, Form, Look, Selected, Turned, Write};
 
-/// A call and the second that it comes in.
+/// A call, and the second at which it is made.
 pub(crate) type Timed = (u64, Call);
 
 /// The first keys of the second, the third and the last of four segments.
@@ -13,7 +13,7 @@ const THIRD: u64 = 1 << 63;
 
 const LAST: u64 = 3 << 62;
 
-/// Looks, writes and removals of single keys.
+/// Lookups, writes and removals of single keys.
 pub(crate) const KEYS: [Timed; 36] = [
     (0, Call::All(All::Name)),
     (0, Call::All(All::Policy)),
@@ -53,7 +53,7 @@ pub(crate) const KEYS: [Timed; 36] = [
     (23, Call::All(All::WeightedSize)),
 ];
 
-/// Calls of all keys, where each segment has some that are to leave.
+/// Calls about all keys. Each segment has some that are to be removed.
 pub(crate) const OF_ALL: [Timed; 38] = [
     (0, Call::Write(Write::Insert(10), 1)),
     (0, Call::Write(Write::Insert(11), 2)),
@@ -95,7 +95,7 @@ pub(crate) const OF_ALL: [Timed; 38] = [
     (17, Call::All(All::EntryCount)),
 ];
 
-/// The forms with a closure, each of an absent key and of a live one.
+/// The loaders, each for an absent key and for a live one.
 pub(crate) const FORMS: [Timed; 26] = [
     (0, Call::Form(Form::With(10), 1)),
     (0, Call::Form(Form::With(11), 1)),
@@ -125,7 +125,7 @@ pub(crate) const FORMS: [Timed; 26] = [
     (12, Call::All(All::EntryCount)),
 ];
 
-/// The calls of selectors, each of an absent key and of a live one.
+/// The calls of selectors, each for an absent key and for a live one.
 pub(crate) const SELECTORS: [Timed; 35] = [
     (0, Call::Selected(Selected::OrDefault, 1)),
     (0, Call::Selected(Selected::OrInsert(10), 1)),
@@ -206,7 +206,7 @@ pub(crate) const SELECTORS: [Timed; 35] = [
     (11, Call::All(All::WeightedSize)),
 ];
 
-/// The calls of turns, of absent keys and of live ones.
+/// The calls about turns, for absent keys and for live ones.
 pub(crate) const TURNS: [Timed; 30] = [
     (0, Call::Turned(Turned::Begin(0), LAST)),
     (0, Call::Turned(Turned::BeginByRef(0), LAST)),

@@ -1,4 +1,4 @@
-//! The calls of a shared cache.
+//! Makes the calls on a shared cache.
 ghost use Rattle.std.specs.Prelude.{◌≡◌, ◌≢◌, ℕ, IfOk};
 
 use crate::caches::{Left, NAME, Numbers, Odd, SharedNumbers};
@@ -150,7 +150,7 @@ impl<W: Wait + Drop> Turns for SharedNumbers<W> {
     }
 }
 
-/// The id is not shown: each is new.
+/// Invalidates the odd values. Drops the id, since each id is new.
 fn hide_odd<W: Wait + Drop>(cache: &Numbers<W>) -> Told {
     let mut generator = SplitMix64::seed_from_u64(7);
     hidden_of(cache.invalidate_entries_if(Odd, &mut generator))

@@ -1,4 +1,4 @@
-//! The calls of a shared cache of several segments.
+//! Makes the calls on a shared cache with several segments.
 ghost use Rattle.std.specs.Prelude.{◌≡◌, ◌≢◌, ℕ, IfOk};
 
 use crate::caches::{Left, NAME, Odd, SegmentedNumbers, SharedSegments};

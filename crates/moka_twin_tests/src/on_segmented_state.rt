@@ -1,4 +1,4 @@
-//! The calls of a state of several segments, the twin of such a cache.
+//! Makes the calls on an owned cache with several segments, the twin of such a shared cache.
 
 use crate::by_turns::told_by_turns;
 use crate::caches::{Left, NAME, Odd, PlainSegments, ROOM, SegmentedTwin};
@@ -65,7 +65,7 @@ impl Subject for SegmentedTwin {
         }
     }
 
-    /// It has no selectors, so each call is made of those of a turn.
+    /// Makes the calls of a selector by turns, since this cache has no selectors.
     fn selected(&mut self, call: Selected, key: Key) -> Told {
         let alloc = self.alloc;
         match Arc::new(alloc, key.number()) {

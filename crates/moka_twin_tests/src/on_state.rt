@@ -1,4 +1,4 @@
-//! The calls of a state, the twin of a shared cache.
+//! Makes the calls on an owned cache, the twin of a shared cache.
 
 use crate::caches::{Left, NAME, Odd, PlainState, PlainTypes, ROOM, Twin};
 use crate::calls::{All, Doing, Form, Key, Look, Selected, Write, next_of, op_of, try_op_of};
@@ -158,7 +158,7 @@ impl Turns for Twin {
     }
 }
 
-/// The id is not shown: each is new.
+/// Invalidates the odd values. Drops the id, since each id is new.
 fn hide_odd(state: &mut PlainState) -> Told {
     let mut generator = SplitMix64::seed_from_u64(7);
     hidden_of(state.invalidate_entries_if(Odd, &mut generator))
@@ -196,7 +196,7 @@ fn tries(state: &mut PlainState, key: Key, value: Result<u64, u64>, now: u64) ->
     })
 }
 
-/// What a selector's call answers.
+/// Returns the result of a selector's call.
 fn told_by_selector(selector: Selector<'_>, call: Selected) -> Told {
     match call {
         Selected::OrDefault => entry_of(selector.or_default()),

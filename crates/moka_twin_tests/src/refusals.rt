@@ -1,5 +1,5 @@
-//! What a call leaves that is refused memory: it has changed nothing, and hands back what it was
-//! given. Each test passes where one request for memory is refused, whichever.
+//! A call for which an allocation fails changes nothing, and hands back its arguments. Each test
+//! passes while any one allocation fails.
 
 use crate::caches::{cache, segmented_cache, segmented_state, state};
 use crate::lists::{FORMS, KEYS, OF_ALL, SELECTORS, TURNS, Timed};
@@ -9,7 +9,7 @@ use std::process::Abort;
 use std::sync::Wait;
 use std::test::Fail;
 
-/// A cache and its twin, by a list whose keys are the caller's own.
+/// Compares a cache with its twin by a list, with keys passed by value.
 fn by_cache<W: Wait + Abort + Copy + Drop>(
     rt: W,
     alloc: Global,
@@ -25,7 +25,7 @@ fn by_cache<W: Wait + Abort + Copy + Drop>(
     answer_alike(&rt, alloc, &mut shared, &mut twin, calls, pass, &mut causes)
 }
 
-/// A cache of segments and its twin, by a list whose keys are lent.
+/// Compares a cache with segments with its twin by a list, with keys passed by reference.
 fn by_segments<W: Wait + Abort + Copy + Drop>(
     rt: W,
     alloc: Global,
@@ -41,51 +41,61 @@ fn by_segments<W: Wait + Abort + Copy + Drop>(
     answer_alike(&rt, alloc, &mut shared, &mut twin, calls, pass, &mut causes)
 }
 
+/// A call about one key changes nothing if an allocation fails.
 #[test]
 fn a_refused_call_of_a_key_changes_nothing(rt: HostRuntime) -> Result<(), Fail> {
     by_cache(rt, rt.alloc(), &KEYS)
 }
 
+/// A call about all keys changes nothing if an allocation fails.
 #[test]
 fn a_refused_call_of_all_changes_nothing(rt: HostRuntime) -> Result<(), Fail> {
     by_cache(rt, rt.alloc(), &OF_ALL)
 }
 
+/// A loader changes nothing if an allocation fails.
 #[test]
 fn a_refused_form_changes_nothing(rt: HostRuntime) -> Result<(), Fail> {
     by_cache(rt, rt.alloc(), &FORMS)
 }
 
+/// A call of a selector changes nothing if an allocation fails.
 #[test]
 fn a_refused_call_of_a_selector_changes_nothing(rt: HostRuntime) -> Result<(), Fail> {
     by_cache(rt, rt.alloc(), &SELECTORS)
 }
 
+/// A call about a turn changes nothing if an allocation fails.
 #[test]
 fn a_refused_call_of_a_turn_changes_nothing(rt: HostRuntime) -> Result<(), Fail> {
     by_cache(rt, rt.alloc(), &TURNS)
 }
 
+/// With segments, a call about one key changes nothing if an allocation fails.
 #[test]
 fn a_refused_call_of_a_key_changes_no_segment(rt: HostRuntime) -> Result<(), Fail> {
     by_segments(rt, rt.alloc(), &KEYS)
 }
 
+/// With segments, a call about all keys changes nothing if an allocation fails.
 #[test]
 fn a_refused_call_of_all_changes_no_segment(rt: HostRuntime) -> Result<(), Fail> {
     by_segments(rt, rt.alloc(), &OF_ALL)
 }
 
+/// With segments, a loader changes nothing if an allocation fails.
 #[test]
 fn a_refused_form_changes_no_segment(rt: HostRuntime) -> Result<(), Fail> {
     by_segments(rt, rt.alloc(), &FORMS)
 }
 
+/// With segments, a call of a selector changes nothing if an allocation fails.
 #[test]
 fn a_refused_call_of_a_selector_changes_no_segment(rt: HostRuntime) -> Result<(), Fail> {
     by_segments(rt, rt.alloc(), &SELECTORS)
 }
 
+/// With segments, a call about a turn changes nothing if an allocation fails.
 #[test]
 fn a_refused_call_of_a_turn_changes_no_segment(rt: HostRuntime) -> Result<(), Fail> {
     by_segments(rt, rt.alloc(), &TURNS)

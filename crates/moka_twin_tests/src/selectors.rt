@@ -1,4 +1,4 @@
-//! The calls of a selector of either shared cache: both caches hand out the same selectors.
+//! The calls of a selector. Both shared caches have the same selectors.
 
 use crate::caches::Types;
 use crate::calls::{Doing, Selected, next_of, op_of, try_op_of};
@@ -8,13 +8,13 @@ use crate::told::{
 use moka::sync::{OwnedKeyEntrySelector, RefKeyEntrySelector};
 use std::sync::Wait;
 
-/// A key of a shared cache, for one call: by `entry`, or by `entry_by_ref`.
+/// A selector of a shared cache, made by `entry` or by `entry_by_ref`.
 pub(crate) enum Selector<'a, W: Wait + Drop> {
     Owned(OwnedKeyEntrySelector<'a, u64, u64, Types<W>, W>),
     Lent(RefKeyEntrySelector<'a, u64, u64, Types<W>, W>),
 }
 
-/// What a call answers.
+/// Returns the result of a call.
 pub(crate) fn told_by_selector<W: Wait + Drop>(selector: Selector<'_, W>, call: Selected) -> Told {
     match call {
         Selected::OrDefault => or_default(selector),

@@ -1,5 +1,5 @@
-//! A cache and its twin side by side: after each call of a list both have answered the same, and
-//! the same has left.
+//! Runs a cache and its twin side by side. After each call of a list their results and their
+//! removals agree.
 
 use crate::caches::ROOM;
 use crate::calls::{All, Call};
@@ -12,7 +12,7 @@ use std::alloc::Global;
 use std::process::Abort;
 use std::test::Fail;
 
-/// Why values have left so far.
+/// The causes of the removals so far.
 #[derive(Clone, Copy, Debug, PartialEq)]
 pub(crate) struct Causes {
     pub expired: bool,
@@ -22,7 +22,7 @@ pub(crate) struct Causes {
 }
 
 impl Causes {
-    /// Nothing has left.
+    /// No removal yet.
     pub(crate) const NONE: Causes = Causes {
         expired: false,
         explicit: false,
@@ -40,14 +40,14 @@ impl Causes {
     }
 }
 
-/// How a list is run: from which second on, and whether keys are lent.
+/// How a list is run: from which second, and whether keys are passed by reference.
 #[derive(Clone, Copy)]
 pub(crate) struct Pass {
     pub from: u64,
     pub is_lent: bool,
 }
 
-/// Gives both each call of a list.
+/// Makes each call of a list on both, and checks that they agree.
 pub(crate) fn answer_alike<S: Subject + Turns, T: Subject + Turns>(
     rt: &impl Abort,
     alloc: Global,
@@ -81,7 +81,8 @@ fn call_alike<S: Subject + Turns, T: Subject + Turns>(
 ) -> Result<(), Fail> {
     let mut told = reply(rt, alloc, shared, call, is_lent)?;
     if told.0 == NO_MEMORY {
-        // A refused call has changed nothing: the twin is as before the call.
+        // A failed call has changed nothing: the cache agrees with the twin, which has not made it
+        // yet.
         walk_alike(rt, shared, twin)?;
         count_alike(rt, shared, twin);
         told = reply(rt, alloc, shared, call, is_lent)?;
@@ -91,7 +92,7 @@ fn call_alike<S: Subject + Turns, T: Subject + Turns>(
     Ok(())
 }
 
-/// What the twin answers. Where memory is refused, it is asked once more.
+/// Returns the result of the twin. Retries once if an allocation fails.
 fn told_by_twin<T: Subject + Turns>(
     rt: &impl Abort,
     alloc: Global,
@@ -106,7 +107,7 @@ fn told_by_twin<T: Subject + Turns>(
     Ok(reply(rt, alloc, twin, call, is_lent)?)
 }
 
-/// Both hold the same live pairs.
+/// Checks that both have the same live entries.
 fn walk_alike<S: Subject, T: Subject>(
     rt: &impl Abort,
     shared: &mut S,
@@ -117,13 +118,13 @@ fn walk_alike<S: Subject, T: Subject>(
     Ok(())
 }
 
-/// Both hold as much.
+/// Checks that both have the same number of entries and the same weight.
 fn count_alike<S: Subject, T: Subject>(rt: &impl Abort, shared: &mut S, twin: &mut T) {
     assert_eq!(rt; shared.all(All::EntryCount), twin.all(All::EntryCount));
     assert_eq!(rt; shared.all(All::WeightedSize), twin.all(All::WeightedSize));
 }
 
-/// The listener was told of what left the twin, in its order, and of nothing else.
+/// Checks that the listener heard the removals of the twin, in their order, and nothing else.
 fn hear_alike<S: Subject, T: Subject>(
     rt: &impl Abort,
     shared: &mut S,

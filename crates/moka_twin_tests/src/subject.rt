@@ -1,4 +1,4 @@
-//! What a cache and its twin have in common: each answers the same calls.
+//! What a cache and its twin have in common: the calls that both make.
 
 use crate::caches::Left;
 use crate::calls::{All, Call, Form, Key, Look, Selected};
@@ -8,15 +8,15 @@ use moka::policy::Refused;
 use std::alloc::{AllocError, Global};
 use std::process::Abort;
 
-/// All pairs that a walk gave, by their keys.
+/// All pairs that an iteration yielded, of key and value.
 pub(crate) type Pairs = Vec<(u64, u64)>;
 
 /// A cache under test, or its twin.
 pub(crate) trait Subject {
-    /// The calls from here on are at this moment.
+    /// Sets the moment of the calls from here on, in nanoseconds.
     fn at(&mut self, now: u64);
 
-    /// The next of those that left, if there is one.
+    /// Returns the next removal that was not yet asked for, if there is one.
     fn left(&mut self) -> Option<Left>;
 
     fn look(&mut self, call: Look, key: u64) -> Told;
@@ -30,10 +30,11 @@ pub(crate) trait Subject {
     fn walk(&mut self) -> Result<Pairs, Refused>;
 }
 
-/// What a call answers, and what it answers who waited for it, if one did.
+/// The result of a call, and that of the caller that waited for it, if there was one.
 pub(crate) type Reply = (Told, Told);
 
-/// What a call answers that is no walk. Its key is lent, where it may be, or the caller's own.
+/// Returns the result of a call that is no iteration. Passes its key by reference if asked to and
+/// if the call can.
 pub(crate) fn reply<S: Subject + Turns>(
     rt: &impl Abort,
     alloc: Global,
@@ -53,7 +54,7 @@ pub(crate) fn reply<S: Subject + Turns>(
     Ok((told, Told::Done))
 }
 
-/// The pairs of a walk. Where memory is refused, it walks once more.
+/// Returns the pairs of an iteration, sorted by key. Retries once if an allocation fails.
 pub(crate) fn walked<S: Subject>(subject: &mut S) -> Result<Pairs, Refused> {
     let mut pairs = match subject.walk() {
         Err(Refused::OutOfMemory) => subject.walk()?,

@@ -1,4 +1,4 @@
-//! What calls answer, as plain data.
+//! The results of calls as plain data.
 
 use moka::PredicateError;
 use moka::common::entry::Entry;
@@ -8,10 +8,10 @@ use moka::state::{InsertRefused, OrInsertRefused};
 use moka::sync::value_initializer::{Answer, Finished};
 use std::sync::Arc;
 
-/// The parts of an entry: its key, its value, whether it is fresh, whether it replaced another.
+/// The parts of an entry: its key, its value, `is_fresh` and `is_old_value_replaced`.
 pub(crate) type Parts = (u64, u64, bool, bool);
 
-/// What a call answers.
+/// The result of a call.
 #[derive(Clone, Copy, Debug, PartialEq)]
 pub(crate) enum Told {
     Done,
@@ -21,26 +21,26 @@ pub(crate) enum Told {
     Nothing,
     Value(u64),
     Entry(Parts),
-    /// The error that an initializer gave.
+    /// The error that an initializer returned.
     Failed(u64),
-    /// A word for what became of a value, and its entry.
+    /// A word for the result of a compute, and its entry.
     Became(&'static str, Option<Parts>),
-    /// A turn is handed out.
+    /// The call returned a turn.
     Runs,
-    /// The turn of a compute is handed out, with the entry of the live value.
+    /// The call returned the turn of a compute, with the entry of the live value.
     Shows(Option<Parts>),
-    /// A ticket is handed out.
+    /// The call returned a ticket.
     Waits,
     NotYet,
     Abandoned,
     Ended,
     Disabled,
-    /// What a refused call handed back is not what it was given.
+    /// A failed call handed back something other than its arguments.
     Lost,
     Refused(Refused),
 }
 
-/// What a call answers that finds no memory.
+/// The result of a call for which an allocation failed.
 pub(crate) const NO_MEMORY: Told = Told::Refused(Refused::OutOfMemory);
 
 pub(crate) fn parts(entry: &Entry<u64, u64>) -> Parts {
@@ -52,7 +52,7 @@ pub(crate) fn parts(entry: &Entry<u64, u64>) -> Parts {
     )
 }
 
-/// What a refused call is told, which handed back these two for those.
+/// Returns the result of a failed call, which handed back `back` for `given`.
 fn refused(back: (u64, u64), given: (u64, u64), cause: Refused) -> Told {
     if back == given {
         Told::Refused(cause)

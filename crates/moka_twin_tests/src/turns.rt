@@ -1,4 +1,4 @@
-//! The calls of turns, in an order in which each turn and each ticket is spent.
+//! The calls about turns, in an order that consumes each turn and each ticket.
 ghost use Rattle.std.specs.Prelude.{◌≡◌, ◌≢◌, ℕ};
 ghost use Rattle.moka_model.specs.declared.turns.Kind.{Kind};
 ghost use Rattle.moka_state.specs.Finish.{Fits, outcome_of};
@@ -28,7 +28,7 @@ pub(crate) type Finishes = Result<Finished<u64, u64, u64>, FinishRefused<u64, u6
 
 pub(crate) type Collects = Result<Collected<u64, u64, u64>, CollectRefused<u64>>;
 
-/// What answers the calls of turns, and those that write and open none.
+/// A cache with the calls about turns, and with the writes that open no turn.
 pub(crate) trait Turns {
     ghost use Rattle.std.specs.Prelude.{◌≡◌, ◌≢◌, ℕ, IfOk};
     ghost use Rattle.std.specs.Arc.{arc_value};
@@ -39,16 +39,16 @@ pub(crate) trait Turns {
 
     fn write(&mut self, call: Write, key: u64) -> Told;
 
-    /// Begins, where a live value of this number is turned down.
+    /// Begins a turn that replaces a live value equal to `unwanted`.
     fn begin(&mut self, key: &Arc<u64>, kind: Kind, unwanted: u64) -> Begins
         requires { kind ≢ Kind.Compute }
         ensures { IfOk result (IsNamed kind (arc_value key.now)) };
 
-    /// As `begin`, by a key that is lent.
+    /// As `begin`, with the key by reference.
     fn begin_by_ref(&mut self, key: u64, kind: Kind, unwanted: u64) -> Begins
         requires { kind ≢ Kind.Compute };
 
-    /// Begins a compute that may keep the live value.
+    /// Begins a compute that keeps the live value for `Op::Nop`.
     fn begin_compute(&mut self, key: &Arc<u64>) -> BeginsCompute
         ensures { IfOk result (IsCompute (arc_value key.now)) };
 
@@ -62,10 +62,10 @@ pub(crate) trait Turns {
     fn leave(&mut self, ticket: Ticket<u64>) -> Result<(), Refused>;
 }
 
-/// No value of a turn's key.
+/// A number that no list has as a value.
 pub(crate) const NONE: u64 = u64::MAX;
 
-/// What the calls of turns answer that one call of the list stands for.
+/// Returns the results of the calls about turns that one call of a list consists of.
 pub(crate) fn turn_reply<S: Turns>(
     rt: &impl Abort,
     alloc: Global,
@@ -90,7 +90,7 @@ pub(crate) fn turn_reply<S: Turns>(
     })
 }
 
-/// Spends what a begin handed out, and says what it was.
+/// Consumes what a begin returned, and returns what it was.
 pub(crate) fn spent<S: Turns>(subject: &mut S, begun: Begins) -> Told {
     match begun {
         Ok(Begun::Found(entry)) => Told::Entry(parts(&entry)),
@@ -106,7 +106,7 @@ pub(crate) fn spent<S: Turns>(subject: &mut S, begun: Begins) -> Told {
     }
 }
 
-/// Spends what the begin of a compute handed out, and says what it was.
+/// Consumes what the begin of a compute returned, and returns what it was.
 pub(crate) fn spent_compute<S: Turns>(subject: &mut S, begun: BeginsCompute) -> Told {
     match begun {
         Ok(BegunCompute::Run(turn, shown)) => {
@@ -136,7 +136,7 @@ fn begin_compute_spent<S: Turns>(subject: &mut S, key: &Arc<u64>) -> Reply {
     (spent_compute(subject, begun), Told::Done)
 }
 
-/// The turn of a begin that runs. Where memory is refused, it begins once more.
+/// Begins a turn that runs, and returns it. Retries once if an allocation fails.
 fn ran<S: Turns>(rt: &impl Abort, subject: &mut S, key: &Arc<u64>, kind: Kind) -> Turn<u64>
     requires { kind ≢ Kind.Compute }
     ensures { result.key.kind ≡ kind }
@@ -151,7 +151,7 @@ fn ran<S: Turns>(rt: &impl Abort, subject: &mut S, key: &Arc<u64>, kind: Kind) -
     }
 }
 
-/// The ticket of a begin that waits. Where memory is refused, it begins once more.
+/// Begins a turn that waits, and returns its ticket. Retries once if an allocation fails.
 fn waited<S: Turns>(rt: &impl Abort, subject: &mut S, key: u64, kind: Kind) -> Ticket<u64>
     requires { kind ≢ Kind.Compute }
 {
@@ -165,7 +165,7 @@ fn waited<S: Turns>(rt: &impl Abort, subject: &mut S, key: u64, kind: Kind) -> T
     }
 }
 
-/// What a ticket is told. Where memory is refused, it asks once more.
+/// Collects a ticket. Retries once if an allocation fails.
 fn collected<S: Turns>(
     rt: &impl Abort,
     subject: &mut S,
@@ -189,7 +189,7 @@ fn collected<S: Turns>(
     }
 }
 
-/// Spends what a ticket was told, and says what it was.
+/// Consumes what a ticket collected, and returns what it was.
 fn spent_told<S: Turns>(subject: &mut S, told: Collected<u64, u64, u64>) -> Told {
     match told {
         Collected::Ready(answer) => answer_of(answer),
@@ -202,7 +202,7 @@ fn spent_told<S: Turns>(subject: &mut S, told: Collected<u64, u64, u64>) -> Told
     }
 }
 
-/// The ticket of a turn that is open still.
+/// Returns the ticket again after it found its turn still open.
 fn open_still<S: Turns>(rt: &impl Abort, subject: &mut S, ticket: Ticket<u64>) -> Ticket<u64> {
     match collected(rt, subject, ticket) {
         Collected::NotYet(ticket) => ticket,
@@ -210,13 +210,13 @@ fn open_still<S: Turns>(rt: &impl Abort, subject: &mut S, ticket: Ticket<u64>) -
     }
 }
 
-/// What came of a turn that has ended, as its ticket is told.
+/// Returns what the ticket of an ended turn collects.
 fn ready<S: Turns>(rt: &impl Abort, subject: &mut S, ticket: Ticket<u64>) -> Told {
     let told = collected(rt, subject, ticket);
     spent_told(subject, told)
 }
 
-/// An outcome as plain data: a turn that ends with it is told so, but for a compute.
+/// Returns an outcome as plain data. A turn finished with it has this result, except a compute.
 fn told_of(outcome: &Given) -> Told {
     match outcome {
         Outcome::Value(value) => Told::Value(*value),
@@ -228,7 +228,8 @@ fn told_of(outcome: &Given) -> Told {
     }
 }
 
-/// Ends a turn. Where that is refused both are handed back as they were, and the turn is abandoned.
+/// Finishes a turn. If that fails, checks that turn and outcome came back unchanged, and abandons
+/// the turn.
 pub(crate) fn finished<S: Turns>(subject: &mut S, turn: Turn<u64>, outcome: Given) -> Told
     requires { Fits ℕ turn.key.kind (outcome_of outcome) }
 {
@@ -253,7 +254,7 @@ pub(crate) fn finished<S: Turns>(subject: &mut S, turn: Turn<u64>, outcome: Give
     }
 }
 
-/// One begins, another waits, and is told what the turn gave.
+/// Begins a turn, waits for it with a ticket, and finishes it. Returns the results of both.
 fn gives<S: Turns>(
     rt: &impl Abort,
     subject: &mut S,
@@ -270,7 +271,7 @@ fn gives<S: Turns>(
     (told, ready(rt, subject, ticket))
 }
 
-/// One begins, another waits, and is told that it was abandoned.
+/// Begins a turn, waits for it with a ticket, and abandons it. Returns the results of both.
 fn abandons<S: Turns>(rt: &impl Abort, subject: &mut S, key: &Arc<u64>) -> Reply {
     let turn = ran(rt, subject, key, Kind::With);
     let ticket = waited(rt, subject, **key, Kind::With);
@@ -278,7 +279,7 @@ fn abandons<S: Turns>(rt: &impl Abort, subject: &mut S, key: &Arc<u64>) -> Reply
     (told, ready(rt, subject, ticket))
 }
 
-/// One begins, another waits, and leaves before it ends.
+/// Begins a turn, waits for it with a ticket, and leaves before it finishes. Returns both results.
 fn leaves<S: Turns>(rt: &impl Abort, subject: &mut S, key: &Arc<u64>, value: u64) -> Reply {
     let turn = ran(rt, subject, key, Kind::With);
     let ticket = waited(rt, subject, **key, Kind::With);
@@ -286,7 +287,7 @@ fn leaves<S: Turns>(rt: &impl Abort, subject: &mut S, key: &Arc<u64>, value: u64
     (finished(subject, turn, Outcome::Value(value)), left)
 }
 
-/// One computes, and another waits until it has.
+/// Begins a compute, waits for it with a ticket, and finishes it. Returns the results of both.
 fn computes<S: Turns>(rt: &impl Abort, subject: &mut S, key: &Arc<u64>, doing: Doing) -> Reply {
     let begun = match subject.begin_compute(key) {
         Err(Refused::OutOfMemory) => subject.begin_compute(key),
@@ -302,7 +303,7 @@ fn computes<S: Turns>(rt: &impl Abort, subject: &mut S, key: &Arc<u64>, doing: D
     }
 }
 
-/// The ticket of one that waits for a compute. Where memory is refused, it begins once more.
+/// Begins a compute that waits, and returns its ticket. Retries once if an allocation fails.
 fn waits_to_compute<S: Turns>(rt: &impl Abort, subject: &mut S, key: &Arc<u64>) -> Ticket<u64> {
     let begun = match subject.begin_compute(key) {
         Err(Refused::OutOfMemory) => subject.begin_compute(key),

@@ -1,4 +1,4 @@
-//! Each shared cache answers all its calls as its twin does.
+//! Each shared cache returns the same as its twin, in all its calls.
 
 use crate::caches::{NAME, cache, segmented_cache, segmented_state, state};
 use crate::lists::{FORMS, KEYS, OF_ALL, SELECTORS, TURNS, Timed};
@@ -14,7 +14,8 @@ use std::test::Fail;
 
 const LISTS: [&[Timed]; 5] = [&KEYS, &OF_ALL, &FORMS, &SELECTORS, &TURNS];
 
-/// Gives both all lists, by keys of the caller's own and by lent ones.
+/// Runs all lists on both, with keys by value and by reference. Checks that removals had every
+/// cause.
 fn are_twins<S: Subject + Turns, T: Subject + Turns>(
     rt: &impl Abort,
     alloc: Global,
@@ -40,6 +41,7 @@ fn are_twins<S: Subject + Turns, T: Subject + Turns>(
     Ok(())
 }
 
+/// A shared cache returns the same as an owned cache, in all its calls.
 #[test]
 fn a_cache_answers_as_its_twin(rt: HostRuntime) -> Result<(), Fail> {
     let alloc = rt.alloc();
@@ -48,6 +50,7 @@ fn a_cache_answers_as_its_twin(rt: HostRuntime) -> Result<(), Fail> {
     are_twins(&rt, alloc, &mut shared, &mut twin)
 }
 
+/// A shared cache with segments returns the same as an owned one, in all its calls.
 #[test]
 fn a_cache_of_segments_answers_as_its_twin(rt: HostRuntime) -> Result<(), Fail> {
     let alloc = rt.alloc();
@@ -56,7 +59,7 @@ fn a_cache_of_segments_answers_as_its_twin(rt: HostRuntime) -> Result<(), Fail> 
     are_twins(&rt, alloc, &mut shared, &mut twin)
 }
 
-/// Whether a call of this name is in a list.
+/// Returns whether a list has a call of this name.
 fn is_called(name: &str) -> bool {
     for calls in LISTS {
         for (_, call) in calls {
@@ -68,6 +71,7 @@ fn is_called(name: &str) -> bool {
     false
 }
 
+/// The lists have each call at least once.
 #[test]
 fn no_call_is_forgotten(rt: HostRuntime) {
     for name in WORDS {
@@ -75,7 +79,7 @@ fn no_call_is_forgotten(rt: HostRuntime) {
     }
 }
 
-/// What a cache shows of itself.
+/// Checks what a cache prints for `Debug`.
 fn shows(
     rt: &impl Abort,
     alloc: Global,
@@ -89,6 +93,7 @@ fn shows(
     Ok(())
 }
 
+/// `Debug` of a cache shows its name and its policy.
 #[test]
 fn a_cache_shows_its_name_and_its_policy(rt: HostRuntime) -> Result<(), Fail> {
     let alloc = rt.alloc();
@@ -96,6 +101,7 @@ fn a_cache_shows_its_name_and_its_policy(rt: HostRuntime) -> Result<(), Fail> {
     shows(&rt, alloc, &shared.cache, "Cache", shared.cache.policy())
 }
 
+/// `Debug` of a cache with segments shows its name and its policy.
 #[test]
 fn a_cache_of_segments_shows_its_name_and_its_policy(rt: HostRuntime) -> Result<(), Fail> {
     let alloc = rt.alloc();

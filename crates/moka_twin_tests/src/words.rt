@@ -1,8 +1,8 @@
-//! The names of the calls, so that a list may be asked whether it has them all.
+//! The names of the calls, by which a test checks that the lists have them all.
 
 use crate::calls::{All, Call, Form, Look, Selected, Turned, Write};
 
-/// What a call is called.
+/// Returns the name of a call.
 pub(crate) fn word(call: Call) -> &'static str {
     match call {
         Call::Look(call, _) => look_word(call),
@@ -86,7 +86,7 @@ fn turned_word(call: Turned) -> &'static str {
     }
 }
 
-/// The words of all calls.
+/// The names of all calls.
 pub(crate) const WORDS: [&str; 42] = [
     "get",
     "contains_key",

@@ -1,4 +1,5 @@
--- A caller that keeps an invariant, whatever its calls answer: what the loop comes to is as each of them would have it.
+-- Callers that preserve an invariant: what the calls of such a caller ensure of their results, the loop ensures of its
+-- own.
 use Rattle.std.proofs.Common.{ℕ, zero, suc, Option, Some, None, ⊎_elim, subst, sym}
 use Rattle.std.specs.Prelude.{⊤}
 use Rattle.moka_waiting.specs.declared.answers.Begun.{Begun}

@@ -1,16 +1,16 @@
--- What is left of the rounds that there may be.
+-- What is left of the limit on rounds.
 use Rattle.std.proofs.Common.{◌≡◌, ℕ, zero, suc, Option, Some, None, subst, arith}
 use Rattle.moka_waiting.specs.declared.answers.Begun.{Begun}
 use Rattle.moka_waiting.specs.declared.answers.Collected.{Collected}
 use Rattle.moka_waiting.specs.declared.answers.Waited.TheVariants.{TooMany}
 use Rattle.moka_waiting.specs.Rounds.{Fewer, IsLeft, IsOneLess, Rounds, Ends}
 
--- at first all are
+-- at first the whole limit is left
 pub all_left : (most : Option ℕ) → IsLeft most most 0
 all_left None = tt
 all_left (Some most) = omega arith
 
--- where one more may be, those so far are fewer than there may be
+-- if one more is allowed, those so far are fewer than the limit
 pub fewer : (most left rest : Option ℕ) (n : ℕ) → IsLeft most left n → IsOneLess left rest → Fewer most n
 fewer None None None n h l = tt
 fewer (Some most) (Some left) (Some rest) n h l = omega arith
@@ -29,7 +29,7 @@ one_more (Some most) (Some left) None n h l = absurd l
 one_more None None (Some rest) n h l = absurd l
 
 module _ {P V T K : Type 0} (begun : P → Begun V T K → P → Type 0) (collected : P → K → Collected V K → P → Type 0) where
-  -- where none is left, there were just as many as there may be
+  -- if none is left, there were as many as the limit
   pub used_up : (most left : Option ℕ) (n : ℕ) (s u : P) → IsLeft most left n → left ≡ Some 0 → Rounds begun collected n s u
       → Ends {V = V} {T = T} begun collected most s TooMany u
   used_up None None n s u h e r = absurd (cc)

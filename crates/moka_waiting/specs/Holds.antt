@@ -1,4 +1,4 @@
--- What holds of an answer, where `Q` holds of values, `R` of turns, and `OfTicket` of tickets.
+-- What holds for an answer, if `Q` holds for values, `R` for turns, and `OfTicket` for tickets.
 use Rattle.std.specs.Prelude.{⊤}
 use Rattle.moka_waiting.specs.declared.answers.Begun.{Begun}
 use Rattle.moka_waiting.specs.declared.answers.Begun.TheVariants.{Found, Run, Wait}
@@ -8,18 +8,21 @@ use Rattle.moka_waiting.specs.declared.answers.Waited.{Waited}
 use Rattle.moka_waiting.specs.declared.answers.Waited.TheVariants.{Value, Turn, TooMany}
 
 module _ {V T K : Type 0} (Q : V → Type 0) (R : T → Type 0) (OfTicket : K → Type 0) where
+  -- What a begin returns: a value with `Q`, a turn with `R`, or a ticket with `OfTicket`.
   abbrev pub HoldsOfBegun : Begun V T K → Type 0
   HoldsOfBegun (Found v) = Q v
   HoldsOfBegun (Run t) = R t
   HoldsOfBegun (Wait t) = OfTicket t
 
 module _ {V K : Type 0} (Q : V → Type 0) (OfTicket : K → Type 0) where
+  -- What a collect returns: a value with `Q`, a ticket with `OfTicket`, or that the caller begins again.
   abbrev pub HoldsOfCollected : Collected V K → Type 0
   HoldsOfCollected (Ready v) = Q v
   HoldsOfCollected (NotYet t) = OfTicket t
   HoldsOfCollected Again = ⊤
 
 module _ {V T : Type 0} (Q : V → Type 0) (R : T → Type 0) where
+  -- How the loop ends: with a value for which `Q` holds, with a turn for which `R` holds, or after too many waits.
   abbrev pub HoldsOfWaited : Waited V T → Type 0
   HoldsOfWaited (Value v) = Q v
   HoldsOfWaited (Turn t) = R t

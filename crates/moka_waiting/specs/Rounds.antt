@@ -1,4 +1,4 @@
--- What a caller does until it has a value or a turn: round by round.
+-- What a caller does until it has a value or a turn, round by round.
 use Rattle.std.specs.Prelude.{⊤, ◌≡◌, ℕ, zero, suc, ◌+◌, ◌<◌, ◌⊎◌, Option, Some, None}
 use Rattle.moka_waiting.specs.declared.answers.Begun.{Begun}
 use Rattle.moka_waiting.specs.declared.answers.Begun.TheVariants.{Found, Run, Wait}
@@ -7,71 +7,72 @@ use Rattle.moka_waiting.specs.declared.answers.Collected.TheVariants.{Ready, Not
 use Rattle.moka_waiting.specs.declared.answers.Waited.{Waited}
 use Rattle.moka_waiting.specs.declared.answers.Waited.TheVariants.{Value, Turn, TooMany}
 
--- so many rounds are fewer than there may be; without a limit any number is
+-- So many rounds are fewer than the limit. Without a limit, any number is.
 abbrev pub Fewer : Option ℕ → ℕ → Type 0
 Fewer None n = ⊤
 Fewer (Some most) n = n < most
 
--- what is left of the rounds that there may be, after so many
+-- What is left of the limit after so many rounds.
 abbrev pub IsLeft : Option ℕ → Option ℕ → ℕ → Type 0
 IsLeft None None n = ⊤
 IsLeft (Some most) (Some left) n = left + n ≡ most
 IsLeft most left n = ⊥
 
--- one fewer is left
+-- One round fewer is left.
 abbrev pub IsOneLess : Option ℕ → Option ℕ → Type 0
 IsOneLess None None = ⊤
 IsOneLess (Some left) (Some rest) = rest + 1 ≡ left
 IsOneLess left rest = ⊥
 
--- `collected s t b u`: the caller `s` may collect the ticket `t`, be answered `b`, and is `u` then.
+-- `collected s t b u`: the caller `s` may collect the ticket `t`, get `b`, and is `u` afterwards.
 module _ {P V K : Type 0} (collected : P → K → Collected V K → P → Type 0) where
-  -- so many collects that were told that it is not yet, each of the ticket handed back, and then one that was answered `b`
+  -- So many collects found the turn open, each of the ticket that came back, and then one got `b`.
   abbrev pub Collects : ℕ → P → K → Collected V K → P → Type 0
   Collects zero s t b u = collected s t b u
   Collects (suc n) s t b u = (back : K) × (m : P) × collected s t (NotYet back) m × Collects n m back b u
 
-  -- collects until the turn has ended: with a value, or with nothing for this caller
+  -- Collects until the turn has ended: with a value, or with nothing for this caller.
   abbrev pub CollectsTo : P → K → Option V → P → Type 0
   CollectsTo s t (Some v) u = (n : ℕ) × Collects n s t (Ready v) u
   CollectsTo s t None u = (n : ℕ) × Collects n s t Again u
 
-  -- `collect_refused s t r u`: a collect of `t` may be refused so.
+  -- `collect_refused s t r u`: a collect of `t` may fail with `r`.
   module _ {E : Type 0} (collect_refused : P → K → E → P → Type 0) where
-    -- so many collects that were told that it is not yet, and then one that was refused
+    -- So many collects found the turn open, and then one failed.
     abbrev pub CollectsRefused : ℕ → P → K → E → P → Type 0
     CollectsRefused zero s t r u = collect_refused s t r u
     CollectsRefused (suc n) s t r u = (back : K) × (m : P) × collected s t (NotYet back) m × CollectsRefused n m back r u
 
+    -- Collects of which the last failed.
     abbrev pub IsCollectRefused : P → K → E → P → Type 0
     IsCollectRefused s t r u = (n : ℕ) × CollectsRefused n s t r u
 
--- `begun s b u`: the caller `s` may begin, be answered `b`, and is `u` then.
+-- `begun s b u`: the caller `s` may begin, get `b`, and is `u` afterwards.
 module _ {P V T K : Type 0} (begun : P → Begun V T K → P → Type 0) (collected : P → K → Collected V K → P → Type 0) where
-  -- a wait: a begin that was told to wait, and collects until the turn has ended
+  -- A wait: a begin that got a ticket, and collects until the turn has ended.
   abbrev pub Waits : P → Option V → P → Type 0
   Waits s value u = (t : K) × (m : P) × begun s (Wait t) m × CollectsTo collected m t value u
 
-  -- so many waits that gave nothing
+  -- So many waits that gave nothing.
   abbrev pub Rounds : ℕ → P → P → Type 0
   Rounds zero s u = u ≡ s
   Rounds (suc n) s u = (m : P) × Rounds n s m × Waits m None u
 
-  -- How the loop ends: after fewer waits than there may be, with a value that was found or waited for, or with a turn; or after
-  -- just as many waits as there may be.
+  -- How the loop ends. After fewer waits than the limit it has a value, found or waited for, or a turn. After as many
+  -- waits as the limit it has neither.
   abbrev pub Ends : Option ℕ → P → Waited V T → P → Type 0
   Ends most s (Value v) u = (n : ℕ) × (m : P) × Fewer most n × Rounds n s m × (begun m (Found v) u ⊎ Waits m (Some v) u)
   Ends most s (Turn t) u = (n : ℕ) × (m : P) × Fewer most n × Rounds n s m × begun m (Run t) u
   Ends (Some most) s TooMany u = Rounds most s u
   Ends None s TooMany u = ⊥
 
-  -- `begin_refused s r u`: a begin may be refused so.
+  -- `begin_refused s r u`: a begin may fail with `r`.
   module _ {E : Type 0} (begin_refused : P → E → P → Type 0) (collect_refused : P → K → E → P → Type 0) where
-    -- a begin that was told to wait, and collects of which the last was refused
+    -- A begin that got a ticket, and collects of which the last failed.
     abbrev pub WaitsRefused : P → E → P → Type 0
     WaitsRefused s r u = (t : K) × (m : P) × begun s (Wait t) m × IsCollectRefused collected collect_refused m t r u
 
-    -- How the loop is refused: after fewer waits than there may be a begin is refused, or a collect.
+    -- How the loop fails: after fewer waits than the limit, a begin or a collect fails.
     abbrev pub IsRefused : Option ℕ → P → E → P → Type 0
     IsRefused most s r u =
         (n : ℕ) × (m : P) × Fewer most n × Rounds n s m × (begin_refused m r u ⊎ WaitsRefused m r u)

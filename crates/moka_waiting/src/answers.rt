@@ -1,24 +1,25 @@
-//! What one call of the loop answers, and what the loop does.
+//! What one call of the loop returns, and how the loop ends.
 
-/// What a begin answers.
+/// What a begin returns.
 #[derive(Drop)]
 pub enum Begun<V, T, K> {
     /// There is a value, so nothing is to be done.
     Found(V),
-    /// Nobody else does it: here is the turn.
+    /// Nobody else computes the value: here is the turn for it.
     Run(T),
-    /// Another has the turn. The ticket is to be collected.
+    /// Another caller has the turn. The ticket is to be collected.
     Wait(K),
 }
 
-/// What a collect answers.
+/// What a collect returns.
 #[derive(Drop)]
 pub enum Collected<V, K> {
     /// The turn has ended, and gave this value.
     Ready(V),
-    /// The turn is still open. The ticket is handed back, to be collected again.
+    /// The turn is still open. The ticket comes back, to be collected again.
     NotYet(K),
-    /// The turn has ended and gave this caller nothing, as one that was abandoned or a compute, so it begins again.
+    /// The turn has ended and gave this caller nothing, so it begins again. So does a turn that was
+    /// abandoned, and that of a compute.
     Again,
 }
 
@@ -27,8 +28,8 @@ pub enum Collected<V, K> {
 pub enum Waited<V, T> {
     /// With a value, found or collected.
     Value(V),
-    /// With the turn: this caller is the one to do it.
+    /// With a turn: this caller computes the value.
     Turn(T),
-    /// With neither, after as many waits as there may be, of which each gave nothing.
+    /// With neither, after the greatest number of waits, each of which gave nothing.
     TooMany,
 }

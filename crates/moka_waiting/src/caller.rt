@@ -1,12 +1,13 @@
-//! Who waits for turns.
+//! A caller that may have to wait for another caller's turn.
 ghost use Rattle.std.specs.Prelude.{◌≡◌, IfOk, IfErr};
 
 use crate::answers::{Begun, Collected};
 
-/// One caller of one key, who asks the place `X` for a value `V`: it begins, and it collects what it was told to wait for.
+/// A caller that asks the place `X` for the value `V` of one key. It begins, and it collects the
+/// ticket if it has to wait.
 ///
-/// Neither turns nor tickets need be `Drop`. What a refused call was given, or what the caller still holds then, is in
-/// the refusal.
+/// Turns and tickets need not be `Drop`. The error holds what a failed call was given, and what the
+/// caller still holds then.
 pub trait Caller<X, V> {
     ghost use Rattle.std.specs.Prelude.{⊤, ◌≡◌, IfOk, IfErr};
     ghost use Rattle.moka_waiting.specs.declared.answers.Begun.{Begun};
@@ -18,33 +19,34 @@ pub trait Caller<X, V> {
     /// The right and the duty to ask what came of a turn.
     type Ticket;
 
-    /// Why a call was refused, with what is handed back.
+    /// Why a call failed, with what it hands back.
     type Refused;
 
-    /// What its calls ask of the caller, as that its closures may be called. Each call leaves it so.
+    /// What the calls ask of the caller, such as that its closures may be called. Each call
+    /// preserves it.
     ghost ready: { Self → Type 0 } = { λ _. ⊤ };
 
-    /// What a begin may answer, between the caller before it and the caller after it.
+    /// What a begin may return, given the caller before it and the caller after it.
     ghost begun: { X → Self → Begun V Self.Turn Self.Ticket → Self → Type 0 };
 
-    /// What a collect of a ticket may answer.
+    /// What a collect of a ticket may return.
     ghost collected: { X → Self → Self.Ticket → Collected V Self.Ticket → Self → Type 0 };
 
-    /// How a begin may be refused.
+    /// How a begin may fail.
     ghost begin_refused: { X → Self → Self.Refused → Self → Type 0 };
 
-    /// How a collect of a ticket may be refused.
+    /// How a collect of a ticket may fail.
     ghost collect_refused: { X → Self → Self.Ticket → Self.Refused → Self → Type 0 };
 
-    /// Asks for the value, or for the turn to make it.
+    /// Asks for the value, or for the turn to compute it.
     fn begin(&mut self, at: &X) -> Result<Begun<V, Self::Turn, Self::Ticket>, Self::Refused>
         requires { ready self.old }
         ensures still { ready self.new }
         ensures done { IfOk result (λ b. begun at.now self.old b self.new) }
         ensures refused { IfErr result (λ r. begin_refused at.now self.old r self.new) };
 
-    /// Asks what came of the turn that it was told to wait for. Where it is not yet at its end, this call has waited for
-    /// a change before it answers.
+    /// Asks what came of the turn of a ticket. If the turn is still open, waits for a change before
+    /// it returns.
     fn collect(
         &mut self,
         at: &X,

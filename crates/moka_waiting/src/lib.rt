@@ -1,4 +1,4 @@
-//! The loop of a call that waits for another's turn.
+//! The loop of a call that waits for another caller's turn.
 #![tactic(auto)]
 
 pub mod answers;

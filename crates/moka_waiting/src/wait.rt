@@ -6,18 +6,20 @@ use crate::answers::{Begun, Collected, Waited};
 use crate::caller::Caller;
 use std::sync::Wait;
 
-/// So many waits of one call with an initializer may give nothing before it gives up.
+/// How many waits of one loader may give nothing before it gives up.
 pub const MAX_RETRIES: u64 = 200;
 
 /// Waits until there is a value or a turn.
 ///
-/// It begins first. Where it is told to wait, it collects until the turn has ended, and where that gave it nothing it
-/// begins again. After `most` such waits it gives up. Where `most` is None it never does, as for a compute. With a `most`
-/// of 0 it does not even begin.
+/// It begins, and collects a ticket until the turn has ended. If the turn gave nothing, it begins
+/// again. After `most` such waits it gives up; with `None` it never does, as for a compute. With a
+/// `most` of 0 it does not even begin.
 ///
-/// A begin or a collect that is refused ends it, and its refusal is handed on as it is.
+/// How to wait is up to the caller's `collect`. This loop holds no lock and does not allocate.
 ///
-/// Waiting is up to the caller's `collect`: this loop holds no lock, and takes no memory.
+/// # Errors
+///
+/// Those of `begin` and `collect`, unchanged. They end the loop.
 #[tactic(auto, using(crate::proofs::Left::fewer, crate::proofs::Left::used_up, crate::proofs::Left::all_left))]
 pub fn wait_for<V, X, P: Caller<X, V>, R: Wait>(
     rt: &R,
@@ -49,7 +51,7 @@ pub fn wait_for<V, X, P: Caller<X, V>, R: Wait>(
     unreachable!()
 }
 
-// Collects until the turn has ended. None where it gave this caller nothing.
+// Collects until the turn has ended. Returns `None` if the turn gave this caller nothing.
 fn collect_all<V, X, P: Caller<X, V>, R: Wait>(
     rt: &R,
     caller: &mut P,
@@ -74,7 +76,7 @@ fn collect_all<V, X, P: Caller<X, V>, R: Wait>(
     unreachable!()
 }
 
-// One wait fewer of those that may be. None where there may be no more.
+// Counts one wait off those that are left. Returns `None` if none is left.
 fn one_less(left: Option<u64>) -> Option<Option<u64>>
     ensures some { IfSome result (λ rest. IsOneLess left rest) }
     ensures none { IfNone result (left ≡ Some 0) }

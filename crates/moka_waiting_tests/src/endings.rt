@@ -5,7 +5,8 @@ use std::process::Abort;
 use std::sync::Wait;
 use std::test::Fail;
 
-/// A place of value 5 by its other fields, how many waits there may be, how the loop ends there, and after how many begins and collects.
+/// A place of value 5 by its other fields, and the greatest number of waits. Then how the loop
+/// ends, and after how many begins and collects.
 type Case = ((u64, u64, Last), Option<u64>, Ending, (u64, u64));
 
 fn end_so(rt: &(impl Wait + Abort), cases: &[Case]) {
@@ -29,7 +30,7 @@ fn end_so(rt: &(impl Wait + Abort), cases: &[Case]) {
 
 const MOST: Option<u64> = Some(MAX_RETRIES);
 
-/// With a limit. Where no turn gives anything it begins 200 times, and no more.
+/// With a limit. If no turn gives anything, the loop begins 200 times.
 const LIMITED: [Case; 7] = [
     ((0, 0, Last::Found), MOST, Ending::Value(5), (1, 0)),
     ((0, 0, Last::Turn), MOST, Ending::Turn(1), (1, 0)),
@@ -40,6 +41,7 @@ const LIMITED: [Case; 7] = [
     ((0, 0, Last::Turn), Some(0), Ending::TooMany, (0, 0)),
 ];
 
+/// With a limit the loop stops after that many waits.
 #[test]
 fn it_gives_up_after_so_many_waits(rt: HostRuntime) -> Result<(), Fail> {
     end_so(&rt, &LIMITED);
@@ -53,25 +55,27 @@ const UNLIMITED: [Case; 3] = [
     ((300, 1, Last::Ready), None, Ending::Value(5), (301, 602)),
 ];
 
+/// Without a limit the loop goes on.
 #[test]
 fn without_a_limit_it_goes_on(rt: HostRuntime) -> Result<(), Fail> {
     end_so(&rt, &UNLIMITED);
     Ok(())
 }
 
-/// That it is not yet counts for nothing, however often it is told.
+/// A ticket that is not ready counts for nothing, however often it is collected.
 const PATIENT: [Case; 2] = [
     ((0, 3, Last::Ready), Some(1), Ending::Value(5), (1, 4)),
     ((1, 100, Last::Ready), Some(2), Ending::Value(5), (2, 202)),
 ];
 
+/// The loop collects a ticket until its turn has ended.
 #[test]
 fn it_collects_until_the_turn_has_ended(rt: HostRuntime) -> Result<(), Fail> {
     end_so(&rt, &PATIENT);
     Ok(())
 }
 
-/// A refusal is handed on, with the ticket as it was collected last.
+/// A failure is returned, with the ticket as it was collected last.
 const REFUSED: [Case; 4] = [
     (
         (0, 0, Last::BeginRefused),
@@ -99,6 +103,7 @@ const REFUSED: [Case; 4] = [
     ),
 ];
 
+/// A failed begin or collect ends the loop and is returned.
 #[test]
 fn a_refusal_is_handed_on(rt: HostRuntime) -> Result<(), Fail> {
     end_so(&rt, &REFUSED);

@@ -1,5 +1,5 @@
-//! A place that answers as it is told to, and a caller who counts. Its turns, tickets and refusals may not be let go, as
-//! those of a cache.
+//! A place that replies as its fields say, and a caller that counts. Its turns, tickets and
+//! refusals cannot be dropped, like those of a cache.
 ghost use Rattle.std.specs.Prelude.{◌≡◌, ◌+◌, ◌<◌, ◌≤◌, IfOk, IfErr, IfSome};
 ghost use Rattle.moka_waiting.specs.Holds.{HoldsOfWaited};
 
@@ -8,24 +8,24 @@ use moka_waiting::caller::Caller;
 use moka_waiting::wait::wait_for;
 use std::sync::Wait;
 
-/// The turn of the begin of this number.
+/// The turn of the begin with this number.
 pub struct Turn {
     number: u64,
 }
 
-/// The ticket of the begin of this number, and how often it was collected.
+/// The ticket of the begin with this number, and how often it was collected.
 pub struct Ticket {
     number: u64,
     collected: u64,
 }
 
-/// A refused call: a begin of this number, or a collect of its ticket, which is handed back.
+/// A failed call: a begin with this number, or a collect of its ticket, which is handed back.
 pub struct Refusal {
     number: u64,
     ticket: Option<Ticket>,
 }
 
-/// What comes in the end.
+/// The last reply.
 #[derive(Clone, Copy)]
 pub enum Last {
     Found,
@@ -35,22 +35,25 @@ pub enum Last {
     CollectRefused,
 }
 
-/// How a place answers.
+/// How a place replies.
 #[derive(Drop)]
 pub struct Place {
-    /// So many turns give nothing before the last call.
+    /// How many turns give nothing before the last call.
     pub nothing: u64,
-    /// So often each ticket is told that it is not yet.
+    /// How often each ticket is not yet ready.
     pub not_yet: u64,
+    /// The last reply.
     pub last: Last,
     /// The value that is found or collected.
     pub value: u64,
 }
 
-/// How many calls there were.
+/// The number of calls.
 #[derive(Drop)]
 pub struct Calls {
+    /// The number of begins.
     pub begins: u64,
+    /// The number of collects.
     pub collects: u64,
 }
 
@@ -127,7 +130,7 @@ pub enum Ending {
     CollectRefused(u64, u64),
 }
 
-/// How the loop ended. It spends the turn, or the ticket that was handed back.
+/// Returns how the loop ended. Consumes the turn, or the ticket that was handed back.
 pub fn ended(waited: Result<Waited<u64, Turn>, Refusal>) -> Ending {
     match waited {
         Ok(Waited::Value(value)) => Ending::Value(value),
@@ -140,8 +143,10 @@ pub fn ended(waited: Result<Waited<u64, Turn>, Refusal>) -> Ending {
     }
 }
 
-/// What each call of a caller keeps to, the loop keeps to: a value is the place's, a turn comes behind those that give
-/// nothing, and a ticket that is handed back was collected once more than it was told that it is not yet, at most.
+/// Runs the loop. What holds of each call of the caller is proved of the loop, too.
+///
+/// A value is the place's. A turn comes after those that give nothing. A ticket that is handed back
+/// was collected at most once more than it was not yet ready.
 pub fn wait(
     rt: &impl Wait,
     calls: &mut Calls,

@@ -1,4 +1,4 @@
-//! The loop that waits for a turn, over a place that answers as it is told to.
+//! The tests of the loop that waits for a turn, over a place that replies as its fields say.
 #![tactic(auto)]
 
 #[cfg(test)]

@@ -44,7 +44,7 @@ module _ {K V E : Type 0} (count : ℕ) (stands : ℕ → Result (List K) E → 
   abbrev pub IsOnItsWay : Cursor K → Cursor K → Type 0
   IsOnItsWay old here = (taken : List (List K)) × (passed : List (ℕ × K)) × Goes old here taken passed
 
-  -- this may be answered, and leads to that cursor
+  -- this may be returned, and leads to that cursor
   abbrev pub MayAnswer : Cursor K → Option (Result (K × V) E) → Cursor K → Type 0
   MayAnswer old result new = (it : Advance K V E) × Advances count stands finds old it new × (result ≡ answered it.ending)
 
@@ -179,7 +179,7 @@ module _ {K V E : Type 0} (count : ℕ) (stands : ℕ → Result (List K) E → 
   closer : (old new : Cursor K) → new.reached ≡ old.reached → length new.pending < length old.pending → calls_left count new < calls_left count old
   closer old new same fewer = omega (arith, same, fewer)
 
-  -- so each call is that answers something
+  -- so is each call that returns something
   module _ (old new : Cursor K) (it : Advance K V E) (advances : Advances count stands finds old it new) where
     long : length (pending_in old) + length (taken_from old.reached it.taken) ≡ length (dealt_with it) + length (pending_in new)
     long = sym (length-append (pending_in old) (taken_from old.reached it.taken)) ∙ sym (length_permutation (pending_in old ++ taken_from old.reached it.taken) (dealt_with it ++ pending_in new) advances.once) ∙ length-append (dealt_with it) (pending_in new)

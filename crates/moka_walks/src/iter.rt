@@ -1,4 +1,4 @@
-//! A walk over caches that says by itself how it goes on.
+//! Iteration over caches that say by themselves which keys they have and what is live.
 ghost use Rattle.std.specs.Prelude.{◌≡◌};
 ghost use Rattle.moka_walks.specs.Walks.{start};
 
@@ -7,10 +7,10 @@ use moka_policy::policy::Refused;
 use std::marker::{Model, PhantomData};
 use std::sync::Arc;
 
-/// What a walk asks of a cache.
+/// What iteration asks of a cache.
 ///
-/// Of a cache that others may change between two calls little can be said: `keeps`. One that stands still can say which
-/// keys stand, and what is live.
+/// A cache that others may change between two calls can say little about them: that values satisfy
+/// `keeps`. One that stands still can say which keys are stored, and what is live.
 pub trait ScanningGet<K, V> {
     ghost use Rattle.std.specs.Prelude.{ℕ, ◌≡◌, ◌≢◌, List, Option, None, Some, Result, Ok, map, IfOk, IsSome, IsOk};
     ghost use Rattle.std.specs.Arc.{arc_value};
@@ -18,21 +18,23 @@ pub trait ScanningGet<K, V> {
     ghost use Rattle.moka_walks.specs.Cursors.{key_list};
     ghost use Rattle.moka_walks.specs.Iters.{keys_if};
 
-    /// What may be answered where it is asked for its keys.
+    /// What the cache may return when it is asked for its keys.
     ghost stands: { Self → Result (List K) Refused → Type 0 };
 
-    /// What may be answered where it is asked for a key's live value.
+    /// What the cache may return when it is asked for a key's live value.
     ghost finds: { Self → K → Result (Option V) Refused → Type 0 };
 
-    /// How many segments of keys it has: one.
+    /// Returns the number of segments of keys: 1.
     fn num_cht_segments(&self) -> usize
         ensures { result ≡ 1 };
 
-    /// A copy of the live value of a key. It is no use of the value, and records nothing.
+    /// Returns a clone of the live value for `key`, or `None`. Does not count as an access, and
+    /// records nothing.
     fn scanning_get(&self, key: &Arc<K>) -> Result<Option<V>, Refused>
         ensures { finds self.now (arc_value key.now) result };
 
-    /// All stored keys, each once, of its segment 0. It has no other.
+    /// Returns all stored keys, each once, for segment 0; `None` for any other segment, since there
+    /// is none.
     fn keys(&self, segment: usize) -> Result<Option<Vec<Arc<K>>>, Refused>
         ensures first { segment ≡ 0 → stands self.now (key_list (keys_if (λ keys. map arc_value keys.items)) result) }
         ensures some { segment ≡ 0 → IfOk result (λ keys. IsSome keys) }
@@ -69,7 +71,8 @@ impl<'i, K, V, G: ScanningGet<K, V>> Segments<K, V> for Caches<'i, G> {
     }
 }
 
-/// A walk over caches: the pairs that are live when they come, each key once at most.
+/// Iterates over caches: yields the pairs that are live when they come. Over the segments of one
+/// cache each key comes at most once.
 #[derive(Drop)]
 pub struct Iter<'i, K, V, G> {
     caches: &'i [G],
@@ -86,7 +89,7 @@ impl<'i, K, V, G> Model for Iter<'i, K, V, G> {
 }
 
 impl<'i, K: Drop, V, G: ScanningGet<K, V>> Iter<'i, K, V, G> {
-    /// A walk over these caches, before the first of them.
+    /// Creates an iterator over these caches, before the first of them.
     pub fn new(caches: &'i [G]) -> Self
         ensures caches { result.caches ≡ caches.entry.now }
         ensures start { result.cursor ≡ start }

@@ -1,4 +1,4 @@
-//! Walks over the segments of a cache.
+//! Walks over the segments of a cache: iteration, one pair a call.
 #![tactic(auto)]
 
 pub mod iter;

@@ -17,30 +17,32 @@ pub trait Segments<K, V> {
     ghost use Rattle.moka_policy.specs.declared.policy.Refused.{Refused};
     ghost use Rattle.moka_walks.specs.Cursors.{key_list};
 
-    /// How many there are.
+    /// The number of segments.
     ghost count: { Self → ℕ };
 
-    /// What may be answered where a segment is asked for its keys.
+    /// What a segment may return when it is asked for its keys.
     ghost stands: { Self → ℕ → Result (List K) Refused → Type 0 };
 
-    /// What may be answered where a segment is asked for a key's live value.
+    /// What a segment may return when it is asked for a key's live value.
     ghost finds: { Self → ℕ → K → Result (Option V) Refused → Type 0 };
 
-    /// How many there are.
+    /// Returns the number of segments.
     fn len(&self) -> usize
         ensures { result ≡ count self.now };
 
-    /// The keys that stand in a segment, each once.
+    /// Returns the keys that are stored in a segment, each once. The segment has to exist.
     fn keys(&self, segment: usize) -> Result<Vec<Arc<K>>, Refused>
         requires { segment < count self.now }
         ensures { stands self.now segment (key_list (λ keys. map arc_value keys.items) result) };
 
-    /// A copy of the live value of a key. Where there is no such segment nothing is live.
+    /// Returns a clone of the live value for `key` in a segment, or `None`. If there is no such
+    /// segment, nothing is live.
     fn get(&self, segment: usize, key: &Arc<K>) -> Result<Option<V>, Refused>
         ensures { finds self.now segment (arc_value key.now) result };
 }
 
-/// Where a walk is.
+/// Where a walk is: the segments that it has reached, and the keys of the last of them that are
+/// still to come.
 #[derive(Drop)]
 pub struct Place<K> {
     // The keys of the segment that was reached last which are still to come.
@@ -66,7 +68,7 @@ impl<K> Model for Place<K> {
 }
 
 impl<K: Drop> Place<K> {
-    /// Before the first segment.
+    /// Creates the place before the first segment.
     pub fn new() -> Self
         ensures { result ≡ start }
     {
@@ -76,8 +78,10 @@ impl<K: Drop> Place<K> {
         }
     }
 
-    /// Goes on to the next live pair. What memory refused, a segment's keys or a value's copy, is passed over
-    /// as one `Err`. None comes at the end.
+    /// Goes on to the next live pair, or returns `None` at the end.
+    ///
+    /// If a segment's keys or a key's value cannot be got, returns one `Err` with that error. The
+    /// next call goes on behind that segment or key.
     pub fn next<V, S: Segments<K, V>>(
         &mut self,
         segments: &S,
@@ -102,7 +106,7 @@ impl<K: Drop> Place<K> {
         }
     }
 
-    // Reaches the next segment, and takes its keys, unless they are refused.
+    // Reaches the next segment and takes its keys, unless listing them fails.
     fn reach<V, S: Segments<K, V>>(&mut self, segments: &S) -> Result<(), Refused>
         requires more { self.old.reached < S.count segments.now }
         requires fits { self.old.reached + 1 < 2 ^ 64 }
@@ -118,7 +122,7 @@ impl<K: Drop> Place<K> {
         Ok(())
     }
 
-    // The next live pair of the segment that was reached last.
+    // Returns the next live pair of the segment that was reached last.
     fn next_pending<V, S: Segments<K, V>>(
         &mut self,
         segments: &S,
@@ -135,7 +139,7 @@ impl<K: Drop> Place<K> {
     }
 }
 
-// The next live pair of a segment, of these keys.
+// Returns the next live pair of a segment among these keys.
 fn next_of_segment<K: Drop, V, S: Segments<K, V>>(
     pending: &mut VecDeque<Arc<K>>,
     segments: &S,

@@ -1,4 +1,4 @@
-//! The laws of walks, in the words of the subject. Each stands as the contract of a function that does nothing.
+//! The laws of walks. Each is the contract of a function without code.
 ghost use Rattle.std.specs.Prelude.{◌≡◌, ℕ, ◌+◌, ◌≤◌, IsSome, Some, None, List, [], ◌∷◌, length};
 ghost use Rattle.std.specs.List.{AllByRecursion};
 ghost use Rattle.moka_model.specs.MaintenanceLaws.{count};
@@ -9,9 +9,11 @@ ghost use Rattle.moka_walks.specs.WalkLaws.{WalkCall, pairs_of, answers_in, keys
 ghost use Rattle.moka_walks.specs.Walks.{Advance};
 ghost use Rattle.moka_policy.specs.declared.policy.Refused.{Refused};
 
-/// A walk at one moment with no step between, of which nothing is refused, yields exactly the live pairs, each once: what
-/// it yields is live, with a copy of its value, and for each key that is live somewhere one pair comes. So it is over the
-/// segments of one cache, in which each key has its home, and over a cache that is one segment.
+/// A walk at one moment, with nothing done in between and no error, yields exactly the live pairs.
+///
+/// Each pair that it yields is live, with a clone of its value (`live`). For each live key it
+/// yields one pair: over the segments of one cache (`each_once`), and over a cache of one segment
+/// (`of_one`).
 pub fn a_walk_yields_what_lives<K: Eq, V: Clone, E>()
     ensures live { (histories : List (History K V E)) (now : ℕ) (pairs : List (K × V)) → YieldsJust K.eq V.is_clone V.is_infallible histories now start pairs
         → AllByRecursion (λ pair. (i : ℕ) × IsCopyOf V.is_clone (live_in K.eq histories now i pair.0) (Some pair.1)) pairs }
@@ -22,8 +24,11 @@ pub fn a_walk_yields_what_lives<K: Eq, V: Clone, E>()
         → (k : K) → IsSome (live_in K.eq (history ∷ []) now 0 k) → count (λ pair. K.eq pair.0 k) pairs ≡ 1 }
 {}
 
-/// No walk yields a key twice, whatever is done to the caches between its calls, and at whatever moments these are: over the
-/// segments of one cache, in which each key has its home, and over a cache that is one segment.
+/// No walk yields a key twice, whatever is done to the caches between its calls, and at whatever
+/// moments these are.
+///
+/// This holds over the segments of one cache, in which each key has its home (`segments`), and over
+/// a cache of one segment (`of_one`).
 pub fn no_key_comes_twice<K: Eq, V: Clone, E>()
     ensures segments { (home : K → ℕ) (calls : List (WalkCall K V E)) (new : Cursor K) → StayOfOneCache K.eq home calls
         → IsWalk K.eq V.is_clone V.is_infallible start calls new
@@ -33,8 +38,11 @@ pub fn no_key_comes_twice<K: Eq, V: Clone, E>()
         → (k : K) → count (λ pair. K.eq pair.0 k) (pairs_of calls) ≤ 1 }
 {}
 
-/// Every walk ends: no more calls answer something than keys were taken of the segments when they were reached, and one for
-/// each segment; it reaches no more segments than there are; and once it is at its end it answers none, and stays there.
+/// Every walk ends.
+///
+/// The calls that return something are at most as many as the keys that were taken and the segments
+/// that were reached (`calls`). A walk reaches no more segments than there are (`segments`). At its
+/// end it returns none, and stays there (`stays`).
 pub fn every_walk_ends<K: Eq, V: Clone, E>()
     ensures calls { (calls : List (WalkCall K V E)) (new : Cursor K) → IsWalk K.eq V.is_clone V.is_infallible start calls new
         → answers_in calls ≤ keys_taken calls + new.reached }

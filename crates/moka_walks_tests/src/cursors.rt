@@ -1,4 +1,4 @@
-//! Walks by a cursor over states, to which something is done between two calls.
+//! Iteration by a cursor over owned caches that change between two calls.
 use moka_cursor::cursor::WalkCursor;
 use moka_policy::policy::EvictionPolicy;
 use moka_ready::ready::{FoldState, Plain};
@@ -12,7 +12,7 @@ use std::time::Duration;
 
 pub(crate) type State = CacheState<u64, Arc<u64>, Plain>;
 
-/// A state in which these keys stand from moment 0 on, each with a value ten times as large.
+/// Creates a cache that stores these keys from moment 0, each with ten times itself as its value.
 fn state(alloc: Global, keys: &[u64]) -> Result<State, Fail> {
     let settings = Settings {
         name: None,
@@ -33,7 +33,7 @@ fn state(alloc: Global, keys: &[u64]) -> Result<State, Fail> {
     Ok(state)
 }
 
-/// A state for each list of keys.
+/// Creates a cache for each list of keys.
 pub(crate) fn states(alloc: Global, lists: &[&[u64]]) -> Result<Vec<State>, Fail> {
     let mut states = Vec::with_capacity(alloc, lists.len())?;
     for keys in lists {
@@ -68,7 +68,8 @@ enum Between {
     AnotherInserted,
 }
 
-/// What comes then for the other key, its value being so many times as large, and none where it does not come.
+/// What comes then for the other key: its value as a multiple of the key, or `None` if it does not
+/// come.
 const CASES: [(Between, Option<u64>); 8] = [
     (Between::Nothing, Some(10)),
     (Between::Invalidated, None),
@@ -80,7 +81,7 @@ const CASES: [(Between, Option<u64>); 8] = [
     (Between::AnotherInserted, Some(10)),
 ];
 
-// Does it, and answers the moment of the calls behind it.
+// Does it, and returns the moment of the calls after it.
 fn do_between(between: Between, state: &mut State, alloc: Global, other: u64) -> Result<u64, Fail> {
     match between {
         Between::Nothing => {}
@@ -100,7 +101,7 @@ fn do_between(between: Between, state: &mut State, alloc: Global, other: u64) ->
     Ok(0)
 }
 
-// The next pair, by its numbers.
+// Returns the next pair by its numbers.
 fn next(
     rt: &impl Abort,
     cursor: &mut WalkCursor<u64>,
@@ -116,7 +117,7 @@ fn next(
     }
 }
 
-// This comes next, of a walk over one state.
+// Checks what comes next in an iteration over one cache.
 fn comes(
     rt: &impl Abort,
     cursor: &mut WalkCursor<u64>,
@@ -127,6 +128,7 @@ fn comes(
     assert_eq!(rt; next(rt, cursor, slice::from_ref(state), now), pair);
 }
 
+/// A key that comes has the value that is live at that moment.
 #[test]
 fn what_comes_is_live_when_it_comes(rt: HostRuntime) -> Result<(), Fail> {
     for (between, times) in CASES {
@@ -168,6 +170,7 @@ fn comes_behind(
     Ok(())
 }
 
+/// A segment's keys are listed once the iteration reaches it.
 #[test]
 fn a_segment_is_reached_once_it_is_needed(rt: HostRuntime) -> Result<(), Fail> {
     is_reached_once_it_is_needed(&rt, rt.alloc(), &mut states(rt.alloc(), &[&[1], &[]])?)
@@ -191,6 +194,7 @@ fn is_reached_once_it_is_needed(
     Ok(())
 }
 
+/// An iteration over no segments yields nothing.
 #[test]
 fn over_no_segments_nothing_comes(rt: HostRuntime) -> Result<(), Fail> {
     let mut cursor = WalkCursor::new();
@@ -200,6 +204,7 @@ fn over_no_segments_nothing_comes(rt: HostRuntime) -> Result<(), Fail> {
     Ok(())
 }
 
+/// An iteration counts as no access, and does not record its moment.
 #[test]
 fn a_walk_is_no_use_and_records_nothing(rt: HostRuntime) -> Result<(), Fail> {
     records_nothing(&rt, &mut state(rt.alloc(), &[1])?);
@@ -214,6 +219,7 @@ fn records_nothing(rt: &impl Abort, state: &mut State) {
     assert!(rt; !state.contains_key(&1, 5 * SECOND));
 }
 
+/// A moment earlier than the latest one counts as the latest.
 #[test]
 fn an_earlier_moment_counts_as_the_latest(rt: HostRuntime) -> Result<(), Fail> {
     counts_as_the_latest(&rt, rt.alloc(), &mut state(rt.alloc(), &[1])?)

@@ -1,4 +1,4 @@
-//! Walks by an iterator over caches that stand still, where memory is refused.
+//! Iteration over caches that do not change, of which a lookup fails.
 use crate::cursors::{State, states};
 use moka_policy::policy::Refused;
 use moka_walks::iter::{Iter, ScanningGet};
@@ -8,8 +8,8 @@ use std::process::Abort;
 use std::sync::Arc;
 use std::test::Fail;
 
-/// A state at moment 0. Of all that is asked of it and of those that share the count, the request with this number is
-/// refused.
+/// A cache at moment 0. Of all requests to the caches that share the count, the one with the number
+/// `refused` fails.
 #[derive(Drop)]
 struct Scarce<'s> {
     state: &'s State,
@@ -18,7 +18,7 @@ struct Scarce<'s> {
 }
 
 impl Scarce<'_> {
-    // Counts a request, and refuses the one that is to be refused.
+    // Counts a request, and fails if it is the one that is to fail.
     fn request(&self) -> Result<(), Refused> {
         let number = self.requests.get();
         self.requests.set(number.wrapping_add(1));
@@ -53,10 +53,13 @@ impl ScanningGet<u64, Arc<u64>> for Scarce<'_> {
     }
 }
 
-/// Which request is refused, and how many pairs come then. The segments have the keys 1 and 2, none, and 3: the first request
-/// is for the keys of the first segment, the next two for its values, and so on.
+/// Which request fails, and how many pairs come then.
+///
+/// The segments have the keys 1 and 2, none, and 3. So the first request is for the keys of the
+/// first segment, the next two are for its values, and so on.
 const REFUSALS: [(u64, usize); 7] = [(0, 1), (1, 2), (2, 2), (3, 3), (4, 2), (5, 2), (6, 3)];
 
+/// A failed request yields one error, and the iteration goes on.
 #[test]
 fn what_is_refused_is_passed_over_as_one_error(rt: HostRuntime) -> Result<(), Fail> {
     let states = states(rt.alloc(), &[&[1, 2], &[], &[3]])?;
@@ -66,7 +69,7 @@ fn what_is_refused_is_passed_over_as_one_error(rt: HostRuntime) -> Result<(), Fa
     Ok(())
 }
 
-/// A walk changes nothing, so each goes over the same states.
+/// Checks one iteration. It changes nothing, so each goes over the same caches.
 fn is_passed_over(
     rt: &impl Abort,
     alloc: Global,
@@ -82,7 +85,7 @@ fn is_passed_over(
     Ok(())
 }
 
-/// These states, sharing a count of requests.
+/// Returns these caches, with one count of requests.
 fn sharing<'s>(
     alloc: Global,
     states: &'s [State],
@@ -100,7 +103,8 @@ fn sharing<'s>(
     Ok(caches)
 }
 
-/// Walks over all, and counts the pairs that come, no key twice, and what was refused.
+/// Iterates over all. Returns how many pairs and how many errors came; checks that no key comes
+/// twice.
 fn walked(rt: &impl Abort, alloc: Global, caches: &[Scarce]) -> Result<(usize, usize), Fail> {
     let mut came = Vec::new(alloc);
     let mut errors: usize = 0;
@@ -120,6 +124,7 @@ fn walked(rt: &impl Abort, alloc: Global, caches: &[Scarce]) -> Result<(usize, u
     Ok((came.len(), errors))
 }
 
+/// An iteration over no caches yields nothing.
 #[test]
 fn over_no_caches_nothing_comes() -> Result<(), Fail> {
     let caches: [Scarce; 0] = [];

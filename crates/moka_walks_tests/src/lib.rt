@@ -1,4 +1,4 @@
-//! The tests of walks.
+//! The tests of iteration, by cursor and by iterator.
 #![tactic(auto)]
 
 #[cfg(test)]

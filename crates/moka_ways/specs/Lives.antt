@@ -9,33 +9,33 @@ use Rattle.moka_rows.specs.declared.rows.EntryInfo.{EntryInfo}
 use Rattle.moka_rows.specs.declared.rows.Row.{Row}
 use Rattle.moka_rows.specs.declared.rows.OwnLife.{OwnLife}
 
--- a life of its own, as the definitions have it
+-- An own lifetime, as the specification has it.
 abbrev pub own_life : OwnLife → model.OwnLife
 own_life it = record { from = it.from; life = as_nanos it.life }
 
--- the life of its own that a value has
+-- The own lifetime in the metadata of a value, if it has one.
 abbrev pub own_of : EntryInfo → Option model.OwnLife
 own_of info = option_map own_life info.own_life
 
--- a value's deadline under these lives, by its moments and the life of its own
+-- The deadline of a value: the earliest end of the time to live, the time to idle and its own lifetime.
 abbrev pub deadline_of : Lives → EntryInfo → Option ℕ
 deadline_of lives info =
     earlier (earlier (ends_at (option_map as_nanos lives.time_to_live) info.last_modified)
     (ends_at (option_map as_nanos lives.time_to_idle) info.last_accessed)) (own_end (own_of info))
 
--- the deadline that is kept for one: none where that is past the last moment, since it never comes
+-- The deadline that is kept for a deadline: none if it is past the last moment, since it never comes.
 abbrev pub within_moments : Option ℕ → Option ℕ
 within_moments None = None
 within_moments (Some deadline) = if nat_le deadline (2 ^ 64 - 1) then Some deadline else None
 
--- what is kept of a value, with its deadline under these lives
+-- The metadata of a value with its deadline.
 abbrev pub dated : Lives → EntryInfo → EntryInfo
 dated lives info = record info { deadline = within_moments (deadline_of lives info) }
 
--- the deadline that is kept is the one under these lives
+-- The deadline in the metadata is the right one.
 abbrev pub IsDated : Lives → EntryInfo → Type 0
 IsDated lives info = info.deadline ≡ within_moments (deadline_of lives info)
 
--- so is that of each row
+-- The deadline of each row is the right one.
 abbrev pub AreDated : {K V : Type 0} → Lives → List (ℕ × Row K V) → Type 0
 AreDated lives rows = AllByRecursion (λ p. IsDated lives p.1.info) rows

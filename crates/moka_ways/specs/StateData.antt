@@ -1,4 +1,4 @@
--- What a state keeps, and what this means.
+-- What a state keeps, and what it means to the specification.
 use Rattle.std.specs.Prelude.{ℕ, Bool, List, Option}
 use Rattle.moka_policy.specs.Frequency.{after_notes}
 use Rattle.moka_model.specs.Lives.{Behaviour, Settings}
@@ -8,11 +8,11 @@ use Rattle.moka_model.specs.Calls.{Call, Answer}
 use Rattle.moka_model.specs.StandsFor.{Books, View, WholeView, StandsFor, AtEachHistory, Follows, Answers}
 use Rattle.moka_ways.specs.Behaviour.{BehaviourData}
 
--- what a source estimates of a hash, once it has noted these hashes more
+-- The estimate of a source for a hash after it has noted these hashes too.
 abbrev pub estimates : {F : Type 0} → (F → ℕ → F) → (F → ℕ → ℕ) → F → List ℕ → ℕ → ℕ
 estimates noted count source more hash = count (after_notes source noted more) hash
 
--- What a state was built with, as data; it never changes.
+-- What a state was built with, as data. It never changes.
 pub record SettingsData (H W X : Type 0) : Type 0 where
   pub name : Option (List ℕ)
   pub time_to_live : Option ℕ
@@ -23,8 +23,9 @@ pub record SettingsData (H W X : Type 0) : Type 0 where
   pub flush_limit : Option ℕ
   pub behaviour : BehaviourData H W X
 
--- What a state keeps, as data: its settings, its books, its source of frequencies, and its turns. What the types of the
--- cache mean by it is its view. And for how many rows there was room from the start, which matters to no answer.
+-- What a state keeps, as data: its settings, its books, its frequency source and its turns. Its view is what the types
+-- of the cache mean by that. `initial_room` is for how many rows there was room from the start; it matters to no
+-- result.
 pub record StateData (K V H W X F E : Type 0) : Type 0 where
   pub settings : SettingsData H W X
   pub books : Books K V
@@ -33,7 +34,7 @@ pub record StateData (K V H W X F E : Type 0) : Type 0 where
   pub turns : List (Turn K V E)
 
 module _ {K V H W X : Type 0} (behaviour_in : BehaviourData H W X → Behaviour K V) where
-  -- the settings that this means, by the behaviour that it means and by what a new source estimates
+  -- The settings that the data means, given the behaviour that it means and the estimates of a new source.
   abbrev pub settings_by : (List ℕ → ℕ → ℕ) → SettingsData H W X → Settings K V
   settings_by frequency kept = record {
     time_to_live = kept.time_to_live;
@@ -46,7 +47,7 @@ module _ {K V H W X : Type 0} (behaviour_in : BehaviourData H W X → Behaviour 
     frequency = frequency;
   }
 
-  -- the view of a state, by what its data mean: its behaviour, what a source estimates, and a new source
+  -- The view of a state, given what its data means: its behaviour, the estimates of a source, and a new source.
   abbrev pub view_by : {F E : Type 0} → (F → List ℕ → ℕ → ℕ) → F → StateData K V H W X F E → WholeView K V E
   view_by frequency_in opened state = record {
     values = record {
@@ -57,16 +58,20 @@ module _ {K V H W X : Type 0} (behaviour_in : BehaviourData H W X → Behaviour 
     turns = state.turns;
   }
 
--- The relations of states, by what the view of each is.
+-- The relations of states, in terms of the view of each.
 module _ {K V E S : Type 0} (eq : K → K → Bool) (is_clone : V → V → Type 0) (view : S → WholeView K V E) where
+  -- These steps are a history of the state, under these settings.
   abbrev pub StandsForBy : Settings K V → S → List (AcceptedStep K V E) → Type 0
   StandsForBy settings state steps = StandsFor eq is_clone settings (view state) steps
 
+  -- P holds for every history of the state.
   abbrev pub AtEachHistoryBy : S → (Settings K V → List (AcceptedStep K V E) → Type 0) → Type 0
   AtEachHistoryBy state P = AtEachHistory eq is_clone (view state) P
 
+  -- Each history of the old state, followed by the call, is a history of the new one.
   abbrev pub FollowsBy : S → Call K V E → S → Type 0
   FollowsBy old call new = Follows eq is_clone (view old) call (view new)
 
+  -- This is a right result of the call, for every history of the state.
   abbrev pub AnswersBy : S → Call K V E → Answer K V E → Type 0
   AnswersBy state call answer = Answers eq is_clone (view state) call answer

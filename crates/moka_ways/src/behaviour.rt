@@ -1,5 +1,5 @@
-//! The behaviour of a cache: its policy, how its keys are hashed, what its values weigh, and the
-//! lives of their own that they get.
+//! The behaviour of a cache: its policy, the hashes of its keys, the weights of its entries, and
+//! their own lifetimes.
 ghost use Rattle.std.specs.Prelude.{◌≡◌, true, if◌then◌else◌, option_map, IfSome};
 ghost use Rattle.std.specs.Arc.{arc_value};
 ghost use Rattle.moka_model.specs.Lives.{rest, given};
@@ -15,8 +15,9 @@ use std::hash::{BuildHasher, Hash, Hasher};
 use std::marker::Model;
 use std::sync::Arc;
 
-/// What a cache asks of its keys and values. Without a weigher each value weighs 1, and without an
-/// expiry no value has a life of its own.
+/// What a cache computes of its keys and values, and its eviction policy.
+///
+/// Without a weigher each entry weighs 1. Without an expiry no entry has a lifetime of its own.
 #[derive(Drop)]
 pub struct Behaviour<K: Hash + Drop, V: Clone, C: CacheTypes<K, V>> {
     policy: EvictionPolicy,
@@ -43,8 +44,8 @@ impl<K: Hash + Drop, V: Clone, C: CacheTypes<K, V>> Model for Behaviour<K, V, C>
 }
 
 impl<K: Hash + Drop, V: Clone, C: CacheTypes<K, V>> Behaviour<K, V, C> {
-    /// A behaviour by these. The weigher and the expiry, where they are given, do what the cache's
-    /// types say of them.
+    /// Creates a behaviour. The weigher and the expiry, if given, have to compute what the cache's
+    /// types say.
     pub fn new(
         policy: EvictionPolicy,
         hasher: Arc<C::Hasher>,
@@ -70,14 +71,16 @@ impl<K: Hash + Drop, V: Clone, C: CacheTypes<K, V>> Behaviour<K, V, C> {
         }
     }
 
-    /// The policy.
+    /// Returns the eviction policy.
+    #[inline(always)]
     pub fn policy(&self) -> EvictionPolicy
         ensures { is_lru result ≡ self.now.is_lru }
     {
         self.policy
     }
 
-    /// The hash of a key. Equal keys hash alike.
+    /// Returns the hash of a key. Equal keys have the same hash.
+    #[inline(always)]
     pub fn hash(&self, key: &K) -> u64
         ensures hash { result ≡ (⟦<C as BehaviourView<K, V>>⟧.behaviour self.now).hash key.now }
         ensures alike { (a b : K) → K.eq a b ≡ true →
@@ -89,7 +92,8 @@ impl<K: Hash + Drop, V: Clone, C: CacheTypes<K, V>> Behaviour<K, V, C> {
         state.finish()
     }
 
-    /// The weight of a value under a key.
+    /// Returns the weight of a value under a key.
+    #[inline(always)]
     pub fn weight(&self, key: &K, value: &V) -> u32
         ensures { result
             ≡ (⟦<C as BehaviourView<K, V>>⟧.behaviour self.now).weight key.now value.now }
@@ -100,7 +104,8 @@ impl<K: Hash + Drop, V: Clone, C: CacheTypes<K, V>> Behaviour<K, V, C> {
         }
     }
 
-    /// The life of its own of a value that is written at a moment where no live value stands.
+    /// Returns the own lifetime of a value that is written at `now` where no live value is.
+    #[inline(always)]
     pub fn life_of_new(&self, key: &K, value: &V, now: u64) -> Option<OwnLife>
         ensures { option_map own_life result ≡ given
             ((⟦<C as BehaviourView<K, V>>⟧.behaviour self.now).lifetimes.created key.now value.now now)
@@ -112,8 +117,11 @@ impl<K: Hash + Drop, V: Clone, C: CacheTypes<K, V>> Behaviour<K, V, C> {
         }
     }
 
-    /// The life of its own of a value that is written at a moment over another one, which is live
-    /// then or not: only a live one is updated.
+    /// Returns the own lifetime of a value that is written at `now` over another one.
+    ///
+    /// `was` is the metadata of the old value, and `is_live` is whether that is live. Only a live
+    /// value counts as updated; else the new one counts as created.
+    #[inline(always)]
     pub fn life_over(
         &self,
         key: &K,
@@ -138,7 +146,8 @@ impl<K: Hash + Drop, V: Clone, C: CacheTypes<K, V>> Behaviour<K, V, C> {
         }
     }
 
-    /// The life of its own of a live value that a recorded look finds at a moment.
+    /// Returns the own lifetime of a live value that a recorded lookup finds at `now`.
+    #[inline(always)]
     pub fn life_of_hit(&self, key: &K, value: &V, info: EntryInfo, now: u64) -> Option<OwnLife>
         ensures { let lives = (⟦<C as BehaviourView<K, V>>⟧.behaviour self.now).lifetimes in
             option_map own_life result ≡ given

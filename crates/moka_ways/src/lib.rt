@@ -1,4 +1,4 @@
-//! How a cache behaves, and what the data means that it keeps.
+//! The behaviour of a cache, and what the data that it keeps means to the specification.
 #![tactic(auto)]
 
 pub mod behaviour;

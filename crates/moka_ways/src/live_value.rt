@@ -1,4 +1,4 @@
-//! The value of a row, where it is live.
+//! The value of a row, if it is live.
 ghost use Rattle.std.specs.Prelude.{◌≡◌, ◌||◌, true, None, Some, if◌then◌else◌, IsOk, IfOk, IfErr};
 ghost use Rattle.moka_model.specs.Lives.{has_come};
 ghost use Rattle.moka_model.specs.Calls.{IsCopyOf};
@@ -6,8 +6,13 @@ ghost use Rattle.moka_model.specs.Calls.{IsCopyOf};
 use moka_policy::policy::Refused;
 use moka_rows::rows::Row;
 
-/// A copy of a row's value, where that is live at a moment. Refused for want of memory for the copy
-/// alone; where the value is dead none is made.
+/// Returns a clone of a row's value, or `None` if that is not live at `now`. Then nothing is
+/// cloned.
+///
+/// # Errors
+///
+/// - `OutOfMemory`: cloning the value failed.
+#[inline(always)]
 pub fn copy_of_live<K, V: Clone>(row: &Row<K, V>, now: u64) -> Result<Option<V>, Refused>
     ensures copy { IfOk result (IsCopyOf V.is_clone
         (if row.now.info.is_hidden || has_come row.now.info.deadline now then None

@@ -8,18 +8,22 @@ ghost use Rattle.moka_ways.specs.Lives.{deadline_of, within_moments, own_life, d
 use moka_rows::rows::{EntryInfo, OwnLife, Touch};
 use std::time::Duration;
 
-/// The lives that a cache gives each of its values.
+/// The time to live and the time to idle of a cache.
 #[derive(Clone, Copy, Debug)]
 pub struct Lives {
-    /// From the write on.
+    /// How long a value lives after it was written.
     pub time_to_live: Option<Duration>,
-    /// From the last use on.
+    /// How long a value lives after its last access or write.
     pub time_to_idle: Option<Duration>,
 }
 
 impl Lives {
-    /// The moment from which a value with these moments and this life of its own is expired, in
-    /// nanoseconds; none where it is past the last moment, `u64::MAX`, since it never comes.
+    /// Returns the moment from which a value with this metadata is expired, in nanoseconds.
+    ///
+    /// It is the earliest end of the time to live, the time to idle and the entry's own lifetime.
+    /// It is `None` without any of them. A moment past the last one, `u64::MAX`, never comes and is
+    /// `None` too.
+    #[inline(always)]
     pub fn deadline(&self, info: EntryInfo) -> Option<u64>
         ensures { result ≡ within_moments (deadline_of self.now info) }
     {
@@ -30,7 +34,8 @@ impl Lives {
         within_moments(earlier(shared, own_end(info.own_life)))
     }
 
-    /// What is kept of a value, with its deadline.
+    /// Returns the metadata with its deadline.
+    #[inline(always)]
     pub fn dated(&self, info: EntryInfo) -> EntryInfo
         ensures { result ≡ dated self.now info }
     {
@@ -40,8 +45,9 @@ impl Lives {
         }
     }
 
-    /// The use of a value at a moment, with the life of its own and the deadline that it has from
-    /// then on.
+    /// Returns the access of a value at a moment, with its own lifetime and its deadline from then
+    /// on.
+    #[inline(always)]
     pub fn used(&self, info: EntryInfo, last_accessed: u64, own_life: Option<OwnLife>) -> Touch
         ensures accessed { result.last_accessed ≡ last_accessed }
         ensures own { result.own_life ≡ own_life }
@@ -57,8 +63,9 @@ impl Lives {
     }
 }
 
-// A life that begins at a moment ends at their sum, which fits: a life has less than 2^94
-// nanoseconds.
+// Returns the end of a life that begins at a moment: their sum. It fits, since a life has less than
+// 2^94 nanoseconds.
+#[inline(always)]
 fn ends_at(life: Option<Duration>, from: u64) -> Option<u128>
     ensures { result ≡ ends_at (option_map as_nanos life) from }
 {
@@ -68,7 +75,8 @@ fn ends_at(life: Option<Duration>, from: u64) -> Option<u128>
     }
 }
 
-// The end of a life of its own.
+// Returns the end of an entry's own lifetime.
+#[inline(always)]
 fn own_end(own: Option<OwnLife>) -> Option<u128>
     ensures { result ≡ own_end (option_map own_life own) }
 {
@@ -78,7 +86,8 @@ fn own_end(own: Option<OwnLife>) -> Option<u128>
     }
 }
 
-/// What is left of a life of its own at a moment.
+/// Returns what is left at `now` of an entry's own lifetime: nothing if it has ended.
+#[inline(always)]
 pub fn rest(own: Option<OwnLife>, now: u64) -> Option<Duration>
     ensures { option_map as_nanos result ≡ rest (option_map own_life own) now }
 {
@@ -91,7 +100,8 @@ pub fn rest(own: Option<OwnLife>, now: u64) -> Option<Duration>
     }
 }
 
-/// A life of its own that is given at a moment, and counts from it.
+/// Returns an own lifetime that counts from `now`.
+#[inline(always)]
 pub fn given(life: Option<Duration>, now: u64) -> Option<OwnLife>
     ensures { option_map own_life result ≡ given (option_map as_nanos life) now }
 {
@@ -101,7 +111,8 @@ pub fn given(life: Option<Duration>, now: u64) -> Option<OwnLife>
     }
 }
 
-/// A deadline that is not past the last moment.
+/// Returns a deadline, or `None` if it is past the last moment.
+#[inline(always)]
 fn within_moments(deadline: Option<u128>) -> Option<u64>
     ensures { result ≡ within_moments deadline }
 {
@@ -111,7 +122,8 @@ fn within_moments(deadline: Option<u128>) -> Option<u64>
     }
 }
 
-/// The earlier of two deadlines, where there are two.
+/// Returns the earlier of two deadlines, or the only one.
+#[inline(always)]
 fn earlier(a: Option<u128>, b: Option<u128>) -> Option<u128>
     ensures { result ≡ earlier a b }
 {

@@ -1,4 +1,4 @@
-//! What the data means that a cache keeps.
+//! What the data that a cache keeps means to the specification.
 ghost use Rattle.std.specs.Prelude.{◌≡◌, None};
 ghost use Rattle.moka_model.specs.SizeLaws.{WeighsOnes};
 ghost use Rattle.moka_ways.specs.StateData.{SettingsData};
@@ -6,16 +6,16 @@ ghost use Rattle.moka_ways.specs.StateData.{SettingsData};
 use moka_policy::policy::{CacheTypes, FrequencySource};
 use std::hash::Hash;
 
-/// How caches of these types behave, by what they keep for that. It follows from the types.
+/// How caches of these types behave, as the specification says it. It follows from the types.
 pub trait BehaviourView<K: Hash, V: Clone>: CacheTypes<K, V> {
     ghost use Rattle.std.specs.Prelude.{ℕ, List};
     ghost use Rattle.moka_model.specs.Lives.{Behaviour};
     ghost use Rattle.moka_ways.specs.Behaviour.{BehaviourData};
 
-    /// How a cache behaves.
+    /// The behaviour of a cache.
     ghost behaviour: { BehaviourData Self.Hasher Self.Weigher Self.Expiry → Behaviour K V };
 
-    /// What a source estimates of a hash, once it has noted these hashes more, in order.
+    /// The estimate of a source for a hash after it has noted these hashes too, in order.
     ghost frequency: { Self.Frequency → List ℕ → ℕ → ℕ };
 }
 
@@ -31,8 +31,8 @@ impl<K: Hash, V: Clone, C: CacheTypes<K, V>> BehaviourView<K, V> for C {
     ghost frequency = { estimates C.Frequency.noted C.Frequency.count };
 }
 
-/// What a state of these types is, by the data that it keeps, and the relations in which its calls
-/// stand. It follows from the types, and nothing more is to be said of them.
+/// The state of a cache of these types, as the specification says it, and the relations in the
+/// contracts of its calls. It follows from the types: nothing has to be implemented.
 pub trait StateView<K: Hash, V: Clone>: CacheTypes<K, V> {
     ghost use Rattle.std.specs.Prelude.{List};
     ghost use Rattle.moka_model.specs.Lives.{Settings};
@@ -41,31 +41,30 @@ pub trait StateView<K: Hash, V: Clone>: CacheTypes<K, V> {
     ghost use Rattle.moka_model.specs.StandsFor.{WholeView};
     ghost use Rattle.moka_ways.specs.StateData.{SettingsData, StateData};
 
-    /// The settings that a cache was built with, as the definitions speak of them.
+    /// The settings with which a cache was built.
     ghost settings: { SettingsData Self.Hasher Self.Weigher Self.Expiry → Settings K V };
 
-    /// What a state is, as the definitions speak of it.
+    /// The state: its settings, its values and its turns.
     ghost view: { StateData K V Self.Hasher Self.Weigher Self.Expiry Self.Frequency Self.Error → WholeView K V Self.Error };
 
-    /// The state stands for these accepted steps, under these settings.
+    /// These accepted steps are a history of the state, under these settings.
     ghost stands_for: { Settings K V
         → StateData K V Self.Hasher Self.Weigher Self.Expiry Self.Frequency Self.Error
         → List (AcceptedStep K V Self.Error)
         → Type 0 };
 
-    /// Whatever settings and accepted steps the state stands for, this holds of them.
+    /// This holds for every history of the state and its settings.
     ghost at_each_history: { StateData K V Self.Hasher Self.Weigher Self.Expiry Self.Frequency Self.Error
         → (Settings K V → List (AcceptedStep K V Self.Error) → Type 0)
         → Type 0 };
 
-    /// Whatever steps the first state stands for, the second stands for those followed by the call.
+    /// Each history of the first state, followed by the call, is a history of the second.
     ghost follows: { StateData K V Self.Hasher Self.Weigher Self.Expiry Self.Frequency Self.Error
         → Call K V Self.Error
         → StateData K V Self.Hasher Self.Weigher Self.Expiry Self.Frequency Self.Error
         → Type 0 };
 
-    /// This, when it is handed out, is the answer to the call, after whatever steps the state
-    /// stands for.
+    /// This is a right result of the call, for every history of the state.
     ghost answers: { StateData K V Self.Hasher Self.Weigher Self.Expiry Self.Frequency Self.Error
         → Call K V Self.Error
         → Answer K V Self.Error
@@ -105,7 +104,7 @@ impl<K: Hash, V: Clone, C: CacheTypes<K, V>> StateView<K, V> for C {
         C.Frequency.opened) };
 }
 
-/// A cache that was built without a weigher weighs each value one, under each key.
+/// Without a weigher each key weighs 1 with each value.
 pub fn without_a_weigher_each_weighs_one<K: Hash, V: Clone, C: CacheTypes<K, V>>()
     ensures { (settings : SettingsData C.Hasher C.Weigher C.Expiry) → settings.behaviour.weigher ≡ None
         → WeighsOnes (⟦<C as StateView<K, V>>⟧.settings settings) }

@@ -1,4 +1,5 @@
-//! Runs a script of cache calls that it reads from standard input, and prints their answers; or workers that share a cache.
+//! The program `mokabox`: runs a script of cache calls from standard input and prints their
+//! results, or runs workers that share a cache.
 #![tactic(auto)]
 
 use mokabox_script::program::run_program;
@@ -17,8 +18,9 @@ fn main(rt: HostRuntime) -> ExitCode {
     ExitCode::from(status)
 }
 
-// Runs the program between standard input and standard output, and answers its exit status. What asks for no workers is the
-// script's, which says how the program is called where it is asked for nothing that there is.
+// Runs the program between standard input and standard output, and returns its exit status.
+// Arguments that do not ask for workers go to `run_program`, which writes the usage line if it does
+// not know them.
 fn run<R: Runtime + AllocGlobal + Wait + Threads + Copy + Send + Sync>(rt: R) -> io::Result<u8> {
     let arguments: Vec<String> = env::args(&rt)?.skip(1).collect(rt.alloc())?;
     let mut writer = BufWriter::new(rt.alloc(), io::writer(&rt))?;

@@ -1,3 +1,4 @@
+-- What the program prints for each answer.
 use Rattle.std.specs.Prelude.{ℕ, Bool, true, false, List, [], ◌∷◌, ◌++◌, Option, Some, None, codes, String, flat_map}
 use Rattle.std.specs.Fmt.{decimal}
 use Rattle.std.specs.String.{string_bytes}
@@ -18,7 +19,7 @@ use Rattle.mokabox_lines.specs.declared.answer.Answer.TheVariants.{Shown, Comput
 use Rattle.mokabox_lines.specs.declared.answer.Became.{Became}
 use Rattle.mokabox_lines.specs.declared.answer.Became.TheVariants.{StillNone, Unchanged, Inserted, ReplacedWith, Removed}
 
--- the number by which a refusal is printed
+-- The number that is printed for a failure.
 abbrev pub refusal_number : moka_refused.Refused → ℕ
 refusal_number refusals.OutOfMemory = 1
 refusal_number refusals.NumbersUsedUp = 2
@@ -27,7 +28,7 @@ refusal_number refusals.UnknownTicket = 4
 refusal_number refusals.TurnIsOpen = 5
 refusal_number refusals.WaitsAbandoned = 6
 
--- the number by which a refusal to build is printed
+-- The number that is printed for a failure to build.
 abbrev pub build_refusal_number : BuildError → ℕ
 build_refusal_number builds.NoSegments = 1
 build_refusal_number builds.TooManySegments = 2
@@ -37,42 +38,42 @@ build_refusal_number builds.OutOfMemory = 5
 build_refusal_number builds.ZeroFlushLimit = 6
 build_refusal_number builds.FlushLimitWithWeigher = 7
 
--- the number by which a refusal to remove by what values are is printed
+-- The number that is printed for a failed invalidation by values.
 abbrev pub predicate_error_number : PredicateError → ℕ
 predicate_error_number predicates.InvalidationClosuresDisabled = 1
 predicate_error_number predicates.OutOfMemory = 2
 
--- the word by which a cause is printed
+-- The word that is printed for a cause.
 abbrev pub cause_text : RemovalCause → List ℕ
 cause_text causes.Expired = codes "Expired"
 cause_text causes.Explicit = codes "Explicit"
 cause_text causes.Replaced = codes "Replaced"
 cause_text causes.Size = codes "Size"
 
--- how a number is printed that may not be there
+-- How an optional number is printed.
 abbrev pub measure_text : Option ℕ → List ℕ
 measure_text None = codes "none"
 measure_text (Some number) = decimal number
 
--- keys with their values, each pair as `KEY=VALUE` behind a space
+-- Keys with their values, each pair as `KEY=VALUE` after a space.
 abbrev pub pairs_text : List (ℕ × String Global) → List ℕ
 pairs_text pairs = flat_map (λ pair. codes " " ++ (decimal pair.0 ++ (codes "=" ++ string_bytes pair.1))) pairs
 
--- how it is printed whether the call wrote an entry's value
+-- How it is printed whether the call stored an entry's value.
 abbrev pub age_text : Bool → List ℕ
 age_text true = codes "fresh"
 age_text false = codes "old"
 
--- what is printed behind an entry where another value was replaced
+-- What is printed after an entry that overwrote a live value.
 abbrev pub replaced_text : Bool → List ℕ
 replaced_text true = codes " replaced"
 replaced_text false = []
 
--- a key with its value
+-- A key with its value.
 abbrev pub pair_text : ℕ → String Global → List ℕ
 pair_text key value = decimal key ++ (32 ∷ string_bytes value)
 
--- how it is printed what became of a key's value
+-- How the result of a compute is printed.
 abbrev pub became_text : Became → List ℕ
 became_text (StillNone key) = codes "still-none " ++ decimal key
 became_text (Unchanged key value) = codes "unchanged " ++ pair_text key value
@@ -80,12 +81,12 @@ became_text (Inserted key value) = codes "inserted " ++ pair_text key value
 became_text (ReplacedWith key value) = codes "replaced-with " ++ pair_text key value
 became_text (Removed key value) = codes "removed " ++ pair_text key value
 
--- how a value is printed that may not be there
+-- How an optional value is printed.
 abbrev pub live_text : Option (String Global) → List ℕ
 live_text None = codes "none"
 live_text (Some value) = codes "some " ++ string_bytes value
 
--- the line that an answer is printed as, without its end
+-- The line that is printed for an answer, without its end.
 abbrev pub answer_text : Answer → List ℕ
 answer_text Done = codes "ok"
 answer_text (Found value) = codes "some " ++ string_bytes value
@@ -117,6 +118,6 @@ answer_text Ended = codes "ended"
 answer_text End = codes "end"
 answer_text BadLine = codes "bad line"
 
--- the line with its end
+-- The line with its end.
 abbrev pub answer_line : Answer → List ℕ
 answer_line answer = answer_text answer ++ (10 ∷ [])

@@ -1,3 +1,4 @@
+-- How commands are written as lines, and how lines are read as commands.
 use Rattle.std.specs.Prelude.{ℕ, ◌^◌, ◌<◌, Bool, true, false, List, [], ◌∷◌, ◌++◌}
 use Rattle.std.specs.Prelude.{Option, Some, None, option_map, option_and_then, codes, if◌then◌else◌}
 use Rattle.std.specs.Borrow.{Bor}
@@ -15,10 +16,11 @@ use Rattle.mokabox_lines.specs.declared.command.Command.TheVariants.{At, Insert,
 use Rattle.mokabox_lines.specs.declared.command.Command.TheVariants.{Remove, InvalidateAll, InvalidateIf, TasksUpTo, Policy, Walk}
 use Rattle.mokabox_lines.specs.declared.command.Command.TheVariants.{OrInsert, Begin, BeginCompute, Finish, Abandon, Collect, Leave}
 
--- a command with the bytes of its texts
+-- A command with the bytes of its texts.
 abbrev pub PlainCommand : Type 0
 PlainCommand = Command (List ℕ)
 
+-- The command with the bytes of its texts in place of the texts.
 abbrev pub plain_command : Command (Bor (List ℕ)) → PlainCommand
 plain_command (At moment) = At moment
 plain_command (Insert key value) = Insert key value.now
@@ -43,13 +45,13 @@ plain_command (Abandon turn) = Abandon turn
 plain_command (Collect turn) = Collect turn
 plain_command (Leave turn) = Leave turn
 
--- the field that says whether the value that is there is to be replaced, where a line says it
+-- The fields that say whether to replace a live value: one, or none.
 abbrev pub replace_fields : Option Bool → List (List ℕ)
 replace_fields None = []
 replace_fields (Some true) = codes "replace=yes" ∷ []
 replace_fields (Some false) = codes "replace=no" ∷ []
 
--- the fields that a command is written as
+-- The fields of the line that a command is written as.
 abbrev pub command_fields : PlainCommand → List (List ℕ)
 command_fields (At moment) = codes "at" ∷ decimal moment ∷ []
 command_fields (Insert key value) = codes "insert" ∷ decimal key ∷ value ∷ []
@@ -74,16 +76,17 @@ command_fields (Abandon turn) = codes "abandon" ∷ turn_fields turn
 command_fields (Collect turn) = codes "collect" ∷ turn_fields turn
 command_fields (Leave turn) = codes "leave" ∷ turn_fields turn
 
--- the line that a command is written as, its fields separated by one space
+-- The line that a command is written as: its fields, separated by single spaces.
 abbrev pub line_of : PlainCommand → List ℕ
 line_of command = join_with_byte 32 (command_fields command)
 
--- each kind but that of computes, which begin by a command of their own
+-- Every kind but `Compute`, which has a command of its own.
 abbrev pub IsNoCompute : Kind → Type 0
 IsNoCompute Compute = ⊥
 IsNoCompute kind = Unit {0}
 
--- the numbers are below 2 ^ 64, the texts are texts, and a begin that may replace is no compute
+-- A line can express the command. Its numbers are below 2^64, its texts are texts, and a `Begin` is not of the kind
+-- `Compute`.
 abbrev pub IsExpressible : PlainCommand → Type 0
 IsExpressible (At moment) = moment < 2 ^ 64
 IsExpressible (Insert key value) = (key < 2 ^ 64) × IsText value
@@ -108,38 +111,40 @@ IsExpressible (Abandon turn) = IsNamable turn
 IsExpressible (Collect turn) = IsNamable turn
 IsExpressible (Leave turn) = IsNamable turn
 
--- what reads the fields behind a command's word
+-- Reads the command from the fields after its word.
 abbrev pub Reader : Type 0
 Reader = List (List ℕ) → Option PlainCommand
 
--- a command of a key and a value
+-- Reads a command of a key and a value.
 abbrev pub insert_of : (ℕ → List ℕ → PlainCommand) → Reader
 insert_of make [] = None
 insert_of make (key ∷ rest) = option_and_then (λ number. option_map (make number) (sole_text_of rest)) (number_of key)
 
--- whether the value that is there is to be replaced, by its field
+-- Reads whether to replace a live value from a field.
 abbrev pub replace_of : List ℕ → Option Bool
 replace_of field =
     if bytes_eq field (codes "replace=yes") then Some true else (if bytes_eq field (codes "replace=no") then Some false else None)
 
--- and by the fields that are left, where there is one
+-- Reads whether to replace a live value from the fields that are left: none, or one.
 abbrev pub replaces_of : List (List ℕ) → Option (Option Bool)
 replaces_of [] = Some None
 replaces_of (field ∷ rest) = option_and_then (λ none. option_map Some (replace_of field)) (none_left rest)
 
--- the command that begins a turn of a kind for a key, by the fields behind these: a compute has none
+-- Reads the command that begins a turn from the fields after its kind and key: a compute has none.
 abbrev pub begin_by : Kind → ℕ → Reader
 begin_by Compute key rest = alone (BeginCompute key) rest
 begin_by kind key rest = option_map (Begin kind key) (replaces_of rest)
 
+-- Reads the command that begins a turn from its kind on.
 abbrev pub begin_of : Reader
 begin_of fields =
     option_and_then (λ kind. option_and_then (λ key. begin_by kind.0 key.0 key.1) (first_of number_of kind.1)) (first_of kind_of fields)
 
+-- Reads the command that finishes a turn.
 abbrev pub finish_of : Reader
 finish_of fields = option_and_then (λ named. option_map (Finish named.0) (ending_of named.1)) (turn_of fields)
 
--- each word of a command of turns, and what reads the fields behind it
+-- The words of the commands of turns, each with the reader of the fields after it.
 unfoldable pub turn_words : List (List ℕ × Reader)
 turn_words = (codes "begin", begin_of)
     ∷ (codes "finish", finish_of)
@@ -148,7 +153,7 @@ turn_words = (codes "begin", begin_of)
     ∷ (codes "leave", λ rest. option_map Leave (sole_turn_of rest))
     ∷ []
 
--- the words of the commands of all keys, and of turns
+-- The words of the commands of the whole cache and of turns, each with its reader.
 unfoldable pub whole_words : List (List ℕ × Reader)
 whole_words = (codes "invalidate-all", alone InvalidateAll)
     ∷ (codes "invalidate-if", λ rest. option_map InvalidateIf (texts_of rest))
@@ -161,7 +166,7 @@ whole_words = (codes "invalidate-all", alone InvalidateAll)
     ∷ (codes "walk", alone Walk)
     ∷ turn_words
 
--- each command's word, and what reads the fields behind it
+-- The words of all commands, each with the reader of the fields after it.
 abbrev pub words : List (List ℕ × Reader)
 words = (codes "at", λ rest. option_map At (sole_number_of rest))
     ∷ (codes "insert", insert_of Insert)
@@ -172,11 +177,11 @@ words = (codes "at", λ rest. option_map At (sole_number_of rest))
     ∷ (codes "remove", λ rest. option_map Remove (sole_number_of rest))
     ∷ whole_words
 
--- the command that the fields write
+-- The command that the fields of a line give.
 abbrev pub command_of : List (List ℕ) → Option PlainCommand
 command_of [] = None
 command_of (word ∷ rest) = read_by words word rest
 
--- the command that a line writes, if it is UTF-8
+-- The command of a line, if it is UTF-8.
 abbrev pub command_by_line : List ℕ → Option PlainCommand
 command_by_line = line_reading command_of

@@ -1,4 +1,4 @@
-//! What the program prints: a line for each answer.
+//! The lines that the program prints.
 ghost use Rattle.std.specs.Prelude.{◌≡◌, Some, OnOk};
 ghost use Rattle.std.specs.Io.KnownBytes.{Appends};
 ghost use Rattle.mokabox_lines.specs.Answer.{answer_text, answer_line, age_text, became_text, cause_text, live_text, measure_text, pairs_text, refusal_number, replaced_text, build_refusal_number, predicate_error_number};
@@ -10,7 +10,7 @@ use moka_predicate_ids::predicate_error::PredicateError;
 use std::io::Write;
 use std::{fmt, io};
 
-/// A number, where there is one.
+/// An optional number. Printed as the number or as `none`.
 #[derive(Clone, Copy, Debug, PartialEq, Eq)]
 pub struct Measure(pub Option<u64>);
 
@@ -25,7 +25,7 @@ impl fmt::Display for Measure {
     }
 }
 
-/// Keys with their values, each pair behind a space.
+/// Keys with their values. Each pair is printed as `KEY=VALUE` after a space.
 #[derive(Debug, Drop)]
 pub struct Pairs(pub Vec<(u64, String)>);
 
@@ -40,7 +40,7 @@ impl fmt::Display for Pairs {
     }
 }
 
-/// A live value, where there is one.
+/// An optional live value. Printed as `some VALUE` or as `none`.
 #[derive(Debug, Drop)]
 pub struct Live(pub Option<String>);
 
@@ -55,16 +55,16 @@ impl fmt::Display for Live {
     }
 }
 
-/// What became of a key's value, where a compute ended: the key, and a value where there is one.
+/// The result of a compute: the key, and the value if there is one.
 #[derive(Debug, Drop)]
 pub enum Became {
-    /// There was no value, and there is none.
+    /// There was no live value to keep or to remove.
     StillNone(u64),
-    /// The value was left as it was.
+    /// The compute did nothing. Has the value found when it began.
     Unchanged(u64, String),
-    /// A value was written where there was none.
+    /// A value was put. No live value was found when the compute began.
     Inserted(u64, String),
-    /// A value was written over another one.
+    /// A value was put. A live value was found when the compute began.
     ReplacedWith(u64, String),
     /// This value was removed.
     Removed(u64, String),
@@ -84,56 +84,58 @@ impl fmt::Display for Became {
     }
 }
 
-/// One line of what the program prints.
+/// One line that the program prints.
 #[derive(Debug, Drop)]
 pub enum Answer {
-    /// The step is done.
+    /// `ok`: the step is done.
     Done,
-    /// The value that was asked for.
+    /// `some VALUE`: the value that was found.
     Found(String),
-    /// No value is there.
+    /// `none`: no value was found.
     NotFound,
-    /// Whether it is so.
+    /// `true` or `false`: the result of a question.
     Whether(bool),
-    /// How many there are.
+    /// A number: a count or a weight.
     Counted(u64),
-    /// Whether a maintenance left something undone.
+    /// `left` or `done`: whether a maintenance left something undone.
     Unfinished(bool),
-    /// The step was refused.
+    /// `refused N`: the step failed.
     Refused(Refused),
-    /// The cache was not built.
+    /// `refused build N`: the cache could not be built.
     NotBuilt(BuildError),
-    /// A removal by what values are was refused.
+    /// `error N`: an invalidation by values failed.
     NotHidden(PredicateError),
-    /// A value that left, with its key before it and the cause behind it.
+    /// `notice KEY VALUE CAUSE`: a removed value, with its key and the cause.
     Left(u64, String, RemovalCause),
-    /// A cache's capacity, its time to live and to idle in seconds, and its number of segments.
+    /// `policy ..`: the cache's capacity, its TTL and TTI in seconds, and its number of segments.
     Policy(Measure, Measure, Measure, u64),
-    /// The pairs that are live.
+    /// `walk ..`: the live pairs.
     Walked(Pairs),
-    /// A key with its value, whether the call wrote that, and whether another was replaced.
+    /// `entry ..`: a key, its value, whether the call stored that, and whether it overwrote a live
+    /// value.
     Entered(u64, String, bool, bool),
-    /// A turn was opened, which has this number.
+    /// `run N`: a turn with this number was opened.
     Run(u64),
-    /// A compute was opened, which has this number and is shown this value, if one is live.
+    /// `run N ..`: a compute with this number was opened, and is shown this live value, if there is
+    /// one.
     Shown(u64, Live),
-    /// The turn that has this number is to be waited for.
+    /// `wait N`: the turn with this number has to be waited for.
     Waits(u64),
-    /// There is no value.
+    /// `nothing`: the turn ended without a value.
     Nothing,
-    /// There is an error in place of a value.
+    /// `failed ERROR`: the turn ended with this error.
     Failed(String),
-    /// What became of a key's value, where a compute ended.
+    /// The result of a compute that was finished.
     Computed(Became),
-    /// The turn is still open.
+    /// `not yet`: the turn is still open.
     NotYet,
-    /// The turn was abandoned.
+    /// `abandoned`: the turn was abandoned.
     Abandoned,
-    /// The turn ended, and keeps nothing for those who wait.
+    /// `ended`: the compute has ended. Its result is only for the caller who finished it.
     Ended,
-    /// No further notice is there.
+    /// `end`: there is no further notice.
     End,
-    /// The line is none of a script's.
+    /// `bad line`: the line is neither settings nor a command.
     BadLine,
 }
 
@@ -181,7 +183,11 @@ impl fmt::Display for Answer {
     }
 }
 
-/// Writes an answer as a line of its own. After an `Err` a part of the line may be written.
+/// Writes an answer as a line.
+///
+/// # Errors
+///
+/// - An `Err` of the writer. A part of the line may be written.
 pub fn write_answer<W: Write>(writer: &mut W, answer: &Answer) -> io::Result<()>
     ensures { OnOk result
         (Appends (W.contents writer.old) (W.contents writer.new) (answer_line answer.now)) }
@@ -189,7 +195,7 @@ pub fn write_answer<W: Write>(writer: &mut W, answer: &Answer) -> io::Result<()>
     writeln!(writer, "{answer}")
 }
 
-/// The number by which a refusal is printed.
+/// Returns the number that is printed for a failure.
 fn refusal_number(refused: Refused) -> u8
     ensures { result ≡ refusal_number refused }
 {
@@ -203,7 +209,7 @@ fn refusal_number(refused: Refused) -> u8
     }
 }
 
-/// The number by which a refusal to build is printed.
+/// Returns the number that is printed for a failure to build.
 fn build_refusal_number(refusal: BuildError) -> u8
     ensures { result ≡ build_refusal_number refusal }
 {
@@ -218,7 +224,7 @@ fn build_refusal_number(refusal: BuildError) -> u8
     }
 }
 
-/// The number by which a refusal to remove by what values are is printed.
+/// Returns the number that is printed for a failed invalidation by values.
 fn predicate_error_number(refusal: PredicateError) -> u8
     ensures { result ≡ predicate_error_number refusal }
 {
@@ -228,7 +234,7 @@ fn predicate_error_number(refusal: PredicateError) -> u8
     }
 }
 
-/// The word by which a cause is printed.
+/// Returns the word that is printed for a cause.
 fn cause_text(cause: RemovalCause) -> &'static str
     ensures { result.now ≡ cause_text cause }
 {
@@ -240,14 +246,14 @@ fn cause_text(cause: RemovalCause) -> &'static str
     }
 }
 
-/// The word by which it is printed whether the call wrote an entry's value.
+/// Returns the word that says whether the call stored the value of an entry.
 fn age_text(is_fresh: bool) -> &'static str
     ensures { result.now ≡ age_text is_fresh }
 {
     if is_fresh { "fresh" } else { "old" }
 }
 
-/// What is printed behind an entry where another value was replaced.
+/// Returns the suffix that says whether an entry overwrote a live value.
 fn replaced_text(is_replaced: bool) -> &'static str
     ensures { result.now ≡ replaced_text is_replaced }
 {

@@ -1,4 +1,4 @@
-//! The commands of a script, and the lines that they are written as.
+//! The commands of a script, and how lines are read as commands.
 ghost use Rattle.std.specs.Prelude.{◌≡◌, IfSome, option_map};
 ghost use Rattle.mokabox_lines.specs.Command.{PlainCommand, plain_command, line_of, IsExpressible, begin_by, begin_of, finish_of, replace_of, turn_words, whole_words, command_of, command_by_line};
 ghost use Rattle.mokabox_lines.specs.Fields.{alone, read_by};
@@ -8,63 +8,65 @@ use crate::fields::{Fields, number};
 use crate::turn::{Ending, TurnOf, next_kind, next_turn, read_ending, sole_turn};
 use moka_model::turns::Kind;
 
-/// A later line of a script. Its texts are `T`.
+/// A command: any line of a script but the first. `T` is the type of its texts.
 #[derive(Clone, Copy, Debug, PartialEq, Eq)]
 pub enum Command<T> {
     /// Sets the moment of all later commands, in nanoseconds.
     At(u64),
     /// Inserts a value under a key.
     Insert(u64, T),
-    /// Asks for a key's value, and inserts this one where none is live.
+    /// Looks up a key, and inserts this value if none is live.
     OrInsert(u64, T),
-    /// Asks for a key's value.
+    /// Looks up a key. Counts as an access.
     Get(u64),
-    /// Asks whether a key is there.
+    /// Checks whether a key has a live value. Does not count as an access.
     Has(u64),
-    /// Removes a key.
+    /// Invalidates a key.
     Invalidate(u64),
-    /// Removes a key, and asks for its value.
+    /// Removes a key, and prints its value.
     Remove(u64),
-    /// Removes all keys.
+    /// Invalidates all entries.
     InvalidateAll,
-    /// Removes each key whose value is one of these: texts, one space between each two.
+    /// Invalidates every entry whose value is one of these texts, which are separated by single
+    /// spaces.
     InvalidateIf(T),
-    /// Runs the pending tasks.
+    /// Runs maintenance.
     Tasks,
-    /// Runs the pending tasks within a limit, and asks whether some are left.
+    /// Runs maintenance that evicts at most so many entries, and prints whether some is left
+    /// undone.
     TasksUpTo(u64),
-    /// Asks how many keys are stored.
+    /// Prints the number of stored entries.
     Count,
-    /// Asks for the weight of all that is stored.
+    /// Prints the total weight of the stored entries.
     Weight,
-    /// Takes all notices.
+    /// Takes and prints all notices.
     Notices,
-    /// Asks for the cache's policy.
+    /// Prints the policy of the cache.
     Policy,
-    /// Asks for all live pairs.
+    /// Prints all live pairs.
     Walk,
-    /// Begins a turn of a kind for a key: where a live value is there, this says whether it is to be
-    /// replaced, and without it it is not. The kind is none that computes.
+    /// Begins a turn of a kind for a key. The flag says whether to replace a live value; without it
+    /// the value is kept. The kind is not `Compute`.
     Begin(Kind, u64, Option<bool>),
-    /// Begins a compute for a key, with a copy of the live value kept aside.
+    /// Begins a compute for a key, which keeps a clone of the live value.
     BeginCompute(u64),
-    /// Ends a turn.
+    /// Finishes a turn.
     Finish(TurnOf, Ending<T>),
-    /// Ends a turn with nothing.
+    /// Abandons a turn.
     Abandon(TurnOf),
-    /// Asks what a turn ended with that another runs.
+    /// Collects the result of another caller's turn.
     Collect(TurnOf),
-    /// Waits no longer for a turn.
+    /// Gives up waiting for a turn.
     Leave(TurnOf),
 }
 
-/// The command that a line writes. `None` where it writes none.
+/// Returns the command of a line, or `None` if it has none.
 pub fn parse(line: &[u8]) -> Option<Command<&str>>
-    // The line is that of the command.
+    // The line is the one of the returned command.
     ensures found { IfSome result (λ c. (line.now ≡ line_of (plain_command c)) × IsExpressible (plain_command c)) }
-    // A line that is a command's is read as that command.
+    // The line of a command is read as that command.
     ensures only { (c : PlainCommand) → IsExpressible c → line.now ≡ line_of c → option_map plain_command result ≡ Some c }
-    // So this is the command.
+    // So the definition says which command is read.
     ensures exact { option_map plain_command result ≡ command_by_line line.now }
 {
     match str::from_utf8(line) {
@@ -73,7 +75,7 @@ pub fn parse(line: &[u8]) -> Option<Command<&str>>
     }
 }
 
-/// The command that the fields write.
+/// Reads a command from the fields of a line.
 fn read(mut fields: Fields<'_>) -> Option<Command<&str>>
     ensures { option_map plain_command result ≡ command_of (fields_left fields.entry) }
 {
@@ -90,7 +92,7 @@ fn read(mut fields: Fields<'_>) -> Option<Command<&str>>
     Some(command)
 }
 
-/// The command of all keys, or of turns, that the fields behind a word write.
+/// Reads a command of the whole cache, or of turns, from its word and the fields after it.
 #[tactic(auto, unfolding(crate::specs::Command::whole_words))]
 fn read_whole<'a>(word: &str, fields: Fields<'a>) -> Option<Command<&'a str>>
     ensures { option_map plain_command result ≡ read_by whole_words word.now (fields_left fields.entry) }
@@ -110,7 +112,7 @@ fn read_whole<'a>(word: &str, fields: Fields<'a>) -> Option<Command<&'a str>>
     Some(command)
 }
 
-/// The command of turns that the fields behind a word write.
+/// Reads a command of turns from its word and the fields after it.
 #[tactic(auto, unfolding(crate::specs::Command::turn_words))]
 fn read_turn<'a>(word: &str, fields: Fields<'a>) -> Option<Command<&'a str>>
     ensures { option_map plain_command result ≡ read_by turn_words word.now (fields_left fields.entry) }
@@ -126,7 +128,7 @@ fn read_turn<'a>(word: &str, fields: Fields<'a>) -> Option<Command<&'a str>>
     Some(command)
 }
 
-/// The command, where no field is left.
+/// Returns the command if no field is left.
 fn alone<'a>(fields: Fields<'_>, command: Command<&'a str>) -> Option<Command<&'a str>>
     ensures { option_map plain_command result ≡ alone (plain_command command.entry) (fields_left fields.entry) }
 {
@@ -134,7 +136,7 @@ fn alone<'a>(fields: Fields<'_>, command: Command<&'a str>) -> Option<Command<&'
     Some(command)
 }
 
-/// The command that begins a turn of the kind and for the key that come first.
+/// Reads a command that begins a turn, from its kind on.
 fn begin(mut fields: Fields<'_>) -> Option<Command<&str>>
     ensures { option_map plain_command result ≡ begin_of (fields_left fields.entry) }
 {
@@ -143,8 +145,8 @@ fn begin(mut fields: Fields<'_>) -> Option<Command<&str>>
     begin_of_kind(kind, key, fields)
 }
 
-/// The command that begins a turn: a compute, where no field is left, or another, by whether to
-/// replace, where a line says it.
+/// Reads a command that begins a turn, from the fields after its kind and key. A compute has none;
+/// otherwise one may say whether to replace a live value.
 fn begin_of_kind<'a>(kind: Kind, key: u64, mut fields: Fields<'a>) -> Option<Command<&'a str>>
     ensures { option_map plain_command result ≡ begin_by kind key (fields_left fields.entry) }
 {
@@ -160,7 +162,7 @@ fn begin_of_kind<'a>(kind: Kind, key: u64, mut fields: Fields<'a>) -> Option<Com
     }
 }
 
-/// Whether a field says to replace the value that is there. `None` where it is no such field.
+/// Reads whether to replace a live value, or returns `None` if the field does not say it.
 fn replace(field: &str) -> Option<bool>
     ensures { result ≡ replace_of field.now }
 {
@@ -171,7 +173,7 @@ fn replace(field: &str) -> Option<bool>
     }
 }
 
-/// The command that ends a turn.
+/// Reads a command that finishes a turn.
 fn finish(mut fields: Fields<'_>) -> Option<Command<&str>>
     ensures { option_map plain_command result ≡ finish_of (fields_left fields.entry) }
 {

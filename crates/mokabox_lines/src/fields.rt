@@ -1,9 +1,9 @@
-//! The fields of a line: its parts between the spaces.
+//! The fields of a line: its parts between single spaces.
 ghost use Rattle.std.specs.Prelude.{◌≡◌, ◌∷◌, ◌↔◌, IsTrue, option_map};
 ghost use Rattle.std.specs.Iterator.{YieldsFirstRef, item_count};
 ghost use Rattle.mokabox_lines.specs.Fields.{fields_of, fields_in, IsPadded, number_of, text_of, sole_of, sole_number_of, sole_text_of, texts_of, is_one_of, first_of, none_left};
 
-/// The fields of a line that are still to be read.
+/// The fields of a line that are not read yet.
 #[derive(Drop)]
 pub struct Fields<'a> {
     rest: Option<&'a str>,
@@ -12,14 +12,14 @@ pub struct Fields<'a> {
 impl<'a> Fields<'a> {
     ghost use Rattle.mokabox_lines.specs.FieldsLeft.{fields_left};
 
-    /// All fields of a line.
+    /// Returns all fields of a line.
     pub fn of(line: &'a str) -> Fields<'a>
         ensures { fields_left result ≡ fields_of line.now }
     {
         Fields { rest: Some(line) }
     }
 
-    /// The one field that is left. `None` where none is left, or more than one.
+    /// Returns the only field left, or `None` if there is not exactly one.
     pub fn sole(mut self) -> Option<&'a str>
         ensures { option_map (λ x. x.now) result ≡ sole_of (fields_left self.entry) }
     {
@@ -30,28 +30,28 @@ impl<'a> Fields<'a> {
         }
     }
 
-    /// The one field that is left, as a number.
+    /// Returns the only field left, as a number.
     pub fn sole_number(self) -> Option<u64>
         ensures { result ≡ sole_number_of (fields_left self.entry) }
     {
         number(self.sole()?)
     }
 
-    /// The one field that is left, as a text.
+    /// Returns the only field left, as a text.
     pub fn sole_text(self) -> Option<&'a str>
         ensures { option_map (λ x. x.now) result ≡ sole_text_of (fields_left self.entry) }
     {
         text(self.sole()?)
     }
 
-    /// The number that the first field spells, and takes that field away.
+    /// Takes the first field, and returns it as a number.
     pub fn next_number(&mut self) -> Option<u64>
         ensures { option_map (λ n. (n, fields_left self.new)) result ≡ first_of number_of (fields_left self.old) }
     {
         number(self.next()?)
     }
 
-    /// Something where no field is left, and else `None`.
+    /// Returns `Some` exactly if no field is left.
     pub fn none_left(mut self) -> Option<()>
         ensures { result ≡ none_left (fields_left self.entry) }
     {
@@ -61,8 +61,8 @@ impl<'a> Fields<'a> {
         Some(())
     }
 
-    /// The fields that are left, as they stand in the line, as texts. `None` where none is left, or
-    /// one is empty.
+    /// Returns the fields that are left as they are in the line, as texts. `None` if none is left,
+    /// or if one is empty.
     pub fn texts(self) -> Option<&'a str>
         ensures { option_map (λ x. x.now) result ≡ texts_of (fields_left self.entry) }
     {
@@ -75,7 +75,7 @@ impl<'a> Fields<'a> {
         Some(texts)
     }
 
-    /// Whether one of the fields that are left is this text.
+    /// Returns whether one of the fields that are left is this text.
     pub fn contains(self, text: &str) -> bool
         ensures { result ≡ is_one_of text.now (fields_left self.entry) }
     {
@@ -104,7 +104,7 @@ impl<'a> Iterator for Fields<'a> {
     }
 }
 
-/// The first field of a line, and what stands behind the space that ends it.
+/// Returns the first field of a line, and what follows the space that ends it.
 fn cut(line: &str) -> (&str, Option<&str>)
     ensures { fields_of line.now ≡ result.0.now ∷ fields_in result.1 }
 {
@@ -114,8 +114,8 @@ fn cut(line: &str) -> (&str, Option<&str>)
     }
 }
 
-/// The number that a field spells: decimal digits with no sign and no leading zero, at most the
-/// greatest `u64`. `None` where the field is anything else.
+/// Returns the number that a field spells, or `None`. A number is decimal digits, without sign and
+/// leading zeros, at most `u64::MAX`.
 pub fn number(field: &str) -> Option<u64>
     ensures { result ≡ number_of field.now }
 {
@@ -125,14 +125,15 @@ pub fn number(field: &str) -> Option<u64>
     field.parse().ok()
 }
 
-/// Whether a field begins with a plus sign, or with a zero that more follows, as no number does.
+/// Returns whether a field begins with a plus sign, or with a zero that is not its only byte. No
+/// number does.
 fn is_padded(field: &str) -> bool
     ensures { IsTrue result ↔ IsPadded field.now }
 {
     matches!(field.as_bytes(), [b'+', ..] | [b'0', _, ..])
 }
 
-/// The text that a field holds, which isn't empty.
+/// Returns the field as a text, or `None` if it is empty.
 pub fn text(field: &str) -> Option<&str>
     ensures { option_map (λ x. x.now) result ≡ text_of field.now }
 {

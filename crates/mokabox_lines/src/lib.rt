@@ -1,4 +1,4 @@
-//! The lines of a script: read as commands and settings, and written as answers.
+//! The lines of a script, read as settings and commands, and the lines that the program prints.
 #![tactic(auto)]
 
 pub mod answer;

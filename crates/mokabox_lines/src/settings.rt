@@ -1,4 +1,4 @@
-//! The first line of a script, and the settings that it gives.
+//! The first line of a script, which has the settings of its cache.
 ghost use Rattle.std.specs.Prelude.{◌≡◌, ◌↔◌, true, false, IsSome, IfSome, OnSome, List, option_map};
 ghost use Rattle.std.specs.List.{AllByRecursion};
 ghost use Rattle.mokabox_lines.specs.FieldsLeft.{fields_left};
@@ -7,74 +7,75 @@ ghost use Rattle.mokabox_lines.specs.declared.settings.Setting.{Setting};
 
 use crate::fields::{Fields, number};
 
-/// The settings that a first line gives, each where it gives it.
+/// The settings of a first line, each `None` if the line does not have it.
 #[derive(Clone, Copy, Debug, Default, PartialEq, Eq)]
 pub struct Settings {
-    /// How many seconds a value lives.
+    /// The time to live, in seconds.
     pub time_to_live: Option<u64>,
-    /// How many seconds a value may be idle.
+    /// The time to idle, in seconds.
     pub time_to_idle: Option<u64>,
-    /// The first number that the cache draws.
+    /// The first sequence number.
     pub first_number: Option<u64>,
-    /// How much may stay stored, by weight.
+    /// The capacity: the greatest total weight of the resident entries.
     pub capacity: Option<u64>,
-    /// How many keys there is room for from the start.
+    /// For how many entries memory is allocated at the start.
     pub initial_capacity: Option<u64>,
-    /// How many segments the cache has at least.
+    /// The number of segments, which is rounded up to a power of two.
     pub segments: Option<u64>,
-    /// Which keys leave where the capacity is passed, and which are admitted.
+    /// The eviction policy.
     pub policy: Option<Eviction>,
-    /// How values are weighed.
+    /// The weigher.
     pub weigher: Option<Weighing>,
-    /// Whether keys may be removed by what their values are.
+    /// Whether `invalidate-if` is supported.
     pub closures: bool,
-    /// How many values may leave in the maintenance before a write.
+    /// How many entries one flush may evict.
     pub flush_limit: Option<u64>,
 }
 
-/// Which keys leave a cache that is too full, and which are admitted.
+/// The eviction policy: which entries are evicted and which are admitted.
 #[derive(Clone, Copy, Debug, PartialEq, Eq)]
 pub enum Eviction {
-    /// The least recently used ones leave, and each new one is admitted.
+    /// Evicts the least recently used entries, and admits every new one.
     Lru,
-    /// The least recently used ones leave, for a new one whose estimated frequency is greater than theirs.
+    /// Evicts the least recently used entries, for a new one whose estimated frequency exceeds the
+    /// sum of theirs.
     TinyLfu,
 }
 
 /// How the values of a cache are weighed.
 #[derive(Clone, Copy, Debug, PartialEq, Eq)]
 pub enum Weighing {
-    /// By their length in bytes.
+    /// By their length in bytes, at most `u32::MAX`.
     Bytes,
 }
 
 /// One setting of a first line.
 #[derive(Clone, Copy, Debug, PartialEq, Eq)]
 pub enum Setting {
-    /// How many seconds a value lives.
+    /// The time to live, in seconds.
     TimeToLive(u64),
-    /// How many seconds a value may be idle.
+    /// The time to idle, in seconds.
     TimeToIdle(u64),
-    /// The first number that the cache draws.
+    /// The first sequence number.
     FirstNumber(u64),
-    /// How much may stay stored, by weight.
+    /// The capacity: the greatest total weight of the resident entries.
     Capacity(u64),
-    /// How many keys there is room for from the start.
+    /// For how many entries memory is allocated at the start.
     InitialCapacity(u64),
-    /// How many segments the cache has at least.
+    /// The number of segments, which is rounded up to a power of two.
     Segments(u64),
-    /// Which keys leave where the capacity is passed, and which are admitted.
+    /// The eviction policy.
     Policy(Eviction),
-    /// How values are weighed.
+    /// The weigher.
     Weigher(Weighing),
-    /// Keys may be removed by what their values are.
+    /// Support for `invalidate-if`.
     Closures,
-    /// How many values may leave in the maintenance before a write.
+    /// How many entries one flush may evict.
     FlushLimit(u64),
 }
 
 impl Settings {
-    /// These settings and one more. `None` where it is given already.
+    /// Returns these settings and one more, or `None` if that is already set.
     fn with(self, setting: Setting) -> Option<Settings>
         ensures { result ≡ with_setting self setting }
     {
@@ -95,7 +96,7 @@ impl Settings {
     }
 }
 
-/// Gives a setting its value. `None` where it has one already.
+/// Sets a setting, or returns `None` if it is already set.
 fn give<T: Drop>(place: &mut Option<T>, value: T) -> Option<()>
     ensures once { IsSome result ↔ (place.old ≡ None) }
     ensures given { OnSome result (place.new ≡ Some value) }
@@ -107,7 +108,7 @@ fn give<T: Drop>(place: &mut Option<T>, value: T) -> Option<()>
     Some(())
 }
 
-/// Sets what is said by a word alone. `None` where it is set already.
+/// Sets a flag, or returns `None` if it is already set.
 fn set(flag: &mut bool) -> Option<()>
     ensures once { IsSome result ↔ (flag.old ≡ false) }
     ensures given { OnSome result (flag.new ≡ true) }
@@ -119,15 +120,15 @@ fn set(flag: &mut bool) -> Option<()>
     Some(())
 }
 
-/// The settings that a first line gives. `None` where it is no such line, or gives one twice.
+/// Returns the settings of a first line, or `None` if it is not one, or has a setting twice.
 pub fn parse(line: &[u8]) -> Option<Settings>
-    // The line gives settings, and these are what they say together.
+    // The line is written from settings, and the result is all of them together.
     ensures found { IfSome result (λ settings. (given : List Setting) × AllByRecursion IsGivable given
         × (line.now ≡ first_line_of given) × (settings_together given ≡ Some settings)) }
-    // A line that gives settings is read as what they say together, if they say anything.
+    // A line that is written from settings is read as all of them together, if none is twice in it.
     ensures only { (given : List Setting) → AllByRecursion IsGivable given →
         line.now ≡ first_line_of given → result ≡ settings_together given }
-    // So these are the settings.
+    // So the definition says which settings are read.
     ensures exact { result ≡ settings_by line.now }
 {
     match str::from_utf8(line) {
@@ -136,7 +137,7 @@ pub fn parse(line: &[u8]) -> Option<Settings>
     }
 }
 
-/// The settings that the fields of a first line give.
+/// Reads the settings from the fields of a first line.
 fn read(mut fields: Fields<'_>) -> Option<Settings>
     ensures { result ≡ settings_of (fields_left fields.entry) }
 {
@@ -150,7 +151,7 @@ fn read(mut fields: Fields<'_>) -> Option<Settings>
     Some(settings)
 }
 
-/// The setting that a field gives.
+/// Reads one setting from a field.
 #[tactic(auto, unfolding(crate::specs::Settings::setting_of))]
 fn read_setting(field: &str) -> Option<Setting>
     ensures { result ≡ setting_of field.now }
@@ -173,7 +174,7 @@ fn read_setting(field: &str) -> Option<Setting>
     }
 }
 
-/// The keys that leave and those that are admitted, by their name.
+/// Reads an eviction policy by its name.
 fn read_eviction(name: &str) -> Option<Eviction>
     ensures { result ≡ eviction_of name.now }
 {
@@ -184,7 +185,7 @@ fn read_eviction(name: &str) -> Option<Eviction>
     }
 }
 
-/// How values are weighed, by its name.
+/// Reads a weigher by its name.
 fn read_weighing(name: &str) -> Option<Weighing>
     ensures { result ≡ weighing_of name.now }
 {
@@ -194,7 +195,7 @@ fn read_weighing(name: &str) -> Option<Weighing>
     }
 }
 
-/// What stands before the first equals sign of a field, and what stands behind it.
+/// Returns what is before the first equals sign of a field, and what is after it.
 fn named(field: &str) -> Option<(&str, &str)>
     ensures { option_map (λ x. (x.0.now, x.1.now)) result ≡ halves field.now }
 {

@@ -1,4 +1,4 @@
-//! Turns, as a script names them, and what they end with.
+//! Turns as a script names them, and how it finishes them.
 ghost use Rattle.std.specs.Prelude.{◌≡◌, option_map};
 ghost use Rattle.mokabox_lines.specs.Fields.{alone, first_of};
 ghost use Rattle.mokabox_lines.specs.FieldsLeft.{fields_left};
@@ -7,35 +7,35 @@ ghost use Rattle.mokabox_lines.specs.Turn.{kind_of, turn_of, sole_turn_of, plain
 use crate::fields::Fields;
 use moka_model::turns::Kind;
 
-/// The turn of a kind and a key that has a number.
+/// The name of a turn in a script.
 #[derive(Clone, Copy, Debug, PartialEq, Eq)]
 pub struct TurnOf {
-    /// What the turn is for.
+    /// Its kind.
     pub kind: Kind,
     /// Its key.
     pub key: u64,
-    /// Its number.
+    /// Its sequence number.
     pub number: u64,
 }
 
-/// What a turn ends with, whatever its kind. Its texts are `T`.
+/// What a turn is finished with, whatever its kind. `T` is the type of the texts.
 #[derive(Clone, Copy, Debug, PartialEq, Eq)]
 pub enum Ending<T> {
-    /// A value, which is written.
+    /// A value, which is stored.
     Value(T),
-    /// There is no value.
+    /// No value.
     Nothing,
-    /// There is an error in place of a value.
+    /// An error.
     Failed(T),
-    /// A compute writes a value.
+    /// The operation of a compute that puts this value.
     Put(T),
-    /// A compute removes the value.
+    /// The operation of a compute that removes the value.
     Remove,
-    /// A compute leaves the value as it is.
+    /// The operation of a compute that does nothing.
     Nop,
 }
 
-/// The kind that the first field says, and takes that field away. `None` where it says none.
+/// Takes the first field, and returns the kind that it names, or `None`.
 pub fn next_kind(fields: &mut Fields<'_>) -> Option<Kind>
     ensures { option_map (λ kind. (kind, fields_left fields.new)) result ≡ first_of kind_of (fields_left fields.old) }
 {
@@ -48,7 +48,7 @@ pub fn next_kind(fields: &mut Fields<'_>) -> Option<Kind>
     }
 }
 
-/// The turn that the first three fields name, and takes these away. `None` where they name none.
+/// Takes the first three fields, and returns the turn that they name, or `None`.
 pub fn next_turn(fields: &mut Fields<'_>) -> Option<TurnOf>
     ensures { option_map (λ turn. (turn, fields_left fields.new)) result ≡ turn_of (fields_left fields.old) }
 {
@@ -58,7 +58,7 @@ pub fn next_turn(fields: &mut Fields<'_>) -> Option<TurnOf>
     Some(TurnOf { kind, key, number })
 }
 
-/// The turn that the three fields name that are left. `None` where they name none, or more are left.
+/// Returns the turn that the only three fields left name, or `None`.
 pub fn sole_turn(mut fields: Fields<'_>) -> Option<TurnOf>
     ensures { result ≡ sole_turn_of (fields_left fields.entry) }
 {
@@ -67,7 +67,7 @@ pub fn sole_turn(mut fields: Fields<'_>) -> Option<TurnOf>
     Some(turn)
 }
 
-/// What the fields that are left say a turn ends with.
+/// Reads what a turn is finished with from the fields that are left.
 pub fn read_ending(mut fields: Fields<'_>) -> Option<Ending<&str>>
     ensures { option_map plain_ending result ≡ ending_of (fields_left fields.entry) }
 {
@@ -83,7 +83,7 @@ pub fn read_ending(mut fields: Fields<'_>) -> Option<Ending<&str>>
     Some(ending)
 }
 
-/// The ending, where no field is left.
+/// Returns the ending if no field is left.
 fn ending_alone<'a>(fields: Fields<'_>, ending: Ending<&'a str>) -> Option<Ending<&'a str>>
     ensures { option_map plain_ending result ≡ alone (plain_ending ending.entry) (fields_left fields.entry) }
 {

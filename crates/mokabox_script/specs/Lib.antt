@@ -1,4 +1,4 @@
--- Definitions that those of this crate rest on, passed on to the crates above.
+-- Definitions that those of this crate use, exported to the crates above.
 pub use Rattle.mokabox_lines.specs.Answer
 pub use Rattle.mokabox_lines.specs.Command
 pub use Rattle.mokabox_lines.specs.Settings

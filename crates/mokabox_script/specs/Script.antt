@@ -60,47 +60,48 @@ use Rattle.mokabox_script.specs.declared.one_of.OneOf.{OneOf}
 use Rattle.mokabox_script.specs.declared.session.Bytes.{Bytes}
 use Rattle.mokabox_script.specs.declared.session.ScriptTypes.{ScriptTypes}
 
--- the values of the script's cache; its keys are numbers
+-- The type of the values of a script's cache. Its keys are numbers.
 abbrev pub Text : Type 0
 Text = String Global
 
--- a copy of a text has its bytes
+-- A clone of a text has the same bytes.
 abbrev pub is_copy : Text → Text → Type 0
 is_copy text copy = string_bytes copy ≡ string_bytes text
 
--- what makes the hashers of a script's cache
+-- What makes the hashers of a script's cache.
 abbrev pub CacheHasher : Type 0
 CacheHasher = BuildHasherDefault NumberHash
 
--- what a step of the script's cache is, and what it replies
+-- A step of a script's cache.
 abbrev pub ScriptStep : Type 0
 ScriptStep = Step ℕ Text ScriptTypes CacheHasher Bytes NoExpiry OneOf Counts NoListener ManualClock Text NumberHash
 
+-- The reply to a step of a script's cache.
 abbrev pub ScriptReply : Type 0
 ScriptReply = Reply ℕ Text ScriptTypes CacheHasher Bytes NoExpiry OneOf Counts NoListener ManualClock Text NumberHash
 
--- the texts whose copies never fail: none
+-- The texts whose clones never fail: none.
 abbrev pub is_surely_copied : Text → Type 0
 is_surely_copied text = ⊥
 
--- what the script's cache is built with: the settings of the whole, and how many segments it has
+-- What a script's cache is built with: the settings of the whole, and the number of its segments.
 abbrev pub CacheSettings : Type 0
 CacheSettings = SegmentedSettings ℕ Text
 
--- how far a script has come: the calls of its cache that were not refused, the newest first, and the moment of its commands
+-- A point of a script: the calls of its cache that did not fail, the newest first, and the moment of its commands.
 pub record Course : Type 0 where
   pub done : List (Call ℕ Text Text)
   pub moment : ℕ
 
--- whether the bytes of a text are those of one of the texts that stand with one space between each two
+-- Whether the bytes of a text are those of one of some texts, which are separated by single spaces.
 abbrev pub is_among : List ℕ → Text → Bool
 is_among texts text = is_one_of (string_bytes text) (fields_of texts)
 
--- the turn that a command names
+-- The turn that a command names.
 abbrev pub name_of_turn : TurnOf → Name ℕ
 name_of_turn turn = record { number = turn.number; kind = turn.kind; key = turn.key }
 
--- the ending that hands an outcome in: its texts have the ending's bytes
+-- The ending of a command that gives this outcome. Its texts have the same bytes.
 abbrev pub ending_by : Outcome Text Text → PlainEnding
 ending_by (outcomes.Value text) = endings.Value (string_bytes text)
 ending_by outcomes.Nothing = endings.Nothing
@@ -109,8 +110,8 @@ ending_by (outcomes.Op (ops.Put text)) = endings.Put (string_bytes text)
 ending_by (outcomes.Op ops.Remove) = endings.Remove
 ending_by (outcomes.Op ops.Nop) = endings.Nop
 
--- The calls that a command makes at a moment, when this many notices are left. A text that it hands in has the command's
--- bytes. All notices are taken, and then once more, when there is none.
+-- The calls that a command makes at a moment, when so many notices are queued. A text in a call has the bytes that the
+-- command has. `notices` takes all of them, and once more when there is none.
 abbrev pub Makes : ℕ → ℕ → PlainCommand → List (Call ℕ Text Text) → Type 0
 Makes notices moment (At later) made = made ≡ []
 Makes notices moment (Insert key value) made = (text : Text) × (string_bytes text ≡ value) × (made ≡ calls.Insert key text moment ∷ [])
@@ -137,21 +138,21 @@ Makes notices moment (Abandon turn) made = made ≡ calls.Abandon (name_of_turn 
 Makes notices moment (Collect turn) made = made ≡ calls.Collect (name_of_turn turn) ∷ []
 Makes notices moment (Leave turn) made = made ≡ calls.Leave (name_of_turn turn) ∷ []
 
--- the moment of the commands after a command
+-- The moment of the commands after a command.
 abbrev pub moment_after : PlainCommand → ℕ → ℕ
 moment_after (At later) moment = later
 moment_after command moment = moment
 
--- what an entry is printed as
+-- What is printed for an entry.
 abbrev pub entered_of : calls.Entry ℕ Text → Answer
 entered_of entry = answers.Entered entry.key entry.value entry.fresh entry.replaced
 
--- what a turn that was opened is printed as: with what a compute is shown
+-- What is printed for a turn that was opened: for a compute with the live value that it is shown.
 abbrev pub run_of : Kind → ℕ → Option (calls.Entry ℕ Text) → Answer
 run_of Compute number shown = answers.Shown number (record { 0 = option_map (λ entry. entry.value) shown })
 run_of kind number shown = answers.Run number
 
--- what the result of a compute is printed as
+-- What is printed for the result of a compute.
 abbrev pub became_of : CompResult ℕ Text → Became
 became_of (results.StillNone key) = fates.StillNone (arc_value key)
 became_of (results.Unchanged entry) = fates.Unchanged (entry_of entry).key (entry_of entry).value
@@ -159,7 +160,7 @@ became_of (results.Inserted entry) = fates.Inserted (entry_of entry).key (entry_
 became_of (results.ReplacedWith entry) = fates.ReplacedWith (entry_of entry).key (entry_of entry).value
 became_of (results.Removed entry) = fates.Removed (entry_of entry).key (entry_of entry).value
 
--- what the reply to a call is printed as
+-- What is printed for the reply to a call.
 abbrev pub answer_of : ScriptReply → Answer
 answer_of (replies.Found None) = answers.NotFound
 answer_of (replies.Found (Some text)) = answers.Found text
@@ -181,7 +182,7 @@ answer_of replies.Ended = answers.Ended
 answer_of (replies.Refused cause) = answers.Refused cause
 answer_of (replies.PredicateRefused cause) = answers.NotHidden cause
 
--- What calls print, a line for the reply to each, and the calls done after them: a refused call leaves them as they are.
+-- What calls print, one line for each reply, and the calls done after them. A call that fails leaves these as they are.
 abbrev pub CallsPrint : CacheSettings → List (Call ℕ Text Text) → List (Call ℕ Text Text) →
     List (List ℕ) → List (Call ℕ Text Text) → Type 0
 CallsPrint settings done [] printed after = (printed ≡ []) × (after ≡ done)
@@ -189,11 +190,11 @@ CallsPrint settings done (call ∷ more) printed after =
     (reply : ScriptReply) × (rest : List (List ℕ)) × IsReplyIn Text nat_eq is_copy is_surely_copied settings done call reply
     × (printed ≡ answer_text (answer_of reply) ∷ rest) × CallsPrint settings (after_reply_in call reply done) more rest after
 
--- a moment in whole seconds
+-- A moment in whole seconds.
 abbrev pub in_seconds : Option ℕ → Option ℕ
 in_seconds nanos = option_map (λ n. n / 1_000_000_000) nanos
 
--- The policy of a cache, its lives in seconds, and how many segments it has.
+-- The line of a cache's policy, with its lifetimes in seconds and its number of segments.
 abbrev pub policy_line : CacheSettings → List ℕ
 policy_line settings =
     codes "policy capacity " ++ (measure_text settings.whole.max_capacity
@@ -201,18 +202,19 @@ policy_line settings =
     ++ (codes " tti " ++ (measure_text (in_seconds settings.whole.time_to_idle)
     ++ (codes " segments " ++ decimal (segments_of settings)))))))
 
--- the value that is live for a key where a script has come
+-- The live value of a key at a point of a script.
 abbrev pub live_value : CacheSettings → Course → ℕ → Option Text
 live_value settings before key = option_map (λ w. w.value) (live_in Text nat_eq settings before.done key before.moment)
 
--- All that is live there, by rising key: each key that is live once, with a copy of its value, and no other.
+-- These are all live pairs at that point, by increasing key: each live key once, with a clone of its value, and no
+-- other.
 pub record AreTheLive (settings : CacheSettings) (before : Course) (pairs : List (ℕ × Text)) : Type 0 where
   pub rising : IsNonDecreasingBy (λ pair. pair.0) pairs
   pub live : All (λ pair. IsCopyOf is_copy (live_value settings before pair.0) (Some pair.1)) pairs
   pub each_once : (key : ℕ) → IsSome (live_value settings before key) → count (λ pair. nat_eq pair.0 key) pairs ≡ 1
 
--- What a command tells that makes no call: the policy by the settings alone, and a walk all that is live. A walk may be refused
--- memory, and tells that then.
+-- What a command prints that makes no call. `policy` prints what the settings say. `walk` prints all live pairs, or an
+-- error if memory ran out.
 abbrev pub Tells : CacheSettings → Course → PlainCommand → List (List ℕ) → Type 0
 Tells settings before Policy lines = lines ≡ policy_line settings ∷ []
 Tells settings before Walk lines =
@@ -220,7 +222,7 @@ Tells settings before Walk lines =
     ⊎ (lines ≡ (codes "refused " ++ decimal 1) ∷ [])
 Tells settings before command lines = lines ≡ []
 
--- What a command prints, and how far the script has come then.
+-- What a command prints, and the point of the script after it.
 abbrev pub CommandPrints : CacheSettings → Course → PlainCommand → List (List ℕ) → Course → Type 0
 CommandPrints settings before command printed after =
     (made : List (Call ℕ Text Text)) × (answers : List (List ℕ)) × (own : List (List ℕ))
@@ -228,7 +230,7 @@ CommandPrints settings before command printed after =
     × CallsPrint settings before.done made answers after.done × Tells settings before command own × (printed ≡ own ++ answers)
     × (after.moment ≡ moment_after command before.moment)
 
--- What a line prints, how far the script has come then, and whether the line is bad.
+-- What a line prints, the point of the script after it, and whether the line is bad.
 abbrev pub LinePrints : CacheSettings → Course → Option PlainCommand → List (List ℕ) → Course → Bool → Type 0
 LinePrints settings before None printed after bad = (printed ≡ codes "bad line" ∷ []) × (after ≡ before) × (bad ≡ true)
 LinePrints settings before (Some command) printed after bad = CommandPrints settings before command printed after × (bad ≡ false)
@@ -241,18 +243,18 @@ LinesPrint settings before (line ∷ lines) printed bad =
     × LinePrints settings before (command_by_line line) first after bad_first × LinesPrint settings after lines rest bad_rest
     × (printed ≡ first ++ rest) × (bad ≡ (bad_first || bad_rest))
 
--- TinyLFU, where the settings don't say otherwise
+-- Whether the policy is LRU: only if the settings say so, else it is TinyLFU.
 abbrev pub is_lru_by : Option Eviction → Bool
 is_lru_by None = false
 is_lru_by (Some Lru) = true
 is_lru_by (Some TinyLfu) = false
 
--- the weight of a value by its bytes: 1, where the settings don't say otherwise
+-- The weight of a value by its bytes: 1 without a weigher.
 abbrev pub weight_by : Option Weighing → List ℕ → ℕ
 weight_by None value = 1
 weight_by (Some weighings.Bytes) value = byte_weight value
 
--- What these settings build a cache with, in nanoseconds. A key is its own hash, its keys being below 2 ^ 64.
+-- The settings of the cache, in nanoseconds. A key is its own hash, since keys are below 2^64.
 abbrev pub whole_settings : Settings → lives.Settings ℕ Text
 whole_settings settings = record {
   time_to_live = option_map (λ seconds. seconds * 1_000_000_000) settings.time_to_live;
@@ -270,35 +272,36 @@ whole_settings settings = record {
   frequency = estimate_after 6;
 }
 
--- the number of segments that is wanted: one, where the settings don't say otherwise
+-- The number of segments asked for: one unless the settings say otherwise.
 abbrev pub wanted_segments : Settings → ℕ
 wanted_segments settings = unwrap_or settings.segments 1
 
--- and how many bits of a hash name one of them, the next power of two
+-- The settings of the cache with its number of segments, the next power of two: how many bits of a hash name one.
 abbrev pub cache_settings : Settings → CacheSettings
 cache_settings settings = record { bits = bits_for (wanted_segments settings); whole = whole_settings settings }
 
--- Why a cache is not built with these settings: for its number of segments, else for a life that is too long, or else for its
--- flush limit.
+-- Why a cache with these settings cannot be built, memory aside: its number of segments, else too long a lifetime, else
+-- its flush limit.
 abbrev pub settings_refused : Settings → Option BuildError
 settings_refused settings =
     option_or (segments_refused (wanted_segments settings))
     (option_or (too_long_of (whole_settings settings).time_to_live (whole_settings settings).time_to_idle)
     (flush_refused_of settings.flush_limit (is_some settings.weigher)))
 
--- what is printed where a cache is not built
+-- What is printed if the cache is not built.
 abbrev pub not_built : BuildError → List ℕ
 not_built cause = answer_text (answers.NotBuilt cause)
 
--- where a script begins
+-- The point where a script begins.
 abbrev pub beginning : Course
 beginning = record { done = []; moment = 0 }
 
+-- The exit status, by whether a line was bad.
 abbrev pub status_of : Bool → ℕ
 status_of bad = if bad then 2 else 0
 
--- What the first line and those after it print, and the status at the end. A cache whose settings are not refused may be
--- refused for want of memory.
+-- What the first line and those after it print, and the exit status. Even with good settings the cache may not be
+-- built, for lack of memory.
 abbrev pub FirstPrints : Option Settings → List (List ℕ) → List (List ℕ) → ℕ → Type 0
 FirstPrints None lines printed status = (printed ≡ codes "bad line" ∷ []) × (status ≡ 2)
 FirstPrints (Some settings) lines printed status =
@@ -307,16 +310,16 @@ FirstPrints (Some settings) lines printed status =
     × (status ≡ status_of bad))
     ⊎ ((printed ≡ not_built (unwrap_or (settings_refused settings) OutOfMemory) ∷ []) × (status ≡ 2))
 
--- The lines of an input: a line end ends a line, and what stands behind the last one is a line if it is anything.
+-- The lines of an input: a line feed ends a line. What follows the last one is a line if it is not empty.
 abbrev pub lines_of : List ℕ → List (List ℕ)
 lines_of [] = []
 lines_of (byte ∷ bytes) = if nat_eq byte 10 then [] ∷ lines_of bytes else onto_first byte (lines_of bytes)
 
--- What a script prints, and the status at its end.
+-- What a script prints, and the exit status.
 abbrev pub ScriptPrints : List (List ℕ) → List (List ℕ) → ℕ → Type 0
 ScriptPrints [] printed status = (printed ≡ []) × (status ≡ 0)
 ScriptPrints (line ∷ lines) printed status = FirstPrints (settings_by line) lines printed status
 
--- the bytes of printed lines
+-- The bytes of printed lines.
 abbrev pub lines_text : List (List ℕ) → List ℕ
 lines_text printed = flat_map (λ line. line ++ (10 ∷ [])) printed

@@ -1,4 +1,4 @@
--- How far a script has come where its session is, and what the session prints.
+-- Which point of a script a session has reached, and what the session prints.
 use Rattle.std.specs.Prelude.{◌≡◌, ◌<◌, ◌^◌, ℕ, Bool, List, [], ◌∷◌, Option, None, is_some, option_map, unwrap_or, nat_eq}
 use Rattle.std.specs.Duration.{as_nanos}
 use Rattle.std.specs.Hash.{u64 as number_writes}
@@ -30,39 +30,39 @@ use Rattle.mokabox_script.specs.Script.{is_lru_by, lines_text}
 use Rattle.mokabox_script.specs.declared.one_of.OneOf.{OneOf}
 use Rattle.mokabox_script.specs.declared.session.Bytes.{Bytes}
 
--- what a script's cache keeps
+-- What contracts see of a script's cache.
 abbrev pub CacheData : Type 0
 CacheData = SegmentedData ℕ Text CacheHasher Bytes NoExpiry Counts Text
 
--- the hash of a key
+-- The hash of a key.
 abbrev pub cache_hash : CacheHasher → ℕ → ℕ
 cache_hash = hash_by initial_hasher (λ hasher bytes. record { hash = number_hash hasher.hash bytes }) (λ hasher. hasher.hash) number_writes
 
--- how a script's cache behaves, by what it keeps for that
+-- The behaviour of a script's cache.
 abbrev pub cache_behaviour : BehaviourData CacheHasher Bytes NoExpiry → Behaviour ℕ Text
 cache_behaviour = behaviour_by cache_hash (λ weigher key text. byte_weight (string_bytes text)) (λ expiry. no_lifetimes)
 
--- what a script's cache is, by what it keeps
+-- A script's cache as the definitions see it.
 abbrev pub view : CacheData → SegmentedView ℕ Text Text
 view = segmented_view_by cache_behaviour (estimates (noted 6) (estimated 6)) (none_noted 6)
 
--- what one of its segments keeps
+-- What contracts see of one of its segments.
 abbrev pub SegmentState : Type 0
 SegmentState = StateData ℕ Text CacheHasher Bytes NoExpiry Counts Text
 
--- what one of its segments is, by what it keeps
+-- One of its segments as the definitions see it.
 abbrev pub segment_view : SegmentState → WholeView ℕ Text Text
 segment_view = view_by cache_behaviour (estimates (noted 6) (estimated 6)) (none_noted 6)
 
--- what the builder of a script's cache was told
+-- What contracts see of the builder of a script's cache.
 abbrev pub Told : Type 0
 Told = BuilderData Bytes NoExpiry NoListener
 
--- what a predicate of a script holds of: the texts that it is made of
+-- What a predicate of a script computes: whether a value is one of its texts.
 abbrev pub holds_of : OneOf → ℕ → Text → Bool
 holds_of it key text = is_among (string_bytes it.texts) text
 
--- A builder was told what these settings say, and no more.
+-- The builder was given these settings, and nothing else.
 pub record IsTold (given : Settings) (told : Told) : Type 0 where
   pub name : told.name ≡ None
   pub max_capacity : told.max_capacity ≡ given.capacity
@@ -75,41 +75,44 @@ pub record IsTold (given : Settings) (told : Told) : Type 0 where
   pub flush_limit : told.flush_limit ≡ given.flush_limit
   pub first_number : told.first_number ≡ unwrap_or given.first_number 0
 
--- Each key has one of the segments: they are named by some of the bits of a hash, and each hash has so many.
+-- Each key belongs to one of the segments: some bits of its hash name it, and each hash has that many bits.
 abbrev pub PartsHashes : CacheSettings → Type 0
 PartsHashes settings = (settings.bits < 64) × ((key : ℕ) → settings.whole.behaviour.hash key < 2 ^ 64)
 
--- A session is where the script has come: its cache stands for the calls done, and its moment is the script's.
+-- The session is at this point of the script: its cache stands for the calls done, and its moment is the script's.
 pub record IsAt (cache : CacheData) (moment : ℕ) (settings : CacheSettings) (course : Course) : Type 0 where
   pub stands : AllStandFor nat_eq is_copy settings (view cache) course.done
   pub parted : PartsHashes settings
   pub now : moment ≡ course.moment
 
--- A command is one step: its call is all that the command makes, and the moment stays. What the step asks of who does it is so.
+-- The command is one step: the step's call is all that the command makes, the moment stays, and what the step requires
+-- holds.
 pub record IsStepOf (moment : ℕ) (command : PlainCommand) (step : ScriptStep) : Type 0 where
   pub makes : (notices : ℕ) → Makes notices moment command (call_of holds_of step ∷ [])
   pub stays : (at : ℕ) → moment_after command at ≡ at
   pub tells_nothing : (settings : CacheSettings) (before : Course) → Tells settings before command []
   pub owed : StepKeeps (λ key text. Unit {0}) (λ it test. test ≡ holds_of it) holds_of step
 
--- Wherever the script has come, the command prints these lines, and the session is where it comes.
+-- For each point of the script that the session may be at: the command prints these lines, and leads to the session's
+-- new point.
 abbrev pub Prints : CacheData → ℕ → PlainCommand → List (List ℕ) → CacheData → ℕ → Type 0
 Prints cache moment command printed cache_after moment_after =
     (settings : CacheSettings) (before : Course) → IsAt cache moment settings before →
     (after : Course) × CommandPrints settings before command printed after × IsAt cache_after moment_after settings after
 
--- for which steps a segment of a session's cache stands
+-- For which history a segment of a session's cache stands.
 abbrev pub segment_stands_for : Whole ℕ Text → SegmentState → List (AcceptedStep ℕ Text Text) → Type 0
 segment_stands_for settings state steps = StandsFor nat_eq is_copy settings (segment_view state) steps
 
--- A walk of the cache at a moment, of which nothing is refused, yields these pairs, and then it ends.
+-- Iterating over the cache at a moment, without errors, yields these pairs, and then ends.
 abbrev pub IsWholeWalk : CacheData → ℕ → List (ℕ × Text) → Type 0
 IsWholeWalk cache moment pairs =
     (histories : List (History ℕ Text Text))
     → AllHaveHistories segment_stands_for cache.segments histories
     → YieldsJust nat_eq is_copy is_surely_copied histories moment start pairs
 
--- Wherever the script has come, the line prints what is written, and the session is where it comes.
+-- For each point of the script that the session may be at: the line prints what is written, and leads to the session's
+-- new point.
 abbrev pub DoesLine : CacheData → ℕ → List ℕ → Bool → CacheData → ℕ → Option (List ℕ) → Option (List ℕ) → Type 0
 DoesLine cache moment line bad cache_after moment_after held held_after =
     (settings : CacheSettings) (before : Course) → IsAt cache moment settings before →

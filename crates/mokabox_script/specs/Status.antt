@@ -1,8 +1,9 @@
+-- The exit status of a run.
 use Rattle.std.specs.Prelude.{ℕ}
 use Rattle.mokabox_script.specs.declared.script.Status.{Status}
 use Rattle.mokabox_script.specs.declared.script.Status.TheVariants.{Done, Bad, Failed}
 
--- the program's exit status
+-- The exit status of the program.
 abbrev pub code_of : Status → ℕ
 code_of Done = 0
 code_of Failed = 1

@@ -1,5 +1,6 @@
-//! A program that runs a script of cache calls, and prints their answers: all of it but the making
-//! of its reader and its writer.
+//! The script part of the program `mokabox`: runs a script of cache calls and prints their results.
+//!
+//! It has everything but the creation of its reader and its writer.
 #![tactic(auto)]
 
 mod one_of;

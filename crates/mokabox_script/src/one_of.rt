@@ -1,4 +1,4 @@
-//! Which values a command hides.
+//! The predicate of the command `invalidate-if`.
 ghost use Rattle.std.specs.Prelude.{◌≡◌, IfOk};
 ghost use Rattle.std.specs.String.{string_bytes};
 ghost use Rattle.mokabox_script.specs.Session.{holds_of};
@@ -7,15 +7,16 @@ use moka::policy::Predicate;
 use mokabox_lines::fields::Fields;
 use std::alloc::{AllocError, Global};
 
-/// Holds of each value that is one of these texts.
+/// A predicate that holds of each value that is one of some texts.
 #[derive(Debug, Drop)]
 pub struct OneOf {
-    // One space between each two.
+    // Separated by single spaces.
     texts: String,
 }
 
 impl OneOf {
-    /// Holds of these texts, which stand with one space between each two. Takes memory for them.
+    /// Creates a predicate of these texts, which are separated by single spaces. Allocates a copy
+    /// of them.
     pub fn new(alloc: Global, texts: &str) -> Result<OneOf, AllocError>
         ensures { IfOk result (λ it. string_bytes it.texts ≡ texts.now) }
     {

@@ -10,17 +10,17 @@ use std::alloc::Global;
 use std::io;
 use std::io::{BufRead, Write};
 
-/// What the program is asked to do.
+/// What the arguments ask for.
 #[derive(Clone, Copy, Debug, PartialEq, Eq)]
 pub enum Mode {
-    /// To run the script that it reads.
+    /// Run the script that is read.
     Script,
 }
 
-/// Does what the arguments ask for, the program's own name not being one of them. Where they ask
-/// for nothing that there is, it writes how the program is called, and reads nothing.
+/// Does what the arguments ask for. They do not include the program's own name.
 ///
-/// Where it fails, a part may be written.
+/// If they ask for nothing known, writes how the program is called, reads nothing, and returns
+/// `Status::Bad`. If it returns `Status::Failed`, a part may be written.
 pub fn run_program<R: BufRead + Drop, W: Write>(
     alloc: Global,
     arguments: &[String],
@@ -39,7 +39,7 @@ pub fn run_program<R: BufRead + Drop, W: Write>(
     }
 }
 
-/// What the arguments ask for. `None` where it is nothing that there is.
+/// Returns what the arguments ask for, or `None` if that is nothing known.
 pub fn mode_of(arguments: &[String]) -> Option<Mode>
     ensures { result ≡ mode_by (map string_bytes arguments.now) }
 {

@@ -1,4 +1,4 @@
-//! Runs a script: reads its lines, and writes their answers.
+//! Runs a script: reads its lines, and writes the results.
 ghost use Rattle.std.specs.Prelude.{◌≡◌, ◌≢◌, ℕ, List, map, IfOk, IfSome, OnOk};
 ghost use Rattle.std.specs.Io.Iter.{split_byte, split_known_bytes};
 ghost use Rattle.std.specs.Io.KnownBytes.{Appends};
@@ -20,14 +20,14 @@ use std::io::{BufRead, Split, Write};
 pub enum Status {
     /// Every line was done.
     Done,
-    /// A line was bad, or the cache was not built.
+    /// A line was bad, or the cache could not be built.
     Bad,
-    /// Reading, writing or memory for the program's own lines failed.
+    /// Reading or writing failed, or an allocation for the program's own lines.
     Failed,
 }
 
 impl Status {
-    /// The program's exit status.
+    /// Returns the exit status of the program.
     pub fn code(self) -> u8
         ensures { result ≡ code_of self }
     {
@@ -41,7 +41,7 @@ impl Status {
 
 /// Runs a script, and writes what it prints.
 ///
-/// Where it fails, the lines before may be written.
+/// If it returns `Status::Failed`, the lines before may be written.
 pub fn run_script<R: BufRead + Drop, W: Write>(alloc: Global, reader: R, writer: &mut W) -> Status
     ensures { result ≢ Status.Failed → IfSome (R.remaining reader) (λ input.
         (printed : List (List ℕ)) × ScriptPrints (lines_of input) printed (code_of result)
@@ -53,6 +53,7 @@ pub fn run_script<R: BufRead + Drop, W: Write>(alloc: Global, reader: R, writer:
     }
 }
 
+// Runs a script, and passes I/O errors on.
 fn run<R: BufRead + Drop, W: Write>(alloc: Global, reader: R, writer: &mut W) -> io::Result<Status>
     ensures { IfOk result (λ status. IfSome (R.remaining reader) (λ input.
         (printed : List (List ℕ)) × ScriptPrints (lines_of input) printed (code_of status)
@@ -68,7 +69,7 @@ fn run<R: BufRead + Drop, W: Write>(alloc: Global, reader: R, writer: &mut W) ->
     Ok(status)
 }
 
-// What the first line begins, and the lines after it.
+// Runs the lines after the first, over the cache that the first line's settings build.
 fn begin<R: BufRead + Drop, W: Write>(
     alloc: Global,
     settings: Option<Settings>,
@@ -97,7 +98,7 @@ fn begin<R: BufRead + Drop, W: Write>(
     }
 }
 
-// The lines after the first. Answers whether one of them is bad.
+// Runs the lines after the first. Returns whether one of them is bad.
 fn go_on<R: BufRead + Drop, W: Write>(
     mut session: Session,
     lines: Split<R>,
@@ -117,7 +118,7 @@ fn go_on<R: BufRead + Drop, W: Write>(
     Ok(is_bad)
 }
 
-// Does the command of a line. Answers whether the line is bad.
+// Does the command of a line. Returns whether the line is bad.
 fn do_line<W: Write>(session: &mut Session, line: &[u8], writer: &mut W) -> io::Result<bool>
     ensures { IfOk result (λ bad. DoesLine session.old.cache session.old.moment line.now bad
         session.new.cache session.new.moment (W.contents writer.old) (W.contents writer.new)) }

@@ -40,12 +40,13 @@ use std::hash::BuildHasherDefault;
 use std::sync::Arc;
 use std::time::Duration;
 
-// What a command does to the cache, and what that replies.
+// The step of a command, and the reply of the cache to it.
 type ScriptStep = Step<u64, String, ScriptTypes>;
 
 type ScriptReply = Reply<u64, String, ScriptTypes>;
 
-/// The types of a script's cache: its keys are numbers, which are their own hashes, and its values are texts.
+/// The types of a script's cache: the keys are numbers, which are their own hashes, and the values
+/// are texts.
 pub struct ScriptTypes;
 
 impl CacheTypes<u64, String> for ScriptTypes {
@@ -82,7 +83,7 @@ impl CacheTypes<u64, String> for ScriptTypes {
     ghost copies_compose = { λ _ _ _ a b. b ∙ a };
 }
 
-/// Weighs each text by its length in bytes, or by the greatest weight where it is longer than that.
+/// Weighs each text by its length in bytes, at most `u32::MAX`.
 #[derive(Clone, Copy, Debug)]
 pub struct Bytes;
 
@@ -94,7 +95,7 @@ impl Weigher<u64, String> for Bytes {
     }
 }
 
-/// A cache and the moment of the commands.
+/// A cache, and the moment of the next command in nanoseconds.
 #[derive(Drop)]
 pub struct Session {
     alloc: Global,
@@ -103,8 +104,16 @@ pub struct Session {
 }
 
 impl Session {
-    /// A cache with these settings, at moment 0. Refused for its number of segments, where a life is too long or
-    /// where the flush limit does not serve, and else for want of memory alone.
+    /// Creates a cache with these settings, at moment 0.
+    ///
+    /// # Errors
+    ///
+    /// The first of these that applies:
+    ///
+    /// - `NoSegments`, `TooManySegments`: the number of segments is 0 or too great.
+    /// - `TimeToLiveTooLong`, `TimeToIdleTooLong`: a lifetime is too long.
+    /// - `ZeroFlushLimit`, `FlushLimitWithWeigher`: the flush limit is 0, or is set with a weigher.
+    /// - `OutOfMemory`: an allocation failed.
     pub fn new(alloc: Global, settings: settings::Settings) -> Result<Self, BuildError>
         ensures begun { IfOk result (λ session. IsAt session.cache session.moment (cache_settings settings) beginning) }
         ensures accepted { OnOk result (settings_refused settings ≡ None) }
@@ -120,8 +129,12 @@ impl Session {
         })
     }
 
-    /// Does a command, and answers it. An `Err` is want of memory for the answers or for what is handed in: the command
-    /// may then be done.
+    /// Does a command, and returns the lines that it prints.
+    ///
+    /// # Errors
+    ///
+    /// - `AllocError`: an allocation failed, for the lines or for the arguments of the step. The
+    ///   command may be done.
     pub fn execute(&mut self, command: Command<&str>) -> Result<Vec<Answer>, AllocError>
         ensures { IfOk result (λ answers. Prints self.old.cache self.old.moment (plain_command command.entry)
             (map answer_text answers.items) self.new.cache self.new.moment) }
@@ -158,7 +171,7 @@ impl Session {
         Ok(vec![in self.alloc; answer]?)
     }
 
-    // The step that writes a value.
+    // Returns the step that inserts a value.
     fn insert(&self, key: u64, value: &str) -> Result<ScriptStep, AllocError>
         ensures { IfOk result (λ step. IsStepOf self.now.moment (commands.Insert key value.now) step) }
     {
@@ -169,7 +182,7 @@ impl Session {
         })
     }
 
-    // The step that looks a key up, and writes a value where none is live.
+    // Returns the step that looks up a key, and inserts a value if none is live.
     fn or_insert(&self, key: u64, value: &str) -> Result<ScriptStep, AllocError>
         ensures { IfOk result (λ step. IsStepOf self.now.moment (commands.OrInsert key value.now) step) }
     {
@@ -180,7 +193,7 @@ impl Session {
         })
     }
 
-    // The step that looks a key up, and uses its value.
+    // Returns the step that looks up a key, as an access.
     fn get(&self, key: u64) -> Result<ScriptStep, AllocError>
         ensures { IfOk result (λ step. IsStepOf self.now.moment (commands.Get key) step) }
     {
@@ -190,7 +203,7 @@ impl Session {
         })
     }
 
-    // The step that asks for a key, and uses nothing.
+    // Returns the step that checks a key, not as an access.
     fn contains_key(&self, key: u64) -> Result<ScriptStep, AllocError>
         ensures { IfOk result (λ step. IsStepOf self.now.moment (commands.Has key) step) }
     {
@@ -200,7 +213,7 @@ impl Session {
         })
     }
 
-    // The step that removes a key.
+    // Returns the step that invalidates a key.
     fn invalidate(&self, key: u64) -> Result<ScriptStep, AllocError>
         ensures { IfOk result (λ step. IsStepOf self.now.moment (commands.Invalidate key) step) }
     {
@@ -210,7 +223,7 @@ impl Session {
         })
     }
 
-    // The step that removes a key, and asks for its value.
+    // Returns the step that removes a key, and returns its value.
     fn remove(&self, key: u64) -> Result<ScriptStep, AllocError>
         ensures { IfOk result (λ step. IsStepOf self.now.moment (commands.Remove key) step) }
     {
@@ -220,7 +233,7 @@ impl Session {
         })
     }
 
-    // The step that removes each key whose value is one of these texts.
+    // Returns the step that invalidates each entry whose value is one of these texts.
     fn invalidate_if(&self, texts: &str) -> Result<ScriptStep, AllocError>
         ensures { IfOk result (λ step. IsStepOf self.now.moment (commands.InvalidateIf texts.now) step) }
     {
@@ -230,7 +243,7 @@ impl Session {
         })
     }
 
-    // The step that begins a turn.
+    // Returns the step that begins a turn.
     fn begin(&self, kind: Kind, key: u64, replace: Option<bool>) -> Result<ScriptStep, AllocError>
         ensures { IfOk result (λ step. IsStepOf self.now.moment (commands.Begin kind key replace) step) }
     {
@@ -242,7 +255,7 @@ impl Session {
         })
     }
 
-    // The step that begins a compute, with a copy of the live value kept aside.
+    // Returns the step that begins a compute, which keeps a clone of the live value.
     fn begin_compute(&self, key: u64) -> Result<ScriptStep, AllocError>
         ensures { IfOk result (λ step. IsStepOf self.now.moment (commands.BeginCompute key) step) }
     {
@@ -253,7 +266,7 @@ impl Session {
         })
     }
 
-    // The step that ends a turn.
+    // Returns the step that finishes a turn.
     fn finish(&self, turn: TurnOf, ending: Ending<&str>) -> Result<ScriptStep, AllocError>
         ensures { IfOk result (λ step.
             IsStepOf self.now.moment (commands.Finish turn (plain_ending ending.entry)) step) }
@@ -265,7 +278,7 @@ impl Session {
         })
     }
 
-    // The step that ends a turn with nothing.
+    // Returns the step that abandons a turn.
     fn abandon(&self, turn: TurnOf) -> Result<ScriptStep, AllocError>
         ensures { IfOk result (λ step. IsStepOf self.now.moment (commands.Abandon turn) step) }
     {
@@ -273,7 +286,7 @@ impl Session {
         Ok(Step::Abandon { name })
     }
 
-    // The step that asks what a turn ended with.
+    // Returns the step that collects the result of a turn.
     fn collect(&self, turn: TurnOf) -> Result<ScriptStep, AllocError>
         ensures { IfOk result (λ step. IsStepOf self.now.moment (commands.Collect turn) step) }
     {
@@ -281,7 +294,7 @@ impl Session {
         Ok(Step::Collect { name })
     }
 
-    // The step that waits no longer for a turn.
+    // Returns the step that gives up waiting for a turn.
     fn leave(&self, turn: TurnOf) -> Result<ScriptStep, AllocError>
         ensures { IfOk result (λ step. IsStepOf self.now.moment (commands.Leave turn) step) }
     {
@@ -289,7 +302,7 @@ impl Session {
         Ok(Step::Leave { name })
     }
 
-    // The cache's policy, its lives in seconds.
+    // Returns the line of the cache's policy, with lifetimes in seconds.
     fn policy(&self) -> Result<Vec<Answer>, AllocError>
         ensures { IfOk result (λ answers. Prints self.now.cache self.now.moment commands.Policy
             (map answer_text answers.items) self.now.cache self.now.moment) }
@@ -304,7 +317,8 @@ impl Session {
         Ok(vec![in self.alloc; answer]?)
     }
 
-    // All live pairs, by rising key. Where one of them is refused, the walk is.
+    // Returns the line of all live pairs, by increasing key, or that of the error if one of them
+    // cannot be cloned.
     fn walk(&self) -> Result<Vec<Answer>, AllocError>
         ensures { IfOk result (λ answers. Prints self.now.cache self.now.moment commands.Walk
             (map answer_text answers.items) self.now.cache self.now.moment) }
@@ -318,7 +332,7 @@ impl Session {
         }
     }
 
-    // All live pairs, in no order. The inner `Err` is a refusal of the walk.
+    // Returns all live pairs, in no order. The inner `Err` is a failure of the iteration.
     fn live_pairs(&self) -> Result<Result<Vec<(u64, String)>, Refused>, AllocError>
         ensures pairs { IfOk result (λ walked. IfOk walked (λ pairs.
             IsWholeWalk self.now.cache self.now.moment pairs.items)) }
@@ -336,14 +350,14 @@ impl Session {
         Ok(Ok(pairs))
     }
 
-    // A key as a step takes it.
+    // Returns a key in the form that a step takes.
     fn shared(&self, key: u64) -> Result<Arc<u64>, AllocError>
         ensures { IfOk result (λ shared. arc_value shared ≡ key) }
     {
         Ok(Arc::new(self.alloc, key)?)
     }
 
-    // A turn as a step names it.
+    // Returns the name of a turn in the form that a step takes.
     fn name(&self, turn: TurnOf) -> Result<TurnName<u64>, AllocError>
         ensures { IfOk result (λ name. name_by name ≡ name_of_turn turn) }
     {
@@ -354,7 +368,7 @@ impl Session {
         })
     }
 
-    // What a turn ends with, as a step takes it.
+    // Returns what a turn is finished with, in the form that a step takes.
     fn outcome(&self, ending: Ending<&str>) -> Result<Outcome<String, Arc<String>>, AllocError>
         ensures { IfOk result (λ outcome. ending_by (outcome_of outcome) ≡ plain_ending ending.entry) }
     {
@@ -371,7 +385,7 @@ impl Session {
         })
     }
 
-    // Takes the notices, and then once more, when there is none.
+    // Takes all notices, and once more when there is none.
     fn notices(&mut self) -> Result<Vec<Answer>, AllocError>
         ensures { IfOk result (λ answers. Prints self.old.cache self.old.moment commands.Notices
             (map answer_text answers.items) self.new.cache self.new.moment) }
@@ -387,7 +401,7 @@ impl Session {
     }
 }
 
-// What a reply of the cache is printed as. Takes memory for the text of an error alone.
+// Returns what is printed for a reply of the cache. Allocates only for the text of an error.
 fn answer_of(alloc: Global, reply: ScriptReply) -> Result<Answer, AllocError>
     ensures { IfOk result (λ answer. answer_text answer ≡ answer_text (answer_of reply)) }
 {
@@ -414,7 +428,7 @@ fn answer_of(alloc: Global, reply: ScriptReply) -> Result<Answer, AllocError>
     })
 }
 
-// What a turn that was opened is printed as: with the live value, where a compute is shown one.
+// Returns what is printed for a turn that was opened: with the live value if it is a compute.
 fn run(name: TurnName<u64>, shown: Option<Entry<u64, String>>) -> Answer
     ensures { result ≡ run_of name.kind name.number (option_map entry_of shown) }
 {
@@ -424,7 +438,7 @@ fn run(name: TurnName<u64>, shown: Option<Entry<u64, String>>) -> Answer
     }
 }
 
-// What the result of a compute is printed as.
+// Returns what is printed for the result of a compute.
 fn became(computed: CompResult<u64, String>) -> Became
     ensures { result ≡ became_of computed }
 {
@@ -437,7 +451,7 @@ fn became(computed: CompResult<u64, String>) -> Became
     }
 }
 
-// What an entry is printed as.
+// Returns what is printed for an entry.
 fn entered(entry: Entry<u64, String>) -> Answer
     ensures { result ≡ entered_of (entry_of entry) }
 {
@@ -450,7 +464,7 @@ fn entered(entry: Entry<u64, String>) -> Answer
 // The builder of a script's cache.
 type Builder = CacheBuilder<u64, String, ScriptTypes, Single>;
 
-// What builds the cache that these settings give.
+// Returns the builder of a cache with these settings.
 fn builder_of(settings: settings::Settings) -> Builder
     ensures { IsTold settings result }
 {
@@ -466,7 +480,7 @@ fn builder_of(settings: settings::Settings) -> Builder
     supporting(builder, settings.closures)
 }
 
-// The builder that is told a capacity, where there is one.
+// Sets the capacity, if there is one.
 fn limited(builder: Builder, capacity: Option<u64>) -> Builder
     requires { builder.max_capacity ≡ None }
     ensures { result ≡ record builder { max_capacity = capacity } }
@@ -477,7 +491,7 @@ fn limited(builder: Builder, capacity: Option<u64>) -> Builder
     }
 }
 
-// The builder that is told a time to live, where there is one.
+// Sets the time to live, if there is one.
 fn lived(builder: Builder, time_to_live: Option<Duration>) -> Builder
     requires { builder.time_to_live ≡ None }
     ensures { result ≡ record builder { time_to_live = time_to_live } }
@@ -488,7 +502,7 @@ fn lived(builder: Builder, time_to_live: Option<Duration>) -> Builder
     }
 }
 
-// The builder that is told a time to idle, where there is one.
+// Sets the time to idle, if there is one.
 fn idled(builder: Builder, time_to_idle: Option<Duration>) -> Builder
     requires { builder.time_to_idle ≡ None }
     ensures { result ≡ record builder { time_to_idle = time_to_idle } }
@@ -499,7 +513,7 @@ fn idled(builder: Builder, time_to_idle: Option<Duration>) -> Builder
     }
 }
 
-// The builder that is told a weigher, where the settings say how to weigh.
+// Sets the weigher, if the settings have one.
 fn weighed(builder: Builder, weighing: Option<Weighing>) -> Builder
     requires { builder.weigher ≡ None }
     ensures weigher { is_some result.weigher ≡ is_some weighing }
@@ -511,7 +525,7 @@ fn weighed(builder: Builder, weighing: Option<Weighing>) -> Builder
     }
 }
 
-// The builder that is told a flush limit, where there is one.
+// Sets the flush limit, if there is one.
 fn flushed(builder: Builder, flush_limit: Option<u64>) -> Builder
     requires { builder.flush_limit ≡ None }
     ensures { result ≡ record builder { flush_limit = flush_limit } }
@@ -522,7 +536,7 @@ fn flushed(builder: Builder, flush_limit: Option<u64>) -> Builder
     }
 }
 
-// The builder that is told to hide by predicates, where the settings say so.
+// Enables invalidation by predicates, if the settings say so.
 fn supporting(builder: Builder, closures: bool) -> Builder
     requires { builder.closures ≡ false }
     ensures { result ≡ record builder { closures = closures } }
@@ -534,7 +548,7 @@ fn supporting(builder: Builder, closures: bool) -> Builder
     }
 }
 
-// The policy of a cache: TinyLFU, where its settings don't say otherwise.
+// Returns the eviction policy: TinyLFU unless the settings say otherwise.
 fn policy_of(eviction: Option<Eviction>) -> EvictionPolicy
     ensures { is_lru result ≡ is_lru_by eviction }
 {

@@ -1,4 +1,4 @@
-//! The line of each answer, and the code of each status.
+//! The line of each `Answer`, and the exit code of each `Status`.
 use moka::PredicateError;
 use moka::common::builder_utils::BuildError;
 use moka::notification::RemovalCause;
@@ -7,6 +7,7 @@ use mokabox_lines::answer::{Answer, Became, Live, Measure, write_answer};
 use mokabox_script::script::Status;
 use std::test::Fail;
 
+// Each `Answer` is printed as its line.
 #[test]
 fn answers_have_their_lines(rt: HostRuntime) -> Result<(), Fail> {
     let text = String::from_str(rt.alloc(), "caf\u{e9}")?;
@@ -89,6 +90,7 @@ fn answers_have_their_lines(rt: HostRuntime) -> Result<(), Fail> {
     Ok(())
 }
 
+// Each `Answer` to a compute is printed as its line.
 #[test]
 fn answers_of_computes_have_their_lines(rt: HostRuntime) -> Result<(), Fail> {
     let live = String::from_str(rt.alloc(), "caf\u{e9}")?;
@@ -127,6 +129,7 @@ fn answers_of_computes_have_their_lines(rt: HostRuntime) -> Result<(), Fail> {
     Ok(())
 }
 
+// Each status has its exit code.
 #[test]
 fn statuses_have_their_codes(rt: HostRuntime) {
     for (status, code) in [(Status::Done, 0), (Status::Failed, 1), (Status::Bad, 2)] {

@@ -12,9 +12,10 @@ const SCRIPT: &str = "new\ninsert 1 a\nget 1\nhas 2\n";
 
 const PRINTED: &str = "ok\nok\nsome a\nfalse\n";
 
+// Any argument prints the usage and fails, and nothing is read.
 #[test]
 fn any_argument_is_answered_with_the_usage(rt: HostRuntime) -> Result<(), Fail> {
-    // The reader is broken, so that a run which reads would fail.
+    // The reader fails, so a run that reads would fail.
     let way = Way {
         breaks: true,
         ..SOUND
@@ -39,6 +40,7 @@ fn any_argument_is_answered_with_the_usage(rt: HostRuntime) -> Result<(), Fail> 
     Ok(())
 }
 
+// A writer that is full fails the run.
 #[test]
 fn a_writer_that_is_full_fails_the_run(rt: HostRuntime) -> Result<(), Fail> {
     let usage = ["threads", "2"];
@@ -72,6 +74,7 @@ fn a_writer_that_is_full_fails_the_run(rt: HostRuntime) -> Result<(), Fail> {
     )
 }
 
+// A flush that fails fails the run.
 #[test]
 fn a_flush_that_fails_fails_the_run(rt: HostRuntime) -> Result<(), Fail> {
     let way = Way {
@@ -106,7 +109,7 @@ fn a_flush_that_fails_fails_the_run(rt: HostRuntime) -> Result<(), Fail> {
     )
 }
 
-// On a full device the answers are lost when they are flushed, as the program flushes them.
+// On a full device the run fails when it flushes what it printed.
 #[test]
 fn a_full_device_fails_the_run(rt: HostRuntime) -> Result<(), Fail> {
     let device = fs::create(&rt, "/dev/full")?;
@@ -133,6 +136,7 @@ const BROKEN: [Row; 8] = [
     ("new new\n", "bad line\n", Status::Bad),
 ];
 
+// A reader that fails fails the run, after the lines that were read.
 #[test]
 fn a_broken_reader_fails_the_run(rt: HostRuntime) -> Result<(), Fail> {
     for (script, wanted, status) in BROKEN {

@@ -1,4 +1,4 @@
-//! Scripts that remove by key, all at once, and by value.
+//! Scripts that remove entries by key, all at once, and by value.
 use crate::runs::{Row, prints, prints_bytes};
 use mokabox_script::script::Status;
 use std::io::Write;
@@ -19,7 +19,7 @@ const BY_VALUE: [Row; 8] = [
          none\nsome bob\nnone\nsome alice\n2\n",
         Status::Done,
     ),
-    // Without the setting nothing is hidden.
+    // Without the setting nothing is invalidated.
     (
         "new ttl=10\ninvalidate-if a\n",
         "ok\nerror 1\n",
@@ -30,7 +30,7 @@ const BY_VALUE: [Row; 8] = [
         "ok\nok\nerror 1\nsome alice\nok\nend\n1\n",
         Status::Done,
     ),
-    // A value is hidden where it is one of them, and not where it only begins, ends or goes on alike.
+    // Only a value that is named is invalidated, and none that is only similar to one.
     (
         "new closures\ninsert 1 a\ninsert 2 ab\ninsert 3 b\ninsert 4 A\ninsert 5 bc\n\
          invalidate-if b a\nget 1\nget 2\nget 3\nget 4\nget 5\n",
@@ -49,7 +49,8 @@ const BY_VALUE: [Row; 8] = [
         "ok\nok\nok\nok\nsome a\nnone\n",
         Status::Done,
     ),
-    // It leaves expired values to their own end, and a hidden one has no other.
+    // A value that is not named expires, and an invalidated one is removed as `Explicit` all the
+    // same.
     (
         "new closures ttl=10\ninsert 1 a\ninsert 2 b\nat 9999999999\ninvalidate-if b\n\
          at 10000000000\ntasks\nnotices\n",
@@ -58,6 +59,7 @@ const BY_VALUE: [Row; 8] = [
     ),
 ];
 
+// `invalidate-if` invalidates the entries with the values that it names.
 #[test]
 fn hides_the_values_that_it_is_told(rt: HostRuntime) -> Result<(), Fail> {
     prints(&rt, rt.alloc(), &BY_VALUE)
@@ -83,6 +85,7 @@ const ALL: [Row; 3] = [
     ),
 ];
 
+// `invalidate-all` invalidates all entries that are stored then.
 #[test]
 fn hides_all(rt: HostRuntime) -> Result<(), Fail> {
     prints(&rt, rt.alloc(), &ALL)
@@ -105,7 +108,7 @@ const REMOVED: [Row; 5] = [
         "ok\nok\nok\nok\nnone\nok\nnotice 1 a Explicit\nnotice 2 b Explicit\nend\n",
         Status::Done,
     ),
-    // A removal draws no number and is a look that records its moment.
+    // A removal draws no sequence number, and records its moment.
     (
         "new first=18446744073709551614 ttl=10\ninsert 1 a\nremove 1\ninsert 1 b\nremove 2\n",
         "ok\nok\nsome a\nrefused 2\nnone\n",
@@ -118,6 +121,7 @@ const REMOVED: [Row; 5] = [
     ),
 ];
 
+// `remove` prints the live value, and removes the entry.
 #[test]
 fn removes_and_answers_the_live_value(rt: HostRuntime) -> Result<(), Fail> {
     prints(&rt, rt.alloc(), &REMOVED)
@@ -136,6 +140,7 @@ const CLOSURES: [Row; 6] = [
     ("new Closures\n", "bad line\n", Status::Bad),
 ];
 
+// The setting `closures` is one word, and is set at most once.
 #[test]
 fn the_setting_is_one_word_once(rt: HostRuntime) -> Result<(), Fail> {
     prints(&rt, rt.alloc(), &CLOSURES)
@@ -158,6 +163,7 @@ const BAD: [&str; 14] = [
     "invalidate-If a",
 ];
 
+// Lines that are no commands are bad lines.
 #[test]
 fn other_lines_are_bad(rt: HostRuntime) -> Result<(), Fail> {
     for line in BAD {
@@ -169,7 +175,7 @@ fn other_lines_are_bad(rt: HostRuntime) -> Result<(), Fail> {
     Ok(())
 }
 
-// The values that a line names are as many as it has room for.
+// A line may name as many values as it has room for.
 #[test]
 fn a_line_may_name_10_000_values(rt: HostRuntime) -> Result<(), Fail> {
     let mut script = Vec::new(rt.alloc());

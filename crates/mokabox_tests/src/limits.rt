@@ -1,4 +1,4 @@
-//! Scripts with limits on maintenances and flushes.
+//! Scripts with limits on maintenance and flushes.
 use crate::runs::{Row, prints};
 use mokabox_script::script::Status;
 use std::test::Fail;
@@ -28,6 +28,7 @@ const TASKS: [Row; 4] = [
     ),
 ];
 
+// `tasks-up-to` prints whether work is left.
 #[test]
 fn tells_whether_something_is_left(rt: HostRuntime) -> Result<(), Fail> {
     prints(&rt, rt.alloc(), &TASKS)
@@ -63,6 +64,7 @@ const REFUSED: [Row; 7] = [
     ("new flush=\n", "bad line\n", Status::Bad),
 ];
 
+// A flush limit is at least 1 and not beside a weigher.
 #[test]
 fn a_flush_limit_is_not_0_and_beside_no_weigher(rt: HostRuntime) -> Result<(), Fail> {
     prints(&rt, rt.alloc(), &REFUSED)

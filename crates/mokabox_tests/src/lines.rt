@@ -1,10 +1,11 @@
-//! Lines that are none of a script's, very long lines, and very many.
+//! Bad lines, very long lines, and very many lines.
 use crate::runs::prints_bytes;
 use mokabox_script::script::Status;
 use std::alloc::{AllocError, Global};
 use std::io::Write;
 use std::test::Fail;
 
+// A bad line prints `bad line`, and the script goes on.
 #[test]
 fn bad_lines_are_said(rt: HostRuntime) -> Result<(), Fail> {
     for line in [
@@ -48,6 +49,7 @@ fn bad_lines_are_said(rt: HostRuntime) -> Result<(), Fail> {
     Ok(())
 }
 
+// A value is printed with the bytes that it was given.
 #[test]
 fn a_value_keeps_its_bytes(rt: HostRuntime) -> Result<(), Fail> {
     prints_bytes(
@@ -59,7 +61,7 @@ fn a_value_keeps_its_bytes(rt: HostRuntime) -> Result<(), Fail> {
     )
 }
 
-// A text between two others: this byte, so many times.
+// Returns a text between two others: the byte `v`, `length` times.
 fn around(
     alloc: Global,
     before: &[u8],
@@ -75,6 +77,7 @@ fn around(
     Ok(text)
 }
 
+// A line may be 100,000 bytes long.
 #[test]
 fn a_line_may_be_100_000_bytes_long(rt: HostRuntime) -> Result<(), Fail> {
     let alloc = rt.alloc();
@@ -89,6 +92,7 @@ fn a_line_may_be_100_000_bytes_long(rt: HostRuntime) -> Result<(), Fail> {
     prints_bytes(&rt, alloc, &script, b"bad line\n", Status::Bad)
 }
 
+// A value weighs as many bytes as it has, also 65,536.
 #[test]
 fn a_value_of_65_536_bytes_has_its_weight(rt: HostRuntime) -> Result<(), Fail> {
     let alloc = rt.alloc();
@@ -105,6 +109,7 @@ fn a_value_of_65_536_bytes_has_its_weight(rt: HostRuntime) -> Result<(), Fail> {
     prints_bytes(&rt, alloc, &script, b"ok\nok\n65536\nok\n0\n", Status::Done)
 }
 
+// A script may have 5,000 lines.
 #[test]
 fn a_script_may_have_5_000_lines(rt: HostRuntime) -> Result<(), Fail> {
     let mut script = Vec::new(rt.alloc());
@@ -120,6 +125,7 @@ fn a_script_may_have_5_000_lines(rt: HostRuntime) -> Result<(), Fail> {
     prints_bytes(&rt, rt.alloc(), &script, &wanted, Status::Done)
 }
 
+// The 65th insert finds 64 pending entries, and flushes first.
 #[test]
 fn the_65th_write_finds_64_waiting(rt: HostRuntime) -> Result<(), Fail> {
     let mut script = Vec::new(rt.alloc());
@@ -129,7 +135,7 @@ fn the_65th_write_finds_64_waiting(rt: HostRuntime) -> Result<(), Fail> {
     }
     script.extend_from_slice(b"notices\ncount\n")?;
 
-    // The maintenance admits keys 1 to 64, and the capacity keeps the last 10 of them.
+    // The flush admits keys 1 to 64, and the capacity keeps the last ten of them.
     let mut wanted = Vec::new(rt.alloc());
     for _ in 0..66_u64 {
         wanted.extend_from_slice(b"ok\n")?;

@@ -10,31 +10,31 @@ const FOUND_OR_WRITTEN: [Row; 6] = [
         "ok\nentry 1 three fresh\nentry 1 three old\nsome three\nend\n",
         Status::Done,
     ),
-    // One over a dead value replaces none.
+    // One over an expired entry replaces none.
     (
         "new ttl=1\ninsert 1 a\nat 1000000000\nor-insert 1 b\nget 1\nnotices\n",
         "ok\nok\nentry 1 b fresh\nsome b\nnotice 1 a Expired\nend\n",
         Status::Done,
     ),
-    // A hit is a use.
+    // A hit is an access.
     (
         "new tti=2\ninsert 1 a\nat 1000000000\nor-insert 1 b\nat 2000000000\nget 1\n",
         "ok\nok\nentry 1 a old\nsome a\n",
         Status::Done,
     ),
-    // Where nothing is stored, no number is drawn.
+    // If nothing is stored, no sequence number is drawn.
     (
         "new capacity=0 first=18446744073709551615\nor-insert 1 a\nor-insert 1 b\ncount\nnotices\n",
         "ok\nentry 1 a fresh\nentry 1 b fresh\n0\nend\n",
         Status::Done,
     ),
-    // The last number, and none; a live value needs none.
+    // The last sequence number, and then none; a live value needs none.
     (
         "new first=18446744073709551614\nor-insert 1 a\nor-insert 2 b\nor-insert 1 c\nhas 2\n",
         "ok\nentry 1 a fresh\nrefused 2\nentry 1 a old\nfalse\n",
         Status::Done,
     ),
-    // One that is refused records no moment.
+    // One that fails records no moment.
     (
         "new ttl=1 first=18446744073709551614\ninsert 1 a\nat 2000000000\nor-insert 1 b\n\
          or-insert 2 b\nat 0\nget 1\nor-insert\nor-insert 1\nor-insert 1 a b\nor-insert 01 a\n",
@@ -43,15 +43,16 @@ const FOUND_OR_WRITTEN: [Row; 6] = [
     ),
 ];
 
+// `or-insert` returns a live value, or stores its own.
 #[test]
 fn a_live_value_is_found_and_else_one_is_written(rt: HostRuntime) -> Result<(), Fail> {
     prints(&rt, rt.alloc(), &FOUND_OR_WRITTEN)
 }
 
-// 0 is admitted and was looked for once, and so was 65, which waits with 63 others. The keys 1, 65 and 129 share a
-// counter: so the look of 129 makes 65 pass 0, but where it is noted only behind the flush.
+// The lookup of `or-insert` is noted before its flush, and counts there.
 #[test]
 fn its_look_is_noted_before_the_flush(rt: HostRuntime) -> Result<(), Fail> {
+    // Keys 0 and 65 were looked up once. Key 129 shares a counter with 65, so 65 is admitted for 0.
     let mut script = Vec::new(rt.alloc());
     let mut wanted = Vec::new(rt.alloc());
     script.extend_from_slice(b"new capacity=1\ninsert 0 a\ntasks\nget 0\ninsert 65 b\nget 65\n")?;
@@ -66,7 +67,7 @@ fn its_look_is_noted_before_the_flush(rt: HostRuntime) -> Result<(), Fail> {
 }
 
 const IN_SEGMENTS: [Row; 1] = [
-    // The highest bit of a key's hash names its segment, and each has numbers of its own.
+    // The highest bit of a key's hash chooses its segment, and each has its own sequence numbers.
     (
         "new segments=2 first=18446744073709551614\nor-insert 1 a\nor-insert 9223372036854775809 b\n\
          or-insert 2 c\nor-insert 9223372036854775810 d\nor-insert 9223372036854775809 e\nwalk\n",
@@ -76,6 +77,7 @@ const IN_SEGMENTS: [Row; 1] = [
     ),
 ];
 
+// `or-insert` acts in the segment of its key.
 #[test]
 fn each_key_has_its_segment(rt: HostRuntime) -> Result<(), Fail> {
     prints(&rt, rt.alloc(), &IN_SEGMENTS)

@@ -1,4 +1,4 @@
-//! One run of the program, over a reader and a writer that are told how to go and where to fail.
+//! One run of the program, over a reader and a writer that are set to go and to fail in some way.
 use mokabox_script::program::run_program;
 use mokabox_script::script::Status;
 use std::alloc::Global;
@@ -10,12 +10,12 @@ use std::test::Fail;
 /// A script, what it prints, and how it ends.
 pub type Row = (&'static str, &'static str, Status);
 
-/// How the reader and the writer of a run go.
+/// How the reader and the writer of a run behave.
 #[derive(Clone, Copy)]
 pub struct Way {
-    /// How many bytes a read gives at most.
+    /// How many bytes a read returns at most.
     pub piece: usize,
-    /// Whether a read fails once all bytes are given, in place of the end of the input.
+    /// Whether a read fails after all bytes, instead of the end of the input.
     pub breaks: bool,
     /// How many bytes the writer takes before a write fails.
     pub room: usize,
@@ -31,7 +31,7 @@ pub const SOUND: Way = Way {
     flush_fails: false,
 };
 
-/// Asserts what each script prints, and how it ends.
+/// Checks what each script prints, and how it ends.
 pub fn prints(rt: &impl Abort, alloc: Global, table: &[Row]) -> Result<(), Fail> {
     for (script, wanted, status) in table {
         prints_bytes(rt, alloc, script.as_bytes(), wanted.as_bytes(), *status)?;
@@ -39,7 +39,7 @@ pub fn prints(rt: &impl Abort, alloc: Global, table: &[Row]) -> Result<(), Fail>
     Ok(())
 }
 
-/// Asserts what a script prints, and how it ends, however small the pieces are in which it is read.
+/// Checks what a script prints, and how it ends, read in pieces of 1, 7 and 4096 bytes.
 pub fn prints_bytes(
     rt: &impl Abort,
     alloc: Global,
@@ -61,7 +61,7 @@ pub fn prints_bytes(
     Ok(())
 }
 
-/// Asserts what a run writes, and how it ends.
+/// Checks what a run writes, and how it ends.
 pub fn goes(
     rt: &impl Abort,
     alloc: Global,
@@ -96,7 +96,7 @@ pub fn goes(
     Ok(())
 }
 
-/// A reader that gives its bytes in pieces.
+/// A reader that returns its bytes in pieces.
 #[derive(Drop)]
 struct Source<'a> {
     rest: &'a [u8],
@@ -117,9 +117,9 @@ impl Read for Source<'_> {
 /// A writer that takes so many bytes and then fails.
 #[derive(Drop)]
 pub struct Sink {
-    /// What it took.
+    /// The bytes that it took.
     pub taken: Vec<u8>,
-    /// How many bytes it takes still.
+    /// How many bytes it still takes.
     pub room: usize,
     /// Whether a flush fails.
     pub flush_fails: bool,

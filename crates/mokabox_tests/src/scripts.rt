@@ -1,4 +1,4 @@
-//! Scripts whose values live, leave and are admitted.
+//! Scripts whose entries expire, are evicted and are admitted.
 use crate::runs::{Row, prints};
 use mokabox_script::script::Status;
 use std::test::Fail;
@@ -49,6 +49,7 @@ const LIVES: [Row; 8] = [
     ),
 ];
 
+// Values are found until their time to live or to idle has passed, and not after.
 #[test]
 fn values_live_as_long_as_they_may(rt: HostRuntime) -> Result<(), Fail> {
     prints(&rt, rt.alloc(), &LIVES)
@@ -67,6 +68,7 @@ const NUMBERS: [Row; 2] = [
     ),
 ];
 
+// An insert fails if no sequence number is left.
 #[test]
 fn a_write_is_refused_where_the_numbers_are_used_up(rt: HostRuntime) -> Result<(), Fail> {
     prints(&rt, rt.alloc(), &NUMBERS)
@@ -96,6 +98,7 @@ const WALKS: [Row; 4] = [
     ),
 ];
 
+// `walk` prints the live entries, sorted by key.
 #[test]
 fn a_walk_prints_what_is_live_by_rising_key(rt: HostRuntime) -> Result<(), Fail> {
     prints(&rt, rt.alloc(), &WALKS)
@@ -120,6 +123,7 @@ const CAPACITIES: [Row; 3] = [
     ),
 ];
 
+// A cache keeps to its capacity.
 #[test]
 fn a_capacity_is_kept(rt: HostRuntime) -> Result<(), Fail> {
     prints(&rt, rt.alloc(), &CAPACITIES)
@@ -149,6 +153,7 @@ const FIRST_LINES: [Row; 17] = [
     ("new\nnew\nhas 1\n", "ok\nbad line\nfalse\n", Status::Bad),
 ];
 
+// The first line sets how the cache is built.
 #[test]
 fn the_first_line_says_how_the_cache_is_built(rt: HostRuntime) -> Result<(), Fail> {
     prints(&rt, rt.alloc(), &FIRST_LINES)
@@ -205,6 +210,7 @@ const BUILT: [Row; 11] = [
     ),
 ];
 
+// `policy` prints the settings, and settings out of range are rejected.
 #[test]
 fn a_cache_is_built_as_its_policy_says(rt: HostRuntime) -> Result<(), Fail> {
     prints(&rt, rt.alloc(), &BUILT)
@@ -227,6 +233,7 @@ const WEIGHED: [Row; 2] = [
     ),
 ];
 
+// `weigher=bytes` weighs values by their bytes.
 #[test]
 fn values_are_weighed_by_their_bytes(rt: HostRuntime) -> Result<(), Fail> {
     prints(&rt, rt.alloc(), &WEIGHED)
@@ -246,6 +253,7 @@ const ADMITTED: [Row; 1] = [(
     Status::Done,
 )];
 
+// A value is admitted once it was looked up more often than its victim.
 #[test]
 fn a_value_is_admitted_once_it_was_looked_for_more(rt: HostRuntime) -> Result<(), Fail> {
     prints(&rt, rt.alloc(), &ADMITTED)
@@ -272,13 +280,14 @@ const HEAVY: [Row; 1] = [(
     Status::Done,
 )];
 
+// A heavy value has to be looked up more often than its victims together.
 #[test]
 fn a_heavy_value_needs_more_looks_than_its_victims(rt: HostRuntime) -> Result<(), Fail> {
     prints(&rt, rt.alloc(), &HEAVY)
 }
 
-// A key is looked for twice, and then another is written where one that was looked for once is
-// stored: the write's key is admitted exactly where the two share a counter.
+// A key is looked up twice. Then another is inserted, while one that was looked up once is stored.
+// The inserted key is admitted exactly if the two share a counter.
 const SHARED: [Row; 4] = [
     (
         "new capacity=1\ninsert 2 a\nget 2\ntasks\nget 65\nget 65\ninsert 1 b\ntasks\nnotices\n",
@@ -303,6 +312,7 @@ const SHARED: [Row; 4] = [
     ),
 ];
 
+// Keys share a counter by their lowest six bits.
 #[test]
 fn keys_share_a_counter_by_their_lowest_six_bits(rt: HostRuntime) -> Result<(), Fail> {
     prints(&rt, rt.alloc(), &SHARED)

@@ -34,13 +34,14 @@ const BUILT: [Row; 8] = [
     ),
 ];
 
+// A number of segments is rounded up to a power of two, or rejected.
 #[test]
 fn a_number_of_segments_is_rounded_up_or_refused(rt: HostRuntime) -> Result<(), Fail> {
     prints(&rt, rt.alloc(), &BUILT)
 }
 
 const SHARED: [Row; 5] = [
-    // Each of the two segments may keep one key, and a look at one passes no moment in the other.
+    // Each of the two segments keeps one key, and each has its own latest moment.
     (
         "new capacity=2 segments=2 policy=lru ttl=10\ninsert 1 a\n\
          insert 9223372036854775808 b\ninsert 2 c\ntasks\nnotices\ncount\n\
@@ -48,7 +49,7 @@ const SHARED: [Row; 5] = [
         "ok\nok\nok\nok\nok\nnotice 1 a Size\nend\n2\nnone\nsome c\n",
         Status::Done,
     ),
-    // Notices come segment by segment, and what goes to all goes to the last too.
+    // Notices come segment by segment, and invalidations act in all segments.
     (
         "new segments=4 closures\ninsert 18446744073709551615 d\ninsert 1 a\ninsert 2 d\n\
          invalidate 18446744073709551615\ninvalidate 1\nnotices\ninsert 18446744073709551615 d\n\
@@ -63,14 +64,14 @@ const SHARED: [Row; 5] = [
         "ok\nok\nerror 1\nok\nfalse\n1\n",
         Status::Done,
     ),
-    // Each segment is given the whole limit, and a walk goes over all.
+    // Each segment gets the whole limit, and `walk` goes over all.
     (
         "new segments=2\ninsert 9223372036854775808 b\ninsert 1 a\nwalk\ninvalidate-all\n\
          tasks-up-to 0\ncount\ntasks-up-to 1\ncount\nwalk\n",
         "ok\nok\nok\nwalk 1=a 9223372036854775808=b\nok\nleft\n2\ndone\n0\nwalk\n",
         Status::Done,
     ),
-    // Each segment has numbers of its own.
+    // Each segment has its own sequence numbers.
     (
         "new segments=2 first=18446744073709551614\ninsert 1 a\ninsert 2 b\n\
          insert 9223372036854775808 c\nremove 9223372036854775808\n",
@@ -79,6 +80,7 @@ const SHARED: [Row; 5] = [
     ),
 ];
 
+// Each segment is a cache with its share of the capacity.
 #[test]
 fn each_segment_is_a_cache_of_its_share(rt: HostRuntime) -> Result<(), Fail> {
     prints(&rt, rt.alloc(), &SHARED)

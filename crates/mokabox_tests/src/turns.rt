@@ -1,4 +1,4 @@
-//! Scripts of turns.
+//! Scripts about turns.
 use crate::runs::{Row, prints, prints_bytes};
 use mokabox_script::script::Status;
 use std::io::Write;
@@ -13,7 +13,7 @@ const TOLD: [Row; 5] = [
          refused 4\nrun 2\nok\nrefused 3\nnotice 5 thread1 Explicit\nend\n",
         Status::Done,
     ),
-    // Turns of one key and of two kinds never mix.
+    // Turns of one key and of two kinds are independent.
     (
         "new capacity=100\nbegin with 5\nbegin with 5\nbegin try 5\nfinish try 5 1 failed no\n\
          collect with 5 0\nfinish with 5 0 value v\ncollect with 5 0\n",
@@ -33,7 +33,7 @@ const TOLD: [Row; 5] = [
         "ok\nrun 0\nwait 0\nnone\nentry 5 thread1 fresh\nsome thread1\nentry 5 thread1 old\nrun 2\n",
         Status::Done,
     ),
-    // An error is told to each that waits.
+    // Each ticket collects the error.
     (
         "new\nbegin try 7\nbegin try 7\nbegin try 7\nfinish try 7 0 failed no\ncollect try 7 0\n\
          collect try 7 0\ncollect try 7 0\nget 7\n",
@@ -42,6 +42,7 @@ const TOLD: [Row; 5] = [
     ),
 ];
 
+// A turn is run once, and each of its tickets collects the result.
 #[test]
 fn a_turn_is_run_once_and_told_to_all(rt: HostRuntime) -> Result<(), Fail> {
     prints(&rt, rt.alloc(), &TOLD)
@@ -62,7 +63,7 @@ const ABANDONED: [Row; 3] = [
         "ok\nrun 0\nwait 0\nok\nabandoned\nrun 1\n",
         Status::Done,
     ),
-    // No number is left, and each turn and ticket that is there ends as it may.
+    // No sequence number is left, and each open turn and ticket can still be ended.
     (
         "new first=18446744073709551614\nbegin with 5\nbegin with 5\n\
          finish with 5 18446744073709551614 value v\ncollect with 5 18446744073709551614\n\
@@ -74,6 +75,7 @@ const ABANDONED: [Row; 3] = [
     ),
 ];
 
+// A turn may be abandoned, and its tickets collect that.
 #[test]
 fn a_turn_may_be_abandoned(rt: HostRuntime) -> Result<(), Fail> {
     prints(&rt, rt.alloc(), &ABANDONED)
@@ -92,7 +94,7 @@ const REPLACED: [Row; 3] = [
         "ok\nok\nrun 1\nentry 1 y fresh replaced\nnotice 1 x Replaced\nend\nentry 1 y old\n",
         Status::Done,
     ),
-    // Who has no number left still reads.
+    // Lookups need no sequence number.
     (
         "new first=18446744073709551614\ninsert 1 v\ninsert 2 w\nbegin with 2\nget 1\n\
          invalidate 1\nnotices\n",
@@ -101,6 +103,7 @@ const REPLACED: [Row; 3] = [
     ),
 ];
 
+// A begin replaces a live value if it says so.
 #[test]
 fn a_live_value_may_be_turned_down(rt: HostRuntime) -> Result<(), Fail> {
     prints(&rt, rt.alloc(), &REPLACED)
@@ -135,13 +138,14 @@ const ENDINGS: [Row; 4] = [
     ),
 ];
 
+// A turn ends only with an outcome that fits its kind.
 #[test]
 fn an_ending_fits_the_kind(rt: HostRuntime) -> Result<(), Fail> {
     prints(&rt, rt.alloc(), &ENDINGS)
 }
 
 const COMPUTED: [Row; 5] = [
-    // At a capacity of 0 nothing is stored, and what is put is answered.
+    // At a capacity of 0 nothing is stored, and what is put is returned.
     (
         "new capacity=0\ninsert 0 x\nbegin compute 0\nfinish compute 0 0 put y\nget 0\ncount\n\
          notices\n",
@@ -160,7 +164,7 @@ const COMPUTED: [Row; 5] = [
          notice 1 b Explicit\nend\n",
         Status::Done,
     ),
-    // A compute is none of the other kinds, and a copy is kept of what it was shown.
+    // A compute is independent of other kinds, and a clone of the entry that it got is kept.
     (
         "new\ninsert 1 a\nbegin compute 1\nbegin with 1\nbegin try 2\nbegin compute 2\n\
          insert 1 b\nfinish with 1 1 value c\nfinish compute 1 1 nop\nget 1\n\
@@ -187,11 +191,13 @@ const COMPUTED: [Row; 5] = [
     ),
 ];
 
+// A compute puts, keeps or removes a value.
 #[test]
 fn a_value_is_computed(rt: HostRuntime) -> Result<(), Fail> {
     prints(&rt, rt.alloc(), &COMPUTED)
 }
 
+// A value that is put replaces the one that came with the turn.
 #[test]
 fn what_is_put_replaces_what_its_begin_showed(rt: HostRuntime) -> Result<(), Fail> {
     let mut script = Vec::new(rt.alloc());
@@ -201,7 +207,7 @@ fn what_is_put_replaces_what_its_begin_showed(rt: HostRuntime) -> Result<(), Fai
     }
     script.extend_from_slice(b"finish compute 1 1 put w\nnotices\ncount\nget 1\n")?;
 
-    // The flush before the write lets the shown value leave, and it is replaced all the same.
+    // The flush before the write evicts that value, and it is replaced all the same.
     let mut wanted = Vec::new(rt.alloc());
     wanted.extend_from_slice(b"ok\nok\nok\nrun 1 some v\n")?;
     for _ in 2..66_u64 {
@@ -215,6 +221,7 @@ fn what_is_put_replaces_what_its_begin_showed(rt: HostRuntime) -> Result<(), Fai
     prints_bytes(&rt, rt.alloc(), &script, &wanted, Status::Done)
 }
 
+// Lines that are no commands are bad lines.
 #[test]
 fn other_lines_are_bad(rt: HostRuntime) -> Result<(), Fail> {
     for line in [

@@ -1,4 +1,5 @@
-//! The program's workers: which arguments ask for them, what is printed of them, and that they run beside each other.
+//! The program's workers: which arguments start them, what is printed, and that they run at the
+//! same time.
 use crate::runs::Sink;
 use mokabox_threads::arguments::workers_of;
 use mokabox_threads::threads::{Ended, Gate, OpenGate, run_threads};
@@ -12,7 +13,7 @@ use std::thread;
 use std::thread::Threads;
 use std::time::Duration;
 
-/// How many workers are asked for, and what is printed of them.
+/// The number of workers as an argument, and what is printed.
 const COUNTED: [(&str, &str); 16] = [
     ("1", "workers 1 present 48 absent 16\n"),
     ("2", "workers 2 present 96 absent 32\n"),
@@ -32,6 +33,7 @@ const COUNTED: [(&str, &str); 16] = [
     ("16", "workers 16 present 768 absent 256\n"),
 ];
 
+// Three of four keys of each worker are found.
 #[test]
 fn three_of_four_keys_of_each_worker_are_there(rt: HostRuntime) -> Result<(), Fail> {
     for (count, line) in COUNTED {
@@ -40,7 +42,7 @@ fn three_of_four_keys_of_each_worker_are_there(rt: HostRuntime) -> Result<(), Fa
     Ok(())
 }
 
-// Asserts what is printed of so many workers, and how the program ends.
+// Checks what is printed for so many workers, and how the program ends.
 fn prints<R, G>(rt: R, alloc: Global, count: &str, gate: &G, line: &str) -> Result<(), Fail>
 where
     R: Threads + Wait + Abort + Copy + Send + Sync,
@@ -63,6 +65,7 @@ fn words(alloc: Global, texts: &[&str]) -> Result<Vec<String>, AllocError> {
     Ok(words)
 }
 
+// Other arguments start no workers.
 #[test]
 fn other_arguments_ask_for_no_workers(rt: HostRuntime) -> Result<(), Fail> {
     for arguments in [
@@ -93,6 +96,7 @@ fn other_arguments_ask_for_no_workers(rt: HostRuntime) -> Result<(), Fail> {
     Ok(())
 }
 
+// Each ending has its exit code.
 #[test]
 fn endings_have_their_codes(rt: HostRuntime) {
     for (ended, code) in [(Ended::Counted, 0), (Ended::Refused, 1)] {
@@ -100,7 +104,7 @@ fn endings_have_their_codes(rt: HostRuntime) {
     }
 }
 
-// Where one of two workers is.
+// Whether one of two workers has come, and whether it saw the other.
 #[derive(Drop)]
 struct Seat {
     came: AtomicBool,
@@ -116,7 +120,7 @@ impl Seat {
     }
 }
 
-// Lets each of two workers in once the other has come too, or after some ten seconds.
+// A gate that holds each of two workers until the other has come, for about ten seconds at most.
 #[derive(Drop)]
 struct Meeting<R> {
     rt: R,
@@ -147,7 +151,7 @@ impl<R: Clock> Gate for Meeting<R> {
     }
 }
 
-// Workers that ran one after another would not meet.
+// Two workers run at the same time: one after another, they would not meet.
 #[test]
 fn workers_run_beside_each_other(rt: HostRuntime) -> Result<(), Fail> {
     let gate = Meeting {
@@ -161,10 +165,10 @@ fn workers_run_beside_each_other(rt: HostRuntime) -> Result<(), Fail> {
     Ok(())
 }
 
-// Where one request for memory is refused, whichever, the workers are refused, and that is printed in place of the counts. One that
-// comes before or behind theirs changes nothing.
+// If an allocation of the workers fails, that is printed instead of the counts.
 #[test]
 fn workers_are_refused_where_memory_is(rt: HostRuntime) -> Result<(), Fail> {
+    // An allocation that fails before or after those of the workers changes nothing.
     let mut written = match Vec::with_capacity(rt.alloc(), 64) {
         Ok(written) => written,
         Err(_) => Vec::with_capacity(rt.alloc(), 64)?,
@@ -178,6 +182,7 @@ fn workers_are_refused_where_memory_is(rt: HostRuntime) -> Result<(), Fail> {
     Ok(())
 }
 
+// A writer that is full fails the workers.
 #[test]
 fn a_writer_that_is_full_fails_the_workers(rt: HostRuntime) -> Result<(), Fail> {
     let line = COUNTED[0].1;

@@ -1,4 +1,4 @@
--- Which arguments ask for workers, what these write into their cache, and what is printed of them.
+-- Which arguments ask for workers, what the workers write into their cache, and what is printed.
 use Rattle.std.specs.Prelude.{◌≡◌, ℕ, ◌+◌, ◌*◌, nat_lt, ◌&&◌, List, [], ◌∷◌, ◌++◌, Option, Some, None, option_and_then}
 use Rattle.std.specs.Prelude.{Result, Ok, Err, IfOk, codes, if◌then◌else◌}
 use Rattle.std.specs.Fmt.{decimal}
@@ -11,37 +11,37 @@ use Rattle.mokabox_threads.specs.declared.threads.Counts.{Counts}
 use Rattle.mokabox_threads.specs.declared.threads.Ended.{Ended}
 use Rattle.mokabox_threads.specs.declared.threads.Ended.TheVariants as endings
 
--- so many workers, where there are some and at most sixteen
+-- The number of workers, if it is from 1 to 16.
 abbrev pub few : ℕ → Option ℕ
 few count = if nat_lt 0 count && nat_lt count 17 then Some count else None
 
--- how many workers the arguments ask for, the program's own name not being one of them: the word `threads` and a number
+-- The number of workers that the arguments, without the program's own name, ask for: the word `threads` and a number.
 abbrev pub workers_by : List (List ℕ) → Option ℕ
 workers_by [] = None
 workers_by (word ∷ []) = None
 workers_by (word ∷ count ∷ []) = if bytes_eq word (codes "threads") then option_and_then few (number_of count) else None
 workers_by (word ∷ count ∷ other ∷ more) = None
 
--- the value that a worker writes for a key
+-- The value that a worker writes for a key.
 abbrev pub value_text : ℕ → List ℕ
 value_text key = codes "value " ++ decimal key
 
--- What came of so many workers: each of their keys was counted once, as there or as not there; or something was refused.
+-- What was counted: each key of the workers once, as present or as absent; or an error.
 abbrev pub IsCounted : ℕ → Result Counts Refused → Type 0
 IsCounted workers counted = IfOk counted (λ counts. counts.present + counts.absent ≡ 64 * workers)
 
--- the line that is printed of it
+-- The line that is printed.
 abbrev pub counted_line : ℕ → Result Counts Refused → List ℕ
 counted_line workers (Ok counts) = codes "workers " ++ (decimal workers ++ (codes " present " ++ (decimal counts.present
     ++ (codes " absent " ++ (decimal counts.absent ++ (10 ∷ []))))))
 counted_line workers (Err cause) = answer_line (answers.Refused cause)
 
--- how the program ends then
+-- How the run ends.
 abbrev pub ended_by : Result Counts Refused → Ended
 ended_by (Ok counts) = endings.Counted
 ended_by (Err cause) = endings.Refused
 
--- its exit status
+-- The exit status of the program.
 abbrev pub code_of : Ended → ℕ
 code_of endings.Counted = 0
 code_of endings.Refused = 1

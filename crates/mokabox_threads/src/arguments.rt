@@ -5,11 +5,11 @@ ghost use Rattle.mokabox_threads.specs.Threads.{few, workers_by};
 
 use mokabox_lines::fields::number;
 
-/// How many workers there may be.
+/// The greatest number of workers.
 pub const MOST_WORKERS: u64 = 16;
 
-/// How many workers the arguments ask for, the program's own name not being one of them: `threads N`, with N from 1 to
-/// 16. `None` where they ask for anything else.
+/// Returns the number of workers that the arguments ask for: `threads N`, with N from 1 to 16. They
+/// do not include the program's own name. Returns `None` if they ask for anything else.
 pub fn workers_of(arguments: &[String]) -> Option<u64>
     ensures exact { result ≡ workers_by (map string_bytes arguments.now) }
     ensures range { IfSome result (λ workers. (1 ≤ workers) × (workers ≤ 16)) }
@@ -20,7 +20,7 @@ pub fn workers_of(arguments: &[String]) -> Option<u64>
     }
 }
 
-// So many workers, where there are some, and not too many.
+// Returns the number of workers, if it is from 1 to the greatest.
 fn few(count: u64) -> Option<u64>
     ensures { result ≡ few count }
 {

@@ -1,4 +1,5 @@
-//! The program's workers: threads that share a cache, each with keys of its own.
+//! The workers part of the program `mokabox`: threads that share a cache, each with keys of its
+//! own.
 #![tactic(auto)]
 
 pub mod arguments;

@@ -1,4 +1,4 @@
-//! Workers that share a cache, and what is printed of them.
+//! Workers that share a cache, and the line that is printed at their end.
 ghost use Rattle.std.specs.Prelude.{◌≡◌, ◌<◌, ◌≤◌, IfOk, OnOk, Result};
 ghost use Rattle.std.specs.Io.KnownBytes.{Appends};
 ghost use Rattle.mokabox_threads.specs.Threads.{IsCounted, code_of, counted_line, ended_by};
@@ -14,13 +14,14 @@ use std::sync::Wait;
 use std::thread::Threads;
 use std::{io, thread};
 
-/// Where workers come by before they write.
+/// A gate that each worker passes before it writes. Tests use it to control the order of the
+/// workers.
 pub trait Gate {
-    /// A worker is there, before its first write. It goes on once this returns.
+    /// Called by a worker before its first write. The worker goes on once this returns.
     fn enter(&self, worker: u64);
 }
 
-/// Lets each worker in at once.
+/// A gate that is always open.
 #[derive(Clone, Copy, Debug)]
 pub struct OpenGate;
 
@@ -31,23 +32,23 @@ impl Gate for OpenGate {
 /// What was found once all workers were done.
 #[derive(Clone, Copy, Debug, PartialEq, Eq)]
 pub struct Counts {
-    /// How many of the workers' keys were there.
+    /// How many of the workers' keys were present.
     pub present: u64,
-    /// How many were not.
+    /// How many of the workers' keys were absent.
     pub absent: u64,
 }
 
-/// How a run of workers ended. What is said of it is written.
+/// How a run of workers ended, after its line was written.
 #[derive(Clone, Copy, Debug, PartialEq, Eq)]
 pub enum Ended {
     /// All keys were looked up.
     Counted,
-    /// The cache was not built, or a call of it was refused.
+    /// The cache could not be built, or a call of it failed.
     Refused,
 }
 
 impl Ended {
-    /// The program's exit status.
+    /// Returns the exit status of the program.
     pub fn code(self) -> u8
         ensures { result ≡ code_of self }
     {
@@ -58,12 +59,16 @@ impl Ended {
     }
 }
 
-/// Runs so many workers over one cache, each in a thread of its own where one can be made, and writes how many of their
-/// keys are there once all are done. Worker `i`, from 0, writes the keys from `64 * i` on, 64 of them, and looks up each
-/// that it wrote; then it removes every fourth of them, its first one first. What is refused is written in place of the
+/// Runs workers over one cache, and writes how many of their keys are present at the end.
+///
+/// Each runs in a thread of its own if one can be created. Worker `i`, from 0, inserts the 64 keys
+/// from `64 * i` on, and looks up each after its insert. Then it invalidates every fourth of them,
+/// from the first on. If the cache cannot be built or a call fails, writes that instead of the
 /// counts.
 ///
-/// Where it fails, a part may be written.
+/// # Errors
+///
+/// - An `Err` of the writer. A part may be written.
 pub fn run_threads<R, G, W>(
     rt: R,
     alloc: Global,
@@ -88,7 +93,7 @@ where
     })
 }
 
-// Runs so many workers, and counts which of their keys are there then.
+// Runs the workers, and then counts which of their keys are present.
 fn run_workers<R, G>(rt: R, alloc: Global, workers: u64, gate: &G) -> Result<Counts, Refused>
 where
     R: Threads + Wait + Sync + Send + Copy,
@@ -114,7 +119,7 @@ where
     count(&texts, workers)
 }
 
-// The cache that workers share. It stands still at one moment, and its values have no lives.
+// Creates the cache that the workers share. Its clock stands still, and its entries do not expire.
 fn new_texts<W: Wait + Drop>(alloc: Global, waits: W) -> Result<Texts<W>, Refused> {
     let built = CacheBuilder::new(10_000).build_with_hasher(
         alloc,
@@ -125,7 +130,7 @@ fn new_texts<W: Wait + Drop>(alloc: Global, waits: W) -> Result<Texts<W>, Refuse
     built.map_err(|_| Refused::OutOfMemory)
 }
 
-// Writes what came of so many workers.
+// Writes the line of the counts, or of the error.
 fn write_counted<W: Write>(
     writer: &mut W,
     workers: u64,

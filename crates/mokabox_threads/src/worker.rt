@@ -1,4 +1,4 @@
-//! What one worker does, and what is counted once all are done.
+//! What one worker does, and what is counted at the end.
 ghost use Rattle.std.specs.Prelude.{◌≡◌, ◌+◌, ◌*◌, ◌<◌, ◌≤◌, IfOk};
 ghost use Rattle.std.specs.String.{string_bytes};
 ghost use Rattle.std.proofs.Math.Path.{◌∙◌, ap};
@@ -12,7 +12,7 @@ use moka::sync::Cache;
 use std::alloc::Global;
 use std::sync::Wait;
 
-/// The values that workers write: each says its key.
+/// The value invariant of the shared cache: each value names its key.
 pub(crate) struct Values;
 
 impl Keeps<u64, String> for Values {
@@ -29,7 +29,7 @@ pub(crate) type Texts<W> = Cache<u64, String, Keeping<Values>, W>;
 // How many keys each worker has.
 const KEYS: u64 = 64;
 
-/// Lets a worker in, which then writes its keys, looks up each that it wrote, and removes every fourth.
+/// Does the work of one worker: inserts its keys, looks up each, and invalidates every fourth.
 pub(crate) fn work<W: Wait + Drop, G: Gate>(
     alloc: Global,
     texts: &Texts<W>,
@@ -50,14 +50,14 @@ pub(crate) fn work<W: Wait + Drop, G: Gate>(
     Ok(())
 }
 
-// The value of a key.
+// Returns the value that a worker writes for a key.
 fn value_of(alloc: Global, key: u64) -> Result<String, Refused>
     ensures { IfOk result (λ value. string_bytes value ≡ value_text key) }
 {
     format!(in alloc; "value {key}").map_err(|_| Refused::OutOfMemory)
 }
 
-/// Looks up the keys of so many workers, each once, and counts how many are there.
+/// Looks up each key of the workers once, and counts how many are present.
 pub(crate) fn count<W: Wait + Drop>(texts: &Texts<W>, workers: u64) -> Result<Counts, Refused>
     requires { workers ≤ 16 }
     ensures { IfOk result (λ counts. counts.present + counts.absent ≡ 64 * workers) }

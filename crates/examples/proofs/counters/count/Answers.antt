@@ -1,4 +1,4 @@
--- By what a caller concludes of the form of an upsert.
+-- The result of an upsert is the live count plus one: what a caller concludes from the contract of `and_upsert_with`.
 use Rattle.std.proofs.Common.{◌≡◌, ◌∙◌, ℕ, Bool, true, false, if◌then◌else◌, Option, Some, None, List, option_map, refl, ap}
 use Rattle.std.specs.Prelude.{Result, Ok, Err, IfSome, nat_eq}
 use Rattle.moka_policy.specs.declared.policy.Refused.{Refused}
@@ -18,11 +18,11 @@ use Rattle.moka_state.specs.ComputeForms.{IsComputeForm, IsUpserted}
 use Rattle.examples.specs.Counts.{count_of, live_count, one_more_than}
 use Rattle.examples.proofs.counters.count.Goals as goal
 
--- a copy of a count is the count
+-- a clone of a count equals the count
 abbrev is_clone : ℕ → ℕ → Type 0
 is_clone count copy = copy ≡ count
 
--- the count of an entry that is shown
+-- the count of the entry that the closure gets
 abbrev shown_count : Option (calls.Entry ℕ ℕ) → Option ℕ
 shown_count shown = option_map (λ e. e.value) shown
 
@@ -37,14 +37,14 @@ same-count (Some w) None is = absurd is
 same-count (Some w) (Some e) is = ap Some is.1
 
 module _ {E : Type 0} (settings : Settings ℕ ℕ) (page at : ℕ) where
-  -- the closure is shown the count that is live
+  -- the closure gets the live count
   shown-live : (h : List (Event ℕ ℕ)) (name : Name ℕ) (shown : Option (calls.Entry ℕ ℕ)) (o : Option (Turn ℕ ℕ E))
       → IsAnswer is_clone (begun_compute nat_eq settings h page false at o).answer (Run name shown)
       → shown_count shown ≡ option_map (λ w. w.value) (live_at nat_eq settings page at h)
   shown-live h name shown (Some t) waits = cc
   shown-live h name shown None runs = same-count (live_at nat_eq settings page at h) shown runs.1
 
--- the entry that a put answers has the count
+-- the entry that a `Put` returns holds the count that was put
 module _ (E : Type 0) (name : Name ℕ) (count : ℕ) where
   inserted : (put : calls.Entry ℕ ℕ) (shown : Bool) → IsAnswer is_clone (put_by {E = E} name count shown) (Inserted put) → put.value ≡ count
   inserted put true other = cc
@@ -58,14 +58,14 @@ module _ {E : Type 0} (settings : Settings ℕ ℕ) (h : List (Event ℕ ℕ)) (
   abbrev end : Bool → Option (Turn ℕ ℕ E) → Option (Accepted ℕ ℕ E)
   end fit o = if fit then option_map (finished nat_eq settings h name (outcomes.Op (ops.Put count)) at) o else None
 
-  -- the turn that ends was open
+  -- the turn that is finished was open
   of-end : (answer : calls.Answer ℕ ℕ E) (fit : Bool) (o : Option (Turn ℕ ℕ E)) → IsAnswerOf is_clone (end fit o) answer → (shown : Bool) × IsAnswer is_clone (put_by name count shown) answer
   of-end answer true (Some t) is = (t.shown, is)
   of-end answer true None is = absurd is
   of-end answer false o is = absurd is
 
   module _ (entry : Entry ℕ ℕ) where
-    -- the entry that is answered has the count that was put
+    -- the returned entry holds the count that was put
     put-is : (answer : calls.Answer ℕ ℕ E) → (shown : Bool) × IsAnswer is_clone (put_by name count shown) answer → IsUpserted (Ok answer) (Ok entry) → (entry_of entry).value ≡ count
     put-is (Inserted put) is own = ap (λ (e : calls.Entry ℕ ℕ). e.value) own ∙ inserted E name count put is.0 is.1
     put-is (ReplacedWith put) is own = ap (λ (e : calls.Entry ℕ ℕ). e.value) own ∙ replaced E name count put is.0 is.1
@@ -88,7 +88,7 @@ module _ {E : Type 0} (settings : Settings ℕ ℕ) (h : List (Event ℕ ℕ)) (
     put-is calls.HasEnded is other = absurd other
 
 module _ {E : Type 0} (is_infallible : ℕ → Type 0) (settings : Settings ℕ ℕ) (steps : List (AcceptedStep ℕ ℕ E)) (page at : ℕ) (entry : Entry ℕ ℕ) where
-  -- what is answered is one more than the count that is live
+  -- the returned count is the live count plus one
   counts-up : (Stands : List (AcceptedStep ℕ ℕ E) → Type 0) (shown : Option (Entry ℕ ℕ)) (given : Option ℕ) (answer : Result (calls.Answer ℕ ℕ E) Refused)
       → IsComputeForm nat_eq is_clone is_infallible settings steps (BeginCompute page false at) at (option_map entry_of shown) (option_map (λ v. Some (ops.Put v)) given) answer Stands
       → IsUpserted answer (Ok entry) → IfSome given (λ v. v ≡ one_more_than (count_of (option_map (λ e. (entry_of e).value) shown)))
@@ -102,7 +102,7 @@ module _ {E : Type 0} (is_infallible : ℕ → Type 0) (settings : Settings ℕ 
       let ends = of-end settings (events_in later) form.0 v at answer (fits {E = E} form.0.kind (outcomes.Op (ops.Put v))) (found (is_open_as nat_eq form.0) (turns later)) form.2.0.0 in
       put-is settings (events_in later) form.0 v at entry answer ends put ∙ gave ∙ ap one_more_than (ap count_of (same-shown shown ∙ live))
 
--- what the closure's contract says of what it gave, without how it ran
+-- what the closure's contract says of its result, without the part about how it ran
 as-given : (A : Type 0) (P : ℕ → Type 0) (given : Option ℕ) → IfSome given (λ v. A × P v) → IfSome given P
 as-given A P None is = is
 as-given A P (Some v) is = is.1

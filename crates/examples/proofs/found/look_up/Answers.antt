@@ -1,4 +1,4 @@
--- By what a caller concludes of a write and a look behind it.
+-- What a caller concludes of an insert and a `get` after it.
 use Rattle.std.proofs.Common.{◌≡◌, Bool, true, false, if◌then◌else◌, Option, Some, None, String, refl, ap, ◌∙◌, option_map}
 use Rattle.std.specs.String.{string_bytes}
 use Rattle.std.specs.Duration.{as_nanos}
@@ -13,7 +13,7 @@ use Rattle.moka.specs.Numbers.{stores_nothing}
 use Rattle.moka.proofs.Callers.{found-in_time}
 use Rattle.examples.proofs.found.look_up.Goals as goal
 
--- a copy has the same bytes
+-- a clone has the same bytes
 by-copy : (b : Bool) (name : String Global) (found : Option (String Global)) → IsCopyOf (λ n copy. string_bytes copy ≡ string_bytes n) (if b then None else Some name) found
     → option_map string_bytes found ≡ (if b then None else Some (string_bytes name))
 by-copy true name None copy = refl

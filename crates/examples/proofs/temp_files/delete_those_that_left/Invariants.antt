@@ -1,4 +1,4 @@
--- Each notice that is taken leaves one fewer.
+-- Each notice that is taken leaves one fewer in the queue.
 use Rattle.std.proofs.Common.{length}
 use Rattle.examples.proofs.temp_files.delete_those_that_left.Given as goal
 

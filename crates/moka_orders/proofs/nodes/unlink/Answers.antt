@@ -1,18 +1,13 @@
-use Rattle.std.proofs.Common.{◌≡◌, ap, ◌∙◌}
-use Rattle.moka_orders.specs.Nodes.{node_at}
-use Rattle.moka_orders.proofs.NodeLemmas.{next-within, prev-within, unlinks}
+use Rattle.std.proofs.Common.{◌≡◌, length, sym, subst, ◌∙◌}
+use Rattle.std.specs.Vec.{with_items}
+use Rattle.std.proofs.lemmas.List.{with_items_is}
+use Rattle.moka_orders.specs.Nodes.{Unlinks}
 use Rattle.moka_orders.proofs.nodes.unlink.Goals as goal
-
-pub set_next-requires : goal.set_next-requires
-set_next-requires c =
-    rw (c.read-prev.ensures, c.deref.ensures.value) (prev-within c.args.nodes.now.items c.args.at c.requires.mutual c.requires.within)
-
-pub set_prev-requires : goal.set_prev-requires
-set_prev-requires c =
-    rw (c.set_next.ensures.rest.len, c.read-prev.ensures, c.deref.ensures.value) (next-within c.args.nodes.now.items c.args.at c.requires.mutual c.requires.within)
 
 pub returns : goal.returns
 returns c =
-    let is : c.read-prev.result ≡ node_at c.args.nodes.now.items c.args.at = c.read-prev.ensures ∙ ap (λ ns. node_at ns c.args.at) c.deref.ensures.value in
-    unlinks c.args.nodes.now.items c.set_next.new.nodes.items c.set_prev.new.nodes.items c.set_next-2.new.nodes.items c.set_prev-2.new.nodes.items c.args.at c.requires.mutual
-    (rw is at c.set_next.ensures) (rw is at c.set_prev.ensures) c.set_next-2.ensures c.set_prev-2.ensures
+    let before = c.args.nodes.now in
+    let after = c.unlink_in.new.nodes in
+    let len : length after ≡ before.len = c.unlink_in.ensures.rest.len ∙ c.deref_mut.ensures.len in
+    subst (λ t. Unlinks t (with_items before after).items c.args.at) c.deref_mut.ensures.value
+    (subst (λ t. Unlinks c.deref_mut.result.now t c.args.at) (sym (with_items_is before after len)) c.unlink_in.ensures)

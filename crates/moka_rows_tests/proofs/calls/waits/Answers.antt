@@ -3,7 +3,7 @@ use Rattle.moka_rows.specs.Rows.{row_under}
 use Rattle.moka_rows.proofs.Callers.{row_under-append_right}
 use Rattle.moka_rows_tests.proofs.calls.waits.Goals as goal
 
--- what is stored and not admitted waits
+-- a stored row that is not admitted is pending
 waiting : {R : Type 0} (n : ℕ) (admitted waits : List (ℕ × R)) (said : Bool) → IsSome (row_under n (admitted ++ waits))
     → MatchOption (row_under n admitted) (said ≡ false) (λ _. said ≡ true) → not said ≡ true → IsSome (row_under n waits)
 waiting {R} n admitted waits said stored is answer = go (row_under n admitted) refl is

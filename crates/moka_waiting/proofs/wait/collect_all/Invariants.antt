@@ -2,7 +2,7 @@ use Rattle.std.specs.Prelude.{ℕ}
 use Rattle.moka_waiting.specs.Rounds.{Collects, CollectsRefused}
 use Rattle.moka_waiting.proofs.wait.collect_all.Given as goal
 
--- what collects come to from here, they come to from the first on; and the caller may be asked
+-- what collects return from here on is what they return from the first on; and the caller may be asked
 abbrev pub invariant-loop : goal.invariant-loop
 invariant-loop g l =
     ((n : ℕ) (b : _) (u : _) → Collects (g.P.Caller.collected l.at) n l.caller l.ticket b u → (m : ℕ) × Collects (g.P.Caller.collected l.at) m l.initial.caller l.initial.ticket b u)

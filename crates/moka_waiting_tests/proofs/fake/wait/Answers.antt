@@ -15,7 +15,7 @@ returns-clause-done g c =
     c.args.most c.args.calls.now w c.wait_for.new.caller tt ends).1)
     c.wait_for.ensures.done
 
--- a begin hands no ticket back
+-- a failed begin hands back no ticket
 no-ticket : (most : ℕ) (ticket : Option Ticket) → ticket ≡ None → IfSome ticket (λ back. back.collected ≤ most)
 no-ticket most None e = tt
 no-ticket most (Some back) e = absurd (cc)

@@ -13,7 +13,7 @@ none-is (Some x) said = absurd cc
 pub returns-then-is_some-clause-waiting : goal.returns-then-is_some-clause-waiting
 returns-then-is_some-clause-waiting c =
     let there = in-admitted c.args.self.now c.args.number c.is_admitted-is_admitted.result c.requires c.is_admitted-is_admitted.ensures.waiting c.if-is_admitted.true in
-    c.admit.ensures.waiting ∙ without-absent c.args.number (waiting_of c.args.self.now) (linked-once c.args.self.now c.args.number there)
+    c.move_last.ensures.waiting ∙ without-absent c.args.number (waiting_of c.args.self.now) (linked-once c.args.self.now c.args.number there)
 
 pub returns-else-is_admitted-clause-admitted : goal.returns-else-is_admitted-clause-admitted
 returns-else-is_admitted-clause-admitted c = λ there.

@@ -8,7 +8,7 @@ use Rattle.moka_state.specs.Given.{of_begin_compute}
 use Rattle.moka_model.specs.StandsFor.{StandsFor}
 use Rattle.moka_ways.specs.Behaviour.{hash_by, behaviour_by}
 use Rattle.moka_ways.specs.StateData.{estimates, view_by}
-use Rattle.moka_state.proofs.TurnSteps.{OnOk-by, after-compute, compute-gives, given-stands}
+use Rattle.moka_state.proofs.TurnSteps.{OnOk-by, after-compute, compute-gives, given-stands, OnErr-so}
 use Rattle.moka_state.proofs.state.State.step_begin.Goals as goal
 
 pub returns-clause-reply : goal.returns-clause-reply
@@ -34,3 +34,9 @@ returns-then-eq-clause-stands g c given steps stands =
     let follows = OnOk-by c.begin_compute.result (λ follows s before stand. subst (StandsFor g.K.PartialEq.eq g.V.Clone.is_clone s (view c.begin_compute.new.self)) (after-compute g.K.PartialEq.eq s before (arc_value c.args.key) c.args.kind kind c.args.replace c.args.now) (follows s before stand)) c.begin_compute.ensures.begins.stands in
     subst (StandsFor g.K.PartialEq.eq g.V.Clone.is_clone given (view c.begin_compute.new.self)) (sym (c.compute_reply.ensures.leaves given steps (Begin (arc_value c.args.key) c.args.kind c.args.replace c.args.now)))
     (given-stands g.K.PartialEq.eq view c.args.self.now c.begin_compute.new.self (Begin (arc_value c.args.key) c.args.kind c.args.replace c.args.now) c.begin_compute.result follows c.begin_compute.ensures.begins.refused given steps stands)
+
+pub returns-clause-refused : goal.returns-clause-refused
+returns-clause-refused g c refusal = OnErr-so c.begin_asked.result c.begin_asked.ensures.refused (c.begun_reply.ensures.refused refusal)
+
+pub returns-then-eq-clause-refused : goal.returns-then-eq-clause-refused
+returns-then-eq-clause-refused g c refusal = OnErr-so c.begin_compute.result c.begin_compute.ensures.begins.refused (c.compute_reply.ensures.refused refusal)

@@ -5,7 +5,7 @@ use Rattle.moka_ways.specs.Behaviour.{hash_by, behaviour_by}
 use Rattle.moka_ways.specs.StateData.{estimates, view_by}
 use Rattle.moka_turns.specs.Handles.{ticket_name}
 use Rattle.moka_state.specs.Step.{IsReplyTo, after_reply}
-use Rattle.moka_state.proofs.TurnSteps.{given-stands}
+use Rattle.moka_state.proofs.TurnSteps.{given-stands, OnErr-so}
 use Rattle.moka_state.proofs.state.State.step_leave.Goals as goal
 
 pub returns-clause-reply : goal.returns-clause-reply
@@ -19,3 +19,6 @@ returns-clause-stands g c given steps stands =
     subst (λ n. StandsFor g.K.PartialEq.eq g.V.Clone.is_clone given (view c.leave.new.self) (after_reply g.K.PartialEq.eq given (Leave n) c.done_reply.result steps)) c.ticket_of.ensures
     (subst (StandsFor g.K.PartialEq.eq g.V.Clone.is_clone given (view c.leave.new.self)) (sym (c.done_reply.ensures.leaves given steps (Leave (ticket_name c.ticket_of.result))))
     (given-stands g.K.PartialEq.eq view c.args.self.now c.leave.new.self (Leave (ticket_name c.ticket_of.result)) c.leave.result c.leave.ensures.stands c.leave.ensures.refused given steps stands))
+
+pub returns-clause-refused : goal.returns-clause-refused
+returns-clause-refused g c refusal = OnErr-so c.leave.result c.leave.ensures.refused (c.done_reply.ensures.refused refusal)

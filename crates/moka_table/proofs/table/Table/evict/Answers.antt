@@ -7,22 +7,24 @@ use Rattle.moka_table.proofs.table.Table.evict.Goals as goal
 
 pub with-self-inside-requires-clause-before : goal.with-self-inside-requires-clause-before
 with-self-inside-requires-clause-before g c =
-    rw c.info.ensures (with-le c.args.number c.remove-row.result.0 _ _ c.remove-row.ensures.row c.self.inside.weights c.self.invariant.admitted_weight c.self.invariant.waiting_weight c.remove-row.result.1 c.remove-row.ensures.order)
+    rw c.info.ensures (with-le c.args.number c.remove-row.result.0 _ _ c.remove-row.ensures.row c.self.inside.weights c.self.invariant.0.admitted_weight c.self.invariant.0.waiting_weight c.remove-row.result.1 c.remove-row.ensures.order)
 
 pub with-self-inside-requires-clause-fits : goal.with-self-inside-requires-clause-fits
 with-self-inside-requires-clause-fits g c =
-    omega (arith, weight_in-le c.remove-row.result.1 c.self.inside.weights, c.self.invariant, total-light _ c.self.invariant.light, total-append weight_of (g.R.RowStore.admitted c.self.inside.rows) (g.R.RowStore.waiting c.self.inside.rows))
+    omega (arith, weight_in-le c.remove-row.result.1 c.self.inside.weights, c.self.invariant.0, c.self.invariant.1, total-light _ c.self.invariant.0.light, total-append weight_of (g.R.RowStore.admitted c.self.inside.rows) (g.R.RowStore.waiting c.self.inside.rows))
 
 pub invariant_of-self : goal.invariant_of-self
 invariant_of-self g c =
-    let fewer = length-taken c.args.number c.remove-row.result.0 _ _ _ _ c.remove-row.ensures.row c.remove-row.ensures.rest in
-    kept-taken (g.R.RowStore.admitted c.self.inside.rows) (g.R.RowStore.waiting c.self.inside.rows) c.self.inside.weights _ _ _ c.self.invariant
-    (g.R.RowStore.admitted c.remove-row.new.self) (g.R.RowStore.waiting c.remove-row.new.self) c.with-self-inside.result _ _ (omega (arith, fewer, c.self.invariant.few, c.in-Ok.ensures.len, c.in-Ok.ensures.in_place))
-    c.args.number c.remove-row.result.0 c.remove-row.ensures.row c.remove-row.ensures.rest
-    (with-changed c.args.number c.remove-row.result.0 _ _ c.remove-row.ensures.row c.self.inside.weights c.self.invariant.admitted_weight c.self.invariant.waiting_weight c.remove-row.result.1 c.remove-row.ensures.order
-    0 c.with-self-inside.result (rw c.info.ensures at c.with-self-inside.ensures.changed) c.with-self-inside.ensures.others)
+    let fewer = length-taken c.args.number c.remove-row.result.0 _ _ _ _ c.remove-row.ensures.row c.remove-row.ensures.rest in (
+      kept-taken (g.R.RowStore.admitted c.self.inside.rows) (g.R.RowStore.waiting c.self.inside.rows) c.self.inside.weights _ _ _ c.self.invariant.0
+          (g.R.RowStore.admitted c.remove-row.new.self) (g.R.RowStore.waiting c.remove-row.new.self) c.with-self-inside.result _ _ (omega (arith, fewer, c.self.invariant.0.few, c.in-Ok.ensures.len, c.in-Ok.ensures.in_place))
+          c.args.number c.remove-row.result.0 c.remove-row.ensures.row c.remove-row.ensures.rest
+          (with-changed c.args.number c.remove-row.result.0 _ _ c.remove-row.ensures.row c.self.inside.weights c.self.invariant.0.admitted_weight c.self.invariant.0.waiting_weight c.remove-row.result.1 c.remove-row.ensures.order
+          0 c.with-self-inside.result (rw c.info.ensures at c.with-self-inside.ensures.changed) c.with-self-inside.ensures.others),
+      omega (arith, c.self.invariant.1, c.remove-row.ensures.room),
+    )
 
 pub returns-clause-room : goal.returns-clause-room
 returns-clause-room g c =
     let fewer = length-taken c.args.number c.remove-row.result.0 _ _ _ _ c.remove-row.ensures.row c.remove-row.ensures.rest in
-    rw (← c.self.view_is) (omega (arith, fewer, c.self.invariant, c.remove-row.ensures.room, c.in-Ok.ensures.len, c.in-Ok.ensures.in_place))
+    rw (← c.self.view_is) (omega (arith, fewer, c.self.invariant.0, c.self.invariant.1, c.remove-row.ensures.room, c.in-Ok.ensures.len, c.in-Ok.ensures.in_place))

@@ -5,7 +5,7 @@ use Rattle.moka_table.proofs.Weights.{total-light}
 use Rattle.moka_table.proofs.table.Table.weight.Goals as goal
 
 pub overflow_add-result : goal.overflow_add-result
-overflow_add-result g c = omega (arith, c.self.invariant, total-light _ c.self.invariant.light, total-append weight_of (g.R.RowStore.admitted c.self.inside.rows) (g.R.RowStore.waiting c.self.inside.rows))
+overflow_add-result g c = omega (arith, c.self.invariant.0, c.self.invariant.1, total-light _ c.self.invariant.0.light, total-append weight_of (g.R.RowStore.admitted c.self.inside.rows) (g.R.RowStore.waiting c.self.inside.rows))
 
 pub returns : goal.returns
-returns g c = rw (← c.self.view_is) (omega (arith, c.self.invariant.admitted_weight, c.self.invariant.waiting_weight, total-append weight_of (g.R.RowStore.admitted c.self.inside.rows) (g.R.RowStore.waiting c.self.inside.rows)))
+returns g c = rw (← c.self.view_is) (omega (arith, c.self.invariant.0.admitted_weight, c.self.invariant.0.waiting_weight, total-append weight_of (g.R.RowStore.admitted c.self.inside.rows) (g.R.RowStore.waiting c.self.inside.rows)))

@@ -1,4 +1,4 @@
--- The steps that were made so far keep what a caller owes.
+-- The steps that were made so far keep the value invariant, and their predicates compute what they mean.
 use Rattle.std.proofs.Common.{◌≡◌, Bool, ◌||◌}
 use Rattle.std.specs.List.{AllByRecursion}
 use Rattle.std.specs.Str.{bytes_eq}

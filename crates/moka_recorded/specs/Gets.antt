@@ -1,0 +1,154 @@
+-- What a `get_with` leaves in a pass: its receipts, one by one.
+use Rattle.std.specs.Prelude.{⊤, ◌≡◌, ℕ, ◌<◌, ◌⊎◌, List, Option, Some, None}
+use Rattle.std.specs.Arc.{arc_value}
+use Rattle.std.specs.declared.sync.Arc.{Arc}
+use Rattle.std.specs.declared.alloc.Global.{Global}
+use Rattle.moka_policy.specs.declared.policy.Refused.TheVariants.{OutOfMemory, NumbersUsedUp, UnknownTurn, UnknownTicket, WaitsAbandoned}
+use Rattle.moka_model.specs.declared.turns.Kind.TheVariants.{With}
+use Rattle.moka_model.specs.declared.turns.Outcome.TheVariants.{Value}
+use Rattle.moka_model.specs.Entries.{entry_of}
+use Rattle.moka_model.specs.Turns.{Name}
+use Rattle.moka_turns.specs.Handles.{name_by}
+use Rattle.moka_state.specs.declared.step.Step.{Step}
+use Rattle.moka_state.specs.declared.step.Step.TheVariants as steps
+use Rattle.moka_state.specs.declared.step.Reply.{Reply}
+use Rattle.moka_state.specs.declared.step.Reply.TheVariants as replies
+use Rattle.moka_state.specs.Recorded.{SameStep, SameReply}
+use Rattle.moka_history.specs.StepForm.{IsTurnOf}
+use Rattle.moka_waiting.specs.declared.answers.Begun.{Begun}
+use Rattle.moka_waiting.specs.declared.answers.Begun.TheVariants.{Found, Run, Wait}
+use Rattle.moka_waiting.specs.declared.answers.Collected.{Collected}
+use Rattle.moka_waiting.specs.declared.answers.Collected.TheVariants.{Ready, NotYet, Again}
+use Rattle.moka_waiting.specs.Rounds.{Rounds, Waits, IsRefused}
+use Rattle.moka_recording.specs.declared.receipt.Kept.{Kept}
+use Rattle.moka_recording.specs.declared.receipt.Receipt.{Receipt}
+use Rattle.moka_recording.specs.Receipts.{AddsReceipt}
+use Rattle.moka_recorded.specs.declared.named.Named.{Named}
+use Rattle.moka_recorded.specs.declared.refused.GetWithRefused.{GetWithRefused}
+
+module _ {K V C H W X P F L T E S : Type 0} where
+  -- The step is a begin of a `With` turn for this key, at this moment, which turns no live value down.
+  abbrev pub IsBegin : K → ℕ → Step K V C H W X P F L T E S → Type 0
+  IsBegin key now (steps.Begin own kind replace at) =
+      (arc_value own ≡ key) × (kind ≡ With) × (replace ≡ None) × (at ≡ now)
+  IsBegin key now step = ⊥
+
+  -- The step collects the result of the turn of this name.
+  abbrev pub IsCollect : Name K → Step K V C H W X P F L T E S → Type 0
+  IsCollect name (steps.Collect called) = name_by called ≡ name
+  IsCollect name step = ⊥
+
+  -- The step finishes the turn of this name with this value, at this moment.
+  abbrev pub IsFinish : Name K → V → ℕ → Step K V C H W X P F L T E S → Type 0
+  IsFinish name value now (steps.Finish called (Value v) at) = (name_by called ≡ name) × (v ≡ value) × (at ≡ now)
+  IsFinish name value now step = ⊥
+
+  -- `held` is the step that leaves the ticket of this name.
+  abbrev pub HoldsTicket : Name K → Option (Step K V C H W X P F L T E S) → Type 0
+  HoldsTicket name (Some (steps.Leave called)) = name_by called ≡ name
+  HoldsTicket name held = ⊥
+
+  -- `held` is the step that abandons the turn of this name.
+  abbrev pub HoldsTurn : Name K → Option (Step K V C H W X P F L T E S) → Type 0
+  HoldsTurn name (Some (steps.Abandon called)) = name_by called ≡ name
+  HoldsTurn name held = ⊥
+
+  -- The reply returns this value.
+  abbrev pub IsEntered : V → Reply K V C H W X P F L T E S → Type 0
+  IsEntered v (replies.Entered entry) = (entry_of entry).value ≡ v
+  IsEntered v reply = ⊥
+
+  -- The reply to a begin is what `begun` says: a live value, or a turn of this key that is opened or waited for.
+  abbrev pub BeginTells : K → Begun V (Named K) (Named K) → Reply K V C H W X P F L T E S → Type 0
+  BeginTells key (Found v) reply = IsEntered v reply
+  BeginTells key (Run turn) (replies.Run name shown) = (name ≡ turn.name) × IsTurnOf With key name × (shown ≡ None)
+  BeginTells key (Wait ticket) (replies.Wait name) = (name ≡ ticket.name) × IsTurnOf With key name
+  BeginTells key begun reply = ⊥
+
+  -- The reply to a collect is what `Collected` says: a value, not yet, or that the turn was abandoned.
+  abbrev pub CollectTells : Named K → Collected V (Named K) → Reply K V C H W X P F L T E S → Type 0
+  CollectTells ticket (Ready v) reply = IsEntered v reply
+  CollectTells ticket (NotYet back) reply = (name_by back.name ≡ name_by ticket.name) × (reply ≡ replies.NotYet)
+  CollectTells ticket Again reply = reply ≡ replies.Abandoned
+
+-- What contracts see of a pass: its number, and its receipts.
+abbrev pub Trail : Type 0 → Type 0 → Type 0
+Trail S R = ℕ × List (Kept S R)
+
+module _ {K V C H W X P F L T E S : Type 0} (is_clone : V → V → Type 0) where
+  -- The pass gets one more receipt, of such a step with such a reply.
+  abbrev pub Does : (Step K V C H W X P F L T E S → Type 0) → (Reply K V C H W X P F L T E S → Type 0) →
+      Trail (Step K V C H W X P F L T E S) (Reply K V C H W X P F L T E S) →
+      Trail (Step K V C H W X P F L T E S) (Reply K V C H W X P F L T E S) → Type 0
+  Does IsStep IsReply old new =
+      (step : Step K V C H W X P F L T E S) × (receipt : Receipt (Reply K V C H W X P F L T E S))
+      × IsStep step × IsReply receipt.reply × AddsReceipt (SameStep is_clone) (SameReply is_clone) step old new receipt
+
+  -- The turn of this name is finished with the value `made`, and `v`, a clone of it, is returned.
+  abbrev pub Finishes : Name K → V → ℕ → V → Trail (Step K V C H W X P F L T E S) (Reply K V C H W X P F L T E S) →
+      Trail (Step K V C H W X P F L T E S) (Reply K V C H W X P F L T E S) → Type 0
+  Finishes name made now v old new = is_clone made v × Does (IsFinish name made now) (IsEntered v) old new
+
+  -- A finish fails. With `OutOfMemory`, without a receipt, or with `NumbersUsedUp`, the turn is held. Otherwise another
+  -- caller has ended the turn by its name.
+  abbrev pub FinishRefused : Name K → V → ℕ → GetWithRefused K V C H W X P F L T E S →
+      Trail (Step K V C H W X P F L T E S) (Reply K V C H W X P F L T E S) →
+      Trail (Step K V C H W X P F L T E S) (Reply K V C H W X P F L T E S) → Type 0
+  FinishRefused name made now refused old new =
+      ((refused.cause ≡ OutOfMemory) × HoldsTurn name refused.held × (new ≡ old))
+      ⊎ (((refused.cause ≡ NumbersUsedUp) × HoldsTurn name refused.held
+      × Does (IsFinish name made now) (λ reply. reply ≡ replies.Refused NumbersUsedUp) old new)
+      ⊎ ((refused.cause ≡ UnknownTurn) × (refused.held ≡ None)
+      × Does (IsFinish name made now) (λ reply. reply ≡ replies.Refused UnknownTurn) old new))
+
+  -- A collect of the ticket returns `told`.
+  abbrev pub Collects : Trail (Step K V C H W X P F L T E S) (Reply K V C H W X P F L T E S) → Named K → Collected V (Named K) →
+      Trail (Step K V C H W X P F L T E S) (Reply K V C H W X P F L T E S) → Type 0
+  Collects old ticket told new = Does (IsCollect (name_by ticket.name)) (CollectTells ticket told) old new
+
+  -- A collect fails: with `OutOfMemory`, without a receipt, and the ticket is held; or another caller has spent it by
+  -- its name.
+  abbrev pub CollectRefused : Trail (Step K V C H W X P F L T E S) (Reply K V C H W X P F L T E S) → Named K →
+      GetWithRefused K V C H W X P F L T E S → Trail (Step K V C H W X P F L T E S) (Reply K V C H W X P F L T E S) → Type 0
+  CollectRefused old ticket refused new =
+      ((refused.cause ≡ OutOfMemory) × HoldsTicket (name_by ticket.name) refused.held × (new ≡ old))
+      ⊎ ((refused.cause ≡ UnknownTicket) × (refused.held ≡ None)
+      × Does (IsCollect (name_by ticket.name)) (λ reply. reply ≡ replies.Refused UnknownTicket) old new)
+
+  -- Of a `get_with` of this key at this moment.
+  module _ (key : K) (now : ℕ) where
+    -- A begin returns `begun`.
+    abbrev pub Begins : Trail (Step K V C H W X P F L T E S) (Reply K V C H W X P F L T E S) → Begun V (Named K) (Named K) →
+        Trail (Step K V C H W X P F L T E S) (Reply K V C H W X P F L T E S) → Type 0
+    Begins old begun new = Does (IsBegin key now) (BeginTells key begun) old new
+
+    -- A begin fails: with `OutOfMemory`, without a receipt, or with `NumbersUsedUp`; nothing is held.
+    abbrev pub BeginRefused : Trail (Step K V C H W X P F L T E S) (Reply K V C H W X P F L T E S) →
+        GetWithRefused K V C H W X P F L T E S → Trail (Step K V C H W X P F L T E S) (Reply K V C H W X P F L T E S) → Type 0
+    BeginRefused old refused new =
+        ((refused.cause ≡ OutOfMemory) × (refused.held ≡ None) × (new ≡ old))
+        ⊎ ((refused.cause ≡ NumbersUsedUp) × (refused.held ≡ None)
+        × Does (IsBegin key now) (λ reply. reply ≡ replies.Refused NumbersUsedUp) old new)
+
+    -- How the value came, after fewer than 200 waits for turns that were abandoned. Either it was found, or it came
+    -- from a turn that was waited for. Or a turn was opened and finished with what the initializer returned.
+    abbrev pub Gets : (V → Type 0) → Trail (Step K V C H W X P F L T E S) (Reply K V C H W X P F L T E S) → V →
+        Trail (Step K V C H W X P F L T E S) (Reply K V C H W X P F L T E S) → Type 0
+    Gets IsMade old v new =
+        (n : ℕ) × (mid : Trail (Step K V C H W X P F L T E S) (Reply K V C H W X P F L T E S))
+        × (n < 200) × Rounds Begins Collects n old mid
+        × ((Begins mid (Found v) new ⊎ Waits Begins Collects mid (Some v) new)
+        ⊎ ((turn : Named K) × (last : Trail (Step K V C H W X P F L T E S) (Reply K V C H W X P F L T E S)) × (made : V)
+        × Begins mid (Run turn) last × IsMade made × Finishes (name_by turn.name) made now v last new))
+
+    -- How it failed: after 200 such waits; or after fewer, in a begin or a collect, or in finishing the turn that it
+    -- opened.
+    abbrev pub GetsRefused : (V → Type 0) → Trail (Step K V C H W X P F L T E S) (Reply K V C H W X P F L T E S) →
+        GetWithRefused K V C H W X P F L T E S → Trail (Step K V C H W X P F L T E S) (Reply K V C H W X P F L T E S) → Type 0
+    GetsRefused IsMade old refused new =
+        ((refused.cause ≡ WaitsAbandoned) × (refused.held ≡ None) × Rounds Begins Collects 200 old new)
+        ⊎ (IsRefused Begins Collects BeginRefused CollectRefused (Some 200) old refused new
+        ⊎ ((n : ℕ) × (mid : Trail (Step K V C H W X P F L T E S) (Reply K V C H W X P F L T E S)) × (turn : Named K)
+        × (last : Trail (Step K V C H W X P F L T E S) (Reply K V C H W X P F L T E S)) × (made : V)
+        × (n < 200) × Rounds Begins Collects n old mid × Begins mid (Run turn) last × IsMade made
+        × FinishRefused (name_by turn.name) made now refused last new))

@@ -1,0 +1,2 @@
+pub mod GivesBack
+pub mod Gets

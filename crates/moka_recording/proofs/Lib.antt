@@ -1,0 +1,4 @@
+pub mod Apart
+pub mod Moves
+pub mod Places
+pub mod Tokens

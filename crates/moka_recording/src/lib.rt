@@ -1,0 +1,13 @@
+//! A machine that threads share, with the history of its steps: receipts that prove what each
+//! thread did.
+#![tactic(auto)]
+
+pub mod desk;
+pub mod law;
+pub mod machine;
+pub mod naming;
+pub mod opened;
+pub mod pass;
+pub mod receipt;
+pub mod receipt_laws;
+pub mod recorded;

@@ -1,0 +1,283 @@
+//! A machine under a lock, with the history of its steps.
+ghost use Rattle.std.specs.Prelude.{◌≡◌, ◌+◌, [], length, true, IfOk, IfErr, OnErr, vec_len, sum_by, IsTrue};
+ghost use Rattle.moka_recording.specs.History.{Each, keeper};
+ghost use Rattle.moka_recording.specs.Receipts.{pairs, Stand, AddsReceipt, fresh_passes, IsWhole, HasNumber};
+ghost use mathlib.Core.Logic.{◌↔◌};
+
+use crate::desk::Desk;
+use crate::law::{Compares, Entry, Hands, History, Token};
+use crate::machine::Machine;
+use crate::naming::Naming;
+use crate::opened::Opened;
+use crate::pass::Pass;
+use crate::receipt::Receipt;
+use moka_policy::policy::Refused;
+use std::alloc::Global;
+use std::marker::Model;
+use std::sync::ledger::{Blank, Share};
+use std::sync::{Condvar, Mutex, Wait};
+
+/// A machine that threads share, with the history of its steps. Contracts see how many passes it
+/// has.
+#[derive(Drop)]
+pub struct Recorded<M: Machine<S, R>, S: Drop, R: Drop, L: Naming, W: Drop> {
+    history: History<S, R>,
+    desk: Mutex<Desk<M, S, R, L>>,
+    moved: Condvar,
+    count: u64,
+    waits: W,
+}
+
+impl<M: Machine<S, R>, S: Drop, R: Drop, L: Naming, W: Drop> Model for Recorded<M, S, R, L, W> {
+    ghost use Rattle.std.specs.Prelude.{◌≡◌, ℕ};
+
+    ghost Value = { ℕ };
+
+    ghost view = { λ c. c.count };
+
+    ghost invariant = { λ c. (c.history.shared.table_id ≡ L.table)
+        × (c.history.shared.table_id.words ≡ 1)
+        × (c.count ≡ L.parts) };
+}
+
+/// What `close` returns: the history and the machine, or the recorded machine and its passes back.
+pub type Closed<M, S, R, L, W> = Result<
+    (Vec<Entry<S, R>>, M),
+    (Recorded<M, S, R, L, W>, Vec<Pass<M, S, R, L>>),
+>;
+
+// Creates the passes of a new cache, numbered from 0.
+fn deal<M: Machine<S, R>, S: Drop, R: Drop, L: Naming>(
+    alloc: Global,
+    history: &History<S, R>,
+    token: &mut Token<S, R>,
+    all: &mut Share<L>,
+    count: u64,
+) -> Result<Vec<Pass<M, S, R, L>>, Refused>
+    requires table { history.now.shared.table_id ≡ L.table }
+    requires words { history.now.shared.table_id.words ≡ 1 }
+    requires token { (token.old.table_id ≡ L.table) × (token.old.me ≡ (keeper [] [], [])) }
+    requires share { (all.old.parts ≡ count) × (all.old.amount ≡ 0) }
+    ensures passes { IfOk result (λ passes. passes.items ≡ fresh_passes count) }
+    ensures token { IfOk result (λ _. (token.new.table_id ≡ L.table)
+        × (token.new.me ≡ (keeper [] [], []))) }
+    ensures share { IfOk result (λ _. (all.new.parts ≡ 0) × (all.new.amount ≡ 0)) }
+    ensures cause { IfErr result (λ cause. cause ≡ Refused.OutOfMemory) }
+{
+    let mut passes = Vec::new(alloc);
+    for number in 0..count {
+        let share = all.split_off(1, 0);
+        let theirs = history.shared.split_seat::<Hands>(token);
+        let Ok(()) = passes.push(Pass::fresh(alloc, number, theirs, share)) else {
+            return Err(Refused::OutOfMemory);
+        };
+    }
+    Ok(passes)
+}
+
+// Takes a pass back. Its receipts are then proved to agree with the history.
+fn take_back<M: Machine<S, R>, S: Drop, R: Drop, L: Naming>(
+    history: &History<S, R>,
+    token: &mut Token<S, R>,
+    rest: &mut Share<L>,
+    entries: &Vec<Entry<S, R>>,
+    pass: Pass<M, S, R, L>,
+)
+    requires table { history.now.shared.table_id ≡ L.table }
+    requires words { history.now.shared.table_id.words ≡ 1 }
+    requires token { (token.old.table_id ≡ L.table)
+        × (token.old.me.0.keeps ≡ true)
+        × (token.old.me.0.all ≡ entries.now.items) }
+    ensures token { (token.new.table_id ≡ L.table)
+        × (token.new.me.0.keeps ≡ true)
+        × (token.new.me.0.all ≡ entries.now.items) }
+    ensures parts { rest.new.parts ≡ rest.old.parts + 1 }
+    ensures amount { rest.new.amount ≡ rest.old.amount + length pass.1 }
+    ensures stand { Stand M.same_step M.same_reply entries.now.items pass }
+{
+    let Pass {
+        number: _,
+        receipts: _,
+        token: theirs,
+        share,
+        machine: _,
+    } = pass;
+    history.shared.join_seat::<Hands>(token, theirs);
+    history.shared.load::<Compares>(token, 0);
+    rest.merge(share);
+}
+
+// Returns whether these are all passes, each once.
+fn all_there<M: Machine<S, R>, S: Drop, R: Drop, L: Naming>(
+    passes: &[Pass<M, S, R, L>],
+    count: u64,
+) -> bool
+    ensures { IsTrue result ↔ IsWhole count passes.now }
+{
+    if passes.len() as u64 != count {
+        return false;
+    }
+    for number in 0..count {
+        if !has_number(passes, number) {
+            return false;
+        }
+    }
+    true
+}
+
+// Returns whether one of the passes has this number.
+fn has_number<M: Machine<S, R>, S: Drop, R: Drop, L: Naming>(
+    passes: &[Pass<M, S, R, L>],
+    number: u64,
+) -> bool
+    ensures { IsTrue result ↔ HasNumber passes.now number }
+{
+    for pass in passes {
+        if pass.number() == number {
+            return true;
+        }
+    }
+    false
+}
+
+impl<M: Machine<S, R>, S: Drop, R: Drop, L: Naming, W: Drop> Recorded<M, S, R, L, W> {
+    /// Creates a recorded machine with an empty history, and its passes: one for each part of the
+    /// ledger.
+    ///
+    /// # Errors
+    ///
+    /// - `OutOfMemory`: an allocation failed.
+    pub fn new(
+        alloc: Global,
+        machine: M,
+        opened: Opened<S, R>,
+        blank: Blank,
+        count: u64,
+        waits: W,
+    ) -> Result<(Self, Vec<Pass<M, S, R, L>>), Refused>
+        requires built { M.stands machine [] }
+        requires table { opened.table ≡ L.table }
+        requires empty { opened.history ≡ [] }
+        requires name { blank.name ≡ L.name }
+        requires parts { (blank.parts ≡ L.parts) × (count ≡ L.parts) }
+        ensures count { IfOk result (λ made. made.0 ≡ count) }
+        ensures passes { IfOk result (λ made. made.1.items ≡ fresh_passes count) }
+        ensures cause { IfErr result (λ cause. cause ≡ Refused.OutOfMemory) }
+    {
+        let Opened { table, mut token } = opened;
+        let (book, mut rest) = blank.open::<L>();
+        let passes = deal(alloc, &table, &mut token, &mut rest, count)?;
+        let desk = Desk {
+            machine,
+            entries: Vec::new(alloc),
+            token,
+            book,
+            rest,
+        };
+        let recorded = Recorded {
+            history: table,
+            desk: Mutex::new(desk),
+            moved: Condvar::new(),
+            count,
+            waits,
+        };
+        Ok((recorded, passes))
+    }
+
+    /// Returns the history and the machine, given all of its passes. Does not wait.
+    ///
+    /// The history has as many entries as the passes have receipts, and each receipt is at its
+    /// place.
+    ///
+    /// # Errors
+    ///
+    /// - If these are not all of its passes, hands back the recorded machine and the passes.
+    ///
+    /// # Complexity
+    ///
+    /// Quadratic in the number of passes.
+    pub fn close(self, passes: Vec<Pass<M, S, R, L>>) -> Closed<M, S, R, L, W>
+        ensures legal { IfOk result (λ closed. M.stands closed.1 (pairs closed.0.items)) }
+        ensures count { IfOk result (λ closed.
+            vec_len closed.0 ≡ sum_by (λ pass. length pass.1) passes.items) }
+        ensures stand { IfOk result (λ closed.
+            Each (λ pass. Stand M.same_step M.same_reply closed.0.items pass) passes.items) }
+        ensures whole { IfOk result (λ _. IsWhole self passes.items) }
+        ensures missing { IfErr result (λ back.
+            (back.0 ≡ self) × (back.1 ≡ passes) × ¬ (IsWhole self passes.items)) }
+    {
+        if !all_there(passes.as_slice(), self.count) {
+            return Err((self, passes));
+        }
+        let Recorded {
+            history,
+            desk,
+            moved: _,
+            count: _,
+            waits: _,
+        } = self;
+        let Desk {
+            machine,
+            entries,
+            mut token,
+            mut book,
+            mut rest,
+        } = desk.into_inner();
+        for pass in passes {
+            take_back(&history, &mut token, &mut rest, &entries, pass);
+        }
+        book.audit(&mut rest);
+        Ok((entries, machine))
+    }
+}
+
+impl<M: Machine<S, R>, S: Drop, R: Drop, L: Naming, W: Wait + Drop> Recorded<M, S, R, L, W> {
+    /// Returns the handle with which its locks wait.
+    pub fn waits(&self) -> &W {
+        &self.waits
+    }
+
+    /// Does one step, and wakes the sleeping callers if the machine says so.
+    ///
+    /// # Errors
+    ///
+    /// - `OutOfMemory`: an allocation failed. The pass is unchanged.
+    pub fn call(&self, pass: &mut Pass<M, S, R, L>, step: S) -> Result<Receipt<R>, Refused>
+        requires owes { M.owes step }
+        ensures receipt { IfOk result
+            (AddsReceipt M.same_step M.same_reply step pass.old pass.new) }
+        ensures fits { IfOk result (λ receipt. M.fits step receipt.reply) }
+        ensures refused { OnErr result (pass.new ≡ pass.old) }
+        ensures cause { IfErr result (λ cause. cause ≡ Refused.OutOfMemory) }
+    {
+        let wakes = M::wakes(&step);
+        let receipt = self.desk.lock(&self.waits).add(&self.history, pass, step)?;
+        if wakes {
+            self.moved.notify_all();
+        }
+        Ok(receipt)
+    }
+
+    /// Does one step, and sleeps until another step wakes it, if the machine calls the reply early.
+    ///
+    /// No wake-up is lost in between, since it goes to sleep under the lock of its own step.
+    ///
+    /// # Errors
+    ///
+    /// - `OutOfMemory`: an allocation failed. The pass is unchanged.
+    pub fn call_and_wait(&self, pass: &mut Pass<M, S, R, L>, step: S) -> Result<Receipt<R>, Refused>
+        requires owes { M.owes step }
+        ensures receipt { IfOk result
+            (AddsReceipt M.same_step M.same_reply step pass.old pass.new) }
+        ensures fits { IfOk result (λ receipt. M.fits step receipt.reply) }
+        ensures refused { OnErr result (pass.new ≡ pass.old) }
+        ensures cause { IfErr result (λ cause. cause ≡ Refused.OutOfMemory) }
+    {
+        let mut desk = self.desk.lock(&self.waits);
+        let receipt = desk.add(&self.history, pass, step)?;
+        if M::is_early(&receipt.reply) {
+            drop(self.moved.wait(&self.waits, desk));
+        }
+        Ok(receipt)
+    }
+}

@@ -1,0 +1,143 @@
+-- Clones of steps and of replies, and records of runs.
+use Rattle.std.specs.Prelude.{⊤, ◌≡◌, ◌⊎◌, Bool, List, [], ◌∷◌, ◌++◌, map, option_map, Option, Some, None}
+use Rattle.std.specs.Arc.{arc_value}
+use Rattle.std.specs.List.{AllByRecursion}
+use Rattle.std.specs.declared.sync.Arc.{Arc}
+use Rattle.std.specs.declared.alloc.Global.{Global}
+use Rattle.moka_policy.specs.declared.policy.Refused.TheVariants.{OutOfMemory}
+use Rattle.moka_predicate_ids.specs.declared.predicate_error.PredicateError.TheVariants as predicates
+use Rattle.moka_model.specs.declared.notification.Notice.{Notice}
+use Rattle.moka_model.specs.declared.turns.Outcome.{Outcome}
+use Rattle.moka_model.specs.declared.turns.Outcome.TheVariants as outcomes
+use Rattle.moka_model.specs.declared.turns.Op.TheVariants as ops
+use Rattle.moka_model.specs.CompResults.{of_computed}
+use Rattle.moka_model.specs.Entries.{entry_of}
+use Rattle.moka_model.specs.Lives.{Settings}
+use Rattle.moka_model.specs.Removals.{Removal}
+use Rattle.moka_model.specs.Calls.{Answer, IsAnswer}
+use Rattle.moka_model.specs.Calls as calls
+use Rattle.moka_model.specs.StandsFor.{WholeView, StandsFor}
+use Rattle.moka_turns.specs.Handles.{name_by}
+use Rattle.moka_state.specs.declared.step.Step.{Step}
+use Rattle.moka_state.specs.declared.step.Step.TheVariants.{Get, ContainsKey, Insert, Invalidate, Remove, InvalidateAll, InvalidateIf}
+use Rattle.moka_state.specs.declared.step.Step.TheVariants.{RunPendingTasks, RunPendingTasksUpTo, EntryCount, WeightedSize, TakeNotice}
+use Rattle.moka_state.specs.declared.step.Step.TheVariants.{OrInsert, Begin, BeginCompute, Finish, Abandon, Collect, Leave}
+use Rattle.moka_state.specs.declared.step.Reply.{Reply}
+use Rattle.moka_state.specs.declared.step.Reply.TheVariants.{Found, Contains, Done, Counted, Left, Noticed, Refused, PredicateRefused}
+use Rattle.moka_state.specs.declared.step.Reply.TheVariants.{Entered, Run, Wait, Nothing, Failed, Computed, NotYet, Abandoned, Ended}
+use Rattle.moka_state.specs.Replies.{IsRefusal}
+use Rattle.moka_state.specs.Step.{IsRun, after_all}
+
+-- Each of the two is the same original, or a clone of that original.
+abbrev pub OfOne : {A : Type 0} → (A → A → Type 0) → A → A → Type 0
+OfOne {A} is_copy a b = (one : A) × ((a ≡ one) ⊎ is_copy one a) × ((b ≡ one) ⊎ is_copy one b)
+
+module _ {K V C H W X P F L T E S : Type 0} where
+  abbrev pub WantsMemory : Reply K V C H W X P F L T E S → Type 0  -- The step failed with `OutOfMemory`.
+  WantsMemory (Refused OutOfMemory) = ⊤
+  WantsMemory (PredicateRefused predicates.OutOfMemory) = ⊤
+  WantsMemory reply = ⊥
+
+module _ {V : Type 0} (is_clone : V → V → Type 0) where
+  -- The second outcome is a clone of the first: it has a clone of the value, and the same error.
+  abbrev pub IsOutcomeCopy : {E : Type 0} → Outcome V (Arc E Global) → Outcome V (Arc E Global) → Type 0
+  IsOutcomeCopy (outcomes.Value v) (outcomes.Value w) = is_clone v w
+  IsOutcomeCopy outcomes.Nothing outcomes.Nothing = ⊤
+  IsOutcomeCopy (outcomes.Failed e) (outcomes.Failed d) = arc_value d ≡ arc_value e
+  IsOutcomeCopy (outcomes.Op (ops.Put v)) (outcomes.Op (ops.Put w)) = is_clone v w
+  IsOutcomeCopy (outcomes.Op ops.Remove) (outcomes.Op ops.Remove) = ⊤
+  IsOutcomeCopy (outcomes.Op ops.Nop) (outcomes.Op ops.Nop) = ⊤
+  IsOutcomeCopy outcome copy = ⊥
+
+  module _ {K : Type 0} where
+    -- The notice is that of the removal. Its value is the removed one, or a clone.
+    abbrev pub IsNoticeFor : Option (Removal K V) → Option (Notice K V) → Type 0
+    IsNoticeFor None None = ⊤
+    IsNoticeFor (Some r) (Some n) =
+        (arc_value n.key ≡ r.key) × ((n.value ≡ r.value) ⊎ is_clone r.value n.value) × (n.cause ≡ r.cause)
+    IsNoticeFor r n = ⊥
+
+    -- The answer is a removal, and the notice is that of the removal; or both are none.
+    abbrev pub IsNoticed : {E : Type 0} → Answer K V E → Option (Notice K V) → Type 0
+    IsNoticed (calls.Noticed r) n = IsNoticeFor r n
+    IsNoticed answer n = ⊥
+
+  module _ {K C H W X P F L T E S : Type 0} where
+    -- The second step is a clone of the first: it has a clone of the value, and all else is the same.
+    abbrev pub IsStepCopy : Step K V C H W X P F L T E S → Step K V C H W X P F L T E S → Type 0
+    IsStepCopy (Get k now) (Get j at) = (arc_value j ≡ arc_value k) × (at ≡ now)
+    IsStepCopy (ContainsKey k now) (ContainsKey j at) = (arc_value j ≡ arc_value k) × (at ≡ now)
+    IsStepCopy (Insert k v now) (Insert j w at) = (arc_value j ≡ arc_value k) × is_clone v w × (at ≡ now)
+    IsStepCopy (OrInsert k v now) (OrInsert j w at) = (arc_value j ≡ arc_value k) × is_clone v w × (at ≡ now)
+    IsStepCopy (Invalidate k now) (Invalidate j at) = (arc_value j ≡ arc_value k) × (at ≡ now)
+    IsStepCopy (Remove k now) (Remove j at) = (arc_value j ≡ arc_value k) × (at ≡ now)
+    IsStepCopy InvalidateAll InvalidateAll = ⊤
+    IsStepCopy (InvalidateIf p) (InvalidateIf q) = arc_value q ≡ arc_value p
+    IsStepCopy (RunPendingTasks now) (RunPendingTasks at) = at ≡ now
+    IsStepCopy (RunPendingTasksUpTo limit now) (RunPendingTasksUpTo most at) = (most ≡ limit) × (at ≡ now)
+    IsStepCopy EntryCount EntryCount = ⊤
+    IsStepCopy WeightedSize WeightedSize = ⊤
+    IsStepCopy TakeNotice TakeNotice = ⊤
+    IsStepCopy (Begin k kind replace now) (Begin j sort says at) =
+        (arc_value j ≡ arc_value k) × (sort ≡ kind) × (says ≡ replace) × (at ≡ now)
+    IsStepCopy (BeginCompute k keep now) (BeginCompute j keeps at) = (arc_value j ≡ arc_value k) × (keeps ≡ keep) × (at ≡ now)
+    IsStepCopy (Finish name outcome now) (Finish called copy at) =
+        (name_by called ≡ name_by name) × IsOutcomeCopy outcome copy × (at ≡ now)
+    IsStepCopy (Abandon name) (Abandon called) = name_by called ≡ name_by name
+    IsStepCopy (Collect name) (Collect called) = name_by called ≡ name_by name
+    IsStepCopy (Leave name) (Leave called) = name_by called ≡ name_by name
+    IsStepCopy step copy = ⊥
+
+    -- Both steps are one step, or clones of one step.
+    abbrev pub SameStep : Step K V C H W X P F L T E S → Step K V C H W X P F L T E S → Type 0
+    SameStep = OfOne IsStepCopy
+
+  module _ {K C H W X P F L T E S : Type 0} where
+    -- The reply has this answer, with clones of the answer's values. The value of a notice may also be the original.
+    abbrev pub IsSaid : Answer K V E → Reply K V C H W X P F L T E S → Type 0
+    IsSaid answer (Found v) = IsAnswer is_clone answer (calls.Found v)
+    IsSaid answer (Contains b) = IsAnswer is_clone answer (calls.Contains b)
+    IsSaid answer Done = IsAnswer is_clone answer calls.Done
+    IsSaid answer (Counted n) = IsAnswer is_clone answer (calls.Counted n)
+    IsSaid answer (Left b) = IsAnswer is_clone answer (calls.Left b)
+    IsSaid answer (Noticed n) = IsNoticed answer n
+    IsSaid answer (Entered entry) = IsAnswer is_clone answer (calls.Entered (entry_of entry))
+    IsSaid answer (Run name entry) = IsAnswer is_clone answer (calls.Run (name_by name) (option_map entry_of entry))
+    IsSaid answer (Wait name) = IsAnswer is_clone answer (calls.Wait (name_by name))
+    IsSaid answer Nothing = IsAnswer is_clone answer calls.GaveNothing
+    IsSaid answer (Failed error) = IsAnswer is_clone answer (calls.GaveError (arc_value error))
+    IsSaid answer (Computed result) = IsAnswer is_clone answer (of_computed result)
+    IsSaid answer NotYet = IsAnswer is_clone answer calls.NotYet
+    IsSaid answer Abandoned = IsAnswer is_clone answer calls.WasAbandoned
+    IsSaid answer Ended = IsAnswer is_clone answer calls.HasEnded
+    IsSaid answer (Refused cause) = ⊥
+    IsSaid answer (PredicateRefused cause) = ⊥
+
+    -- Both replies have one answer, or they are the same failure.
+    abbrev pub SameReply : Reply K V C H W X P F L T E S → Reply K V C H W X P F L T E S → Type 0
+    SameReply a b = ((answer : Answer K V E) × IsSaid answer a × IsSaid answer b) ⊎ (IsRefusal a × (b ≡ a))
+
+    -- Two lists of steps and replies are the same, place by place, up to clones.
+    abbrev pub AreRecords : List (Step K V C H W X P F L T E S × Reply K V C H W X P F L T E S) →
+        List (Step K V C H W X P F L T E S × Reply K V C H W X P F L T E S) → Type 0
+    AreRecords [] [] = ⊤
+    AreRecords (a ∷ xs) (b ∷ ys) = SameStep a.0 b.0 × SameReply a.1 b.1 × AreRecords xs ys
+    AreRecords [] (b ∷ ys) = ⊥
+    AreRecords (a ∷ xs) [] = ⊥
+
+module _ {K V C H W X P F L T E S D : Type 0} (eq : K → K → Bool) (is_clone : V → V → Type 0) (is_infallible : V → Type 0)
+    (test : P → K → V → Bool) (view : D → WholeView K V E) where
+  -- The history is, up to clones, a run from nothing in which no step failed with `OutOfMemory`. The state stands for
+  -- the steps that the run accepted.
+  abbrev pub IsRecord : D → List (Step K V C H W X P F L T E S × Reply K V C H W X P F L T E S) → Type 0
+  IsRecord state history =
+      (settings : Settings K V) × (done : List (Step K V C H W X P F L T E S × Reply K V C H W X P F L T E S))
+      × IsRun {E = E} eq test settings is_clone is_infallible [] (map (λ d. d.0) done) (map (λ d. d.1) done)
+      × AllByRecursion (λ d. ¬ (WantsMemory d.1)) done × AreRecords is_clone done history
+      × StandsFor eq is_clone settings (view state) (after_all eq test settings (map (λ d. d.0) done) (map (λ d. d.1) done) [])
+
+  -- Each history that the old state has, followed by this entry, is one that the new state has.
+  abbrev pub Records : D → D → Step K V C H W X P F L T E S × Reply K V C H W X P F L T E S → Type 0
+  Records old new entry =
+      (history : List (Step K V C H W X P F L T E S × Reply K V C H W X P F L T E S)) → IsRecord old history →
+      IsRecord new (history ++ entry ∷ [])

@@ -1,0 +1,309 @@
+//! Clones of what a step will hand out, made before the step is done.
+ghost use Rattle.std.specs.Prelude.{◌≡◌, ℕ, Option, Some, None, IfOk, IfSome, option_map};
+ghost use Rattle.std.specs.Arc.{arc_value};
+ghost use Rattle.moka_model.specs.Turns.{Name, End, found, has_ticket_as, is_open_as};
+ghost use Rattle.moka_model.specs.Steps.{events_in, turns};
+ghost use Rattle.moka_model.specs.Calls.{IsCopyOf, IsCopiedEnd, accepted, answer_of, collected, live_at};
+ghost use Rattle.moka_model.specs.Calls.{Collect, Finish, OrInsert, TakeNotice, entry_of};
+ghost use Rattle.moka_turns.specs.Handles.{name_by};
+ghost use Rattle.moka_turns.specs.Keeps.{end_of};
+ghost use Rattle.moka_state.specs.Finish.{outcome_of};
+ghost use Rattle.moka_state.specs.HandedOut.{HandsOut, HasEntry, HasName, IsPairOf};
+ghost use Rattle.moka_state.specs.Step.{call_of};
+
+use crate::state::State;
+use crate::step::Step;
+use moka_model::notification::Notice;
+use moka_model::turns::{Op, Outcome};
+use moka_policy::policy::{CacheTypes, Refused};
+use moka_rows::rows::RowStore;
+use moka_turns::table::TurnEnd;
+use moka_turns::turn_key::TurnKey;
+use moka_turns::turn_name::TurnName;
+use moka_ways::view::StateView;
+use std::alloc::AllocError;
+use std::hash::Hash;
+use std::sync::Arc;
+
+/// Clones of what a step may hand out: a value, and the keys and the error that belong to it. Some
+/// may not be needed in the end.
+#[derive(Drop)]
+pub(crate) struct HandedOut<K, V, E> {
+    /// The value.
+    pub(crate) value: Option<V>,
+    /// The key of the value's entry.
+    pub(crate) key: Option<Arc<K>>,
+    /// The key in the name of a turn.
+    pub(crate) name: Option<Arc<K>>,
+    /// The error of a turn.
+    pub(crate) error: Option<Arc<E>>,
+    /// The notice that is taken.
+    pub(crate) notice: Option<Notice<K, V>>,
+}
+
+// Makes one with only this value and its key.
+fn pair_out<K, V, E>(key: Arc<K>, value: Option<V>) -> HandedOut<K, V, E>
+    ensures { result ≡ record { value = value; key = Some key; name = None; error = None; notice = None } }
+{
+    HandedOut {
+        value,
+        key: Some(key),
+        name: None,
+        error: None,
+        notice: None,
+    }
+}
+
+// Makes one with only this error.
+fn error_out<K, V, E>(error: Arc<E>) -> HandedOut<K, V, E>
+    ensures { result ≡ record { value = None; key = None; name = None; error = Some error; notice = None } }
+{
+    HandedOut {
+        value: None,
+        key: None,
+        name: None,
+        error: Some(error),
+        notice: None,
+    }
+}
+
+// Makes one with only this notice, if there is one.
+fn notice_out<K, V, E>(notice: Option<Notice<K, V>>) -> HandedOut<K, V, E>
+    ensures { result ≡ record { value = None; key = None; name = None; error = None; notice = notice } }
+{
+    HandedOut {
+        value: None,
+        key: None,
+        name: None,
+        error: None,
+        notice,
+    }
+}
+
+// Makes what a ticket gets from this end, if its turn has ended.
+fn end_out<K: Drop, V: Clone, E: Drop>(
+    key: Arc<K>,
+    end: Option<TurnEnd<V, E>>,
+) -> HandedOut<K, V, E>
+    ensures { (name : Name K) (number : ℕ) (own : Option (End V E)) → arc_value key ≡ name.key
+        → IsCopiedEnd V.is_clone own (option_map end_of end)
+        → HandsOut V.is_clone (collected name number own).answer result }
+{
+    match end {
+        Some(TurnEnd::Value(value, _)) => pair_out(key, Some(value)),
+        Some(TurnEnd::Failed(error)) => error_out(error),
+        Some(TurnEnd::Nothing) | Some(TurnEnd::Computed) | Some(TurnEnd::Abandoned) | None => {
+            notice_out(None)
+        }
+    }
+}
+
+impl<K: Hash + Drop, V: Clone, C: CacheTypes<K, V>, R: RowStore<K, V>> State<K, V, C, R> {
+    // Returns the stored key and a clone of the value that is live for a key. Does not count as an
+    // access.
+    fn live_pair(&self, key: &K, now: u64) -> Result<Option<(Arc<K>, V)>, AllocError>
+        ensures { IfOk result (λ found.
+            ⟦<C as StateView<K, V>>⟧.at_each_history self.now (λ settings steps.
+            IsPairOf arc_value V.is_clone
+            (live_at K.eq settings key.now now (events_in steps)) found)) }
+    {
+        let now = self.latest.max(now);
+        let hash = self.behaviour.hash(key);
+        let Some(number) = self.table.find(key, hash) else {
+            return Ok(None);
+        };
+        let row = self.table.row(number);
+        if row.info().is_dead(now) {
+            return Ok(None);
+        }
+        let own = row.key.clone()?;
+        let value = row.value.clone()?;
+        Ok(Some((own, value)))
+    }
+
+    // Returns a clone of the value that was kept aside for the open turn of a name.
+    fn kept_aside(&self, name: &TurnName<K>) -> Result<Option<V>, AllocError>
+        ensures { IfOk result (λ kept.
+            ⟦<C as StateView<K, V>>⟧.at_each_history self.now (λ settings steps.
+            IfSome (found (is_open_as K.eq (name_by name.now)) (turns steps))
+            (λ t. IsCopyOf V.is_clone t.kept kept))) }
+    {
+        let hash = self.behaviour.hash(&*name.key);
+        let key = name.key.clone()?;
+        let key = TurnKey {
+            hash,
+            kind: name.kind,
+            key,
+        };
+        self.turns.kept_copy(&key, name.number)
+    }
+
+    // Returns a clone of the end of the turn of a name, if it has ended.
+    fn end_of_turn(&self, name: &TurnName<K>) -> Result<Option<TurnEnd<V, C::Error>>, AllocError>
+        ensures { IfOk result (λ end.
+            ⟦<C as StateView<K, V>>⟧.at_each_history self.now (λ settings steps.
+            IfSome (found (has_ticket_as K.eq (name_by name.now)) (turns steps))
+            (λ t. IsCopiedEnd V.is_clone t.end (option_map end_of end)))) }
+    {
+        let hash = self.behaviour.hash(&*name.key);
+        let key = name.key.clone()?;
+        let key = TurnKey {
+            hash,
+            kind: name.kind,
+            key,
+        };
+        self.turns.end_copy(&key, name.number)
+    }
+
+    // Clones what a `Get` or a `Remove` returns.
+    fn look_out(&self, key: &K, now: u64) -> Result<HandedOut<K, V, C::Error>, AllocError>
+        ensures { IfOk result (λ out.
+            ⟦<C as StateView<K, V>>⟧.at_each_history self.now (λ settings steps.
+            IsCopyOf V.is_clone
+            (option_map (λ w. w.value) (live_at K.eq settings key.now now (events_in steps)))
+            out.value)) }
+    {
+        match self.scan_get(key, now) {
+            Ok(value) => Ok(HandedOut {
+                value,
+                key: None,
+                name: None,
+                error: None,
+                notice: None,
+            }),
+            Err(_) => Err(AllocError),
+        }
+    }
+
+    // Clones what a begin may return: the key in the turn's name, and the live entry.
+    fn begin_out(&self, key: &Arc<K>, now: u64) -> Result<HandedOut<K, V, C::Error>, AllocError>
+        ensures name { IfOk result (HasName (arc_value key.now)) }
+        ensures entry { IfOk result (λ out.
+            ⟦<C as StateView<K, V>>⟧.at_each_history self.now (λ settings steps.
+            IfSome (live_at K.eq settings (arc_value key.now) now (events_in steps))
+            (λ w. HasEntry V.is_clone (entry_of w) out))) }
+    {
+        let name = key.clone()?;
+        match self.live_pair(&**key, now)? {
+            Some((key, value)) => Ok(HandedOut {
+                value: Some(value),
+                key: Some(key),
+                name: Some(name),
+                error: None,
+                notice: None,
+            }),
+            None => Ok(HandedOut {
+                value: None,
+                key: None,
+                name: Some(name),
+                error: None,
+                notice: None,
+            }),
+        }
+    }
+
+    // Clones what an `OrInsert` returns: the live entry or, if there is none, the one to be
+    // written.
+    fn or_insert_out(
+        &self,
+        key: &Arc<K>,
+        value: &V,
+        now: u64,
+    ) -> Result<HandedOut<K, V, C::Error>, AllocError>
+        ensures { IfOk result (λ out.
+            ⟦<C as StateView<K, V>>⟧.at_each_history self.now (λ settings steps.
+            IfSome (answer_of (accepted K.eq settings steps
+            (OrInsert (arc_value key.now) value.now now)))
+            (λ answer. HandsOut V.is_clone answer out))) }
+    {
+        match self.live_pair(&**key, now)? {
+            Some((key, value)) => Ok(pair_out(key, Some(value))),
+            None => {
+                let key = key.clone()?;
+                Ok(pair_out(key, Some(value.clone()?)))
+            }
+        }
+    }
+
+    // Clones what a `Finish` returns.
+    fn finish_out(
+        &self,
+        name: &TurnName<K>,
+        outcome: &Outcome<V, Arc<C::Error>>,
+        now: u64,
+    ) -> Result<HandedOut<K, V, C::Error>, AllocError>
+        ensures { IfOk result (λ out.
+            ⟦<C as StateView<K, V>>⟧.at_each_history self.now (λ settings steps.
+            IfSome (answer_of (accepted K.eq settings steps
+            (Finish (name_by name.now) (outcome_of outcome.now) now)))
+            (λ answer. HandsOut V.is_clone answer out))) }
+    {
+        let key = name.key.clone()?;
+        match outcome {
+            Outcome::Value(value) => Ok(pair_out(key, Some(value.clone()?))),
+            Outcome::Nothing => Ok(notice_out(None)),
+            Outcome::Failed(error) => Ok(error_out(error.clone()?)),
+            Outcome::Op(Op::Put(value)) => Ok(pair_out(key, Some(value.clone()?))),
+            Outcome::Op(Op::Remove) => match self.scan_get(&*name.key, now) {
+                Ok(value) => Ok(pair_out(key, value)),
+                Err(_) => Err(AllocError),
+            },
+            Outcome::Op(Op::Nop) => Ok(pair_out(key, self.kept_aside(name)?)),
+        }
+    }
+
+    // Clones what a `Collect` returns.
+    fn collect_out(&self, name: &TurnName<K>) -> Result<HandedOut<K, V, C::Error>, AllocError>
+        ensures { IfOk result (λ out.
+            ⟦<C as StateView<K, V>>⟧.at_each_history self.now (λ settings steps.
+            IfSome (answer_of (accepted K.eq settings steps (Collect (name_by name.now))))
+            (λ answer. HandsOut V.is_clone answer out))) }
+    {
+        let key = name.key.clone()?;
+        Ok(end_out(key, self.end_of_turn(name)?))
+    }
+
+    // Clones the notice that a `TakeNotice` returns.
+    fn notice_taken(&self) -> Result<HandedOut<K, V, C::Error>, AllocError>
+        ensures { IfOk result (λ out.
+            ⟦<C as StateView<K, V>>⟧.at_each_history self.now (λ settings steps.
+            IfSome (answer_of (accepted {E = C.Error} K.eq settings steps TakeNotice))
+            (λ answer. HandsOut V.is_clone answer out))) }
+    {
+        Ok(notice_out(self.table.notice_copy()?))
+    }
+
+    /// Clones what a step will hand out. A step that hands nothing out, such as a `Leave`,
+    /// allocates nothing here.
+    pub(crate) fn handed_out(
+        &self,
+        step: &Step<K, V, C>,
+    ) -> Result<HandedOut<K, V, C::Error>, AllocError>
+        ensures { IfOk result (λ out.
+            ⟦<C as StateView<K, V>>⟧.at_each_history self.now (λ settings steps.
+            IfSome (answer_of (accepted K.eq settings steps (call_of C.test step.now)))
+            (λ answer. HandsOut V.is_clone answer out))) }
+    {
+        match step {
+            Step::Get { key, now } => self.look_out(&**key, *now),
+            Step::Remove { key, now } => self.look_out(&**key, *now),
+            Step::OrInsert { key, value, now } => self.or_insert_out(key, value, *now),
+            Step::Begin { key, now, .. } => self.begin_out(key, *now),
+            Step::BeginCompute { key, now, .. } => self.begin_out(key, *now),
+            Step::Finish { name, outcome, now } => self.finish_out(name, outcome, *now),
+            Step::Collect { name } => self.collect_out(name),
+            Step::TakeNotice => self.notice_taken(),
+            Step::ContainsKey { .. }
+            | Step::Insert { .. }
+            | Step::Invalidate { .. }
+            | Step::InvalidateAll
+            | Step::InvalidateIf { .. }
+            | Step::RunPendingTasks { .. }
+            | Step::RunPendingTasksUpTo { .. }
+            | Step::EntryCount
+            | Step::WeightedSize
+            | Step::Abandon { .. }
+            | Step::Leave { .. } => Ok(notice_out(None)),
+        }
+    }
+}
