@@ -18,6 +18,7 @@ pub use Rattle.moka_base.specs.StandsFor
 pub use Rattle.moka_base.specs.Steps
 pub use Rattle.moka_state.specs.Behaviour
 pub use Rattle.moka_state.specs.Noticed
+pub use Rattle.moka_state.specs.Replies
 pub use Rattle.moka_state.specs.Rows
 pub use Rattle.moka_state.specs.State
 pub use Rattle.moka_state.specs.StateData

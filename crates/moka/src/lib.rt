@@ -1,7 +1,6 @@
 //! A bounded in-process cache with proofs: the front of the Rust crate `moka` 0.12.16, rewritten.
 //!
-//! This crate re-exports the public names. Those that moka has too are under its module paths,
-//! except that the selectors are in `sync`.
+//! This crate re-exports the public names. Those that moka has too are under its module paths.
 #![tactic(auto)]
 
 pub use moka_base::common::entry::Entry;

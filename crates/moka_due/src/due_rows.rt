@@ -10,7 +10,7 @@ ghost use Rattle.moka_due.specs.Due.{deadline_in, deadlines_in, without_deadline
 
 use moka_deadlines::deadlines::Deadlines;
 use moka_rows::rows::{Before, EntryInfo, Order, Row, RowStore, Touch};
-use moka_slab::slab_rows::SlabRows;
+use moka_slab::slab_rows::{FIRST, SlabRows};
 use std::alloc::{AllocError, Global};
 
 /// A row store in a slab that finds the first expired row without a walk.
@@ -26,7 +26,8 @@ use std::alloc::{AllocError, Global};
 /// # Complexity
 ///
 /// Each call costs what it costs of the slab. If a row has a deadline, logarithmic time is added on
-/// average. `first_expired` takes logarithmic time.
+/// average. `first_expired` takes logarithmic time while the order is complete, except at the last
+/// moment, 2^64 - 1.
 #[derive(Drop)]
 pub struct DueRows<K, V> {
     rows: SlabRows<K, V>,
@@ -35,11 +36,13 @@ pub struct DueRows<K, V> {
     is_whole: bool,
     // Whether a row has had a deadline. Then there has to be room for those of all rows.
     has_deadlines: bool,
-    // All numbers that were given out are below this one.
+    // All numbers that were given out are below this one. At least the slab's first number, so that
+    // room for so many rows more is room for their numbers.
     top: usize,
     ghost listed: { is_whole ≡ true → order_of deadlines ≡ deadlines_in (admitted_in rows) },
     ghost noted: { AllByRecursion (IsNoted has_deadlines top) (admitted_in rows ++ waiting_in rows) } by { Prim.hlevel props },
     ghost whole: { has_deadlines ≡ false → is_whole ≡ true },
+    ghost begun: { 2 ≤ top },
 }
 
 /// Appends the deadline of a row, if it has one. Returns whether the order is still whole.
@@ -155,7 +158,8 @@ impl<K: Eq + Drop, V: Drop> RowStore<K, V> for DueRows<K, V> {
             deadlines: Deadlines::new(alloc),
             is_whole: true,
             has_deadlines: false,
-            top: 0,
+            // So that `reserve` counts places from the first number that a row can get.
+            top: FIRST,
         }
     }
 
@@ -206,8 +210,8 @@ impl<K: Eq + Drop, V: Drop> RowStore<K, V> for DueRows<K, V> {
     ///
     /// # Errors
     ///
-    /// - `AllocError`: an allocation failed, or a row number or the number of slots has more than
-    ///   32 bits.
+    /// - `AllocError`: an allocation failed, a row number has more than 32 bits, or more than 2^32
+    ///   slots are needed.
     fn reserve(&mut self, more: usize) -> Result<(), AllocError>
         ensures room { OnOk result (more ≤ room_of self.new.rows) }
         ensures more { OnOk result (room_of self.old.rows ≤ room_of self.new.rows) }

@@ -84,8 +84,8 @@ pub fn the_order_of_use_decides<X>()
 
 /// Whatever the weights and the admission rule, residents are evicted for size by access order.
 ///
-/// A prefix of the live residents, followed by the newly admitted, is evicted. The weights and the
-/// rule only say how many, and which pending ones are admitted.
+/// Append the newly admitted to the live residents: what is evicted is a prefix of that list. The
+/// weights and the rule only say how many, and which pending ones are admitted.
 pub fn a_front_of_the_order_of_use_leaves<X>()
     ensures { (weight : X → ℕ) (capacity : Option ℕ) (is_live : X → Bool) (wins : X → List X → Bool) (q : Queues X)
         → (n : ℕ) × (joined : List X) × AreAmong joined (filter is_live q.waiting)

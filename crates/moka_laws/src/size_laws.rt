@@ -143,8 +143,8 @@ pub fn the_shortest_front_leaves<K: Eq, V>()
 /// Under either policy and for all weights, a full maintenance evicts live residents by access
 /// order.
 ///
-/// What it evicts of them is a prefix of the live residents, followed by the newly admitted
-/// entries.
+/// Append the newly admitted entries to the live residents: what it evicts is a prefix of that
+/// list.
 pub fn a_front_of_the_order_of_use_leaves<K: Eq, V>()
     ensures { (settings : Settings K V) (h : List (Event K V)) (at : ℕ)
         → (n : ℕ) × (joined : List (Write K V)) × AreAmong joined (filter (lives K.eq settings at h) (orders K.eq settings h).waiting)

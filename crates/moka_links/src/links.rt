@@ -198,7 +198,8 @@ impl Links {
     #[inline(always)]
     pub fn admit(&mut self, number: usize)
         requires { IsLinked self.old number }
-        ensures admitted { admitted_of self.new ≡ without number (admitted_of self.old) ++ number ∷ [] }
+        ensures admitted { admitted_of self.new
+            ≡ without number (admitted_of self.old) ++ number ∷ [] }
         ensures waiting { waiting_of self.new ≡ without number (waiting_of self.old) }
         ensures kept { KeepsRoom self.old self.new }
     {
@@ -232,7 +233,8 @@ impl Links {
     #[inline(always)]
     fn move_last(&mut self, number: usize)
         requires { IsAmong number (admitted_of self.old) }
-        ensures admitted { admitted_of self.new ≡ without number (admitted_of self.old) ++ number ∷ [] }
+        ensures admitted { admitted_of self.new
+            ≡ without number (admitted_of self.old) ++ number ∷ [] }
         ensures waiting { waiting_of self.new ≡ without number (waiting_of self.old) }
         ensures kept { KeepsRoom self.old self.new }
     {

@@ -26,8 +26,8 @@ module _ {K V : Type 0} where
       + visits_judging is_lru frequency_of capacity
       (judge weight_of capacity (row_wins is_lru frequency_of) admitted p ps).after.admitted ps
 
-  -- The steps for removing the dead resident rows: over all of them if a row may be invalidated. Otherwise there are
-  -- none, since the expired ones are found without a walk.
+  -- The steps for removing the dead resident rows: over all of them if a row may be invalidated. Otherwise none is
+  -- counted, since the store finds the expired ones.
   abbrev pub visits_sweeping : Contents K V → ℕ
   visits_sweeping c = if c.may_hide then length c.admitted else 0
 

@@ -39,7 +39,7 @@ pub data Call (K V E : Type 0) : Type 0 where
   Collect : Name K → Call K V E
   Leave : Name K → Call K V E
 
--- An entry as a call returns it: `fresh` if this call stored the value, `replaced` if it overwrote a live value.
+-- An entry as a call returns it: `fresh` if this call wrote the value, `replaced` if a live value was there when it was written.
 pub record Entry (K V : Type 0) : Type 0 where
   pub key : K
   pub value : V
@@ -109,7 +109,7 @@ module _ {K V : Type 0} where
   abbrev pub entry_under : K → V → Entry K V
   entry_under k v = record { key = k; value = v; fresh = false; replaced = false }
 
-  -- An entry that the call stored itself; `replaced` if it overwrote a live value.
+  -- An entry that the call wrote itself; `replaced` if a live value was there. (A cache of capacity 0 does not store it.)
   abbrev pub fresh_entry : K → V → Bool → Entry K V
   fresh_entry k v replaced = record { key = k; value = v; fresh = true; replaced = replaced }
 

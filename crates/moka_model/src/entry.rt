@@ -48,14 +48,18 @@ impl<K, V> Entry<K, V> {
         &self.value
     }
 
-    /// Returns whether the call that returned this entry also stored its value.
+    /// Returns whether the call that returned this entry wrote its value. A cache of capacity 0 does
+    /// not store it.
     pub fn is_fresh(&self) -> bool
         ensures { result ≡ (entry_of self.now).fresh }
     {
         self.is_fresh
     }
 
-    /// Returns whether the value overwrote a live value when it was stored.
+    /// Returns whether a live value was replaced when this value was written.
+    ///
+    /// A compute goes by the value that was live when it began. A value that was only found replaced
+    /// none.
     pub fn is_old_value_replaced(&self) -> bool
         ensures { result ≡ (entry_of self.now).replaced }
     {

@@ -147,7 +147,8 @@ fn link_in(nodes: &mut [Node], at: u32, before: u32)
     set_prev(nodes, before, at);
 }
 
-// Moves a number before another one. Writes only the links that differ in the end.
+// Moves a number before another one. Writes six links, none of them twice unless both are
+// neighbours.
 #[inline(always)]
 fn relink_in(nodes: &mut [Node], at: u32, end: u32)
     requires at_within { at < length nodes.old }

@@ -204,7 +204,8 @@ impl Orders {
     #[inline(always)]
     pub fn move_last(&mut self, number: u32)
         requires { IsAmong number (admitted_in self.old) }
-        ensures admitted { admitted_in self.new ≡ without number (admitted_in self.old) ++ number ∷ [] }
+        ensures admitted { admitted_in self.new
+            ≡ without number (admitted_in self.old) ++ number ∷ [] }
         ensures waiting { waiting_in self.new ≡ without number (waiting_in self.old) }
         ensures kept { KeepsHashes self.old self.new }
     {

@@ -8,8 +8,7 @@ pub enum PredicateError {
     /// used.
     #[error("InvalidationClosuresDisabled")]
     InvalidationClosuresDisabled,
-    /// An allocation failed, for the id's text or for the predicate. The random generator may have
-    /// been used.
+    /// Allocating the id's text failed. The random generator may have been used.
     #[error("OutOfMemory")]
     OutOfMemory,
 }

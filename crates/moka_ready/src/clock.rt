@@ -14,6 +14,8 @@ use std::{io, time};
 /// returned. If the runtime's clock cannot be read, it returns that one again, so time stands still
 /// meanwhile. At 2^64 - 1, after 584 years, it stands still for good.
 ///
+/// An owned cache has no clock: pass what `now` of [`Clock`] returns as the moment of a call.
+///
 /// ```
 /// let clock = RunningClock::new(rt)?;
 /// let builder = CacheBuilder::new(100).time_to_live(life);
@@ -52,7 +54,8 @@ impl<R: time::Clock + Drop> Clock for RunningClock<R> {
 
 // Returns the nanoseconds of a reading, at most 2^64 - 1, or 0 if the reading failed.
 fn moment_of(read: io::Result<Duration>) -> u64
-    ensures { MatchResult read (λ passed. result ≡ min (as_nanos passed) (2 ^ 64 - 1)) (λ _. result ≡ 0) }
+    ensures { MatchResult read (λ passed. result ≡ min (as_nanos passed) (2 ^ 64 - 1))
+        (λ _. result ≡ 0) }
 {
     match read {
         Ok(passed) => u64::try_from(passed.as_nanos()).unwrap_or(u64::MAX),

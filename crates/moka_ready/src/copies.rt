@@ -13,10 +13,12 @@ use std::time::Duration;
 
 /// A type of values of which a clone of a clone is a clone, as a cache asks of its values.
 ///
-/// For a struct or an enum of your own whose `Clone` is derived, the impl is one line, with
-/// `composing` of `Rattle.moka.specs.Copies`:
+/// For a struct or an enum of your own whose `Clone` is derived, the impl is one line, by the rules
+/// `composing`:
 ///
 /// ```
+/// ghost use Rattle.moka.specs.Copies.{composing};
+///
 /// impl CopiesCompose for Visitor {
 ///     ghost copies_compose = { Prim.search composing };
 /// }

@@ -41,7 +41,13 @@ pub trait Lives<K, V> {
 /// }
 ///
 /// let builder = builder.weigher(Meant::new(Bytes, weigher));
+/// let mut blobs: CacheState<u64, Vec<u8>, Weighed<Meant<Bytes, W>>> = builder.build_state(
+///     rt.alloc(),
+///     FoldState::default(),
+/// )?;
 /// ```
+///
+/// `W` is a parameter of the function, which requires that `weigher` computes `bytes_in`.
 #[derive(Clone, Copy, Debug)]
 pub struct Meant<M, A> {
     meaning: M,

@@ -157,8 +157,14 @@ pub type Fallible<F, T = ManualClock> = ReadyTypes<
 /// A cache without a weigher or an expiry, which calls an `L` for removed entries if it is shared,
 /// for keys that no attacker picks.
 ///
+/// A closure's type has no name. So a function that builds such a cache is generic over `L`, and
+/// requires that the listener accepts each key with each value.
+///
 /// ```
+/// let builder = builder.eviction_listener(listener);
 /// let names: Cache<u64, String, Listening<L>, R> = builder.build_with_hasher(
+///     alloc, hasher, clock, rt,
+/// )?;
 /// ```
 pub type Listening<L, T = ManualClock> = ReadyTypes<
     FoldState,
@@ -176,6 +182,11 @@ pub type Listening<L, T = ManualClock> = ReadyTypes<
 /// ```
 /// impl Keeps<u32, u64> for Triangles {
 ///     ghost keeps = { λ n value. value ≡ triangle n };
+///
+///     ghost equal_keys_keep = { λ a b value same kept. kept ∙ ap triangle (eqb-true a b same) };
+///
+///     ghost copies_keep = { λ n value copy is_copy kept. is_copy ∙ kept };
+/// }
 /// ```
 pub trait Keeps<K: Eq, V: Clone> {
     /// The relation.

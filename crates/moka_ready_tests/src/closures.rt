@@ -1,16 +1,21 @@
 //! Closures of the caller, each called through the trait by which a cache calls it.
 ghost use Rattle.std.specs.Prelude.{◌≡◌, ◌==◌, ◌+◌, refl, ⊤};
 ghost use Rattle.std.specs.Arc.{arc_value};
+ghost use Rattle.moka_ready_tests.specs.Lifetimes.{in_seconds};
 
 use moka_model::notification::RemovalCause;
-use moka_policy::policy::{HoldsIf, ListenBy, Listener, Predicate, WeighBy, Weigher};
-use moka_ready::meant::{Meant, Tests, Weighs};
-use moka_ready::ready::{SteadyPredicate, SteadyWeigher};
+use moka_policy::policy::{
+    ExpireBy, Expiry, HoldsIf, ListenBy, Listener, Predicate, WeighBy, Weigher,
+};
+use moka_ready::meant::{Lives, Meant, Tests, Weighs};
+use moka_ready::ready::{SteadyExpiry, SteadyPredicate, SteadyWeigher};
 use std::sync::Arc;
 use std::sync::atomic::{AtomicU64, Ordering};
 use std::test::Fail;
+use std::time::Duration;
 
-/// What the closures compute: the value as its weight, and whether a value equals `limit`.
+/// What the closures compute: the value as its weight, whether a value equals `limit`, and a
+/// lifetime of as many seconds as the value.
 #[derive(Drop)]
 struct Says {
     limit: u64,
@@ -57,6 +62,36 @@ fn a_closure_that_captures_tests(rt: HostRuntime) -> Result<(), Fail> {
     let predicate = Meant::new(Says { limit }, closure);
     assert!(rt; holds(&predicate, 3));
     assert!(rt; !holds(&predicate, 4));
+    Ok(())
+}
+
+impl Lives<u64, u64> for Says {
+    ghost lifetimes = { λ _. in_seconds };
+}
+
+// Returns the lifetimes after a creation, after an access and after an update.
+fn lifetimes<E: SteadyExpiry<u64, u64>>(expiry: &E, rest: Duration) -> [Option<Duration>; 3]
+    requires { E.gives expiry.now (E.lifetimes expiry.now) }
+{
+    [
+        expiry.expire_after_create(&1, &7, 0),
+        expiry.expire_after_read(&1, &7, 1, Some(rest), 0),
+        expiry.expire_after_update(&1, &7, 2, Some(rest)),
+    ]
+}
+
+/// Three closures, in a `Meant`, give lifetimes. Each gets what is left of the lifetime before.
+#[test]
+fn closures_give_lifetimes(rt: HostRuntime) -> Result<(), Fail> {
+    let closures = ExpireBy::new(
+        |_key: &u64, value: &u64, _at: u64| Some(Duration::from_secs(*value)),
+        |_key: &u64, _value: &u64, _at: u64, rest: Option<Duration>, _written_at: u64| rest,
+        |_key: &u64, _value: &u64, _at: u64, rest: Option<Duration>| rest,
+    );
+    let expiry = Meant::new(Says { limit: 3 }, closures);
+    let rest = Some(Duration::from_secs(5));
+    let given = lifetimes(&expiry, Duration::from_secs(5));
+    assert!(rt; given == [Some(Duration::from_secs(7)), rest, rest]);
     Ok(())
 }
 

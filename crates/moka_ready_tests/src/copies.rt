@@ -26,6 +26,17 @@ impl CopiesCompose for Page {
     ghost copies_compose = { Prim.search composing };
 }
 
+/// A struct of structs.
+#[derive(Clone, Debug, PartialEq, Drop)]
+struct Book {
+    cover: Page,
+    pages: Vec<Page>,
+}
+
+impl CopiesCompose for Book {
+    ghost copies_compose = { Prim.search composing };
+}
+
 /// An enum of a user's own, with a type parameter.
 #[derive(Clone, Debug, PartialEq, Drop)]
 enum Form<T> {
@@ -76,9 +87,10 @@ fn an_enum_is_copied_on(rt: HostRuntime) -> Result<(), Fail> {
 // Compiles only for types that have `CopiesCompose`.
 fn copies_on<T: CopiesCompose>() {}
 
-/// Many types of std have `CopiesCompose`.
+/// Many types of std have `CopiesCompose`, and so has a struct of structs.
 #[test]
 fn many_types_are_copied_on(_rt: HostRuntime) -> Result<(), Fail> {
+    copies_on::<Book>();
     copies_on::<Result<Option<u8>, String>>();
     copies_on::<(u128, i8, i16, i128, isize, f64)>();
     copies_on::<(f32, char, bool, &'static str, Arc<u8>)>();

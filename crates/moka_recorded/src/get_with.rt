@@ -73,8 +73,8 @@ where
     requires { C.keeps (arc_value turn.name.key) value }
     ensures done { IfOk result (λ v. Finishes V.is_clone (name_by turn.name) value now
         v pass.old pass.new) }
-    ensures refused { IfErr result (λ refused. FinishRefused V.is_clone (name_by turn.name) value now
-        refused pass.old pass.new) }
+    ensures refused { IfErr result (λ refused. FinishRefused V.is_clone (name_by turn.name) value
+        now refused pass.old pass.new) }
 {
     let Named { name } = turn;
     let Ok(called) = copied(&name) else {

@@ -123,7 +123,7 @@ impl<K: Hash + Drop, V: Clone, C: CacheTypes<K, V>, L: Naming, W: Drop> Recorded
     ///
     /// # Complexity
     ///
-    /// Quadratic in the number of passes.
+    /// Quadratic in the number of passes. Also drops all receipts.
     pub fn close(
         self,
         passes: Vec<Pass<K, V, C, L>>,
@@ -159,8 +159,8 @@ impl<K: Hash + Drop, V: Clone, C: CacheTypes<K, V>, L: Naming, W: Wait + Drop> R
     L,
     W,
 > {
-    /// Does one step. The pass gets one more receipt, at a place behind all that it had: of the
-    /// step and its reply.
+    /// Does one step, and adds its receipt to the pass: the step, its reply, and its place in the
+    /// history. That place is behind those of all earlier receipts of the pass.
     ///
     /// A step that fails otherwise than with `OutOfMemory` is in the history with its error, and
     /// has changed nothing. The end of a turn wakes the callers that wait in `get_with`.

@@ -6,9 +6,9 @@ use moka_policy::policy::Refused;
 /// A value that does steps, returns a reply to each, and stands for a history of its steps and
 /// replies.
 ///
-/// A step and its reply are needed three times: by the caller, in the history and in the caller's
-/// pass. They are clones of one another, as far as their types have clones. So contracts say that
-/// they are the same in the machine's own sense.
+/// A reply is needed three times: by the caller, in the history and in the caller's pass. Its step
+/// is needed in the last two. They are clones of one another, as far as their types have clones. So
+/// contracts say that they are the same in the machine's own sense.
 pub trait Machine<S: Drop, R: Drop>: Drop {
     ghost use Rattle.std.specs.Prelude.{◌≡◌, List, [], ◌∷◌, ◌++◌, IfOk, IfErr};
     ghost use Rattle.moka_policy.specs.declared.policy.Refused.TheVariants.{OutOfMemory};

@@ -195,7 +195,7 @@ impl<M: Machine<S, R>, S: Drop, R: Drop, L: Naming, W: Drop> Recorded<M, S, R, L
     ///
     /// # Complexity
     ///
-    /// Quadratic in the number of passes.
+    /// Quadratic in the number of passes. Also drops all receipts.
     pub fn close(self, passes: Vec<Pass<M, S, R, L>>) -> Closed<M, S, R, L, W>
         ensures legal { IfOk result (λ closed. M.stands closed.1 (pairs closed.0.items)) }
         ensures count { IfOk result (λ closed.
@@ -260,7 +260,8 @@ impl<M: Machine<S, R>, S: Drop, R: Drop, L: Naming, W: Wait + Drop> Recorded<M, 
 
     /// Does one step, and sleeps until another step wakes it, if the machine calls the reply early.
     ///
-    /// No wake-up is lost in between, since it goes to sleep under the lock of its own step.
+    /// No wake-up is lost in between, since it goes to sleep under the lock of its own step. Wakes no
+    /// other caller, whatever the step.
     ///
     /// # Errors
     ///

@@ -20,7 +20,8 @@ impl<K: Hash + Drop, V: Clone, C: CacheTypes<K, V>, R: RowStore<K, V>> Segmented
     /// Makes the call that a step describes, and returns its reply.
     ///
     /// A step of a key goes to the key's segment. One of a turn goes to the segment of its name's
-    /// key, and any other to all. A failed step drops what it carried.
+    /// key. `TakeNotice` takes from the first segment that has a notice. Any other step goes to all.
+    /// A failed step drops what it carried.
     pub fn step(&mut self, step: Step<K, V, C>) -> Reply<K, V, C>
         requires { StepKeeps C.keeps C.Predicate.tests C.test step }
         ensures reply { ⟦<C as SegmentedStateView<K, V>>⟧.at_each_list self.old (λ settings calls.

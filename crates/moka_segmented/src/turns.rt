@@ -104,8 +104,8 @@ impl<K: Hash + Drop, V: Clone, C: CacheTypes<K, V>, R: RowStore<K, V>> Segmented
     /// Ends a turn with an outcome, in the segment of its key.
     ///
     /// A value is written as by [`Segmented::insert`]. Its entry is fresh, and marked as replacing
-    /// if a value was live just before the write. The outcome is kept until the last waiting caller
-    /// has collected it. Only the caller of a compute gets what became of the value.
+    /// if a value was live just before the write. The outcome is kept until each waiting caller has
+    /// collected it or left. Only the caller of a compute gets what became of the value.
     ///
     /// The outcome has to fit the turn's kind. Allocates only for a value, an error, or the removal
     /// of a live value.
@@ -145,12 +145,15 @@ impl<K: Hash + Drop, V: Clone, C: CacheTypes<K, V>, R: RowStore<K, V>> Segmented
     }
 
     /// Ends a turn without an outcome, in the segment of its key: the callers that wait for it find
-    /// that it was abandoned. Spends the turn in any case. Does not allocate, and takes constant
-    /// time.
+    /// that it was abandoned. Spends the turn in any case. Does not allocate.
     ///
     /// # Errors
     ///
     /// - `UnknownTurn`: it is no open turn of this cache.
+    ///
+    /// # Complexity
+    ///
+    /// Hashes the key, and costs the call of its segment.
     pub fn abandon(&mut self, turn: Turn<K>) -> Result<(), Refused>
         ensures reply { ⟦<C as SegmentedStateView<K, V>>⟧.at_each_list self.old (λ settings calls.
             GivesIn K.eq V.is_clone V.is_infallible settings calls (Abandon (turn_name turn))
@@ -167,7 +170,7 @@ impl<K: Hash + Drop, V: Clone, C: CacheTypes<K, V>, R: RowStore<K, V>> Segmented
     /// Returns what came of a ticket's turn, in the segment of its key.
     ///
     /// If the turn has ended, spends the ticket and returns a clone of the outcome. If the turn is
-    /// open, returns the ticket. Takes constant time, except for the clone.
+    /// open, returns the ticket.
     ///
     /// # Errors
     ///
@@ -175,6 +178,10 @@ impl<K: Hash + Drop, V: Clone, C: CacheTypes<K, V>, R: RowStore<K, V>> Segmented
     ///
     /// - `UnknownTicket`: no turn of this cache has the ticket's name and an unspent ticket.
     /// - `OutOfMemory`: cloning the value or sharing the error failed.
+    ///
+    /// # Complexity
+    ///
+    /// Hashes the key, and costs the call of its segment.
     pub fn collect(
         &mut self,
         ticket: Ticket<K>,
@@ -195,11 +202,15 @@ impl<K: Hash + Drop, V: Clone, C: CacheTypes<K, V>, R: RowStore<K, V>> Segmented
     }
 
     /// Spends a ticket and collects nothing, in the segment of its turn's key. The ticket is spent
-    /// in any case. Does not allocate, and takes constant time.
+    /// in any case. Does not allocate.
     ///
     /// # Errors
     ///
     /// - `UnknownTicket`: no turn of this cache has the ticket's name and an unspent ticket.
+    ///
+    /// # Complexity
+    ///
+    /// Hashes the key, and costs the call of its segment.
     pub fn leave(&mut self, ticket: Ticket<K>) -> Result<(), Refused>
         ensures reply { ⟦<C as SegmentedStateView<K, V>>⟧.at_each_list self.old (λ settings calls.
             GivesIn K.eq V.is_clone V.is_infallible settings calls (Leave (ticket_name ticket))

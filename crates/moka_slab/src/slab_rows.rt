@@ -13,8 +13,8 @@ use moka_rows::visits::step;
 use slab::Slab;
 use std::alloc::{AllocError, Global};
 
-/// The number of the row with the slab's first key.
-const FIRST: usize = 2;
+/// The number of the row with the slab's first key. No row has a lower one.
+pub const FIRST: usize = 2;
 
 /// A row store in a slab. The rows are linked by their numbers, in two orders, and to the next row
 /// with the same hash.

@@ -23,8 +23,8 @@ abbrev pub IsSaidOf : {K V F : Type 0} → Mut F (Bor V × Unit {0}) Bool → Op
 IsSaidOf call replace_if None said = said ≡ None
 IsSaidOf call replace_if (Some w) said = IsSaid call replace_if w.value said
 
--- A lookup finds no acceptable value, and none is live. Or it returns the entry that a begin of any loader would
--- return. Or it fails with `OutOfMemory`.
+-- A lookup finds no acceptable value: none is live, or the live one was turned down. Or it returns the entry that a
+-- begin of any loader would return. Or it fails with `OutOfMemory`.
 abbrev pub GivesLook : {K V E : Type 0} → (K → K → Bool) → (V → V → Type 0) → (V → Type 0) → Settings K V →
     List (AcceptedStep K V E) → K → Option Bool → ℕ → Result (Option (Entry K V)) Refused → Type 0
 GivesLook eq is_clone is_infallible settings steps key said at (Ok None) =

@@ -322,7 +322,7 @@ impl<K: Hash + Drop, V: Clone, C: CacheTypes<K, V>, R: RowStore<K, V>> State<K, 
     ///
     /// A value is stored as by [`State::insert`]. Its entry is fresh, and marked as replacing if a
     /// live value was stored just before the write. The outcome is kept for the waiting callers
-    /// until the last of them has collected it.
+    /// until each of them has collected it or left.
     ///
     /// A compute ends with an operation, and only its caller gets the result.
     ///

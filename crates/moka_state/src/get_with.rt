@@ -46,7 +46,8 @@ impl<K: Hash + Drop, V: Clone, C: CacheTypes<K, V>, R: RowStore<K, V>> State<K, 
     ///
     /// # Complexity
     ///
-    /// Costs a [`State::get`] on a hit, else a [`State::begin`] and a [`State::finish`].
+    /// A hit costs a [`State::get`] and a share of the stored key. Otherwise the call costs a
+    /// [`State::begin`] and a [`State::finish`].
     pub fn get_with<F: FnOnce() -> V + Drop>(
         &mut self,
         key: K,

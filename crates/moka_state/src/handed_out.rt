@@ -43,7 +43,8 @@ pub(crate) struct HandedOut<K, V, E> {
 
 // Makes one with only this value and its key.
 fn pair_out<K, V, E>(key: Arc<K>, value: Option<V>) -> HandedOut<K, V, E>
-    ensures { result ≡ record { value = value; key = Some key; name = None; error = None; notice = None } }
+    ensures { result
+        ≡ record { value = value; key = Some key; name = None; error = None; notice = None } }
 {
     HandedOut {
         value,
@@ -56,7 +57,8 @@ fn pair_out<K, V, E>(key: Arc<K>, value: Option<V>) -> HandedOut<K, V, E>
 
 // Makes one with only this error.
 fn error_out<K, V, E>(error: Arc<E>) -> HandedOut<K, V, E>
-    ensures { result ≡ record { value = None; key = None; name = None; error = Some error; notice = None } }
+    ensures { result
+        ≡ record { value = None; key = None; name = None; error = Some error; notice = None } }
 {
     HandedOut {
         value: None,
@@ -69,7 +71,8 @@ fn error_out<K, V, E>(error: Arc<E>) -> HandedOut<K, V, E>
 
 // Makes one with only this notice, if there is one.
 fn notice_out<K, V, E>(notice: Option<Notice<K, V>>) -> HandedOut<K, V, E>
-    ensures { result ≡ record { value = None; key = None; name = None; error = None; notice = notice } }
+    ensures { result
+        ≡ record { value = None; key = None; name = None; error = None; notice = notice } }
 {
     HandedOut {
         value: None,

@@ -56,7 +56,7 @@ impl<K: Hash + Drop, V: Clone, C: CacheTypes<K, V>, R: RowStore<K, V>> State<K, 
         ensures undrawn { self.old.settings.supports_closures ≡ false →
             generator.new ≡ generator.old }
     {
-        self.predicate_room()?; // Where it is refused nothing is drawn.
+        self.predicate_room()?; // If it fails, nothing is drawn.
         let Ok(id) = new_predicate_id(self.alloc(), generator) else {
             return Err(PredicateError::OutOfMemory);
         };
@@ -83,7 +83,7 @@ impl<K: Hash + Drop, V: Clone, C: CacheTypes<K, V>, R: RowStore<K, V>> State<K, 
         ensures refused { OnErr result (self.new ≡ self.old) }
         ensures settings { self.new.settings ≡ self.old.settings }
     {
-        self.predicate_room()?; // Where it is refused nothing is hidden.
+        self.predicate_room()?; // If it fails, nothing is hidden.
         self.hide_where(&predicate);
         Ok(())
     }

@@ -24,8 +24,8 @@ use thiserror::Error;
 
 /// The error of a failed [`State::or_insert`], with the value that it was given.
 #[derive(Debug, Drop, Error)]
-#[error("or_insert was refused ({cause}) and changed nothing: the value is handed back, to try again \
-     with more memory, or with another cache where its numbers are used up")]
+#[error("or_insert failed ({cause}) and changed nothing: the value is handed back, to try again with \
+     more memory, or with another cache if its numbers are used up")]
 pub struct OrInsertRefused<V> {
     /// The value, as it was given.
     pub value: V,

@@ -73,8 +73,8 @@ pub struct Settings<K: Eq, V: Clone, C: CacheTypes<K, V>> {
 
 /// The error of a failed [`State::insert`], with the key and the value that it was given.
 #[derive(Debug, Drop, Error)]
-#[error("insert was refused ({cause}) and changed nothing: key and value are handed back, to try again \
-     with more memory, or with another cache where its numbers are used up")]
+#[error("insert failed ({cause}) and changed nothing: key and value are handed back, to try again with \
+     more memory, or with another cache if its numbers are used up")]
 pub struct InsertRefused<K, V> {
     /// The key, as it was given.
     pub key: K,

@@ -275,7 +275,7 @@ impl<K: Hash + Drop, V: Clone, C: CacheTypes<K, V>, T> CacheBuilder<K, V, C, T> 
 
     /// Sets the first sequence number, 0 without this setting.
     ///
-    /// Writes fail once all numbers up to 2^64 - 2 are drawn.
+    /// Once all numbers up to 2^64 - 2 are drawn, no write succeeds and no turn is opened.
     pub fn first_number(self, number: u64) -> Self
         ensures { result ≡ record self { first_number = number } }
     {

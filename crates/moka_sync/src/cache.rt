@@ -186,8 +186,8 @@ impl<K: Hash + Drop, V: Clone, C: CacheTypes<K, V>, W: Wait> Cache<K, V, C, W> {
 
     /// Inserts `value` under `key`, or overwrites the value that is stored there, live or expired.
     ///
-    /// If 64 or more entries are pending, runs a maintenance first. Calls the listener for removed
-    /// entries once the lock is released. At a capacity of 0 nothing is stored.
+    /// If 64 or more entries are pending, runs a maintenance first, up to the flush limit. Calls the
+    /// listener for removed entries once the lock is released. At a capacity of 0 nothing is stored.
     ///
     /// # Errors
     ///

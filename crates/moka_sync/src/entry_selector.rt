@@ -23,9 +23,8 @@ pub struct OwnedKeyEntrySelector<'a, K: Hash + Drop, V: Clone, C: CacheTypes<K, 
 
 /// A key by reference of a shared cache, for exactly one call. [`Cache::entry_by_ref`] makes it.
 ///
-/// The call clones the key. `or_insert`, `or_default`, `or_insert_with_if` and the computes always
-/// do. The other loaders clone it only on a miss. The prover asks of each call that a clone of a
-/// key equals it.
+/// `or_insert`, `or_default`, `or_insert_with_if` and the computes always clone the key. The other
+/// loaders clone it only on a miss. The prover asks of each call that a clone of a key equals it.
 pub struct RefKeyEntrySelector<'a, K: Hash + Drop, V: Clone, C: CacheTypes<K, V>, W> {
     cache: &'a Cache<K, V, C, W>,
     key: &'a K,

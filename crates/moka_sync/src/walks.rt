@@ -37,9 +37,9 @@ impl<K: Hash + Drop, V: Clone, C: CacheTypes<K, V>, W: Wait> Cache<K, V, C, W> {
     /// Returns an iterator over the live pairs, each key at most once, in no order.
     ///
     /// It takes the lock at each step, and holds none between two steps, so the cache may be used
-    /// meanwhile. A key that is stored from the start to the end is yielded. One that is written
-    /// later may be yielded or not. Does not count as an access. Each value satisfies `keeps` with
-    /// its key.
+    /// meanwhile. A key that is live from the start to the end is yielded, or an `Err` if its value
+    /// cannot be cloned. One that is written later may be yielded or not. Does not count as an
+    /// access. Each value satisfies `keeps` with its key.
     ///
     /// # Errors
     ///

@@ -159,8 +159,8 @@ fn refusals_say_what_was_refused(rt: HostRuntime) -> Result<(), Fail> {
     };
     assert_eq!(rt;
         format!(in rt.alloc(); "{refused}")?.as_str(),
-        "insert was refused (NumbersUsedUp) and changed nothing: key and value are handed back, to try again \
-         with more memory, or with another cache where its numbers are used up"
+        "insert failed (NumbersUsedUp) and changed nothing: key and value are handed back, to try again with \
+         more memory, or with another cache if its numbers are used up"
     );
     assert_eq!(rt; Refused::from(refused), Refused::NumbersUsedUp);
     Ok(())

@@ -14,8 +14,8 @@ use Rattle.moka_table.specs.declared.table.Weights.{Weights}
 use Rattle.moka_ways.specs.Lives.{own_of}
 use Rattle.moka_rows.specs.Rows.{with_row, without_row, row_under}
 
--- The contents of a table: the rows of both orders, the notices not taken, whether a row may be invalidated, and the
--- number of rows that there is room for.
+-- The contents of a table: the rows of both orders, the notices not taken, whether a row may be invalidated, and a
+-- number of rows that there is room for, at least.
 pub record Contents (K V : Type 0) : Type 0 where
   pub admitted : List (ℕ × Row K V)
   pub waiting : List (ℕ × Row K V)

@@ -76,8 +76,8 @@ pub enum Told<K, V, E> {
 /// The turns that a cache keeps. An open or ended one is found by its hash, without visiting
 /// others.
 ///
-/// Each open turn has the room that it needs once it has ended. So the table allocates in `reserve`
-/// only.
+/// Each open turn has the room that it needs once it has ended. So the table grows in `reserve`
+/// only. Other calls may clone a value.
 #[derive(Drop)]
 pub struct Turns<K: Eq + Drop, V: Drop, E: Drop> {
     opened: Open<K, V>,

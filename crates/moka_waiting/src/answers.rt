@@ -18,8 +18,8 @@ pub enum Collected<V, K> {
     Ready(V),
     /// The turn is still open. The ticket comes back, to be collected again.
     NotYet(K),
-    /// The turn has ended and gave this caller nothing, so it begins again. So does a turn that was
-    /// abandoned, and that of a compute.
+    /// The turn has ended and gave this caller nothing: it was abandoned, or it was a compute's. The
+    /// caller begins again.
     Again,
 }
 

@@ -18,4 +18,5 @@ invariant_of-self g c =
           (λ none. none-there c.args.row.info.deadline (rw (c.is_some.ensures, c.info.ensures) at (neither had c.is_some.result none).1), below)
           c.add-number.ensures.admitted c.add-number.ensures.waiting;
       whole = λ none. c.args.self.now.whole (neither had c.is_some.result none).0;
+      begun = omega (arith, c.args.self.now.begun, higher);
     }

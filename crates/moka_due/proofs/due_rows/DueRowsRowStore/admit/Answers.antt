@@ -34,6 +34,7 @@ invariant_of-self g c =
       whole = λ none.
           let read = each-at P n c.row.result.now (admitted_in c.admit.new.self ++ waiting_in c.admit.new.self) noted c.row.ensures.row in
           c.enlist-self.ensures.whole (c.args.self.now.whole none) (stands-none n _ _ _ _ (ap (λ info. info.deadline) c.info-deadline.ensures ∙ read.0 none));
+      begun = c.args.self.now.begun;
     }
 
 -- where no row has had a deadline, the one that is admitted has none
@@ -52,4 +53,5 @@ invariant_of-self-else-self g c =
           ∙ sym (deadlines-push admitted n row.0) ∙ ap deadlines_in (sym is);
       noted = each-admitted P n admitted waiting (admitted_in c.admit.new.self) (waiting_in c.admit.new.self) c.args.self.now.noted row.0 row.1 is c.admit.ensures.waiting;
       whole = c.args.self.now.whole;
+      begun = c.args.self.now.begun;
     }

@@ -22,4 +22,5 @@ invariant_of-self g c =
           (each-changed P n hidden admitted (λ r found. each-at P n r admitted front found) front)
           (each-changed P n hidden waiting (λ r found. each-at P n r waiting back found) back));
       whole = c.args.self.now.whole;
+      begun = c.args.self.now.begun;
     }

@@ -34,4 +34,5 @@ invariant_of-self g c =
           c.relist-self.ensures.whole (c.args.self.now.whole neither_is.0)
           (placed-none n _ _ (c.only_admitted-before.ensures ∙ none-of c.is_of_admitted-is_admitted.result _ was))
           (stands-none n _ _ _ _ (c.only_admitted-after.ensures ∙ none-of c.is_of_admitted-is_admitted.result _ is));
+      begun = c.args.self.now.begun;
     }

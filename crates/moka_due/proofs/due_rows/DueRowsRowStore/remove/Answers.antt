@@ -26,4 +26,5 @@ invariant_of-self g c =
           let read = each-at P n row (admitted ++ waiting) c.args.self.now.noted c.remove-row.ensures.row in
           c.delist-self.ensures.whole (c.args.self.now.whole none)
           (placed-none n _ _ (c.only_admitted-before.ensures ∙ none-of c.is_of_admitted.result _ (ap (λ info. info.deadline) c.info.ensures ∙ read.0 none)));
+      begun = c.args.self.now.begun;
     }

@@ -22,6 +22,7 @@ invariant_of-self g c =
       noted = each-used P n (touched c.args.touch) admitted waiting (admitted_in c.touch.new.self) (waiting_in c.touch.new.self)
           (λ r found. (λ none. undated, (each-at P n r (admitted ++ waiting) c.args.self.now.noted found).1)) c.args.self.now.noted c.touch.ensures.after;
       whole = c.args.self.now.whole;
+      begun = c.args.self.now.begun;
     }
 
 pub invariant_of-self-2 : goal.invariant_of-self-2
@@ -47,4 +48,5 @@ invariant_of-self-2 g c =
           c.relist-self.ensures.whole (c.args.self.now.whole neither_is.0)
           (placed-none n _ _ (c.only_admitted-before.ensures ∙ none-of c.is_admitted-is_admitted.result _ was))
           (stands-none n _ _ _ _ (c.only_admitted-after.ensures ∙ none-of c.is_admitted-is_admitted.result _ is));
+      begun = c.args.self.now.begun;
     }

@@ -1,0 +1,35 @@
+//! A memoizer for threads, with a time to live of a minute by a clock that runs. Each result is
+//! proved to be what the function computes.
+
+ghost use Rattle.std.specs.Prelude.{◌≡◌, IfOk};
+ghost use Rattle.examples_types.specs.Triangle.{triangle};
+
+use crate::memoizer::{Triangles, sum_to};
+use anyhow::Result;
+use moka::clock::RunningClock;
+use moka::policy::Refused;
+use moka::ready::{FoldState, Keeping};
+use moka::sync::{Cache, CacheBuilder};
+use std::rt::Runtime;
+use std::sync::Wait;
+use std::time::Duration;
+
+/// Keeps triangular numbers by their roots.
+type Numbers<R> = Cache<u32, u64, Keeping<Triangles, FoldState, RunningClock<R>>, R>;
+
+/// Returns the sum of 1 to n: cached, or computed by this caller or by another one.
+fn memoized<R: Runtime + Wait>(numbers: &Numbers<R>, n: u32) -> Result<u64, Refused>
+    ensures { IfOk result (λ value. value ≡ triangle n) }
+{
+    numbers.get_with(n, || sum_to(n))
+}
+
+/// Runs the example.
+pub fn main<R: Runtime + AllocGlobal + Wait + Copy>(rt: R) -> Result<()> {
+    let (alloc, hasher, clock) = (rt.alloc(), FoldState::default(), RunningClock::new(rt)?);
+    let builder = CacheBuilder::new(100).time_to_live(Duration::from_secs(60));
+    let numbers = builder.build_with_hasher(alloc, hasher, clock, rt)?;
+    let same = numbers.clone()?;
+    println!(rt; "{} and {}", memoized(&numbers, 10)?, memoized(&same, 10)?)?;
+    Ok(())
+}
