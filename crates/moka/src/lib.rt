@@ -14,16 +14,16 @@ pub mod common {
 
     /// Iteration over caches.
     pub mod iter {
-        pub use moka_cursor::cursor::WalkCursor;
-        pub use moka_walks::iter::{Iter, ScanningGet};
+        pub use moka_iter::iter::{Iter, ScanningGet};
+        pub use moka_state_iter::cursor::WalkCursor;
     }
 }
 
 /// The laws of walks.
-pub use moka_walks::walk_laws;
+pub use moka_iter::walk_laws;
 
 /// Ready-made types of caches.
-pub use moka_ready::{clock, copies, meant, ready};
+pub use moka_presets::{clock, copies, meant, ready};
 
 /// Operations on a value, given the one before.
 pub mod ops {
@@ -36,6 +36,7 @@ pub mod ops {
 
 /// Caches that threads share, and the builder of all caches.
 pub mod sync {
+    pub use moka_iter::iter::Iter;
     pub use moka_state::predicate_id::PredicateId;
     pub use moka_sync::builder;
     pub use moka_sync::builder::CacheBuilder;
@@ -43,7 +44,6 @@ pub mod sync {
     pub use moka_sync::concurrent_cache_ext::ConcurrentCacheExt;
     pub use moka_sync::entry_selector::{OwnedKeyEntrySelector, RefKeyEntrySelector};
     pub use moka_sync::segment::SegmentedCache;
-    pub use moka_walks::iter::Iter;
 
     /// Single flight by hand: one caller computes the value of a key, others wait for the outcome.
     pub mod value_initializer {
@@ -75,12 +75,12 @@ pub use moka_state::step;
 
 /// The owned cache.
 pub mod state {
-    pub use moka_state::due_rows::DueRows;
     pub use moka_state::entry_selector::StateEntrySelector;
+    pub use moka_state::expiring_rows::ExpiringRows;
     pub use moka_state::list_rows::ListRows;
     pub use moka_state::or_insert::OrInsertRefused;
-    pub use moka_state::packed::PackedInfo;
-    pub use moka_state::rows::{Before, EntryInfo, Order, OwnLife, Row, RowStore, Touch};
+    pub use moka_state::packed::PackedEntryInfo;
+    pub use moka_state::rows::{Access, EntryInfo, Order, OwnLife, Previous, Row, RowStore};
     pub use moka_state::slab_rows::SlabRows;
     pub use moka_state::state::{CacheState, InsertRefused, Settings, State};
     pub use moka_state::step::{Reply, Step};

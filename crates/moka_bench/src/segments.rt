@@ -2,7 +2,7 @@
 use crate::load::Load;
 use crate::subject::{Made, NoFrequencies, Subject, Types};
 use moka::policy::EvictionPolicy;
-use moka::state::{DueRows, RowStore};
+use moka::state::{ExpiringRows, RowStore};
 use moka::sync::CacheBuilder;
 use moka::sync::segment::Segmented;
 use std::alloc::{AllocError, Global};
@@ -15,7 +15,7 @@ pub(crate) struct SegmentsOf<H: BuildHasher + Drop, R: RowStore<u64, u64>, const
 }
 
 /// The same over the store of a `SegmentedState`.
-pub(crate) type InSegments<H, const N: usize> = SegmentsOf<H, DueRows<u64, u64>, N>;
+pub(crate) type InSegments<H, const N: usize> = SegmentsOf<H, ExpiringRows<u64, u64>, N>;
 
 impl<H: BuildHasher + Default + Drop, const N: usize, W: Drop> Made<W> for InSegments<H, N> {
     fn made(

@@ -11,7 +11,7 @@ use moka::policy::{
     CacheTypes, CountTable, EvictionPolicy, FrequencySource, ManualClock, NoListener, NoWeigher,
     Predicate,
 };
-use moka::state::{DueRows, Reply, RowStore, Settings, State, Step};
+use moka::state::{ExpiringRows, Reply, RowStore, Settings, State, Step};
 use moka::sync::value_initializer::Kind as Turning;
 use std::alloc::{AllocError, Global};
 use std::collections::HashMap;
@@ -147,7 +147,7 @@ pub(crate) struct OurRows<H: BuildHasher + Drop, F: FrequencySource, R: RowStore
 }
 
 /// The same over the store of a `CacheState`.
-pub(crate) type Ours<H, F> = OurRows<H, F, DueRows<u64, u64>>;
+pub(crate) type Ours<H, F> = OurRows<H, F, ExpiringRows<u64, u64>>;
 
 impl<H: BuildHasher + Drop, F: FrequencySource, R: RowStore<u64, u64>> OurRows<H, F, R> {
     fn drop_notices(&mut self) {

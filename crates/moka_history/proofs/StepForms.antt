@@ -30,8 +30,8 @@ use Rattle.moka_model.specs.Calls as calls
 use Rattle.moka_model.specs.Numbers.{next_number}
 use Rattle.moka_model.specs.StandsFor.{WholeView, StandsFor}
 use Rattle.moka_model.proofs.Callers.{found-is, same_kind-is}
-use Rattle.moka_keeps.specs.Fits.{EndFits}
-use Rattle.moka_keeps.proofs.Callers.{ticket-fits}
+use Rattle.moka_value_invariant.specs.Fits.{EndFits}
+use Rattle.moka_value_invariant.proofs.Callers.{ticket-fits}
 use Rattle.moka_turns.specs.declared.turn_name.TurnName.{TurnName}
 use Rattle.moka_turns.specs.Handles.{name_by}
 use Rattle.moka_state.specs.Finish.{outcome_of}

@@ -31,8 +31,8 @@ pub struct History<K: Hash + Drop, V: Clone, C: CacheTypes<K, V>, R: RowStore<K,
 impl<K: Hash + Drop, V: Clone, C: CacheTypes<K, V>, R: RowStore<K, V>> Model
     for History<K, V, C, R> {
     ghost use Rattle.std.specs.Prelude.{List};
-    ghost use Rattle.moka_ways.specs.Behaviour.{hash_by, behaviour_by};
-    ghost use Rattle.moka_ways.specs.StateData.{estimates, view_by};
+    ghost use Rattle.moka_expiration.specs.Behaviour.{hash_by, behaviour_by};
+    ghost use Rattle.moka_expiration.specs.StateData.{estimates, view_by};
     ghost use Rattle.moka_state.specs.Recorded.{IsRecord};
     ghost use Rattle.moka_state.specs.declared.step.Step.{Step};
     ghost use Rattle.moka_state.specs.declared.step.Reply.{Reply};

@@ -11,10 +11,10 @@ use moka_model::turns::{Kind, Outcome};
 use moka_policy::policy::{
     EvictionPolicy, ManualClock, NoExpiry, NoWeigher, NumberHash, Predicate, Refused,
 };
-use moka_ready::ready::{ReadyTypes, SteadyPredicate};
+use moka_presets::ready::{ReadyTypes, SteadyPredicate};
 use moka_state::answers::{Answer, Begun, Collected, FinishRefused, Finished};
-use moka_state::due_rows::DueRows;
 use moka_state::entry_selector::StateEntrySelector;
+use moka_state::expiring_rows::ExpiringRows;
 use moka_state::handles::{CollectRefused, Ticket, Turn};
 use moka_state::rows::RowStore;
 use moka_state::state::{CacheState, Settings, State};
@@ -49,7 +49,7 @@ pub(crate) type Types = ReadyTypes<Hasher, NoWeigher, NoExpiry, ManualClock, Odd
 pub(crate) type Numbers = CacheState<u64, u64, Types>;
 
 /// A selector of an owned cache.
-pub(crate) type Selector<'a> = StateEntrySelector<'a, u64, u64, Types, DueRows<u64, u64>>;
+pub(crate) type Selector<'a> = StateEntrySelector<'a, u64, u64, Types, ExpiringRows<u64, u64>>;
 
 /// How a cache is built: its capacity in entries, its policy, its lifetimes in seconds, and its
 /// first sequence number.

@@ -15,11 +15,11 @@ use Rattle.moka_state.specs.declared.step.Reply.{Reply}
 use Rattle.moka_state.specs.declared.step.Reply.TheVariants as replies
 use Rattle.moka_state.specs.Recorded.{SameStep, SameReply}
 use Rattle.moka_history.specs.StepForm.{IsTurnOf}
-use Rattle.moka_waiting.specs.declared.answers.Begun.{Begun}
-use Rattle.moka_waiting.specs.declared.answers.Begun.TheVariants.{Found, Run, Wait}
-use Rattle.moka_waiting.specs.declared.answers.Collected.{Collected}
-use Rattle.moka_waiting.specs.declared.answers.Collected.TheVariants.{Ready, NotYet, Again}
-use Rattle.moka_waiting.specs.Rounds.{Rounds, Waits, IsRefused}
+use Rattle.moka_single_flight.specs.declared.replies.Begun.{Begun}
+use Rattle.moka_single_flight.specs.declared.replies.Begun.TheVariants.{Found, Run, Wait}
+use Rattle.moka_single_flight.specs.declared.replies.Collected.{Collected}
+use Rattle.moka_single_flight.specs.declared.replies.Collected.TheVariants.{Ready, NotYet, Again}
+use Rattle.moka_single_flight.specs.Rounds.{Rounds, Waits, IsRefused}
 use Rattle.moka_recording.specs.declared.receipt.Kept.{Kept}
 use Rattle.moka_recording.specs.declared.receipt.Receipt.{Receipt}
 use Rattle.moka_recording.specs.Receipts.{AddsReceipt}

@@ -10,9 +10,9 @@ use moka_recording::naming::Naming;
 use moka_recording::pass::Pass;
 use moka_recording::recorded::Recorded;
 use moka_rows::rows::RowStore;
+use moka_single_flight::participant::Participant;
+use moka_single_flight::replies::{Begun, Collected};
 use moka_state::step::{Reply, Step};
-use moka_waiting::answers::{Begun, Collected};
-use moka_waiting::caller::Caller;
 use std::hash::Hash;
 use std::sync::{Arc, Wait};
 
@@ -57,7 +57,7 @@ impl<
     R: RowStore<K, V>,
     L: Naming,
     W: Wait + Drop,
-> Caller<Place<'a, K, V, C, R, L, W>, V> for PassOf<K, V, C, R, L> {
+> Participant<Place<'a, K, V, C, R, L, W>, V> for PassOf<K, V, C, R, L> {
     ghost use Rattle.std.specs.Arc.{arc_value};
     ghost use Rattle.moka_recorded.specs.Gets.{Begins, Collects, BeginRefused, CollectRefused};
 

@@ -11,9 +11,9 @@ use moka_model::turns::Outcome;
 use moka_policy::policy::{CacheTypes, Refused};
 use moka_recording::naming::Naming;
 use moka_rows::rows::RowStore;
+use moka_single_flight::replies::Joined;
+use moka_single_flight::wait::{MAX_RETRIES, wait_for};
 use moka_state::step::{Reply, Step};
-use moka_waiting::answers::Waited;
-use moka_waiting::wait::{MAX_RETRIES, wait_for};
 use std::hash::Hash;
 use std::sync::{Arc, Wait};
 
@@ -42,12 +42,12 @@ where
 {
     let at = Place { cache, key, now };
     match wait_for(cache.waits(), pass, &at, Some(MAX_RETRIES)) {
-        Ok(Waited::Value(value)) => Ok(value),
-        Ok(Waited::Turn(turn)) => {
+        Ok(Joined::Value(value)) => Ok(value),
+        Ok(Joined::Turn(turn)) => {
             let value = init();
             finish(cache, pass, turn, value, now)
         }
-        Ok(Waited::TooMany) => Err(GetWithRefused {
+        Ok(Joined::TooMany) => Err(GetWithRefused {
             cause: Refused::WaitsAbandoned,
             held: None,
         }),

@@ -13,7 +13,8 @@ use crate::ask::Shared;
 use crate::get_with;
 use crate::recorded_state::RecordedState;
 use crate::refused::GetWithRefused;
-use moka_due::due_rows::DueRows;
+use moka_expiration::view::StateView;
+use moka_expiring_rows::expiring_rows::ExpiringRows;
 use moka_policy::policy::{CacheTypes, Refused};
 use moka_recording::naming::Naming;
 use moka_recording::receipt::Receipt;
@@ -21,7 +22,6 @@ use moka_recording::recorded::Recorded;
 use moka_recording::{opened, pass};
 use moka_state::state::CacheState;
 use moka_state::step::{Reply, Step};
-use moka_ways::view::StateView;
 use std::alloc::Global;
 use std::hash::Hash;
 use std::marker::Model;
@@ -36,7 +36,7 @@ pub type Opened<K, V, C> = opened::Opened<Step<K, V, C>, Reply<K, V, C>>;
 ///
 /// The cache's name is a type parameter, so that no other cache accepts it.
 pub type Pass<K, V, C, L> = pass::Pass<
-    RecordedState<K, V, C, DueRows<K, V>>,
+    RecordedState<K, V, C, ExpiringRows<K, V>>,
     Step<K, V, C>,
     Reply<K, V, C>,
     L,
@@ -50,7 +50,7 @@ pub type Pass<K, V, C, L> = pass::Pass<
 /// `close` returns the history, and the state that stands for it.
 #[derive(Drop)]
 pub struct RecordedCache<K: Hash + Drop, V: Clone, C: CacheTypes<K, V>, L: Naming, W: Drop> {
-    shared: Shared<K, V, C, DueRows<K, V>, L, W>,
+    shared: Shared<K, V, C, ExpiringRows<K, V>, L, W>,
 }
 
 impl<K: Hash + Drop, V: Clone, C: CacheTypes<K, V>, L: Naming, W: Drop> Model

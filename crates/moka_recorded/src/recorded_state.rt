@@ -25,8 +25,8 @@ impl<K: Hash + Drop, V: Clone, C: CacheTypes<K, V>, R: RowStore<K, V>> Machine<
     Step<K, V, C>,
     Reply<K, V, C>,
 > for RecordedState<K, V, C, R> {
-    ghost use Rattle.moka_ways.specs.Behaviour.{hash_by, behaviour_by};
-    ghost use Rattle.moka_ways.specs.StateData.{estimates, view_by};
+    ghost use Rattle.moka_expiration.specs.Behaviour.{hash_by, behaviour_by};
+    ghost use Rattle.moka_expiration.specs.StateData.{estimates, view_by};
     ghost use Rattle.moka_state.specs.Step.{StepKeeps, ReplyKeeps};
     ghost use Rattle.moka_state.specs.Recorded.{SameStep, SameReply, IsRecord};
     ghost use Rattle.moka_history.specs.StepForm.{IsOfForm};

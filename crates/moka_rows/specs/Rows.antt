@@ -7,7 +7,7 @@ use Rattle.moka_model.specs.declared.notification.RemovalCause.TheVariants.{Expi
 use Rattle.moka_model.specs.Lives.{has_come}
 use Rattle.moka_rows.specs.declared.rows.Row.{Row}
 use Rattle.moka_rows.specs.declared.rows.EntryInfo.{EntryInfo}
-use Rattle.moka_rows.specs.declared.rows.Touch.{Touch}
+use Rattle.moka_rows.specs.declared.rows.Access.{Access}
 use Rattle.moka_rows.specs.declared.rows.Order.{Order}
 use Rattle.moka_rows.specs.declared.rows.Order.TheVariants.{Admitted, Waiting}
 
@@ -36,7 +36,7 @@ abbrev pub IsOrderOf : {R : Type 0} → ℕ → List (ℕ × R) → Order → Ty
 IsOrderOf n admitted order = MatchOption (row_under n admitted) (order ≡ Waiting) (λ _. order ≡ Admitted)
 
 -- The metadata of a value after an access.
-abbrev pub used_at : Touch → EntryInfo → EntryInfo
+abbrev pub used_at : Access → EntryInfo → EntryInfo
 used_at touch info = record info { last_accessed = touch.last_accessed; own_life = touch.own_life; deadline = touch.deadline }
 
 -- The cause of a removal of a value at a moment: `Explicit` if it is invalidated, `Expired` if its deadline has come,
@@ -46,7 +46,7 @@ cause_at own info at = if info.is_hidden then Explicit else (if has_come info.de
 
 module _ {K V : Type 0} where
   -- The row after an access.
-  abbrev pub touched : Touch → Row K V → Row K V
+  abbrev pub touched : Access → Row K V → Row K V
   touched touch row = record row { info = used_at touch row.info }
 
   -- The row after an overwrite.

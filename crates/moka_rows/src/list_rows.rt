@@ -4,8 +4,8 @@ ghost use Rattle.std.below.core.specs.declared.int.usize.TheConstants.{MAX};
 ghost use Rattle.moka_rows.specs.Rows.{row_under, is_row_of, first_number, expired_at};
 ghost use Rattle.moka_rows.specs.Numbers.{number_where, IsNumbered, IsPlaceOf, IsPlaceIn};
 
-use crate::rows::{Before, EntryInfo, Order, Row, RowStore, Touch};
-use crate::shelf::Shelved;
+use crate::counted_row::CountedRow;
+use crate::rows::{Access, EntryInfo, Order, Previous, Row, RowStore};
 use crate::visits::step;
 use std::alloc::{AllocError, Global};
 
@@ -25,8 +25,8 @@ enum Place {
 /// constant time.
 #[derive(Drop)]
 pub struct ListRows<K, V> {
-    waiting: Vec<(usize, Shelved<Row<K, V>>)>,
-    admitted: Vec<(usize, Shelved<Row<K, V>>)>,
+    waiting: Vec<(usize, CountedRow<Row<K, V>>)>,
+    admitted: Vec<(usize, CountedRow<Row<K, V>>)>,
     next: usize,
     ghost numbered: { IsNumbered next (admitted.items ++ waiting.items) },
     ghost can_admit: { vec_len admitted + vec_len waiting ≤ vec_capacity admitted },
@@ -35,7 +35,7 @@ pub struct ListRows<K, V> {
 /// Returns the number of the first of these rows with the key. Adds 1 to `reads` for each row it
 /// reads.
 fn number_of<K: Eq, V>(
-    rows: &[(usize, Shelved<Row<K, V>>)],
+    rows: &[(usize, CountedRow<Row<K, V>>)],
     key: &K,
     hash: u64,
     reads: &mut u64,
@@ -46,8 +46,8 @@ fn number_of<K: Eq, V>(
     ensures at_least { OnSome result (reads.old < reads.new) }
     ensures all { IfNone result (reads.new ≡ reads.old + length rows.now) }
 {
-    for (number, shelved) in rows {
-        let row = shelved.look(reads);
+    for (number, counted_row) in rows {
+        let row = counted_row.read_counted(reads);
         if row.hash == hash && *row.key == *key {
             return Some(*number);
         }
@@ -56,7 +56,7 @@ fn number_of<K: Eq, V>(
 }
 
 /// Returns the index of the first row with this number.
-fn place_of<K, V>(rows: &[(usize, Shelved<Row<K, V>>)], number: usize) -> Option<usize>
+fn place_of<K, V>(rows: &[(usize, CountedRow<Row<K, V>>)], number: usize) -> Option<usize>
     ensures { MatchOption result (row_under number rows.now ≡ None) (λ place. IsPlaceOf number rows.now place) }
 {
     for (place, entry) in rows.iter().enumerate() {
@@ -68,11 +68,11 @@ fn place_of<K, V>(rows: &[(usize, Shelved<Row<K, V>>)], number: usize) -> Option
 }
 
 /// Returns the number of the first of these rows whose deadline has come at `now`.
-fn expired_in<K, V>(rows: &[(usize, Shelved<Row<K, V>>)], now: u64) -> Option<usize>
+fn expired_in<K, V>(rows: &[(usize, CountedRow<Row<K, V>>)], now: u64) -> Option<usize>
     ensures { result ≡ first_number (expired_at now rows.now) }
 {
-    for (number, shelved) in rows {
-        if shelved.row().info().is_expired(now) {
+    for (number, counted_row) in rows {
+        if counted_row.row().info().is_expired(now) {
             return Some(*number);
         }
     }
@@ -80,7 +80,7 @@ fn expired_in<K, V>(rows: &[(usize, Shelved<Row<K, V>>)], now: u64) -> Option<us
 }
 
 /// Returns the number of the row at an index, or `None` past the end.
-fn number_at<K, V>(rows: &[(usize, Shelved<Row<K, V>>)], place: usize) -> Option<usize>
+fn number_at<K, V>(rows: &[(usize, CountedRow<Row<K, V>>)], place: usize) -> Option<usize>
     ensures { result ≡ first_number (drop place rows.now) }
 {
     let (number, _) = rows.get(place)?;
@@ -174,12 +174,12 @@ impl<K: Eq + Drop, V: Drop> RowStore<K, V> for ListRows<K, V> {
             ≤ min (MAX - self.new.next) (min (vec_capacity self.new.waiting - vec_len self.new.waiting) (vec_capacity self.new.admitted - (vec_len self.new.admitted + vec_len self.new.waiting))) + 1 }
     {
         let number = self.next;
-        self.waiting.push_reserved((number, Shelved::new(row)));
+        self.waiting.push_reserved((number, CountedRow::new(row)));
         self.next += 1;
         number
     }
 
-    fn touch(&mut self, number: usize, touch: Touch) {
+    fn touch(&mut self, number: usize, touch: Access) {
         match self.place(number) {
             Place::Admitted(place) => {
                 let (_, mut used) = self.admitted.remove(place);
@@ -190,19 +190,19 @@ impl<K: Eq + Drop, V: Drop> RowStore<K, V> for ListRows<K, V> {
         }
     }
 
-    fn overwrite(&mut self, number: usize, value: V, info: EntryInfo) -> Before<V> {
+    fn overwrite(&mut self, number: usize, value: V, info: EntryInfo) -> Previous<V> {
         match self.place(number) {
             Place::Admitted(place) => {
                 let (_, mut row) = self.admitted.remove(place);
                 let (value, info) = row.overwrite(value, info);
                 self.admitted.push_reserved((number, row));
                 let order = Order::Admitted;
-                Before { value, info, order }
+                Previous { value, info, order }
             }
             Place::Waiting(place) => {
                 let (value, info) = self.waiting[place].1.overwrite(value, info);
                 let order = Order::Waiting;
-                Before { value, info, order }
+                Previous { value, info, order }
             }
         }
     }

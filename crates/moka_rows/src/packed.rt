@@ -2,7 +2,7 @@
 ghost use Rattle.std.specs.Prelude.{◌≡◌, true, if◌then◌else◌, Some, None};
 ghost use Rattle.moka_rows.specs.Rows.{used_at};
 
-use crate::rows::{EntryInfo, OwnLife, Touch};
+use crate::rows::{Access, EntryInfo, OwnLife};
 use std::marker::Model;
 use std::time::Duration;
 
@@ -11,7 +11,7 @@ use std::time::Duration;
 /// A contract sees it as an `EntryInfo`. The private fields do without the room that each `Option`
 /// takes to say whether it has a value.
 #[derive(Drop)]
-pub struct PackedInfo {
+pub struct PackedEntryInfo {
     last_modified: u64,
     last_accessed: u64,
     deadline: u64,
@@ -23,7 +23,7 @@ pub struct PackedInfo {
     is_hidden: bool,
 }
 
-impl Model for PackedInfo {
+impl Model for PackedEntryInfo {
     ghost use Rattle.std.specs.Prelude.{if◌then◌else◌, Some, None};
     ghost use Rattle.moka_rows.specs.declared.rows.EntryInfo.{EntryInfo};
 
@@ -58,7 +58,7 @@ fn unflagged<T: Copy>(is_there: bool, value: T) -> Option<T>
     if is_there { Some(value) } else { None }
 }
 
-impl PackedInfo {
+impl PackedEntryInfo {
     /// Packs the metadata of a value.
     #[inline(always)]
     pub fn new(info: EntryInfo) -> Self
@@ -70,7 +70,7 @@ impl PackedInfo {
             life: Duration::ZERO,
         };
         let (has_own_life, own) = flagged(info.own_life, none);
-        PackedInfo {
+        PackedEntryInfo {
             last_modified: info.last_modified,
             last_accessed: info.last_accessed,
             deadline,
@@ -105,7 +105,7 @@ impl PackedInfo {
     /// Applies an access. An absent lifetime or deadline only clears its flag, and leaves the
     /// fields of its value unwritten.
     #[inline(always)]
-    pub fn touch(&mut self, touch: Touch)
+    pub fn touch(&mut self, touch: Access)
         ensures { self.new ≡ used_at touch self.old }
     {
         self.last_accessed = touch.last_accessed;

@@ -9,7 +9,7 @@ ghost use Rattle.moka_rows.specs.Rows.{row_under, with_row, without_row, used_at
 ghost use Rattle.moka_rows.specs.Rows.{IsOrderOf, TakesFirst, IsRowOf, NoneIsRowOf, NumbersDiffer};
 ghost use Rattle.moka_rows.specs.Visits.{one_more};
 
-use crate::packed::PackedInfo;
+use crate::packed::PackedEntryInfo;
 use moka_model::notification::RemovalCause;
 use std::alloc::{AllocError, Global};
 use std::mem;
@@ -45,7 +45,7 @@ pub struct EntryInfo {
 
 /// What an access changes in an `EntryInfo`.
 #[derive(Clone, Copy, Debug, PartialEq, Eq)]
-pub struct Touch {
+pub struct Access {
     /// When the access was, in nanoseconds.
     pub last_accessed: u64,
     /// The entry's own lifetime from then on, if it has one.
@@ -92,7 +92,7 @@ impl EntryInfo {
 
     /// Returns the metadata after an access.
     #[inline(always)]
-    pub fn used_at(self, touch: Touch) -> EntryInfo
+    pub fn used_at(self, touch: Access) -> EntryInfo
         ensures { result ≡ used_at touch self }
     {
         EntryInfo {
@@ -115,7 +115,7 @@ pub enum Order {
 
 /// What an overwrite replaced in a row.
 #[derive(Debug, Drop)]
-pub struct Before<V> {
+pub struct Previous<V> {
     /// The old value.
     pub value: V,
     /// The metadata of the old value.
@@ -134,7 +134,7 @@ pub struct Row<K, V> {
     /// The value of the last write.
     pub value: V,
     /// The metadata of that value.
-    pub info: PackedInfo,
+    pub info: PackedEntryInfo,
 }
 
 impl<K, V> Row<K, V> {
@@ -148,7 +148,7 @@ impl<K, V> Row<K, V> {
 
     /// Applies an access. Keeps the weight, the moment of the last write and the mark `is_hidden`.
     #[inline(always)]
-    pub fn touch(&mut self, touch: Touch)
+    pub fn touch(&mut self, touch: Access)
         ensures { self.new ≡ touched touch self.old }
     {
         self.info.touch(touch);
@@ -169,7 +169,7 @@ impl<K, V> Row<K, V> {
         ensures info { result.1 ≡ self.old.info }
         ensures after { self.new ≡ overwritten value info self.old }
     {
-        let before = mem::replace(&mut self.info, PackedInfo::new(info));
+        let before = mem::replace(&mut self.info, PackedEntryInfo::new(info));
         (mem::replace(&mut self.value, value), before.info())
     }
 }
@@ -253,7 +253,7 @@ pub trait RowStore<K: Eq, V>: Drop {
     /// keeps its place.
     ///
     /// Keeps the weight, the moment of the last write and the mark `is_hidden`. Uses no room.
-    fn touch(&mut self, number: usize, touch: Touch)
+    fn touch(&mut self, number: usize, touch: Access)
         requires { IsSome (row_under number (admitted self.old ++ waiting self.old)) }
         ensures after { MatchOption (row_under number (admitted self.old))
             ((admitted self.new ≡ admitted self.old) × (waiting self.new ≡ with_row number (touched touch) (waiting self.old)))
@@ -265,7 +265,7 @@ pub trait RowStore<K: Eq, V>: Drop {
     ///
     /// It is an access: a resident row becomes the most recently used, and a pending one keeps its
     /// place.
-    fn overwrite(&mut self, number: usize, value: V, info: EntryInfo) -> Before<V>
+    fn overwrite(&mut self, number: usize, value: V, info: EntryInfo) -> Previous<V>
         requires { IsSome (row_under number (admitted self.old ++ waiting self.old)) }
         ensures before { IfSome (row_under number (admitted self.old ++ waiting self.old))
             (λ row. (result.value ≡ row.value) × (result.info ≡ row.info)) }

@@ -2,15 +2,15 @@
 ghost use Rattle.std.specs.Prelude.{◌≡◌, true, ◌++◌, IsSome, IfSome};
 ghost use Rattle.moka_rows.specs.Rows.{row_under};
 
-use moka_due::due_rows::DueRows;
-use moka_rows::packed::PackedInfo;
-use moka_rows::rows::{Before, EntryInfo, Order, Row, RowStore, Touch};
+use moka_expiring_rows::expiring_rows::ExpiringRows;
+use moka_rows::packed::PackedEntryInfo;
+use moka_rows::rows::{Access, EntryInfo, Order, Previous, Row, RowStore};
 use moka_slab::slab_rows::SlabRows;
 use std::alloc::{AllocError, Global};
 use std::sync::Arc;
 
 /// The store of the caches: rows in a slab, and the deadlines of the resident ones.
-pub type DueSlab = DueRows<u64, u64>;
+pub type ExpiringSlab = ExpiringRows<u64, u64>;
 
 /// How keys are hashed.
 #[derive(Clone, Copy)]
@@ -58,7 +58,7 @@ pub enum Use {
     /// Admits it if it is pending.
     Admit,
     /// Accesses it at a moment.
-    Touch(u64),
+    Access(u64),
     /// Overwrites it with another value at a moment.
     Overwrite(u64, u64),
     Hide,
@@ -68,7 +68,7 @@ pub enum Use {
 /// The result of a call. Stores number their rows as they like, so a row number is shown as the key
 /// of its row.
 #[derive(Clone, Copy, Debug, PartialEq)]
-pub enum Answer {
+pub enum Reply {
     Done,
     Counted(usize),
     Is(bool),
@@ -76,7 +76,7 @@ pub enum Answer {
     /// The value of a row, and the moments of its last write and its last access.
     Value(u64, u64, u64),
     /// What a row held before: its value, the moment of its write, and its order.
-    Before(u64, u64, Order),
+    Previous(u64, u64, Order),
     /// A removed row, and the order in which it was.
     Left(u64, u64, u64, Order),
     Absent,
@@ -115,13 +115,13 @@ fn hash_of(hashes: Hashes, key: u64) -> u64 {
 
 /// Returns the key of a row number by the numbers that were given out. Takes the last one first,
 /// since numbers may come again.
-fn row_of(given: &[(usize, u64)], number: Option<usize>) -> Answer {
+fn row_of(given: &[(usize, u64)], number: Option<usize>) -> Reply {
     for (at, key) in given.iter().rev() {
         if number == Some(*at) {
-            return Answer::Key(*key);
+            return Reply::Key(*key);
         }
     }
-    Answer::Absent
+    Reply::Absent
 }
 
 /// Returns the row number of a key, and how many rows were read for it.
@@ -149,9 +149,9 @@ fn waits<R: RowStore<u64, u64>>(rows: &R, number: usize) -> bool
 }
 
 /// Returns what a row holds.
-fn held(row: &Row<u64, u64>) -> Answer {
+fn held(row: &Row<u64, u64>) -> Reply {
     let info = row.info();
-    Answer::Value(row.value, info.last_modified, info.last_accessed)
+    Reply::Value(row.value, info.last_modified, info.last_accessed)
 }
 
 /// Does something with the row of a number.
@@ -160,45 +160,45 @@ fn used<R: RowStore<u64, u64>>(
     given: &[(usize, u64)],
     number: usize,
     what: Use,
-) -> Answer
+) -> Reply
     requires { IsSome (row_under number (R.admitted rows.old ++ R.waiting rows.old)) }
 {
     match what {
         Use::Find => row_of(given, Some(number)),
         Use::Read => held(rows.row(number)),
-        Use::Hash => Answer::Is(rows.hash(number) == rows.row(number).hash),
-        Use::IsAdmitted => Answer::Is(rows.is_admitted(number)),
-        Use::IsHidden => Answer::Is(rows.row(number).info().is_hidden),
-        Use::IsDead(moment) => Answer::Is(rows.row(number).info().is_dead(moment)),
+        Use::Hash => Reply::Is(rows.hash(number) == rows.row(number).hash),
+        Use::IsAdmitted => Reply::Is(rows.is_admitted(number)),
+        Use::IsHidden => Reply::Is(rows.row(number).info().is_hidden),
+        Use::IsDead(moment) => Reply::Is(rows.row(number).info().is_dead(moment)),
         Use::Next => row_of(given, rows.next(number, &mut 0)),
         Use::Admit => {
             let waits = waits(rows, number);
             if waits {
                 rows.admit(number);
             }
-            Answer::Is(waits)
+            Reply::Is(waits)
         }
-        Use::Touch(moment) => {
-            let touch = Touch {
+        Use::Access(moment) => {
+            let touch = Access {
                 last_accessed: moment,
                 own_life: None,
                 deadline: due_at(moment),
             };
             rows.touch(number, touch);
-            Answer::Done
+            Reply::Done
         }
         Use::Overwrite(value, moment) => {
-            let Before { value, info, order } = rows.overwrite(number, value, written_at(moment));
-            Answer::Before(value, info.last_modified, order)
+            let Previous { value, info, order } = rows.overwrite(number, value, written_at(moment));
+            Reply::Previous(value, info.last_modified, order)
         }
         Use::Hide => {
             rows.hide(number);
-            Answer::Done
+            Reply::Done
         }
         Use::Remove => {
             let (row, order) = rows.remove(number);
             let info = row.info();
-            Answer::Left(row.value, info.last_modified, info.last_accessed, order)
+            Reply::Left(row.value, info.last_modified, info.last_accessed, order)
         }
     }
 }
@@ -218,7 +218,7 @@ pub fn add<R: RowStore<u64, u64>>(
         key,
         hash,
         value,
-        info: PackedInfo::new(written_at(value)),
+        info: PackedEntryInfo::new(written_at(value)),
     }))
 }
 
@@ -229,49 +229,49 @@ fn made<R: RowStore<u64, u64>>(
     hashes: Hashes,
     given: &mut Vec<(usize, u64)>,
     call: Call,
-) -> Result<Answer, AllocError> {
+) -> Result<Reply, AllocError> {
     Ok(match call {
-        Call::Len => Answer::Counted(rows.len()),
-        Call::WaitingLen => Answer::Counted(rows.waiting_len()),
+        Call::Len => Reply::Counted(rows.len()),
+        Call::WaitingLen => Reply::Counted(rows.waiting_len()),
         Call::FirstAdmitted => row_of(given.as_slice(), rows.first_admitted()),
         Call::FirstWaiting => row_of(given.as_slice(), rows.first_waiting()),
         Call::FirstExpired(moment) => row_of(given.as_slice(), rows.first_expired(moment)),
         Call::AdmitFirst => match first_waiting(rows) {
             Some(number) => {
                 rows.admit(number);
-                Answer::Done
+                Reply::Done
             }
-            None => Answer::Absent,
+            None => Reply::Absent,
         },
         Call::TakeFirst => match rows.take_first_admitted() {
             Some(row) => held(&row),
-            None => Answer::Absent,
+            None => Reply::Absent,
         },
         Call::Reserve(more) => {
             rows.reserve(more)?;
-            Answer::Done
+            Reply::Done
         }
         Call::Add(key, value) => match number_of(rows, hashes, key).0 {
-            Some(_) => Answer::Absent,
+            Some(_) => Reply::Absent,
             None => {
                 let number = add(alloc, rows, hashes, key, value)?;
                 given.push((number, key))?;
-                Answer::Done
+                Reply::Done
             }
         },
         Call::Of(key, what) => match number_of(rows, hashes, key).0 {
             Some(number) => used(rows, given.as_slice(), number, what),
-            None => Answer::Absent,
+            None => Reply::Absent,
         },
     })
 }
 
 /// Returns the results of some calls of a new store.
-pub fn answers<R: RowStore<u64, u64>>(
+pub fn replies<R: RowStore<u64, u64>>(
     alloc: Global,
     hashes: Hashes,
     calls: &[Call],
-) -> Result<Vec<Answer>, AllocError> {
+) -> Result<Vec<Reply>, AllocError> {
     let mut rows: R = R::new(alloc);
     let mut given = Vec::new(alloc);
     let mut found = Vec::new(alloc);

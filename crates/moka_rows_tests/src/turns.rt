@@ -1,5 +1,5 @@
 //! Long lists of calls to which all stores reply alike, and how many rows their lookups read.
-use crate::calls::{Call, DueSlab, Hashes, Use, add, answers, number_of};
+use crate::calls::{Call, ExpiringSlab, Hashes, Use, add, number_of, replies};
 use moka_rows::list_rows::ListRows;
 use moka_rows::rows::RowStore;
 use moka_slab::slab_rows::SlabRows;
@@ -33,7 +33,7 @@ fn call_of(number: u64, moment: u64) -> Call {
         },
         6 => Call::Of(key, Use::Next),
         7 => Call::Of(key, Use::Admit),
-        8 => Call::Of(key, Use::Touch(moment)),
+        8 => Call::Of(key, Use::Access(moment)),
         9 => Call::Of(key, Use::Overwrite(number, moment)),
         10 | 11 => Call::Of(key, Use::Remove),
         12 => Call::AdmitFirst,
@@ -73,12 +73,12 @@ fn turns(alloc: Global) -> Result<Vec<Call>, AllocError> {
 fn all_stores_answer_alike(rt: HostRuntime) -> Result<(), Fail> {
     let calls = turns(rt.alloc())?;
     for hashes in [Hashes::One, Hashes::Three, Hashes::Own] {
-        let lists = answers::<ListRows<u64, u64>>(rt.alloc(), hashes, calls.as_slice())?;
-        let slab = answers::<SlabRows<u64, u64>>(rt.alloc(), hashes, calls.as_slice())?;
-        let due = answers::<DueSlab>(rt.alloc(), hashes, calls.as_slice())?;
-        for (turn, answer) in lists.iter().enumerate() {
-            assert_eq!(rt; slab.get(turn), Some(answer), "turn {turn}");
-            assert_eq!(rt; due.get(turn), Some(answer), "turn {turn}");
+        let lists = replies::<ListRows<u64, u64>>(rt.alloc(), hashes, calls.as_slice())?;
+        let slab = replies::<SlabRows<u64, u64>>(rt.alloc(), hashes, calls.as_slice())?;
+        let due = replies::<ExpiringSlab>(rt.alloc(), hashes, calls.as_slice())?;
+        for (turn, reply) in lists.iter().enumerate() {
+            assert_eq!(rt; slab.get(turn), Some(reply), "turn {turn}");
+            assert_eq!(rt; due.get(turn), Some(reply), "turn {turn}");
         }
     }
     Ok(())
@@ -114,7 +114,7 @@ fn a_slab_reads_the_rows_of_one_hash(rt: HostRuntime) -> Result<(), Fail> {
         (Hashes::Three, (4, 4)),
         (Hashes::Own, (1, 0)),
     ] {
-        assert_eq!(rt; most_reads::<DueSlab>(rt.alloc(), hashes)?, most);
+        assert_eq!(rt; most_reads::<ExpiringSlab>(rt.alloc(), hashes)?, most);
         assert_eq!(rt;
             most_reads::<ListRows<u64, u64>>(rt.alloc(), hashes)?,
             (10, 10)

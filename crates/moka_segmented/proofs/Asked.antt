@@ -4,10 +4,10 @@ use Rattle.moka_model.specs.Lives.{Behaviour, Settings}
 use Rattle.moka_model.specs.Steps.{AcceptedStep}
 use Rattle.moka_model.specs.Calls.{Call}
 use Rattle.moka_model.specs.StandsFor.{StandsFor}
-use Rattle.moka_ways.specs.Behaviour.{BehaviourData}
-use Rattle.moka_ways.specs.StateData.{StateData, view_by}
-use Rattle.moka_segments.specs.Segments.{asked, steps_in, place_of, share_settings, AtEachList, key_in}
-use Rattle.moka_segments.proofs.Callers.{routed}
+use Rattle.moka_expiration.specs.Behaviour.{BehaviourData}
+use Rattle.moka_expiration.specs.StateData.{StateData, view_by}
+use Rattle.moka_segment_model.specs.Segments.{asked, steps_in, place_of, share_settings, AtEachList, key_in}
+use Rattle.moka_segment_model.proofs.Callers.{routed}
 use Rattle.moka_segmented.specs.SegmentedData.{SegmentedData, segmented_settings_by, segmented_view_by}
 use Rattle.moka_segmented.proofs.Routed.{Routing, routed-history}
 

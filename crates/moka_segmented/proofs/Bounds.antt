@@ -8,10 +8,10 @@ use Rattle.moka_model.specs.SizeLaws.{WeighsOnes, LimitsSome}
 use Rattle.moka_model.specs.Calls.{Call}
 use Rattle.moka_model.specs.StandsFor.{Books, StandsFor}
 use Rattle.moka_model.proofs.Callers.{entry_count-le}
-use Rattle.moka_ways.specs.Behaviour.{BehaviourData}
-use Rattle.moka_ways.specs.StateData.{StateData, view_by}
+use Rattle.moka_expiration.specs.Behaviour.{BehaviourData}
+use Rattle.moka_expiration.specs.StateData.{StateData, view_by}
 use Rattle.moka_state.specs.State.{all_writes}
-use Rattle.moka_segments.specs.Segments.{SegmentedSettings, share, segments_of, share_settings, steps_in, AllStandFor}
+use Rattle.moka_segment_model.specs.Segments.{SegmentedSettings, share, segments_of, share_settings, steps_in, AllStandFor}
 use Rattle.moka_segmented.specs.SegmentedData.{SegmentedData, segmented_view_by}
 
 -- what holds at each place of a list holds of all in it

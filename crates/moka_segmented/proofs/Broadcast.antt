@@ -9,10 +9,10 @@ use Rattle.moka_model.specs.Lives.{Behaviour, Settings}
 use Rattle.moka_model.specs.Orders.{is_left_at}
 use Rattle.moka_model.specs.Calls.{Call, Answer, RunPendingTasksUpTo, Left}
 use Rattle.moka_model.specs.StandsFor.{WholeView, StandsFor, Follows, Answers}
-use Rattle.moka_ways.specs.Behaviour.{BehaviourData}
-use Rattle.moka_ways.specs.StateData.{SettingsData, StateData, view_by}
-use Rattle.moka_segments.specs.Segments.{SegmentedSettings, Each, place_of, segments_of, share_settings, steps_in, events_of, any_below, AllStandFor, FollowsIn, AnswersIn}
-use Rattle.moka_segments.proofs.Callers.{FollowsAt, slice_get-set_same, slice_get-set_other, length-set, eqb_refl, any_below-same, stand-each, there}
+use Rattle.moka_expiration.specs.Behaviour.{BehaviourData}
+use Rattle.moka_expiration.specs.StateData.{SettingsData, StateData, view_by}
+use Rattle.moka_segment_model.specs.Segments.{SegmentedSettings, Each, place_of, segments_of, share_settings, steps_in, events_of, any_below, AllStandFor, FollowsIn, AnswersIn}
+use Rattle.moka_segment_model.proofs.Callers.{FollowsAt, slice_get-set_same, slice_get-set_other, length-set, eqb_refl, any_below-same, stand-each, there}
 use Rattle.moka_segmented.specs.SegmentedData.{SegmentedData, segmented_view_by}
 
 pub below-or-past : (a b : ℕ) → (a < b) ⊎ (b ≤ a)

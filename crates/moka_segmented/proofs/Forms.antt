@@ -11,12 +11,12 @@ use Rattle.moka_model.specs.Steps.{AcceptedStep, events_in, turns}
 use Rattle.moka_model.specs.Turns.{Name, Turn, found, is_open_for}
 use Rattle.moka_model.specs.Calls.{Call, Answer, Begin, Finish, Run, IsWait, IfAnswered, IsAnswer, acceptable, accepted, after, begun, begun_compute, live_at}
 use Rattle.moka_model.specs.StandsFor.{StandsFor}
-use Rattle.moka_ways.specs.Behaviour.{BehaviourData, hash_by}
-use Rattle.moka_ways.specs.StateData.{StateData, view_by}
+use Rattle.moka_expiration.specs.Behaviour.{BehaviourData, hash_by}
+use Rattle.moka_expiration.specs.StateData.{StateData, view_by}
 use Rattle.moka_state.specs.Forms.{EndsTurn, IsForm, IfRefusedUnasked, end_call}
 use Rattle.moka_state.specs.Given.{Gives}
-use Rattle.moka_segments.specs.Segments.{SegmentedSettings, One, asked, segment_of, segment_of_key, steps_in, place_of, share_settings, AllStandFor, AtEachList, key_in}
-use Rattle.moka_segments.proofs.Callers.{routed, eqb_refl, stand-here, steps-here, steps-apart}
+use Rattle.moka_segment_model.specs.Segments.{SegmentedSettings, One, asked, segment_of, segment_of_key, steps_in, place_of, share_settings, AllStandFor, AtEachList, key_in}
+use Rattle.moka_segment_model.proofs.Callers.{routed, eqb_refl, stand-here, steps-here, steps-apart}
 use Rattle.moka_segmented.specs.SegmentedData.{SegmentedData, segmented_settings_by, segmented_view_by}
 use Rattle.moka_segmented.specs.Forms.{EndsTurnIn, IsFormIn}
 use Rattle.moka_segmented.specs.Turns.{GivesIn}

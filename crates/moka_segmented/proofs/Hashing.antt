@@ -2,15 +2,15 @@
 use Rattle.std.proofs.Common.{◌≡◌, ℕ, zero, suc, ◌<◌, ◌^◌, Some, Bool, List, [], ◌∷◌, length, ap, ◌∙◌, get_or, set, arith}
 use Rattle.std.specs.List.{AllByRecursion}
 use Rattle.moka_model.specs.Lives.{Settings}
-use Rattle.moka_ways.specs.StateData.{StateData}
+use Rattle.moka_expiration.specs.StateData.{StateData}
 use Rattle.moka_state.specs.declared.step.Step.{Step}
 use Rattle.moka_state.specs.declared.step.Step.TheVariants.{Get, ContainsKey, Insert, Invalidate, Remove, InvalidateAll, InvalidateIf}
 use Rattle.moka_state.specs.declared.step.Step.TheVariants.{RunPendingTasks, RunPendingTasksUpTo, EntryCount, WeightedSize, TakeNotice}
 use Rattle.moka_state.specs.declared.step.Step.TheVariants.{OrInsert, Begin, BeginCompute, Finish, Abandon, Collect, Leave}
 use Rattle.moka_state.specs.Step.{call_of}
 use Rattle.moka_state.specs.Hashes.{IsHashOf, IsHashOfStep}
-use Rattle.moka_segments.specs.Segments.{key_in}
-use Rattle.moka_segments.proofs.Callers.{length-set}
+use Rattle.moka_segment_model.specs.Segments.{key_in}
+use Rattle.moka_segment_model.proofs.Callers.{length-set}
 use Rattle.moka_segmented.specs.SegmentedData.{AllHashBy}
 
 -- what holds of all holds of the one at a place

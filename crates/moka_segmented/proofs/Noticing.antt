@@ -9,11 +9,11 @@ use Rattle.moka_model.specs.Removals.{Removal}
 use Rattle.moka_model.specs.Numbers.{greatest_number}
 use Rattle.moka_model.specs.Calls.{Call, Answer, EntryCount, WeightedSize, TakeNotice, Counted, Noticed}
 use Rattle.moka_model.specs.StandsFor.{Books, WholeView, Follows, Answers}
-use Rattle.moka_ways.specs.Behaviour.{BehaviourData}
-use Rattle.moka_ways.specs.StateData.{StateData, view_by}
+use Rattle.moka_expiration.specs.Behaviour.{BehaviourData}
+use Rattle.moka_expiration.specs.StateData.{StateData, view_by}
 use Rattle.moka_state.specs.State.{all_writes}
-use Rattle.moka_segments.specs.Segments.{SegmentedSettings, segments_of, sum_below, first_from, first_noticed, list_of, entries_in, weight_in, notices_in, is_empty, Nowhere, place_of, AllStandFor, FollowsIn, AnswersIn, IsAnswerIn}
-use Rattle.moka_segments.proofs.Callers.{sum_below-one, sum_below-zeros, sum_below-zero, first_from-none-all, notices-same, slice_get-set_same, slice_get-set_other, length-set, eqb_refl, sum_below-same, first_from-same, first_from-passes, noticed-same, entries-same, weight-same, noticed-place, noticed-answer, none-place, none-answer, stand-one, stand-nowhere, answer-at, at_or}
+use Rattle.moka_segment_model.specs.Segments.{SegmentedSettings, segments_of, sum_below, first_from, first_noticed, list_of, entries_in, weight_in, notices_in, is_empty, Nowhere, place_of, AllStandFor, FollowsIn, AnswersIn, IsAnswerIn}
+use Rattle.moka_segment_model.proofs.Callers.{sum_below-one, sum_below-zeros, sum_below-zero, first_from-none-all, notices-same, slice_get-set_same, slice_get-set_other, length-set, eqb_refl, sum_below-same, first_from-same, first_from-passes, noticed-same, entries-same, weight-same, noticed-place, noticed-answer, none-place, none-answer, stand-one, stand-nowhere, answer-at, at_or}
 use Rattle.moka_segmented.specs.SegmentedData.{SegmentedData, segmented_view_by, state_at, has_notice, stored_at, weight_at, notices_at, notices_kept}
 use Rattle.moka_segmented.proofs.Routed.{view-at, views-set}
 

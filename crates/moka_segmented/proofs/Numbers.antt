@@ -7,8 +7,8 @@ use Rattle.moka_model.specs.Steps.{AcceptedStep, events_in}
 use Rattle.moka_model.specs.Calls.{Insert, IsOutOfNumbers}
 use Rattle.moka_model.specs.StandsFor.{Books, WholeView, StandsFor}
 use Rattle.moka_model.proofs.Callers.{out_of_numbers-insert}
-use Rattle.moka_segments.specs.Segments.{SegmentedSettings, share_settings, segments_of}
-use Rattle.moka_segments.proofs.Callers.{share-nothing}
+use Rattle.moka_segment_model.specs.Segments.{SegmentedSettings, share_settings, segments_of}
+use Rattle.moka_segment_model.proofs.Callers.{share-nothing}
 
 module _ {K V E : Type 0} (eq : K → K → Bool) {is_clone : V → V → Type 0} (settings : Settings K V) (view : WholeView K V E) (steps : List (AcceptedStep K V E)) (stands : StandsFor eq is_clone settings view steps) where
   -- what holds just where the state has no number left for a write holds just where the write is out of numbers

@@ -6,9 +6,9 @@ use Rattle.std.proofs.lemmas.List.{length-map}
 use Rattle.moka_model.specs.Lives.{Behaviour}
 use Rattle.moka_model.specs.SizeLaws.{LimitsSome}
 use Rattle.moka_model.specs.StandsFor.{StandsFor}
-use Rattle.moka_ways.specs.Behaviour.{BehaviourData}
-use Rattle.moka_ways.specs.StateData.{SettingsData, StateData, settings_by, view_by}
-use Rattle.moka_segments.specs.Segments.{share, share_settings, AllStandFor}
+use Rattle.moka_expiration.specs.Behaviour.{BehaviourData}
+use Rattle.moka_expiration.specs.StateData.{SettingsData, StateData, settings_by, view_by}
+use Rattle.moka_segment_model.specs.Segments.{share, share_settings, AllStandFor}
 use Rattle.moka_segmented.specs.SegmentedData.{SegmentedData, segmented_settings_by, segmented_view_by}
 
 -- a share by a remainder

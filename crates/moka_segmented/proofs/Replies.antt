@@ -12,8 +12,8 @@ use Rattle.std.specs.Arc.{arc_value}
 use Rattle.std.specs.declared.alloc.Global.{Global}
 use Rattle.std.specs.declared.sync.Arc.{Arc}
 use Rattle.moka_model.specs.StandsFor.{StandsFor, IsAnswerOf}
-use Rattle.moka_ways.specs.Behaviour.{BehaviourData}
-use Rattle.moka_ways.specs.StateData.{StateData, view_by}
+use Rattle.moka_expiration.specs.Behaviour.{BehaviourData}
+use Rattle.moka_expiration.specs.StateData.{StateData, view_by}
 use Rattle.moka_model.specs.declared.notification.Notice.{Notice}
 use Rattle.moka_table.specs.Table.{removal_of}
 use Rattle.moka_state.specs.declared.step.Step.{Step}
@@ -22,8 +22,8 @@ use Rattle.moka_state.specs.declared.step.Reply.{Reply}
 use Rattle.moka_state.specs.declared.step.Reply.TheVariants.{Found, Contains, Done, Counted, Left, Noticed, Refused, PredicateRefused}
 use Rattle.moka_state.specs.declared.step.Reply.TheVariants.{Entered, Run, Wait, Nothing, Failed, Computed, NotYet, Abandoned, Ended}
 use Rattle.moka_state.specs.Step.{call_of, IsAccepted, IsReplyTo, after_reply}
-use Rattle.moka_segments.specs.Segments.{SegmentedSettings, asked, steps_in, place_of, share_settings, AllStandFor, AtEachList, answer_in, IsAnswerIn, key_in}
-use Rattle.moka_segments.proofs.Callers.{routed}
+use Rattle.moka_segment_model.specs.Segments.{SegmentedSettings, asked, steps_in, place_of, share_settings, AllStandFor, AtEachList, answer_in, IsAnswerIn, key_in}
+use Rattle.moka_segment_model.proofs.Callers.{routed}
 use Rattle.moka_segmented.specs.SegmentedData.{SegmentedData, segmented_settings_by, segmented_view_by}
 use Rattle.moka_segmented.specs.Step.{IsReplyBy, IsReplyIn, after_reply_in}
 use Rattle.moka_segmented.proofs.Routed.{Routing, routed-follows, routed-stands, routed-history, index-is}

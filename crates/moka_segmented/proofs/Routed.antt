@@ -7,10 +7,10 @@ use Rattle.moka_model.specs.Lives.{Behaviour, Settings}
 use Rattle.moka_model.specs.Steps.{AcceptedStep}
 use Rattle.moka_model.specs.Calls.{Call, Answer, accepted, answer_of}
 use Rattle.moka_model.specs.StandsFor.{StandsFor, Follows, Answers}
-use Rattle.moka_ways.specs.Behaviour.{BehaviourData}
-use Rattle.moka_ways.specs.StateData.{SettingsData, StateData, view_by}
-use Rattle.moka_segments.specs.Segments.{SegmentedSettings, One, segment_of_key, steps_in, place_of, share_settings, AllStandFor, AtEachList, AnswersIn, FollowsIn, IsAnswerIn, key_in}
-use Rattle.moka_segments.proofs.Callers.{routed, answer-at, answer-asked, hash-at, stand-set, stand-one, stand-here}
+use Rattle.moka_expiration.specs.Behaviour.{BehaviourData}
+use Rattle.moka_expiration.specs.StateData.{SettingsData, StateData, view_by}
+use Rattle.moka_segment_model.specs.Segments.{SegmentedSettings, One, segment_of_key, steps_in, place_of, share_settings, AllStandFor, AtEachList, AnswersIn, FollowsIn, IsAnswerIn, key_in}
+use Rattle.moka_segment_model.proofs.Callers.{routed, answer-at, answer-asked, hash-at, stand-set, stand-one, stand-here}
 use Rattle.moka_segmented.specs.SegmentedData.{SegmentedData, segmented_settings_by, segmented_view_by}
 
 -- what an answer gives, by what its contract says

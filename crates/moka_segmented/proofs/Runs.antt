@@ -4,7 +4,7 @@ use Rattle.moka_model.specs.Calls.{Call}
 use Rattle.moka_state.specs.declared.step.Step.{Step}
 use Rattle.moka_state.specs.declared.step.Reply.{Reply}
 use Rattle.moka_state.specs.Step.{call_of}
-use Rattle.moka_segments.specs.Segments.{SegmentedSettings, SegmentedView, AllStandFor}
+use Rattle.moka_segment_model.specs.Segments.{SegmentedSettings, SegmentedView, AllStandFor}
 use Rattle.moka_segmented.specs.Step.{IsReplyIn, IsRunIn, after_reply_in, after_all_in}
 
 module _ {K V C H W X P F L T E S : Type 0} (eq : K → K → Bool) (test : P → K → V → Bool) (is_clone : V → V → Type 0) (is_infallible : V → Type 0) (given : SegmentedSettings K V) where

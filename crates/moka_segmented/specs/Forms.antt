@@ -6,7 +6,7 @@ use Rattle.moka_model.specs.declared.turns.Outcome.{Outcome}
 use Rattle.moka_model.specs.Turns.{Name}
 use Rattle.moka_model.specs.Calls.{Call, Answer, Finish, Run, IsWait, IfAnswered, accepted}
 use Rattle.moka_state.specs.Forms.{IsEntered, end_call}
-use Rattle.moka_segments.specs.Segments.{SegmentedSettings, asked, place_of, share_settings, steps_in}
+use Rattle.moka_segment_model.specs.Segments.{SegmentedSettings, asked, place_of, share_settings, steps_in}
 use Rattle.moka_segmented.specs.Turns.{GivesIn}
 
 module _ {K V E : Type 0} (eq : K → K → Bool) (is_clone : V → V → Type 0) (is_infallible : V → Type 0)

@@ -1,5 +1,5 @@
 -- The definitions of this crate, and those of lower crates that its public clauses cite.
-pub use Rattle.moka_segments.specs.Segments
+pub use Rattle.moka_segment_model.specs.Segments
 pub use Rattle.moka_state.specs.State
 pub mod Forms
 pub mod SegmentedData

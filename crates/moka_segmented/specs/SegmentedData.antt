@@ -5,13 +5,13 @@ use Rattle.std.specs.List.{AllByRecursion}
 use Rattle.moka_model.specs.Lives.{Behaviour}
 use Rattle.moka_model.specs.Maintenance.{total}
 use Rattle.moka_model.specs.Calls.{Call, Answer}
-use Rattle.moka_ways.specs.Behaviour.{BehaviourData}
-use Rattle.moka_ways.specs.StateData.{SettingsData, StateData, settings_by, view_by}
+use Rattle.moka_expiration.specs.Behaviour.{BehaviourData}
+use Rattle.moka_expiration.specs.StateData.{SettingsData, StateData, settings_by, view_by}
 use Rattle.moka_policy.specs.Policy.{is_lru}
 use Rattle.moka_state.specs.State.{all_writes, settings_of}
 use Rattle.moka_state.specs.declared.state.Settings.{Settings}
-use Rattle.moka_segments.specs.Segments.{SegmentedSettings, SegmentedView, is_empty, sum_below}
-use Rattle.moka_segments.specs.Segments.{AllStandFor, AtEachList, FollowsIn, AnswersIn}
+use Rattle.moka_segment_model.specs.Segments.{SegmentedSettings, SegmentedView, is_empty, sum_below}
+use Rattle.moka_segment_model.specs.Segments.{AllStandFor, AtEachList, FollowsIn, AnswersIn}
 
 -- What a cache of several segments keeps: how many bits choose a segment, the settings of the whole, and the segments'
 -- states.

@@ -5,7 +5,7 @@ use Rattle.moka_state.specs.declared.step.Step.{Step}
 use Rattle.moka_state.specs.declared.step.Reply.{Reply}
 use Rattle.moka_state.specs.declared.step.Reply.TheVariants.{Counted, Left, Refused, PredicateRefused}
 use Rattle.moka_state.specs.Step.{call_of, IsReplyTo}
-use Rattle.moka_segments.specs.Segments.{SegmentedSettings, share_settings, steps_in, asked, place_of, Joint, Total, AnyLeft, joint_in}
+use Rattle.moka_segment_model.specs.Segments.{SegmentedSettings, share_settings, steps_in, asked, place_of, Joint, Total, AnyLeft, joint_in}
 
 -- If all segments return something together, the reply is that. For any other call, `Otherwise` says what the reply is.
 abbrev pub IsReplyBy : {K V C H W X P F L T E S : Type 0} → Option Joint → Type 0 → Reply K V C H W X P F L T E S → Type 0

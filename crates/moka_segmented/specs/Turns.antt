@@ -5,7 +5,7 @@ use Rattle.moka_model.specs.Calls.{Call, Answer}
 use Rattle.moka_state.specs.declared.answers.Begun.{Begun}
 use Rattle.moka_state.specs.Given.{Gives}
 use Rattle.moka_state.specs.Begin.{GivesBegun}
-use Rattle.moka_segments.specs.Segments.{SegmentedSettings, asked, place_of, share_settings, steps_in}
+use Rattle.moka_segment_model.specs.Segments.{SegmentedSettings, asked, place_of, share_settings, steps_in}
 
 module _ {K V E : Type 0} (eq : K → K → Bool) (is_clone : V → V → Type 0) (is_infallible : V → Type 0)
     (settings : SegmentedSettings K V) (calls : List (Call K V E)) (call : Call K V E) where

@@ -3,7 +3,7 @@ ghost use Rattle.std.specs.Prelude.{◌≡◌, ◌↔◌, ℕ, true, min, length
 ghost use Rattle.std.specs.Arc.{arc_value};
 ghost use Rattle.moka_model.specs.Calls.{InvalidateAll, InvalidateIf, RunPendingTasks, RunPendingTasksUpTo, EntryCount, WeightedSize, Counted, Left};
 ghost use Rattle.moka_model.specs.Numbers.{greatest_number};
-ghost use Rattle.moka_segments.specs.Segments.{sum_below};
+ghost use Rattle.moka_segment_model.specs.Segments.{sum_below};
 ghost use Rattle.moka_segmented.specs.SegmentedData.{stored_at, weight_at, notices_kept};
 
 use crate::segment::Segmented;

@@ -4,7 +4,7 @@ ghost use Rattle.moka_model.specs.Calls as calls;
 ghost use Rattle.moka_model.specs.Calls.{Begin};
 ghost use Rattle.moka_state.specs.Begin.{IsSaidOf};
 ghost use Rattle.moka_state.specs.Forms.{IfRefusedUnasked, IsOptional, IsTried, IsValue, optional_outcome, tried_outcome};
-ghost use Rattle.moka_segments.specs.Segments.{live_in};
+ghost use Rattle.moka_segment_model.specs.Segments.{live_in};
 ghost use Rattle.moka_segmented.specs.Forms.{IsFormIn};
 
 use crate::segment::Segmented;

@@ -2,7 +2,7 @@
 ghost use Rattle.std.specs.Prelude.{◌≡◌, ◌≢◌, ◌<◌, ◌≤◌, ◌^◌, [], Some, None, option_map, IfSome, IfOk, IfErr, IsSome};
 ghost use Rattle.std.specs.Arc.{arc_value};
 ghost use Rattle.std.specs.List.{AllByRecursion};
-ghost use Rattle.moka_segments.specs.Segments.{share, bits_for};
+ghost use Rattle.moka_segment_model.specs.Segments.{share, bits_for};
 ghost use Rattle.moka_segmented.specs.SegmentedData.{data_of};
 
 use crate::segment::Segmented;
@@ -23,7 +23,7 @@ use std::sync::Arc;
 /// # Errors
 ///
 /// - `OutOfMemory`: an allocation failed. Everything is dropped.
-pub fn opened<K: Hash + Drop, V: Clone, C: CacheTypes<K, V>, R: RowStore<K, V>>(
+pub fn build_segments<K: Hash + Drop, V: Clone, C: CacheTypes<K, V>, R: RowStore<K, V>>(
     alloc: Global,
     settings: Settings<K, V, C>,
     bits: u32,
@@ -115,8 +115,8 @@ pub fn share_of<K: Hash + Drop, V: Clone, C: CacheTypes<K, V>>(
     ensures limits { IfOk result (λ one. one.flush_limit ≢ Some 0) }
     ensures unweighed { IfOk result (λ one. IsSome one.flush_limit → one.weigher ≡ None) }
 {
-    let weigher = shared_again(&settings.weigher)?;
-    let expiry = shared_again(&settings.expiry)?;
+    let weigher = share_again(&settings.weigher)?;
+    let expiry = share_again(&settings.expiry)?;
     let hasher = settings.hasher.clone()?;
     Ok(Settings {
         name: None,
@@ -150,7 +150,7 @@ fn share_of_capacity(capacity: Option<u64>, count: u64) -> Option<u64>
 /// # Errors
 ///
 /// - `AllocError`: sharing it failed.
-pub fn shared_again<T: Drop>(value: &Option<Arc<T>>) -> Result<Option<Arc<T>>, AllocError>
+pub fn share_again<T: Drop>(value: &Option<Arc<T>>) -> Result<Option<Arc<T>>, AllocError>
     ensures { IfOk result (λ copy. option_map arc_value copy ≡ option_map arc_value value.now) }
 {
     match value {

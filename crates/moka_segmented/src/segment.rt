@@ -9,16 +9,16 @@ ghost use Rattle.moka_model.specs.Numbers.{stores_nothing};
 ghost use Rattle.moka_model.specs.SizeLaws.{LimitsSome};
 ghost use Rattle.moka_state.specs.Hashes.{IsHashOf};
 ghost use Rattle.moka_table.specs.Table.{removal_of};
-ghost use Rattle.moka_segments.specs.Segments.{segment_of, segment_of_key, first_from, share_settings, steps_in, live_in};
+ghost use Rattle.moka_segment_model.specs.Segments.{segment_of, segment_of_key, first_from, share_settings, steps_in, live_in};
 ghost use Rattle.moka_segmented.specs.SegmentedData.{SegmentedData, AllHashBy, data_of, has_notice, notices_kept};
 
 use crate::segmented_view::SegmentedStateView;
-use moka_due::due_rows::DueRows;
+use moka_expiration::view::StateView;
+use moka_expiring_rows::expiring_rows::ExpiringRows;
 use moka_model::notification::Notice;
 use moka_policy::policy::{CacheTypes, Policy, Refused};
 use moka_rows::rows::RowStore;
 use moka_state::state::{InsertRefused, Settings, State};
-use moka_ways::view::StateView;
 use std::alloc::Global;
 use std::hash::{BuildHasher, Hash, Hasher};
 use std::marker::Model;
@@ -42,7 +42,7 @@ pub struct Segmented<K: Hash + Drop, V: Clone, C: CacheTypes<K, V>, R: RowStore<
 /// # Complexity
 ///
 /// A call on one key visits the entries of its segment that have the key's hash.
-pub type SegmentedState<K, V, C> = Segmented<K, V, C, DueRows<K, V>>;
+pub type SegmentedState<K, V, C> = Segmented<K, V, C, ExpiringRows<K, V>>;
 
 // Where a key belongs: its hash, and the number of the segment that the hash's highest bits choose.
 #[derive(Clone, Copy)]

@@ -1,6 +1,6 @@
 //! What the data of a cache of several segments means to the specification.
+use moka_expiration::view::BehaviourView;
 use moka_policy::policy::CacheTypes;
-use moka_ways::view::BehaviourView;
 use std::hash::Hash;
 
 /// What the data of a cache of several segments of these types means, and the relations between its
@@ -8,7 +8,7 @@ use std::hash::Hash;
 pub trait SegmentedStateView<K: Hash, V: Clone>: CacheTypes<K, V> {
     ghost use Rattle.std.specs.Prelude.{List};
     ghost use Rattle.moka_model.specs.Calls.{Call, Answer};
-    ghost use Rattle.moka_segments.specs.Segments.{SegmentedSettings};
+    ghost use Rattle.moka_segment_model.specs.Segments.{SegmentedSettings};
     ghost use Rattle.moka_segmented.specs.SegmentedData.{SegmentedData};
 
     /// What the cache was built with, in the specification's terms.

@@ -5,7 +5,7 @@ ghost use Rattle.std.specs.List.{AllByRecursion};
 ghost use Rattle.moka_model.specs.Numbers.{flush_point};
 ghost use Rattle.moka_state.specs.State.{all_writes};
 ghost use Rattle.moka_state.specs.Step.{call_of, StepKeeps, ReplyKeeps};
-ghost use Rattle.moka_segments.specs.Segments.{key_in, share, segments_of};
+ghost use Rattle.moka_segment_model.specs.Segments.{key_in, share, segments_of};
 ghost use Rattle.moka_segmented.specs.Step.{IsReplyIn, after_reply_in, IsRunIn, after_all_in};
 
 use crate::segment::Segmented;

@@ -8,7 +8,7 @@ ghost use Rattle.moka_state.specs.Begin.{FoundKeeps, IsNamed, IsSaidOf};
 ghost use Rattle.moka_state.specs.Compute.{IsCompute, ShownKeeps};
 ghost use Rattle.moka_state.specs.Finish.{Fits, IsFinished, OutcomeKeeps, outcome_of};
 ghost use Rattle.moka_state.specs.Given.{IfUnspent, of_begin_compute, of_collect, of_done, of_finish};
-ghost use Rattle.moka_segments.specs.Segments.{live_in};
+ghost use Rattle.moka_segment_model.specs.Segments.{live_in};
 ghost use Rattle.moka_segmented.specs.Turns.{GivesIn, GivesBegunIn};
 
 use crate::segment::Segmented;

@@ -3,7 +3,7 @@ use crate::load::Load;
 use crate::measure::{Outcome, nanos_since};
 use moka::policy::EvictionPolicy;
 use moka::ready::{FoldState, Plain};
-use moka::state::{DueRows, RowStore, State};
+use moka::state::{ExpiringRows, RowStore, State};
 use moka::sync::CacheBuilder;
 use std::alloc::{AllocError, Global};
 use std::io;
@@ -24,7 +24,7 @@ pub(crate) fn timed<R: Clock>(
     timed_on(rt, &mut state, keys)
 }
 
-fn opened(alloc: Global, capacity: u32) -> Result<Alone<DueRows<u64, u64>>, AllocError> {
+fn opened(alloc: Global, capacity: u32) -> Result<Alone<ExpiringRows<u64, u64>>, AllocError> {
     let builder = CacheBuilder::new(u64::from(capacity)).eviction_policy(EvictionPolicy::lru());
     match builder.build_state(alloc, FoldState::default()) {
         Ok(state) => Ok(state),

@@ -5,10 +5,10 @@ use Rattle.std.proofs.lemmas.Bool.{cases_eq, ne_eqb, eq-eqb}
 use Rattle.slab.specs.Slab.{Slab}
 use Rattle.moka_rows.specs.Rows.{row_under, is_row_of, IsRowOf, NoneIsRowOf}
 use Rattle.moka_rows.specs.declared.rows.Row.{Row}
-use Rattle.moka_orders.specs.Paths.{IsAmong}
-use Rattle.moka_links.specs.Links.{IsLinked, admitted_of, waiting_of, numbers_of, hash_at, first_at, same_at, chain_of}
-use Rattle.moka_links.specs.declared.links.Links.{Links}
-use Rattle.moka_links.proofs.Callers.{IsLine, among-back, among-parts, no-more, few-linked, linked-chains, linked-among, among-linked}
+use Rattle.moka_deques.specs.Paths.{IsAmong}
+use Rattle.moka_row_index.specs.RowIndex.{IsLinked, admitted_of, waiting_of, numbers_of, hash_at, first_at, same_at, chain_of}
+use Rattle.moka_row_index.specs.declared.row_index.RowIndex.{RowIndex}
+use Rattle.moka_row_index.proofs.Callers.{IsLine, among-back, among-parts, no-more, few-linked, linked-chains, linked-among, among-linked}
 use Rattle.moka_slab.specs.Kept.{row_at, numbered}
 use Rattle.moka_slab.specs.Tied.{IsTied, all_rows}
 use Rattle.moka_slab.proofs.KeptLemmas.{some-of, filter-in, filter-out, none-pass, passing, passes}
@@ -27,7 +27,7 @@ length-numbers : {R : Type 0} (ps : List (ℕ × R)) → length (map (λ p. p.0)
 length-numbers [] = refl
 length-numbers (p ∷ ps) = ap suc (length-numbers ps)
 
-module _ {K V : Type 0} (rows : Slab (Row K V)) (l : Links) (t : IsTied rows l) (eq : K → K → Bool) (key : K) (hash : ℕ) where
+module _ {K V : Type 0} (rows : Slab (Row K V)) (l : RowIndex) (t : IsTied rows l) (eq : K → K → Bool) (key : K) (hash : ℕ) where
   -- the state of a lookup: what it has seen, and where it continues
   pub record Sought (at : Option ℕ) (reads : ℕ) : Type 0 where
     pub seen : List ℕ

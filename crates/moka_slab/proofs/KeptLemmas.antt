@@ -2,8 +2,8 @@
 use Rattle.std.proofs.Common.{◌≡◌, ◌≢◌, ℕ, suc, ◌+◌, ◌≤◌, Bool, true, false, List, [], ◌∷◌, ◌++◌, length, map, filter, Option, Some, None, IsSome, refl, sym, ap, subst, ◌∙◌, arith, rules, inl, inr, ⊎_elim}
 use Rattle.std.proofs.lemmas.Bool.{cases_eq, ne_eqb}
 use Rattle.moka_rows.specs.Rows.{row_under, with_row, without_row, first_number, number_after, count_under}
-use Rattle.moka_orders.specs.Paths.{IsAmong, IsAbsent, without, first_of, number_behind}
-use Rattle.moka_links.proofs.Callers.{IsApart, without-here, without-there}
+use Rattle.moka_deques.specs.Paths.{IsAmong, IsAbsent, without, first_of, number_behind}
+use Rattle.moka_row_index.proofs.Callers.{IsApart, without-here, without-there}
 use Rattle.moka_slab.specs.Kept.{numbered}
 
 pub some-of : {A : Type 0} (o : Option A) → IsSome o → (x : A) × (o ≡ Some x)

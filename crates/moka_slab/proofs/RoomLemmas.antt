@@ -5,8 +5,8 @@ use Rattle.std.proofs.lemmas.Bool.{ltb-true, ltb-false}
 use Rattle.slab.specs.Slab.{Slab, get, slab_len, with_value, entries_from}
 use Rattle.slab.proofs.SlabLemmas.{length-entries_from}
 use Rattle.moka_rows.specs.declared.rows.Row.{Row}
-use Rattle.moka_links.specs.Links.{places_of, spare_of}
-use Rattle.moka_links.specs.declared.links.Links.{Links}
+use Rattle.moka_row_index.specs.RowIndex.{places_of, spare_of}
+use Rattle.moka_row_index.specs.declared.row_index.RowIndex.{RowIndex}
 use Rattle.moka_slab.specs.Tied.{room_in}
 
 module _ {R : Type 0} where
@@ -28,19 +28,19 @@ below v p q a b more up = grind (arith)
 
 module _ {K V : Type 0} where
   -- the room stays the same if no row is added
-  pub room-kept : (old new : Slab (Row K V)) (l m : Links) → new.capacity ≡ old.capacity → slab_len new ≤ slab_len old
+  pub room-kept : (old new : Slab (Row K V)) (l m : RowIndex) → new.capacity ≡ old.capacity → slab_len new ≤ slab_len old
       → places_of l ≤ places_of m → spare_of l ≤ spare_of m → room_in old l ≤ room_in new m
   room-kept old new l m capacity len places spare =
       rw capacity
       (below (old.capacity + 2) (places_of l) (places_of m) (min (old.capacity - slab_len old) (spare_of l)) (min (old.capacity - slab_len new) (spare_of m)) places (omega arith))
 
   -- if there is room, the slab and the index have it, and each number that the slab can give out has a place
-  pub record HasRoom (rows : Slab (Row K V)) (l : Links) : Type 0 where
+  pub record HasRoom (rows : Slab (Row K V)) (l : RowIndex) : Type 0 where
     pub row : slab_len rows + 1 ≤ rows.capacity
     pub hash : 0 < spare_of l
     pub place : (key : ℕ) → key < rows.capacity → key + 2 < places_of l
 
-  pub has-room : (rows : Slab (Row K V)) (l : Links) → 0 < room_in rows l → HasRoom rows l
+  pub has-room : (rows : Slab (Row K V)) (l : RowIndex) → 0 < room_in rows l → HasRoom rows l
   has-room rows l some = go (nat_lt (places_of l) (rows.capacity + 2)) refl some
     where
       go : (b : Bool) → nat_lt (places_of l) (rows.capacity + 2) ≡ b → 0 < (if b then 0 else min (rows.capacity - slab_len rows) (spare_of l)) → HasRoom rows l
@@ -48,7 +48,7 @@ module _ {K V : Type 0} where
       go false placed some = record { row = omega arith; hash = omega arith; place = λ key within. let made = ltb-false (places_of l) (rows.capacity + 2) placed in omega (arith, made, within) }
 
   -- adding a row uses the room of one
-  pub room-taken : (old new : Slab (Row K V)) (l m : Links) → new.capacity ≡ old.capacity → slab_len new ≡ slab_len old + 1
+  pub room-taken : (old new : Slab (Row K V)) (l m : RowIndex) → new.capacity ≡ old.capacity → slab_len new ≡ slab_len old + 1
       → places_of m ≡ places_of l → spare_of l ≤ spare_of m + 1 → room_in old l ≤ room_in new m + 1
   room-taken old new l m capacity len places spare = rw (capacity, places) (go (nat_lt (places_of l) (old.capacity + 2)))
     where
@@ -57,7 +57,7 @@ module _ {K V : Type 0} where
       go false = omega (arith, len, spare)
 
   -- the room after a successful `reserve`
-  pub room-made : (rows : Slab (Row K V)) (l : Links) (more : ℕ) → slab_len rows + more ≤ rows.capacity → rows.capacity + 2 ≤ places_of l → more ≤ spare_of l → more ≤ room_in rows l
+  pub room-made : (rows : Slab (Row K V)) (l : RowIndex) (more : ℕ) → slab_len rows + more ≤ rows.capacity → rows.capacity + 2 ≤ places_of l → more ≤ spare_of l → more ≤ room_in rows l
   room-made rows l more row place hash = go (nat_lt (places_of l) (rows.capacity + 2)) refl
     where
       go : (b : Bool) → nat_lt (places_of l) (rows.capacity + 2) ≡ b → more ≤ (if b then 0 else min (rows.capacity - slab_len rows) (spare_of l))

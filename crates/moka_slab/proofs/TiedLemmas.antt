@@ -7,10 +7,10 @@ use Rattle.slab.specs.Slab.{Slab, get, Updates, with_value}
 use Rattle.moka_rows.specs.Rows.{row_under, with_row, without_row, NumbersDiffer, count_under, IsOrderOf}
 use Rattle.moka_rows.specs.declared.rows.Order.TheVariants.{Admitted}
 use Rattle.moka_rows.specs.declared.rows.Row.{Row}
-use Rattle.moka_orders.specs.Paths.{IsAmong, IsAbsent, without}
-use Rattle.moka_links.specs.Links.{IsLinked, admitted_of, waiting_of, numbers_of, hash_at}
-use Rattle.moka_links.specs.declared.links.Links.{Links}
-use Rattle.moka_links.proofs.Callers.{IsApart, absent-without, among-without, among-push, without-absent, among-parts, linked-above, linked-among, among-linked, linked-once, admitted-apart, waiting-apart}
+use Rattle.moka_deques.specs.Paths.{IsAmong, IsAbsent, without}
+use Rattle.moka_row_index.specs.RowIndex.{IsLinked, admitted_of, waiting_of, numbers_of, hash_at}
+use Rattle.moka_row_index.specs.declared.row_index.RowIndex.{RowIndex}
+use Rattle.moka_row_index.proofs.Callers.{IsApart, absent-without, among-without, among-push, without-absent, among-parts, linked-above, linked-among, among-linked, linked-once, admitted-apart, waiting-apart}
 use Rattle.moka_slab.specs.Kept.{row_at, numbered, order_of}
 use Rattle.moka_slab.specs.Tied.{IsTied, admitted_rows, waiting_rows, all_rows}
 use Rattle.moka_slab.proofs.KeptLemmas.{some-of, numbered-append, under-among, under-absent, under-some, numbered-without, numbered-same, numbered-changed, count-numbered}
@@ -20,17 +20,17 @@ apart-both [] ys a b once = b
 apart-both (x ∷ xs) ys a b once =
     ((λ q. ⊎_elim (λ t. a.0 t) (λ t. once x (inl refl) t) (among-parts x xs ys q)), apart-both xs ys a.1 b (λ k q. once k (inr q)))
 
-pub numbers-apart : (l : Links) → IsApart (numbers_of l)
+pub numbers-apart : (l : RowIndex) → IsApart (numbers_of l)
 numbers-apart l = apart-both (admitted_of l) (waiting_of l) (admitted-apart l) (waiting-apart l) (λ k q. linked-once l k q)
 
 -- a number that is linked after an admission or a removal was linked before
-pub linked-admitted : (l m : Links) (n : ℕ) → IsLinked l n → admitted_of m ≡ without n (admitted_of l) ++ n ∷ [] → waiting_of m ≡ without n (waiting_of l) → (k : ℕ) → IsLinked m k → IsLinked l k
+pub linked-admitted : (l m : RowIndex) (n : ℕ) → IsLinked l n → admitted_of m ≡ without n (admitted_of l) ++ n ∷ [] → waiting_of m ≡ without n (waiting_of l) → (k : ℕ) → IsLinked m k → IsLinked l k
 linked-admitted l m n there admitted waiting k q =
     ⊎_elim
     (λ t. ⊎_elim (λ s. inl (among-without n k (admitted_of l) s)) (λ e. subst (IsLinked l) e there) (among-push k n (without n (admitted_of l)) (subst (IsAmong k) admitted t)))
     (λ t. inr (among-without n k (waiting_of l) (subst (IsAmong k) waiting t))) q
 
-pub linked-removed : (l m : Links) (n : ℕ) → admitted_of m ≡ without n (admitted_of l) → waiting_of m ≡ without n (waiting_of l) → (k : ℕ) → IsLinked m k → IsLinked l k × (k ≢ n)
+pub linked-removed : (l m : RowIndex) (n : ℕ) → admitted_of m ≡ without n (admitted_of l) → waiting_of m ≡ without n (waiting_of l) → (k : ℕ) → IsLinked m k → IsLinked l k × (k ≢ n)
 linked-removed l m n admitted waiting k q =
     ⊎_elim
     (λ t. let s = subst (IsAmong k) admitted t in
@@ -39,40 +39,40 @@ linked-removed l m n admitted waiting k q =
     (inr (among-without n k (waiting_of l) s), λ e. absent-without n (waiting_of l) (waiting-apart l) (subst (λ j. IsAmong j (without n (waiting_of l))) e s))) q
 
 module _ {K V : Type 0} where
-  pub all-is : (rows : Slab (Row K V)) (l : Links) → all_rows rows l ≡ numbered (row_at rows) (numbers_of l)
+  pub all-is : (rows : Slab (Row K V)) (l : RowIndex) → all_rows rows l ≡ numbered (row_at rows) (numbers_of l)
   all-is rows l = sym (numbered-append (row_at rows) (admitted_of l) (waiting_of l))
 
   -- a row that is found under a number is linked
-  pub linked-found : (rows : Slab (Row K V)) (l : Links) (n : ℕ) → IsSome (row_under n (all_rows rows l)) → IsLinked l n
+  pub linked-found : (rows : Slab (Row K V)) (l : RowIndex) (n : ℕ) → IsSome (row_under n (all_rows rows l)) → IsLinked l n
   linked-found rows l n found =
       let s = some-of (row_under n (all_rows rows l)) found in
       linked-among l n (under-some (row_at rows) n (numbers_of l) s.0 (ap (row_under n) (sym (all-is rows l)) ∙ s.1)).0
 
-  pub waiting-found : (rows : Slab (Row K V)) (l : Links) (n : ℕ) → IsSome (row_under n (waiting_rows rows l)) → IsAmong n (waiting_of l)
+  pub waiting-found : (rows : Slab (Row K V)) (l : RowIndex) (n : ℕ) → IsSome (row_under n (waiting_rows rows l)) → IsAmong n (waiting_of l)
   waiting-found rows l n found = let s = some-of (row_under n (waiting_rows rows l)) found in (under-some (row_at rows) n (waiting_of l) s.0 s.1).0
 
   -- the row with a linked number
-  pub under-all : (rows : Slab (Row K V)) (l : Links) (n : ℕ) (r : Row K V) → IsLinked l n → row_at rows n ≡ Some r → row_under n (all_rows rows l) ≡ Some r
+  pub under-all : (rows : Slab (Row K V)) (l : RowIndex) (n : ℕ) (r : Row K V) → IsLinked l n → row_at rows n ≡ Some r → row_under n (all_rows rows l) ≡ Some r
   under-all rows l n r q is = ap (row_under n) (all-is rows l) ∙ under-among (row_at rows) n (numbers_of l) r is (among-linked l n q)
 
-  pub under-admitted : (rows : Slab (Row K V)) (l : Links) (n : ℕ) (r : Row K V) → IsAmong n (admitted_of l) → row_at rows n ≡ Some r → row_under n (admitted_rows rows l) ≡ Some r
+  pub under-admitted : (rows : Slab (Row K V)) (l : RowIndex) (n : ℕ) (r : Row K V) → IsAmong n (admitted_of l) → row_at rows n ≡ Some r → row_under n (admitted_rows rows l) ≡ Some r
   under-admitted rows l n r q is = under-among (row_at rows) n (admitted_of l) r is q
 
-  pub waits-absent : (rows : Slab (Row K V)) (l : Links) (n : ℕ) → IsAmong n (waiting_of l) → row_under n (admitted_rows rows l) ≡ None
+  pub waits-absent : (rows : Slab (Row K V)) (l : RowIndex) (n : ℕ) → IsAmong n (waiting_of l) → row_under n (admitted_rows rows l) ≡ None
   waits-absent rows l n q = under-absent (row_at rows) n (admitted_of l) (λ t. linked-once l n t q)
 
   -- no two rows have one number
-  pub numbers-differ : (rows : Slab (Row K V)) (l : Links) → NumbersDiffer (all_rows rows l)
+  pub numbers-differ : (rows : Slab (Row K V)) (l : RowIndex) → NumbersDiffer (all_rows rows l)
   numbers-differ rows l n = subst (λ t. count_under n t ≤ 1) (sym (all-is rows l)) (count-numbered (row_at rows) n (numbers_of l) (numbers-apart l))
 
   -- a case for each order
-  pub by-order : (rows : Slab (Row K V)) (l : Links) (n : ℕ) (r : Row K V) (P : Type 0) (Q : Row K V → Type 0) → IsLinked l n → row_at rows n ≡ Some r
+  pub by-order : (rows : Slab (Row K V)) (l : RowIndex) (n : ℕ) (r : Row K V) (P : Type 0) (Q : Row K V → Type 0) → IsLinked l n → row_at rows n ≡ Some r
       → (IsAmong n (waiting_of l) → P) → (IsAmong n (admitted_of l) → Q r) → MatchOption (row_under n (admitted_rows rows l)) P Q
   by-order rows l n r P Q q is waits admits =
       ⊎_elim (λ t. subst (λ o. MatchOption o P Q) (sym (under-admitted rows l n r t is)) (admits t))
       (λ t. subst (λ o. MatchOption o P Q) (sym (waits-absent rows l n t)) (waits t)) q
 
-  pub order-said : (rows : Slab (Row K V)) (l : Links) (n : ℕ) (r : Row K V) (said : Bool) → IsLinked l n → row_at rows n ≡ Some r
+  pub order-said : (rows : Slab (Row K V)) (l : RowIndex) (n : ℕ) (r : Row K V) (said : Bool) → IsLinked l n → row_at rows n ≡ Some r
       → (IsAmong n (admitted_of l) → said ≡ true) → (IsAmong n (waiting_of l) → said ≡ false) → IsOrderOf n (admitted_rows rows l) (order_of said)
   order-said rows l n r said q is admits waits = by-order rows l n r _ (λ _. order_of said ≡ Admitted) q is (λ w. ap order_of (waits w)) (λ a. ap order_of (admits a))
 
@@ -102,13 +102,13 @@ module _ {K V : Type 0} where
       within = ⊎_elim (λ t. t) (λ past. absurd (beyond past)) (cases_lt (n - 2) (length old.slots))
 
   -- the rows of an order without this number stay the same
-  pub kept-without : (old new : Slab (Row K V)) (l : Links) (n : ℕ) (row : Option (Row K V)) (ks : List ℕ) → Puts old new n row → IsAbsent n ks → ((k : ℕ) → IsAmong k ks → 2 ≤ k)
+  pub kept-without : (old new : Slab (Row K V)) (l : RowIndex) (n : ℕ) (row : Option (Row K V)) (ks : List ℕ) → Puts old new n row → IsAbsent n ks → ((k : ℕ) → IsAmong k ks → 2 ≤ k)
       → numbered (row_at new) ks ≡ numbered (row_at old) ks
   kept-without old new l n row ks p absent above =
       numbered-same (row_at old) (row_at new) ks (λ k q. p.others k (above k q) (λ e. absent (subst (λ t. IsAmong t ks) e q)))
 
   -- rows and links stay tied
-  pub tied-kept : (old new : Slab (Row K V)) (l m : Links) → IsTied old l → ((k : ℕ) → IsLinked m k → IsLinked l k) → ((k : ℕ) → hash_at m k ≡ hash_at l k)
+  pub tied-kept : (old new : Slab (Row K V)) (l m : RowIndex) → IsTied old l → ((k : ℕ) → IsLinked m k → IsLinked l k) → ((k : ℕ) → hash_at m k ≡ hash_at l k)
       → ((k : ℕ) (r : Row K V) → IsLinked m k → row_at old k ≡ Some r → (s : Row K V) × (row_at new k ≡ Some s) × (s.hash ≡ r.hash)) → IsTied new m
   tied-kept old new l m t linked hashes same = record {
     stored = λ k q. let r = some-of (row_at old k) (t.stored k (linked k q)) in let s = same k r.0 q r.1 in subst IsSome (sym s.1) refl;
@@ -121,7 +121,7 @@ module _ {K V : Type 0} where
   }
 
   -- an access to a row: its content changes, and a resident row becomes the last one
-  module _ (old new : Slab (Row K V)) (l m : Links) (t : IsTied old l) (n : ℕ) (r : Row K V) (change : Row K V → Row K V) (is : row_at old n ≡ Some r)
+  module _ (old new : Slab (Row K V)) (l m : RowIndex) (t : IsTied old l) (n : ℕ) (r : Row K V) (change : Row K V → Row K V) (is : row_at old n ≡ Some r)
       (p : Puts old new n (Some (change r))) (hash : (change r).hash ≡ r.hash) where
     same-hash : (k : ℕ) (x : Row K V) → IsLinked l k → row_at old k ≡ Some x → (y : Row K V) × (row_at new k ≡ Some y) × (y.hash ≡ x.hash)
     same-hash k x q at =
@@ -166,7 +166,7 @@ module _ {K V : Type 0} where
           ))
 
   -- a row's content changes, and the row keeps its place
-  module _ (old : Slab (Row K V)) (l : Links) (t : IsTied old l) (n : ℕ) (was row : Row K V) (change : Row K V → Row K V) (there : IsLinked l n) (is : row_at old n ≡ Some was)
+  module _ (old : Slab (Row K V)) (l : RowIndex) (t : IsTied old l) (n : ℕ) (was row : Row K V) (change : Row K V → Row K V) (there : IsLinked l n) (is : row_at old n ≡ Some was)
       (made : row ≡ change was) (hash : (change was).hash ≡ was.hash) where
     put : Puts old (with_value old (n - 2) row) n (Some (change was))
     put = subst (λ x. Puts old (with_value old (n - 2) row) n (Some x)) made (puts-write old n was row (linked-above l n there) is)
@@ -184,7 +184,7 @@ module _ {K V : Type 0} where
     changed-waiting = changed (waiting_of l) (waiting-apart l) (λ k q. inr q)
 
   -- a row is added
-  module _ (old new : Slab (Row K V)) (l m : Links) (t : IsTied old l) (n : ℕ) (row : Row K V) (p : Puts old new n (Some row)) (fresh : IsLinked l n → ⊥)
+  module _ (old new : Slab (Row K V)) (l m : RowIndex) (t : IsTied old l) (n : ℕ) (row : Row K V) (p : Puts old new n (Some row)) (fresh : IsLinked l n → ⊥)
       (admitted : admitted_of m ≡ admitted_of l) (waiting : waiting_of m ≡ waiting_of l ++ n ∷ []) where
     came : (k : ℕ) → IsLinked m k → IsLinked l k ⊎ (n ≡ k)
     came k q =
@@ -213,7 +213,7 @@ module _ {K V : Type 0} where
         ∙ ap (λ z. waiting_rows old l ++ z) (rw p.at refl)
 
   -- a row is removed
-  module _ (old new : Slab (Row K V)) (l m : Links) (t : IsTied old l) (n : ℕ) (r : Row K V) (is : row_at old n ≡ Some r) (p : Puts old new n None) (there : IsLinked l n)
+  module _ (old new : Slab (Row K V)) (l m : RowIndex) (t : IsTied old l) (n : ℕ) (r : Row K V) (is : row_at old n ≡ Some r) (p : Puts old new n None) (there : IsLinked l n)
       (admitted : admitted_of m ≡ without n (admitted_of l)) (waiting : waiting_of m ≡ without n (waiting_of l)) where
     pub removed-tied : ((k : ℕ) → hash_at m k ≡ hash_at l k) → IsTied new m
     removed-tied hashes =
@@ -243,7 +243,7 @@ module _ {K V : Type 0} where
         ))
 
   -- the number of a vacant key is not linked
-  pub fresh-number : (rows : Slab (Row K V)) (l : Links) (n key : ℕ) → IsTied rows l → n ≡ key + 2 → get rows key ≡ None → IsLinked l n → ⊥
+  pub fresh-number : (rows : Slab (Row K V)) (l : RowIndex) (n key : ℕ) → IsTied rows l → n ≡ key + 2 → get rows key ≡ None → IsLinked l n → ⊥
   fresh-number rows l n key t is vacant q =
       let at : n - 2 ≡ key = omega (arith, is) in
       let stored = t.stored n q in
@@ -252,7 +252,7 @@ module _ {K V : Type 0} where
       absurd cc
 
   -- a pending row is admitted
-  module _ (rows : Slab (Row K V)) (l m : Links) (t : IsTied rows l) (n : ℕ) (q : IsAmong n (waiting_of l))
+  module _ (rows : Slab (Row K V)) (l m : RowIndex) (t : IsTied rows l) (n : ℕ) (q : IsAmong n (waiting_of l))
       (admitted : admitted_of m ≡ without n (admitted_of l) ++ n ∷ []) (waiting : waiting_of m ≡ without n (waiting_of l)) where
     pub admitted-tied : ((k : ℕ) → hash_at m k ≡ hash_at l k) → IsTied rows m
     admitted-tied hashes = tied-kept rows rows l m t (linked-admitted l m n (inr q) admitted waiting) hashes (λ k x s at. (x, at, refl))

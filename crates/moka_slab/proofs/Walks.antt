@@ -6,10 +6,10 @@ use Rattle.std.proofs.lemmas.List.Elements.{filter-append}
 use Rattle.slab.specs.Slab.{Slab}
 use Rattle.moka_rows.specs.declared.rows.Row.{Row}
 use Rattle.moka_rows.specs.Rows.{first_number, is_expired, expired_at}
-use Rattle.moka_orders.specs.Paths.{IsAmong, first_of, number_behind}
-use Rattle.moka_links.specs.declared.links.Links.{Links}
-use Rattle.moka_links.specs.Links.{IsLinked, admitted_of}
-use Rattle.moka_links.proofs.Callers.{IsApart, admitted-apart}
+use Rattle.moka_deques.specs.Paths.{IsAmong, first_of, number_behind}
+use Rattle.moka_row_index.specs.declared.row_index.RowIndex.{RowIndex}
+use Rattle.moka_row_index.specs.RowIndex.{IsLinked, admitted_of}
+use Rattle.moka_row_index.proofs.Callers.{IsApart, admitted-apart}
 use Rattle.moka_slab.specs.Kept.{row_at, numbered}
 use Rattle.moka_slab.specs.Tied.{admitted_rows}
 use Rattle.moka_slab.proofs.KeptLemmas.{numbered-append}
@@ -25,7 +25,7 @@ behind-at n (k ∷ ks) back apart =
     let other : k ≢ n = λ same. apart.0 (subst (λ m. IsAmong m (ks ++ n ∷ back)) (sym same) (among-at n ks back)) in
     rw (ne_eqb k n other) (behind-at n ks back apart.1)
 
-module _ {K V : Type 0} (rows : Slab (Row K V)) (links : Links) (now : ℕ) where
+module _ {K V : Type 0} (rows : Slab (Row K V)) (links : RowIndex) (now : ℕ) where
   -- so many admitted rows were passed, none of them expired, and the cursor stands at the first of the rest
   pub record Walks (cursor : Option ℕ) (count : ℕ) (passed rest : List ℕ) : Type 0 where
     pub whole : admitted_of links ≡ passed ++ rest

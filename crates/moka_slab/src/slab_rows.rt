@@ -3,12 +3,12 @@ ghost use Rattle.std.specs.Prelude.{◌≡◌, ◌⊎◌, ℕ, ◌+◌, ◌-◌,
 ghost use Rattle.std.specs.Prelude.{IsSome, IfSome, IfNone, OnSome, Some, None};
 ghost use Rattle.moka_rows.specs.Rows.{row_under, first_number, expired_at, IsRowOf, NoneIsRowOf};
 ghost use Rattle.moka_slab.specs.Kept.{row_at, order_of};
-ghost use Rattle.moka_links.specs.Links.{IsLinked};
+ghost use Rattle.moka_row_index.specs.RowIndex.{IsLinked};
 ghost use Rattle.moka_slab.specs.Tied.{IsTied, admitted_rows, waiting_rows, all_rows, room_in};
 
-use moka_links::links::Links;
-use moka_rows::rows::{Before, EntryInfo, Order, Row, RowStore, Touch};
-use moka_rows::shelf::Shelved;
+use moka_row_index::row_index::RowIndex;
+use moka_rows::counted_row::CountedRow;
+use moka_rows::rows::{Access, EntryInfo, Order, Previous, Row, RowStore};
 use moka_rows::visits::step;
 use slab::Slab;
 use std::alloc::{AllocError, Global};
@@ -31,8 +31,8 @@ pub const FIRST: usize = 2;
 /// - `first_expired` walks over the resident rows.
 #[derive(Drop)]
 pub struct SlabRows<K, V> {
-    rows: Slab<Shelved<Row<K, V>>>,
-    links: Links,
+    rows: Slab<CountedRow<Row<K, V>>>,
+    links: RowIndex,
     ghost tied: { IsTied rows links },
 }
 
@@ -51,7 +51,7 @@ fn order(is_admitted: bool) -> Order
 impl<K, V> SlabRows<K, V> {
     /// Returns the row with this number.
     #[inline(always)]
-    fn shelved(&self, number: usize) -> &Shelved<Row<K, V>>
+    fn counted_row(&self, number: usize) -> &CountedRow<Row<K, V>>
         requires { IsLinked self.now.links number }
         ensures { row_at self.now.rows number ≡ Some result.now }
     {
@@ -60,13 +60,13 @@ impl<K, V> SlabRows<K, V> {
 
     /// Returns the row with this number to a lookup, and adds 1 to `reads`.
     #[inline(always)]
-    fn look(&self, number: usize, reads: &mut u64) -> &Row<K, V>
+    fn read_counted(&self, number: usize, reads: &mut u64) -> &Row<K, V>
         requires linked { IsLinked self.now.links number }
         requires fits { reads.old < 2 ^ 64 - 1 }
         ensures row { row_at self.now.rows number ≡ Some result.now }
         ensures counted { reads.new ≡ reads.old + 1 }
     {
-        self.shelved(number).look(reads)
+        self.counted_row(number).read_counted(reads)
     }
 
     /// Returns the first resident row whose deadline has come at `now`, found by a walk over them.
@@ -78,7 +78,7 @@ impl<K, V> SlabRows<K, V> {
         for _ in 0..links.admitted_len() {
             match cursor {
                 Some(at) => {
-                    if self.shelved(at).row().info().is_expired(now) {
+                    if self.counted_row(at).row().info().is_expired(now) {
                         return cursor;
                     }
                     cursor = links.next(at);
@@ -100,7 +100,7 @@ impl<K: Eq + Drop, V: Drop> RowStore<K, V> for SlabRows<K, V> {
     fn new(alloc: Global) -> Self {
         SlabRows {
             rows: Slab::new(alloc),
-            links: Links::new(alloc),
+            links: RowIndex::new(alloc),
         }
     }
 
@@ -123,18 +123,18 @@ impl<K: Eq + Drop, V: Drop> RowStore<K, V> for SlabRows<K, V> {
     {
         let mut at = self.links.first(hash);
         while let Some(number) = at {
-            let row = self.look(number, reads);
+            let row = self.read_counted(number, reads);
             if *row.key == *key {
                 return Some(number);
             }
-            at = self.links.same(number);
+            at = self.links.next_in_chain(number);
         }
         None
     }
 
     #[inline(always)]
     fn row(&self, number: usize) -> &Row<K, V> {
-        self.shelved(number).row()
+        self.counted_row(number).row()
     }
 
     #[inline(always)]
@@ -172,23 +172,23 @@ impl<K: Eq + Drop, V: Drop> RowStore<K, V> for SlabRows<K, V> {
         ensures room { room_in self.old.rows self.old.links ≤ room_in self.new.rows self.new.links + 1 }
     {
         let hash = row.hash;
-        let key = self.rows.insert_reserved(Shelved::new(row));
+        let key = self.rows.insert_reserved(CountedRow::new(row));
         let number = key + FIRST;
         self.links.add(number, hash);
         number
     }
 
     #[inline(always)]
-    fn touch(&mut self, number: usize, touch: Touch) {
+    fn touch(&mut self, number: usize, touch: Access) {
         self.rows[number - FIRST].touch(touch);
         self.links.touch(number);
     }
 
     #[inline(always)]
-    fn overwrite(&mut self, number: usize, value: V, info: EntryInfo) -> Before<V> {
+    fn overwrite(&mut self, number: usize, value: V, info: EntryInfo) -> Previous<V> {
         let (value, info) = self.rows[number - FIRST].overwrite(value, info);
         let order = order(self.links.touch(number));
-        Before { value, info, order }
+        Previous { value, info, order }
     }
 
     #[inline(always)]

@@ -1,6 +1,6 @@
 -- Hashes of equal keys.
 use Rattle.std.proofs.Common.{◌≡◌, ℕ, Bool, true, List, fold, ap}
-use Rattle.moka_ways.specs.Behaviour.{hash_by}
+use Rattle.moka_expiration.specs.Behaviour.{hash_by}
 
 -- equal keys hash alike
 pub hash-alike : {K H S I : Type 0} (build_hasher : H → S) (write : S → List I → S) (finish : S → ℕ) (hasher : H) {hash_input : K → List (List I)} {eq : K → K → Bool} → ((a b : K) → eq a b ≡ true → hash_input a ≡ hash_input b)

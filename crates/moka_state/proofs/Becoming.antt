@@ -12,12 +12,12 @@ use Rattle.moka_model.specs.Orders.{is_of, is_hit}
 use Rattle.moka_model.specs.OrderLaws.{held, HasOneEach}
 use Rattle.moka_model.specs.Removals.{Removal, cause_of, removal_of as write_removal}
 use Rattle.moka_model.proofs.Callers.{filter-both}
-use Rattle.moka_ways.specs.StateData.{estimates}
+use Rattle.moka_expiration.specs.StateData.{estimates}
 use Rattle.moka_rows.specs.declared.rows.Row.{Row}
 use Rattle.moka_rows.specs.declared.rows.EntryInfo.{EntryInfo}
-use Rattle.moka_rows.specs.declared.rows.Touch.{Touch}
+use Rattle.moka_rows.specs.declared.rows.Access.{Access}
 use Rattle.moka_rows.specs.Rows.{row_under, touched, overwritten}
-use Rattle.moka_ways.specs.Lives.{own_of}
+use Rattle.moka_expiration.specs.ExpirationPolicy.{own_of}
 use Rattle.moka_table.specs.Table.{Contents, entries, stored_write, stored_writes, removal_of, UsesRow, TakesRow}
 use Rattle.moka_state.specs.State.{stored_orders}
 use Rattle.moka_state.proofs.Held.{and-first, held-row, stored-append}
@@ -136,7 +136,7 @@ module _ {K V : Type 0} (eq : K → K → Bool) (settings : Settings K V) (conte
         becomes-missed noted k at notes (ap (filter (λ w. is_live settings w (max latest at))) is_held ∙ ap (λ t. cond t (stored_write row ∷ []) []) dead)
 
     -- a lookup that hits it
-    pub becomes-hit : (noted : List ℕ → ℕ → ℕ) (touch : Touch) → HasNoted k noted → is_live settings (stored_write row) (max latest at) ≡ true → hit settings (max latest at) (stored_write row) ≡ stored_write (touched touch row)
+    pub becomes-hit : (noted : List ℕ → ℕ → ℕ) (touch : Access) → HasNoted k noted → is_live settings (stored_write row) (max latest at) ≡ true → hit settings (max latest at) (stored_write row) ≡ stored_write (touched touch row)
         → UsesRow n (touched touch) contents new → new.notices ≡ contents.notices
         → Becomes eq (view_with settings contents frequency latest number) (Looked k at) (view_with settings new noted (max latest at) number)
     becomes-hit noted touch notes live hits used notices =

@@ -34,19 +34,19 @@ use Rattle.moka_turns.specs.Begun.{IsBegun}
 use Rattle.moka_turns.specs.Handles.{turn_name, ticket_name}
 use Rattle.moka_turns.specs.declared.table.OpenTurn.{OpenTurn}
 use Rattle.moka_turns.specs.declared.table.EndedTurn.{EndedTurn}
-use Rattle.moka_turns.specs.Keeps.{Keeps, name_of}
-use Rattle.moka_ways.specs.declared.lives.Lives.{Lives}
-use Rattle.moka_ways.specs.Lives.{IsDated, AreDated, deadline_of}
-use Rattle.moka_ways.proofs.Callers.{alive-kept}
-use Rattle.moka_table.specs.Look.{IsSaid, is_yes, Accepts, IsEntryOfRow}
-use Rattle.moka_table.specs.Target.{is_live_row}
+use Rattle.moka_turns.specs.Represents.{Represents, name_of}
+use Rattle.moka_expiration.specs.declared.expiration_policy.ExpirationPolicy.{ExpirationPolicy}
+use Rattle.moka_expiration.specs.ExpirationPolicy.{IsDated, AreDated, deadline_of}
+use Rattle.moka_expiration.proofs.Callers.{alive-kept}
+use Rattle.moka_table.specs.LiveEntry.{IsSaid, is_yes, Accepts, IsEntryOfRow}
+use Rattle.moka_table.specs.WriteSlot.{is_live_row}
 use Rattle.moka_table.specs.Table.{Contents, entries, stored_write}
 use Rattle.moka_table.proofs.Callers.{of-row}
 use Rattle.moka_state.specs.declared.answers.Begun.{Begun}
 use Rattle.moka_state.specs.Begin.{IsSaidOf, GivesBegun}
 use Rattle.moka_state.specs.Given.{Gives}
 use Rattle.moka_state.specs.State.{stored_orders}
-use Rattle.moka_maintain.specs.Hit.{UsesAt}
+use Rattle.moka_housekeeper.specs.Hit.{UsesAt}
 use Rattle.moka_state.proofs.Becoming.{HasNoted, stored-same, becomes-missed, becomes-hit}
 use Rattle.moka_state.proofs.Finds.{live-row, live-absent}
 use Rattle.moka_state.proofs.Held.{same-key}
@@ -108,7 +108,7 @@ said-yes (Some true) asks = refl
 
 -- What a lookup finds is what the specification finds, for every history of the state.
 module _ {K V E F : Type 0} (eq : K → K → Bool) {is_clone : V → V → Type 0} {rows : List (Turn K V E)} (laws : IsEquivalence eq) (settings : Settings K V) (contents : Contents K V) (frequency : List ℕ → ℕ → ℕ) (latest number : ℕ)
-    (given : Settings K V) (steps : List (AcceptedStep K V E)) (stands : StandsFor eq is_clone given (whole (view_with settings contents frequency latest number) rows) steps) (lives : Lives) (expired_alike : HasLives settings lives) (dated : AreDated lives (entries contents))
+    (given : Settings K V) (steps : List (AcceptedStep K V E)) (stands : StandsFor eq is_clone given (whole (view_with settings contents frequency latest number) rows) steps) (lives : ExpirationPolicy) (expired_alike : HasLives settings lives) (dated : AreDated lives (entries contents))
     (hash_of : K → ℕ) (respects : (a b : K) → eq a b ≡ true → hash_of a ≡ hash_of b) (hashed : AllByRecursion (λ p. p.1.hash ≡ hash_of (arc_value p.1.key)) (entries contents))
     (call : Mut F (Bor V × Unit {0}) Bool) (replace_if : Option F) (k : K) (at hash : ℕ) (is : hash ≡ hash_of k) (is_moment : max latest at < 2 ^ 64) (said : Option Bool) where
   abbrev live_here : Option (Write K V)
@@ -259,7 +259,7 @@ module _ {K V E : Type 0} (eq : K → K → Bool) (is_clone : V → V → Type 0
 
     -- It fails if no sequence number is left, if it may not wait for the turn, or with `OutOfMemory`.
     pub gives-refused : (hash_of : K → ℕ) (opened_now : TurnKey K → Option (OpenTurn V)) (ended_now : ℕ → Option (EndedTurn K V E)) (q : TurnKey K) (number : ℕ) (may_wait : Bool) (o : Option (Turn K V E)) → opened_here ≡ o → number ≡ next_number settings h → (cause : Refused)
-        → IsBegun (λ after. Keeps eq is_clone hash_of after opened_now ended_now) q number may_wait (turns steps) o (Err cause) → GivesHere may_wait (Err cause)
+        → IsBegun (λ after. Represents eq is_clone hash_of after opened_now ended_now) q number may_wait (turns steps) o (Err cause) → GivesHere may_wait (Err cause)
     gives-refused hash_of opened_now ended_now q number may_wait None opened counted causes.OutOfMemory begins = (tt, λ no. absurd no)
     gives-refused hash_of opened_now ended_now q number may_wait None opened counted causes.NumbersUsedUp begins =
         subst (Rattle.moka_model.specs.Calls.WantsNumber (next_number settings h) (turns steps)) (sym (accepted-is None none None opened)) (omega arith, sym counted ∙ begins)
@@ -276,13 +276,13 @@ module _ {K V E : Type 0} (eq : K → K → Bool) (is_clone : V → V → Type 0
     gives-refused hash_of opened_now ended_now q number may_wait (Some t) opened counted causes.TurnIsOpen begins = (begins, subst (IfAnswered IsWait) (sym (accepted-is None none (Some t) opened)) tt)
 
 -- what a begin in the table of turns says that returns a ticket
-pub waits-told : {K V E : Type 0} (eq : K → K → Bool) (is_clone : V → V → Type 0) (hash_of : K → ℕ) (opened_now : TurnKey K → Option (OpenTurn V)) (ended_now : ℕ → Option (EndedTurn K V E)) (q : TurnKey K) (number : ℕ) (may_wait : Bool) (ts : List (Turn K V E)) (o : Option (Turn K V E)) (ticket : Ticket K) → IsBegun (λ after. Keeps eq is_clone hash_of after opened_now ended_now) q number may_wait ts o (Ok (begun_turns.Wait ticket))
-    → (t : Turn K V E) × (o ≡ Some t) × (may_wait ≡ true) × (ticket_name ticket ≡ name_of q t.name.number) × (t.unspent ≢ greatest_number) × Keeps eq is_clone hash_of (moved (Waited t.name.number) ts) opened_now ended_now
+pub waits-told : {K V E : Type 0} (eq : K → K → Bool) (is_clone : V → V → Type 0) (hash_of : K → ℕ) (opened_now : TurnKey K → Option (OpenTurn V)) (ended_now : ℕ → Option (EndedTurn K V E)) (q : TurnKey K) (number : ℕ) (may_wait : Bool) (ts : List (Turn K V E)) (o : Option (Turn K V E)) (ticket : Ticket K) → IsBegun (λ after. Represents eq is_clone hash_of after opened_now ended_now) q number may_wait ts o (Ok (begun_turns.Wait ticket))
+    → (t : Turn K V E) × (o ≡ Some t) × (may_wait ≡ true) × (ticket_name ticket ≡ name_of q t.name.number) × (t.unspent ≢ greatest_number) × Represents eq is_clone hash_of (moved (Waited t.name.number) ts) opened_now ended_now
 waits-told eq is_clone hash_of opened_now ended_now q number may_wait ts None ticket begins = absurd begins
 waits-told eq is_clone hash_of opened_now ended_now q number may_wait ts (Some t) ticket begins = (t, refl, begins.0, begins.1, begins.2, begins.3)
 
-pub runs-told : {K V E : Type 0} (eq : K → K → Bool) (is_clone : V → V → Type 0) (hash_of : K → ℕ) (opened_now : TurnKey K → Option (OpenTurn V)) (ended_now : ℕ → Option (EndedTurn K V E)) (q : TurnKey K) (number : ℕ) (may_wait : Bool) (ts : List (Turn K V E)) (o : Option (Turn K V E)) (turn : handle.Turn K) → IsBegun (λ after. Keeps eq is_clone hash_of after opened_now ended_now) q number may_wait ts o (Ok (begun_turns.Run turn))
-    → (o ≡ None) × (turn_name turn ≡ name_of q number) × (number ≢ greatest_number) × Keeps eq is_clone hash_of (moved (Opened (name_of q number) false None) ts) opened_now ended_now
+pub runs-told : {K V E : Type 0} (eq : K → K → Bool) (is_clone : V → V → Type 0) (hash_of : K → ℕ) (opened_now : TurnKey K → Option (OpenTurn V)) (ended_now : ℕ → Option (EndedTurn K V E)) (q : TurnKey K) (number : ℕ) (may_wait : Bool) (ts : List (Turn K V E)) (o : Option (Turn K V E)) (turn : handle.Turn K) → IsBegun (λ after. Represents eq is_clone hash_of after opened_now ended_now) q number may_wait ts o (Ok (begun_turns.Run turn))
+    → (o ≡ None) × (turn_name turn ≡ name_of q number) × (number ≢ greatest_number) × Represents eq is_clone hash_of (moved (Opened (name_of q number) false None) ts) opened_now ended_now
 runs-told eq is_clone hash_of opened_now ended_now q number may_wait ts None turn begins = (refl, begins.0, begins.1, begins.2)
 runs-told eq is_clone hash_of opened_now ended_now q number may_wait ts (Some t) turn begins = absurd begins
 

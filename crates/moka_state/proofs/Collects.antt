@@ -9,23 +9,23 @@ use Rattle.moka_model.specs.Steps.{AcceptedStep, events_in, turns}
 use Rattle.moka_model.specs.Calls.{Call, Answer, Accepted, Collect, NotYet, answer_by, collected, accepted, after, with_step, with_move, without_move, IfAnswered, AnswerMayFail, MayTakeMemory, IsAnswer, IsCopiedEnd, Holds}
 use Rattle.moka_model.specs.StandsFor.{View, StandsFor}
 use Rattle.moka_model.proofs.Callers.{whole, unmoved, stands-question}
-use Rattle.moka_turns.specs.declared.table.Told.{Told}
-use Rattle.moka_turns.specs.declared.table.Told.TheVariants as tells
+use Rattle.moka_turns.specs.declared.table.CollectState.{CollectState}
+use Rattle.moka_turns.specs.declared.table.CollectState.TheVariants as tells
 use Rattle.moka_turns.specs.declared.handles.CollectRefused.{CollectRefused}
-use Rattle.moka_turns.specs.Keeps.{end_of}
+use Rattle.moka_turns.specs.Represents.{end_of}
 use Rattle.moka_turns.specs.declared.handles.Ticket.{Ticket}
 use Rattle.moka_turns.specs.Handles.{ticket_name}
-use Rattle.moka_turns.specs.Told.{IsTold, IfNotYet, TakesCopy, IsUnspent}
+use Rattle.moka_turns.specs.CollectState.{IsTold, IfNotYet, TakesCopy, IsUnspent}
 use Rattle.moka_state.specs.Given.{Gives, told_as}
 use Rattle.moka_state.proofs.Turns.{gives-accepted, gives-memory, stands-by, no-less}
 
 -- the result of a collect in the table of turns, as one of the specification
-abbrev pub result_as : {K V E : Type 0} → Name K → Result (Told K V E) (CollectRefused K) → Result (Answer K V E) Refused
+abbrev pub result_as : {K V E : Type 0} → Name K → Result (CollectState K V E) (CollectRefused K) → Result (Answer K V E) Refused
 result_as name (Ok told) = Ok (told_as name told)
 result_as name (Err refused) = Err refused.cause
 
 -- a ticket that comes back has the name of the given one
-pub unspent-named : {K V E : Type 0} (ticket : Ticket K) (told : Told K V E) → IfNotYet (λ same. same ≡ ticket) told → IfNotYet (λ same. ticket_name same ≡ ticket_name ticket) told
+pub unspent-named : {K V E : Type 0} (ticket : Ticket K) (told : CollectState K V E) → IfNotYet (λ same. same ≡ ticket) told → IfNotYet (λ same. ticket_name same ≡ ticket_name ticket) told
 unspent-named ticket (tells.NotYet same) is = ap ticket_name is
 unspent-named ticket (tells.Ended key end) is = tt
 
@@ -73,7 +73,7 @@ module _ {K V E : Type 0} (eq : K → K → Bool) (is_clone : V → V → Type 0
   takes-end t is (Some Computed) ended takes = absurd takes
   takes-end t is (Some Abandoned) ended takes = absurd takes
 
-  pub collect-gives : (o : Option (Turn K V E)) → found (has_ticket_as eq name) (turns steps) ≡ o → (result : Result (Told K V E) (CollectRefused K)) → IsTold is_clone After o result → Collects (result_as name result)
+  pub collect-gives : (o : Option (Turn K V E)) → found (has_ticket_as eq name) (turns steps) ≡ o → (result : Result (CollectState K V E) (CollectRefused K)) → IsTold is_clone After o result → Collects (result_as name result)
   collect-gives None is (Ok told) it = absurd it
   collect-gives None is (Err refused) it = subst (λ cause. Collects (Err cause)) (sym it) (ap (option_map its) is, refl)
   collect-gives (Some t) is (Ok (tells.NotYet ticket)) it =
@@ -93,7 +93,7 @@ module _ {K V E : Type 0} (eq : K → K → Bool) {is_clone : V → V → Type 0
       (ap (λ u. with_step (option_map (λ (t : Turn K V E). collected name t.name.number t.end) u) steps) is ∙ ap (λ o. with_step (Some (collected name t.name.number o)) steps) ended)
       (holds (moved (Spent t.name.number) (turns steps)) kept)
 
-  pub collect-stands : (o : Option (Turn K V E)) → found (has_ticket_as eq name) (turns steps) ≡ o → (result : Result (Told K V E) (CollectRefused K)) → IsTold is_clone (λ t. Keeps (moved (Spent t.name.number) (turns steps))) o result
+  pub collect-stands : (o : Option (Turn K V E)) → found (has_ticket_as eq name) (turns steps) ≡ o → (result : Result (CollectState K V E) (CollectRefused K)) → IsTold is_clone (λ t. Keeps (moved (Spent t.name.number) (turns steps))) o result
       → (IsUnspent result → left ≡ rows) → OnOk result Stands
   collect-stands None is (Ok told) it same = absurd it
   collect-stands None is (Err refused) it same = tt

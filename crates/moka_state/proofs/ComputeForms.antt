@@ -10,7 +10,7 @@ use Rattle.moka_model.specs.Steps.{AcceptedStep}
 use Rattle.moka_model.specs.Calls.{Call, Answer, IsWait, IfAnswered, begun_compute}
 use Rattle.moka_model.specs.Calls as calls
 use Rattle.moka_turns.specs.declared.table.OpenTurn.{OpenTurn}
-use Rattle.moka_turns.specs.Keeps.{Agree, IsOpenRow}
+use Rattle.moka_turns.specs.Represents.{Agree, IsOpenRow}
 use Rattle.moka_state.specs.Compute.{GivesAtOnce}
 use Rattle.moka_state.specs.ComputeForms.{IsComputeForm}
 use Rattle.moka_state.specs.Given.{Gives}

@@ -29,16 +29,16 @@ use Rattle.moka_turns.specs.declared.turn_key.TurnKey.{TurnKey}
 use Rattle.moka_turns.specs.declared.table.OpenTurn.{OpenTurn}
 use Rattle.moka_turns.specs.declared.table.EndedTurn.{EndedTurn}
 use Rattle.moka_turns.specs.Begun.{IsBegun}
-use Rattle.moka_turns.specs.Keeps.{Keeps, IsOpenRow}
+use Rattle.moka_turns.specs.Represents.{Represents, IsOpenRow}
 use Rattle.moka_turns.proofs.Opens.{none-agree}
-use Rattle.moka_ways.specs.declared.lives.Lives.{Lives}
-use Rattle.moka_ways.specs.Lives.{IsDated, AreDated}
-use Rattle.moka_ways.proofs.Callers.{alive-kept}
-use Rattle.moka_table.specs.Look.{IsEntryOfRow}
-use Rattle.moka_table.specs.Target.{is_live_row}
+use Rattle.moka_expiration.specs.declared.expiration_policy.ExpirationPolicy.{ExpirationPolicy}
+use Rattle.moka_expiration.specs.ExpirationPolicy.{IsDated, AreDated}
+use Rattle.moka_expiration.proofs.Callers.{alive-kept}
+use Rattle.moka_table.specs.LiveEntry.{IsEntryOfRow}
+use Rattle.moka_table.specs.WriteSlot.{is_live_row}
 use Rattle.moka_table.specs.Table.{Contents, entries, stored_write}
 use Rattle.moka_table.proofs.Callers.{of-row}
-use Rattle.moka_maintain.specs.Hit.{UsesAt}
+use Rattle.moka_housekeeper.specs.Hit.{UsesAt}
 use Rattle.moka_state.specs.declared.compute.Shown.{Shown}
 use Rattle.moka_state.specs.Compute.{IsShown, IsLeft, IsRemoved, IsPut}
 use Rattle.moka_state.specs.Finish.{IsComputed}
@@ -146,7 +146,7 @@ nothing-kept is_clone true = tt
 nothing-kept is_clone false = tt
 
 -- where the table has no open turn of a key, there is none
-pub none-open : {K V E : Type 0} (eq : K → K → Bool) (is_clone : V → V → Type 0) (hash_of : K → ℕ) (ts : List (Turn K V E)) (opened : TurnKey K → Option (OpenTurn V)) (ended : ℕ → Option (EndedTurn K V E)) → Keeps eq is_clone hash_of ts opened ended
+pub none-open : {K V E : Type 0} (eq : K → K → Bool) (is_clone : V → V → Type 0) (hash_of : K → ℕ) (ts : List (Turn K V E)) (opened : TurnKey K → Option (OpenTurn V)) (ended : ℕ → Option (EndedTurn K V E)) → Represents eq is_clone hash_of ts opened ended
     → (q : TurnKey K) → q.hash ≡ hash_of (arc_value q.key) → (b : Bool) → b ≡ is_some (opened q) → b ≡ false → found (is_open_for eq q.kind (arc_value q.key)) ts ≡ None
 none-open {K} {V} {E} eq is_clone hash_of ts opened ended keeps q hashed b told off =
     none-agree (IsOpenRow eq is_clone) (found (is_open_for eq q.kind (arc_value q.key)) ts) (opened q) (keeps.opened_is q hashed) (absent (opened q) (sym told ∙ off))
@@ -216,7 +216,7 @@ module _ {K V E : Type 0} (eq : K → K → Bool) (is_clone : V → V → Type 0
 
   -- the causes for which waiting in the table of turns fails
   pub compute-refused : AreApart (turns steps) → (hash_of : K → ℕ) (opened_now : TurnKey K → Option (OpenTurn V)) (ended_now : ℕ → Option (EndedTurn K V E)) (q : TurnKey K) (number : ℕ) (o : Option (Turn K V E)) → opened_here ≡ o → number ≡ next_number settings h → (cause : Refused)
-      → IsBegun (λ after. Keeps eq is_clone hash_of after opened_now ended_now) q number true (turns steps) o (Err cause) → GivesHere (Err cause)
+      → IsBegun (λ after. Represents eq is_clone hash_of after opened_now ended_now) q number true (turns steps) o (Err cause) → GivesHere (Err cause)
   compute-refused apart hash_of opened_now ended_now q number None opened counted causes.OutOfMemory begins = gives-memory
   compute-refused apart hash_of opened_now ended_now q number None opened counted causes.NumbersUsedUp begins = compute-used-up opened (sym counted ∙ begins)
   compute-refused apart hash_of opened_now ended_now q number None opened counted causes.UnknownTurn begins = absurd begins
@@ -232,13 +232,13 @@ module _ {K V E : Type 0} (eq : K → K → Bool) (is_clone : V → V → Type 0
 
 -- What the lookup of a compute finds is what the specification finds, for every history of the state.
 module _ {K V E : Type 0} (eq : K → K → Bool) (is_clone : V → V → Type 0) {rows : List (Turn K V E)} (laws : IsEquivalence eq) (settings : Settings K V) (contents : Contents K V) (frequency : List ℕ → ℕ → ℕ) (latest number : ℕ)
-    (given : Settings K V) (steps : List (AcceptedStep K V E)) (stands : StandsFor eq is_clone given (whole (view_with settings contents frequency latest number) rows) steps) (lives : Lives) (expired_alike : HasLives settings lives) (dated : AreDated lives (entries contents))
+    (given : Settings K V) (steps : List (AcceptedStep K V E)) (stands : StandsFor eq is_clone given (whole (view_with settings contents frequency latest number) rows) steps) (lives : ExpirationPolicy) (expired_alike : HasLives settings lives) (dated : AreDated lives (entries contents))
     (hash_of : K → ℕ) (respects : (a b : K) → eq a b ≡ true → hash_of a ≡ hash_of b) (hashed : AllByRecursion (λ p. p.1.hash ≡ hash_of (arc_value p.1.key)) (entries contents))
     (k : K) (keep : Bool) (at hash : ℕ) (is : hash ≡ hash_of k) (is_moment : max latest at < 2 ^ 64) where
   abbrev live_here : Option (Write K V)
   live_here = live_at eq given k at (events_in steps)
 
-  alive-is : (n : ℕ) (row : Row K V) → row_under n (entries contents) ≡ Some row → (alive : Bool) → is_live_row (max latest at) (Some row) ≡ alive → (not row.info.is_hidden && not (has_come (Rattle.moka_ways.specs.Lives.deadline_of lives row.info) (max latest at))) ≡ alive
+  alive-is : (n : ℕ) (row : Row K V) → row_under n (entries contents) ≡ Some row → (alive : Bool) → is_live_row (max latest at) (Some row) ≡ alive → (not row.info.is_hidden && not (has_come (Rattle.moka_expiration.specs.ExpirationPolicy.deadline_of lives row.info) (max latest at))) ≡ alive
   alive-is n row there alive live = alive-kept lives row.info (of-row (λ (r : Row K V). IsDated lives r.info) n (entries contents) row dated there) (max latest at) is_moment ∙ live
 
   live-is : (n : ℕ) (row : Row K V) → row_under n (entries contents) ≡ Some row → eq (arc_value row.key) k ≡ true → (alive : Bool) → is_live_row (max latest at) (Some row) ≡ alive → live_here ≡ cond alive (Some (stored_write row)) None

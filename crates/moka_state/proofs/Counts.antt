@@ -13,7 +13,7 @@ use Rattle.moka_model.specs.Calls.{RunPendingTasks, after}
 use Rattle.moka_model.specs.StandsFor.{Books, View, StandsFor}
 use Rattle.moka_model.proofs.Callers.{entry_count-le, maintained-entry_count-le}
 use Rattle.moka_rows.specs.declared.rows.Row.{Row}
-use Rattle.moka_ways.specs.Behaviour.{weight_by}
+use Rattle.moka_expiration.specs.Behaviour.{weight_by}
 use Rattle.moka_table.specs.Table.{Contents, entries, weight_of, stored_write, stored_writes}
 use Rattle.moka_state.proofs.Maintained.{total-stored}
 

@@ -9,8 +9,8 @@ use Rattle.moka_model.specs.Steps.{AcceptedStep, events_in}
 use Rattle.moka_model.proofs.Callers.{whole}
 use Rattle.moka_model.specs.Calls.{live_at}
 use Rattle.moka_model.specs.StandsFor.{StandsFor}
-use Rattle.moka_ways.specs.declared.lives.Lives.{Lives}
-use Rattle.moka_ways.specs.Lives.{deadline_of}
+use Rattle.moka_expiration.specs.declared.expiration_policy.ExpirationPolicy.{ExpirationPolicy}
+use Rattle.moka_expiration.specs.ExpirationPolicy.{deadline_of}
 use Rattle.moka_rows.specs.declared.rows.Row.{Row}
 use Rattle.moka_rows.specs.Rows.{row_under, NoneIsRowOf}
 use Rattle.moka_table.specs.Table.{Contents, entries, stored_write}
@@ -21,7 +21,7 @@ use Rattle.moka_state.proofs.Views.{view_with, one-each, live-held}
 module _ {K V E : Type 0} (eq : K → K → Bool) {is_clone : V → V → Type 0} {turns : List (Turn K V E)} (laws : IsEquivalence eq) (settings : Settings K V) (contents : Contents K V) (frequency : List ℕ → ℕ → ℕ) (latest number : ℕ)
     (given : Settings K V) (steps : List (AcceptedStep K V E)) (stands : StandsFor eq is_clone given (whole (view_with settings contents frequency latest number) turns) steps) where
   -- the row stores the live value of its key, unless it is hidden or expired
-  pub live-row : (lives : Lives) → HasLives settings lives → (k : K) (at n : ℕ) (row : Row K V) → row_under n (entries contents) ≡ Some row → eq (arc_value row.key) k ≡ true
+  pub live-row : (lives : ExpirationPolicy) → HasLives settings lives → (k : K) (at n : ℕ) (row : Row K V) → row_under n (entries contents) ≡ Some row → eq (arc_value row.key) k ≡ true
       → (alive : Bool) → (not row.info.is_hidden && not (has_come (deadline_of lives row.info) (max latest at))) ≡ alive
       → live_at eq given k at (events_in steps) ≡ cond alive (Some (stored_write row)) None
   live-row lives expired_alike k at n row there same alive is =

@@ -19,9 +19,9 @@ use Rattle.moka_model.specs.Calls.{Answer, Entered, Accepted, Finish, end_by, fi
 use Rattle.moka_model.specs.Turns as turning
 use Rattle.moka_turns.specs.declared.table.TurnEnd.{TurnEnd}
 use Rattle.moka_turns.specs.declared.table.TurnEnd.TheVariants as ends_of
-use Rattle.moka_turns.specs.Keeps.{end_of}
+use Rattle.moka_turns.specs.Represents.{end_of}
 use Rattle.moka_model.specs.StandsFor.{Books, View, StandsFor}
-use Rattle.moka_ways.specs.StateData.{SettingsData, StateData}
+use Rattle.moka_expiration.specs.StateData.{SettingsData, StateData}
 use Rattle.moka_table.specs.Table.{Contents, SameRows}
 use Rattle.moka_state.specs.State.{books_by}
 use Rattle.moka_model.proofs.Callers.{IsViewOf, whole, stands-moved, orders-empty, standing-empty}

@@ -18,17 +18,17 @@ use Rattle.moka_model.specs.MaintenanceLaws.{everything}
 use Rattle.moka_model.proofs.Callers.{whole, All-live-after, total-after-le, evicted-done-le, count-maintenance, all-pass, cut-stands, total-by, queues_by, part_by, evicted_in-by, after_parts-by, done-by, is_left-by, parts-by}
 use Rattle.moka_model.proofs.Callers.{parts-same}
 use Rattle.moka_rows.specs.declared.rows.Row.{Row}
-use Rattle.moka_ways.specs.declared.lives.Lives.{Lives}
-use Rattle.moka_ways.specs.Lives.{deadline_of}
+use Rattle.moka_expiration.specs.declared.expiration_policy.ExpirationPolicy.{ExpirationPolicy}
+use Rattle.moka_expiration.specs.ExpirationPolicy.{deadline_of}
 use Rattle.moka_model.specs.Lives.{has_come}
 use Rattle.moka_table.specs.Table.{Contents, entries, weight_of, stored_write, stored_writes, removal_of}
-use Rattle.moka_maintain.proofs.Callers.{without-limit}
-use Rattle.moka_maintain.specs.Maintain.{is_alive, notice_at, rows_of, row_wins, row_parts, IsMaintained, IsMaintainedUpTo}
+use Rattle.moka_housekeeper.proofs.Callers.{without-limit}
+use Rattle.moka_housekeeper.specs.Maintain.{is_alive, notice_at, rows_of, row_wins, row_parts, IsMaintained, IsMaintainedUpTo}
 use Rattle.moka_state.specs.State.{stored_orders}
 use Rattle.moka_state.proofs.Views.{view_with, Becomes}
 
 -- At most as many entries are evicted as the limit says, and each is noticed.
-module _ {K V : Type 0} {lives : Lives} {is_lru : Bool} {frequency_of : ℕ → ℕ} {capacity : Option ℕ} {at : ℕ} {old new : Contents K V} where
+module _ {K V : Type 0} {lives : ExpirationPolicy} {is_lru : Bool} {frequency_of : ℕ → ℕ} {capacity : Option ℕ} {at : ℕ} {old new : Contents K V} where
   pub few-noticed : {is_cut : Bool} (limit : ℕ) → IsMaintainedUpTo lives is_lru frequency_of capacity at (Some limit) old new is_cut → length new.notices ≤ length old.notices + limit
   few-noticed limit is =
       let gone : List (ℕ × Row K V) = evicted_in (done (Some limit) (row_parts lives is_lru frequency_of capacity at old)) in
@@ -58,11 +58,11 @@ pub total-stored : {K V : Type 0} (ps : List (ℕ × Row K V)) → total (λ w. 
 total-stored = total-by write-of (λ w. w.policy_weight) None
 
 -- Under these settings and lives the same rows are expired at the same moments.
-abbrev pub HasLives : {K V : Type 0} → Settings K V → Lives → Type 0
+abbrev pub HasLives : {K V : Type 0} → Settings K V → ExpirationPolicy → Type 0
 HasLives {K} {V} settings lives =
     ◌≡◌ {A = Row K V → ℕ → Bool} (λ row at. is_expired settings (stored_write row) at) (λ row at. has_come (deadline_of lives row.info) at)
 
-module _ {K V : Type 0} (eq : K → K → Bool) (settings : Settings K V) (lives : Lives) (expired_alike : HasLives settings lives) (contents : Contents K V) (frequency : List ℕ → ℕ → ℕ) (moment number : ℕ) (at : ℕ) where
+module _ {K V : Type 0} (eq : K → K → Bool) (settings : Settings K V) (lives : ExpirationPolicy) (expired_alike : HasLives settings lives) (contents : Contents K V) (frequency : List ℕ → ℕ → ℕ) (moment number : ℕ) (at : ℕ) where
   abbrev now : ℕ
   now = max moment at
 
@@ -136,13 +136,13 @@ module _ {K V : Type 0} (eq : K → K → Bool) (settings : Settings K V) (lives
     -- all that is stored is live then
     pub live-maintained : AllByRecursion (λ w. is_live settings w now ≡ true) (stored_writes new.admitted ++ stored_writes new.waiting)
     live-maintained =
-        let Lives : Write K V → Type 0 = λ w. is_live settings w now ≡ true in
-        let admitted : All Lives (stored_writes new.admitted) = All-same Lives (stored_writes new.admitted) (maintained settings (frequency []) None now both).admitted (ap (λ (q : Queues (Write K V)). q.admitted) (orders-maintained None new false (without-limit is)))
+        let ExpirationPolicy : Write K V → Type 0 = λ w. is_live settings w now ≡ true in
+        let admitted : All ExpirationPolicy (stored_writes new.admitted) = All-same ExpirationPolicy (stored_writes new.admitted) (maintained settings (frequency []) None now both).admitted (ap (λ (q : Queues (Write K V)). q.admitted) (orders-maintained None new false (without-limit is)))
         (All-live-after (λ (w : Write K V). w.policy_weight) settings.max_capacity lives_now (wins settings (frequency [])) both) in
-        rw (is.waiting, append-nil (stored_writes new.admitted)) (recursion_from_All Lives (stored_writes new.admitted) admitted)
+        rw (is.waiting, append-nil (stored_writes new.admitted)) (recursion_from_All ExpirationPolicy (stored_writes new.admitted) admitted)
 
 -- so it is in whatever list the state stands for
-pub live-after : {K V E : Type 0} (eq : K → K → Bool) {is_clone : V → V → Type 0} {turns : List (Turn K V E)} (given : Settings K V) (steps : List (AcceptedStep K V E)) (settings : Settings K V) (lives : Lives) → HasLives settings lives
+pub live-after : {K V E : Type 0} (eq : K → K → Bool) {is_clone : V → V → Type 0} {turns : List (Turn K V E)} (given : Settings K V) (steps : List (AcceptedStep K V E)) (settings : Settings K V) (lives : ExpirationPolicy) → HasLives settings lives
     → (contents : Contents K V) (frequency : List ℕ → ℕ → ℕ) (moment number : ℕ) → StandsFor eq is_clone given (whole (view_with settings contents frequency moment number) turns) steps → (at : ℕ) (new : Contents K V)
     → IsMaintained lives settings.behaviour.is_lru (frequency []) settings.max_capacity (max moment at) contents new
     → AllByRecursion (λ w. is_live given w (max (latest (events_in steps)) at) ≡ true) (stored_writes new.admitted ++ stored_writes new.waiting)
@@ -152,7 +152,7 @@ live-after {K} {V} eq given steps settings lives expired_alike contents frequenc
     (subst (λ (b : Books K V). All_live settings b.latest) stands.books (live-maintained eq settings lives expired_alike contents frequency moment number at new is))
 
 -- A part is left undone where the definitions leave one, in whatever list the state stands for.
-pub cut-after : {K V E : Type 0} (eq : K → K → Bool) {is_clone : V → V → Type 0} {turns : List (Turn K V E)} (given : Settings K V) (steps : List (AcceptedStep K V E)) (settings : Settings K V) (lives : Lives) → HasLives settings lives
+pub cut-after : {K V E : Type 0} (eq : K → K → Bool) {is_clone : V → V → Type 0} {turns : List (Turn K V E)} (given : Settings K V) (steps : List (AcceptedStep K V E)) (settings : Settings K V) (lives : ExpirationPolicy) → HasLives settings lives
     → (contents : Contents K V) (frequency : List ℕ → ℕ → ℕ) (moment number : ℕ) → StandsFor eq is_clone given (whole (view_with settings contents frequency moment number) turns) steps → (at : ℕ) (limit : Option ℕ) (new : Contents K V) (is_cut : Bool)
     → IsMaintainedUpTo lives settings.behaviour.is_lru (frequency []) settings.max_capacity (max moment at) limit contents new is_cut
     → is_cut ≡ is_left_at eq given limit at (events_in steps)
@@ -161,7 +161,7 @@ cut-after eq given steps settings lives expired_alike contents frequency moment 
     ∙ sym (cut-stands eq given (view_with settings contents frequency moment number) steps stands limit at)
 
 -- what a maintenance leaves stored is within the capacity
-pub stored-within : {K V : Type 0} {is_lru : Bool} {frequency_of : ℕ → ℕ} (lives : Lives) (capacity : Option ℕ) (at : ℕ) (old new : Contents K V) → IsMaintained lives is_lru frequency_of capacity at old new → IfSome capacity (λ c. total (λ w. w.policy_weight) (stored_writes new.admitted ++ stored_writes new.waiting) ≤ c)
+pub stored-within : {K V : Type 0} {is_lru : Bool} {frequency_of : ℕ → ℕ} (lives : ExpirationPolicy) (capacity : Option ℕ) (at : ℕ) (old new : Contents K V) → IsMaintained lives is_lru frequency_of capacity at old new → IfSome capacity (λ c. total (λ w. w.policy_weight) (stored_writes new.admitted ++ stored_writes new.waiting) ≤ c)
 stored-within {K} {V} {is_lru} {frequency_of} lives capacity at old new is = go capacity is.admitted
   where
     go : (o : Option ℕ) → new.admitted ≡ (after_parts (rows_of old) (row_parts lives is_lru frequency_of o at old)).admitted → IfSome o (λ c. total (λ w. w.policy_weight) (stored_writes new.admitted ++ stored_writes new.waiting) ≤ c)

@@ -15,12 +15,12 @@ use Rattle.moka_model.specs.Steps.{AcceptedStep, events_in, turns}
 use Rattle.moka_model.specs.Calls.{Answer, Entry, Begin, OrInsert, Entered, IsAnswer, IsCopiedEntry, WantsNumber, acceptable, accepted, after, begun, entry_of, fresh_entry, live_at, or_inserted, with_step, write_events}
 use Rattle.moka_model.specs.StandsFor.{View, StandsFor}
 use Rattle.moka_model.proofs.Callers.{IsViewOf, whole, view-of, stands-after}
-use Rattle.moka_ways.specs.declared.lives.Lives.{Lives}
-use Rattle.moka_table.specs.declared.target.Place.{Place}
-use Rattle.moka_table.specs.declared.target.NewValue.{NewValue}
-use Rattle.moka_table.specs.Target.{IsPlaceOf}
+use Rattle.moka_expiration.specs.declared.expiration_policy.ExpirationPolicy.{ExpirationPolicy}
+use Rattle.moka_table.specs.declared.write_slot.WritePlan.{WritePlan}
+use Rattle.moka_table.specs.declared.write_slot.NewValue.{NewValue}
+use Rattle.moka_table.specs.WriteSlot.{IsPlanOf}
 use Rattle.moka_table.specs.Table.{Contents}
-use Rattle.moka_maintain.specs.Write.{WritesAt}
+use Rattle.moka_housekeeper.specs.Write.{WritesAt}
 use Rattle.moka_state.specs.Given.{Gives}
 use Rattle.moka_state.specs.State.{IsSound}
 use Rattle.moka_state.proofs.Becoming.{HasNoted, becomes-passed}
@@ -156,9 +156,9 @@ module _ {K V E : Type 0} (eq : K → K → Bool) {is_clone : V → V → Type 0
       (becomes-passed eq settings contents noted (max latest at) number at))
 
   -- and else the value is written to its place
-  pub view-or-written : (lives : Lives) → HasLives settings lives → (new : Contents K V) → {keeps : K → V → Type 0} → IsSound keeps settings.behaviour.hash lives contents
+  pub view-or-written : (lives : ExpirationPolicy) → HasLives settings lives → (new : Contents K V) → {keeps : K → V → Type 0} → IsSound keeps settings.behaviour.hash lives contents
       → ((a b : K) → eq a b ≡ true → settings.behaviour.hash a ≡ settings.behaviour.hash b) → (it : NewValue V) → it.hash ≡ settings.behaviour.hash key → it.weight ≡ settings.behaviour.weight key it.value → it.now ≡ max latest at → max latest at < 2 ^ 64
-      → (place : Place K) (replaced : Bool) → IsPlaceOf eq key it.hash contents place → WritesAt eq settings.behaviour lives (noted []) settings.max_capacity settings.flush_limit place it contents new replaced → stores_nothing settings.max_capacity ≡ false
+      → (place : WritePlan K) (replaced : Bool) → IsPlanOf eq key it.hash contents place → WritesAt eq settings.behaviour lives (noted []) settings.max_capacity settings.flush_limit place it contents new replaced → stores_nothing settings.max_capacity ≡ false
       → IsViewOf eq given (view_with settings new noted (max latest at) (number + 1)) (write_events eq given key it.value at looked ++ looked)
   view-or-written lives expired_alike new sound respects it hashed weighed timed is_moment place replaced is wrote stores =
       subst (λ m. IsViewOf eq given (view_with settings new noted m (number + 1)) (write_events eq given key it.value at looked ++ looked)) (max-again latest at)

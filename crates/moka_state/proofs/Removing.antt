@@ -8,8 +8,8 @@ use Rattle.moka_model.specs.Lives.{Settings, Write, hidden_by}
 use Rattle.moka_model.specs.Events.{Hidden}
 use Rattle.moka_model.specs.Calls.{IsCopyOf}
 use Rattle.moka_rows.specs.declared.rows.Row.{Row}
-use Rattle.moka_ways.specs.declared.lives.Lives.{Lives}
-use Rattle.moka_ways.specs.Lives.{IsDated}
+use Rattle.moka_expiration.specs.declared.expiration_policy.ExpirationPolicy.{ExpirationPolicy}
+use Rattle.moka_expiration.specs.ExpirationPolicy.{IsDated}
 use Rattle.moka_table.specs.Table.{Contents, entries, stored_write, stored_writes, removal_of, hidden_if, hidden_where}
 use Rattle.moka_state.specs.State.{IsSound}
 use Rattle.moka_state.proofs.Orders.{same-orders}
@@ -54,7 +54,7 @@ module _ {K V : Type 0} (test : K → V → Bool) where
         rw (admitted, waiting) (subst (AllByRecursion (λ (p : ℕ × Row K V). P p.1)) (map-append (λ (p : ℕ × Row K V). (p.0, hidden_if test p.1)) old.admitted old.waiting) (each-hidden P keeps (entries old) all))
 
     -- a state stays sound where some of its rows are hidden,
-    pub IsSound-hidden : (keeps : K → V → Type 0) (hash_of : K → ℕ) (lives : Lives) → IsSound keeps hash_of lives old → IsSound keeps hash_of lives new
+    pub IsSound-hidden : (keeps : K → V → Type 0) (hash_of : K → ℕ) (lives : ExpirationPolicy) → IsSound keeps hash_of lives old → IsSound keeps hash_of lives new
     IsSound-hidden keeps hash_of lives sound = record {
       dated = each-entry (λ r. IsDated lives r.info) (λ r is. is) sound.dated;
       hashed = each-entry (λ r. r.hash ≡ hash_of (arc_value r.key)) (λ r is. is) sound.hashed;

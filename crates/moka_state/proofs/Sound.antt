@@ -3,7 +3,7 @@ use Rattle.std.proofs.Common.{◌≡◌, ◌≢◌, ℕ, zero, suc, arith, Bool,
 use Rattle.std.specs.Arc.{arc_value}
 use Rattle.moka_model.specs.declared.notification.Notice.{Notice}
 use Rattle.moka_rows.specs.declared.rows.EntryInfo.{EntryInfo}
-use Rattle.moka_rows.specs.declared.rows.Touch.{Touch}
+use Rattle.moka_rows.specs.declared.rows.Access.{Access}
 use Rattle.moka_state.specs.State.{IsSound}
 use Rattle.std.specs.List.{AllByRecursion}
 use Rattle.moka_rows.specs.declared.rows.Row.{Row}
@@ -11,9 +11,9 @@ use Rattle.moka_model.specs.declared.notification.RemovalCause.{RemovalCause}
 use Rattle.moka_model.specs.Maintenance.{done, evicted_in, after_parts}
 use Rattle.moka_model.specs.MaintenanceLaws.{everything}
 use Rattle.moka_model.specs.SizeLaws.{LimitsSome}
-use Rattle.moka_ways.specs.declared.lives.Lives.{Lives}
-use Rattle.moka_ways.specs.Lives.{IsDated}
-use Rattle.moka_maintain.specs.Maintain.{is_alive, notice_at, rows_of, row_wins, row_parts, IsMaintainedUpTo}
+use Rattle.moka_expiration.specs.declared.expiration_policy.ExpirationPolicy.{ExpirationPolicy}
+use Rattle.moka_expiration.specs.ExpirationPolicy.{IsDated}
+use Rattle.moka_housekeeper.specs.Maintain.{is_alive, notice_at, rows_of, row_wins, row_parts, IsMaintainedUpTo}
 use Rattle.moka_rows.specs.Rows.{row_under, used_at, touched, overwritten}
 use Rattle.moka_table.specs.Table.{Contents, weight_of, entries, SameRows, UsesRow, TakesRow}
 use Rattle.moka_rows.proofs.Callers.{all-append}
@@ -21,7 +21,7 @@ use Rattle.moka_table.proofs.Callers.{of-row, of-used, of-taken}
 use Rattle.moka_state.proofs.Elements.{all-kept, all-evicted}
 
 -- it holds of the same rows
-pub IsSound-same : {K V : Type 0} (keeps : K → V → Type 0) (hash_of : K → ℕ) (lives : Lives) (old new : Contents K V) → SameRows old new → IsSound keeps hash_of lives old → IsSound keeps hash_of lives new
+pub IsSound-same : {K V : Type 0} (keeps : K → V → Type 0) (hash_of : K → ℕ) (lives : ExpirationPolicy) (old new : Contents K V) → SameRows old new → IsSound keeps hash_of lives old → IsSound keeps hash_of lives new
 IsSound-same keeps hash_of lives old new same sound = record {
   dated = rw (same.0, same.1) sound.dated;
   hashed = rw (same.0, same.1) sound.hashed;
@@ -29,7 +29,7 @@ IsSound-same keeps hash_of lives old new same sound = record {
   notices_kept = rw same.2 sound.notices_kept;
 }
 
-module _ {K V : Type 0} (keeps : K → V → Type 0) (hash_of : K → ℕ) (lives : Lives) (old new : Contents K V) (sound : IsSound keeps hash_of lives old) where
+module _ {K V : Type 0} (keeps : K → V → Type 0) (hash_of : K → ℕ) (lives : ExpirationPolicy) (old new : Contents K V) (sound : IsSound keeps hash_of lives old) where
   -- A value that satisfies the invariant takes the place of a row's value, which gets a notice under an equal key.
   pub IsSound-overwritten : (n : ℕ) (row : Row K V) (v : V) (info : EntryInfo) (notice : Notice K V) → row_under n (entries old) ≡ Some row → keeps (arc_value row.key) v
       → (keeps (arc_value row.key) row.value → keeps (arc_value notice.key) notice.value) → UsesRow n (overwritten v info) old new → new.notices ≡ old.notices ++ notice ∷ []
@@ -56,7 +56,7 @@ module _ {K V : Type 0} (keeps : K → V → Type 0) (hash_of : K → ℕ) (live
       grown = ap (λ a. a ++ new.waiting) admitted ∙ ap (λ w. old.admitted ++ w) waiting ∙ sym (append_assoc old.admitted old.waiting ((n, row) ∷ []))
 
   -- a use of a row, which gives it its deadline
-  pub IsSound-touched : (n : ℕ) (row : Row K V) (touch : Touch) → row_under n (entries old) ≡ Some row
+  pub IsSound-touched : (n : ℕ) (row : Row K V) (touch : Access) → row_under n (entries old) ≡ Some row
       → UsesRow n (touched touch) old new → new.notices ≡ old.notices → IsDated lives (used_at touch row.info) → IsSound keeps hash_of lives new
   IsSound-touched n row touch there used notices dated =
       record {
@@ -98,7 +98,7 @@ module _ {K V : Type 0} (keeps : K → V → Type 0) (hash_of : K → ℕ) (live
       kept-noticed (p ∷ ps) all = (all.0, kept-noticed ps all.1)
 
 -- what stores nothing and has no notice is sound
-pub IsSound-empty : {K V : Type 0} (keeps : K → V → Type 0) (hash_of : K → ℕ) (lives : Lives) (contents : Contents K V) → entries contents ≡ [] → contents.notices ≡ [] → IsSound keeps hash_of lives contents
+pub IsSound-empty : {K V : Type 0} (keeps : K → V → Type 0) (hash_of : K → ℕ) (lives : ExpirationPolicy) (contents : Contents K V) → entries contents ≡ [] → contents.notices ≡ [] → IsSound keeps hash_of lives contents
 IsSound-empty keeps hash_of lives contents none no_notices = record { dated = rw none tt; hashed = rw none tt; kept = rw none tt; notices_kept = rw no_notices tt }
 
 -- a limit that is not 0 allows an eviction

@@ -12,23 +12,23 @@ use Rattle.moka_model.specs.Events.{Written}
 use Rattle.moka_model.specs.Orders.{evicted, maintained}
 use Rattle.moka_model.specs.OrderLaws.{held, HasOneEach}
 use Rattle.moka_model.proofs.Callers.{held-maintained}
-use Rattle.moka_ways.specs.declared.lives.Lives.{Lives}
-use Rattle.moka_ways.specs.Lives.{own_of, IsDated, AreDated}
+use Rattle.moka_expiration.specs.declared.expiration_policy.ExpirationPolicy.{ExpirationPolicy}
+use Rattle.moka_expiration.specs.ExpirationPolicy.{own_of, IsDated, AreDated}
 use Rattle.moka_rows.specs.declared.rows.Row.{Row}
 use Rattle.moka_rows.specs.declared.rows.EntryInfo.{EntryInfo}
 use Rattle.moka_model.specs.Removals.{cause_of}
 use Rattle.moka_rows.specs.Rows.{row_under, overwritten, cause_at}
 use Rattle.moka_table.specs.declared.table.Lookup.{Lookup}
 use Rattle.moka_table.specs.declared.table.Lookup.TheVariants.{Stored, Absent}
-use Rattle.moka_table.specs.declared.target.Target.{Target}
-use Rattle.moka_table.specs.declared.target.Target.TheVariants.{Over, New}
+use Rattle.moka_table.specs.declared.write_slot.WriteSlot.{WriteSlot}
+use Rattle.moka_table.specs.declared.write_slot.WriteSlot.TheVariants.{Occupied, Vacant}
 use Rattle.moka_table.specs.Lookup.{IsLookupOf}
-use Rattle.moka_table.specs.Target.{IsTargetFor, IsTargetNow, IsInfoOf, Puts}
+use Rattle.moka_table.specs.WriteSlot.{IsSlotFor, IsSlotNow, IsInfoOf, Puts}
 use Rattle.moka_table.specs.Table.{Contents, entries, stored_write}
 use Rattle.moka_table.proofs.Callers.{of-row}
 use Rattle.moka_state.specs.State.{stored_orders, IsSound}
 use Rattle.moka_state.proofs.Becoming.{stored-same, becomes-opened, becomes-overwritten}
-use Rattle.moka_ways.proofs.Callers.{alive-kept, cause-kept}
+use Rattle.moka_expiration.proofs.Callers.{alive-kept, cause-kept}
 use Rattle.moka_state.proofs.Held.{same-key, held-row, held-absent}
 use Rattle.moka_state.proofs.Maintained.{HasLives}
 use Rattle.moka_state.proofs.Sound.{IsSound-overwritten, IsSound-added}
@@ -36,60 +36,60 @@ use Rattle.moka_state.proofs.Views.{view_with, Becomes}
 
 module _ {K V : Type 0} (eq : K → K → Bool) (laws : IsEquivalence eq) (key : K) (contents : Contents K V) where
   -- a target that goes with a key among some rows
-  abbrev pub GoesWith : Target K → Type 0
-  GoesWith (Over n shared) = (row : Row K V) × (row_under n (entries contents) ≡ Some row) × (eq (arc_value row.key) key ≡ true) × (eq (arc_value shared) key ≡ true)
-  GoesWith (New shared) = arc_value shared ≡ key
+  abbrev pub GoesWith : WriteSlot K → Type 0
+  GoesWith (Occupied n shared) = (row : Row K V) × (row_under n (entries contents) ≡ Some row) × (eq (arc_value row.key) key ≡ true) × (eq (arc_value shared) key ≡ true)
+  GoesWith (Vacant shared) = arc_value shared ≡ key
 
   -- so does the target by a lookup of it,
-  pub goes_with-lookup : (hash : ℕ) (lookup : Lookup K) (target : Target K) → IsLookupOf eq key hash (entries contents) lookup → IsTargetFor key lookup target → GoesWith target
-  goes_with-lookup hash (Stored n stored) (Over m shared) is for_it =
+  pub goes_with-lookup : (hash : ℕ) (lookup : Lookup K) (slot : WriteSlot K) → IsLookupOf eq key hash (entries contents) lookup → IsSlotFor key lookup slot → GoesWith slot
+  goes_with-lookup hash (Stored n stored) (Occupied m shared) is for_it =
       let same : eq (arc_value (is.0).key) key ≡ true = same-key eq key hash is.0 is.2 in
       (is.0, ap (λ i. row_under i (entries contents)) for_it.0 ∙ is.1, same, ap (λ a. eq (arc_value a) key) for_it.1 ∙ ap (λ a. eq a key) is.3 ∙ same)
-  goes_with-lookup hash (Stored n stored) (New shared) is for_it = absurd for_it
-  goes_with-lookup hash Absent (Over m shared) is for_it = absurd for_it
-  goes_with-lookup hash Absent (New shared) is for_it = for_it
+  goes_with-lookup hash (Stored n stored) (Vacant shared) is for_it = absurd for_it
+  goes_with-lookup hash Absent (Occupied m shared) is for_it = absurd for_it
+  goes_with-lookup hash Absent (Vacant shared) is for_it = for_it
 
   -- and the target once some of the rows have left
-  pub goes_with-now : (before : List (ℕ × Row K V)) (hash : ℕ) (lookup : Lookup K) (own : Arc K Global) (target : Target K) → arc_value own ≡ key → IsLookupOf eq key hash before lookup → IsTargetNow eq hash lookup own (entries contents) target → GoesWith target
-  goes_with-now before hash (Stored n stored) own (Over m shared) owned is now =
+  pub goes_with-now : (before : List (ℕ × Row K V)) (hash : ℕ) (lookup : Lookup K) (own : Arc K Global) (slot : WriteSlot K) → arc_value own ≡ key → IsLookupOf eq key hash before lookup → IsSlotNow eq hash lookup own (entries contents) slot → GoesWith slot
+  goes_with-now before hash (Stored n stored) own (Occupied m shared) owned is now =
       (now.1, now.2, same-key eq key hash now.1 (rw owned at now.3), ap (λ a. eq (arc_value a) key) now.0 ∙ ap (λ a. eq a key) is.3 ∙ same-key eq key hash is.0 is.2)
-  goes_with-now before hash (Stored n stored) own (New shared) owned is now = ap arc_value now.0 ∙ owned
-  goes_with-now before hash Absent own (Over m shared) owned is now = absurd now
-  goes_with-now before hash Absent own (New shared) owned is now = ap arc_value now ∙ owned
+  goes_with-now before hash (Stored n stored) own (Vacant shared) owned is now = ap arc_value now.0 ∙ owned
+  goes_with-now before hash Absent own (Occupied m shared) owned is now = absurd now
+  goes_with-now before hash Absent own (Vacant shared) owned is now = ap arc_value now ∙ owned
 
   -- what is put to it for its key keeps the state sound
-  pub IsSound-put : (keeps : K → V → Type 0) (hash_of : K → ℕ) (lives : Lives) (new : Contents K V) (hash : ℕ) (v : V) (info : EntryInfo) (target : Target K) → ((a b : K) (w : V) → eq a b ≡ true → keeps a w → keeps b w)
-      → hash ≡ hash_of key → keeps key v → IsSound keeps hash_of lives contents → GoesWith target → Puts target hash v info contents new → IsDated lives info → IsSound keeps hash_of lives new
-  IsSound-put keeps hash_of lives new hash v info (Over n shared) alike hashed kept sound goes put dated =
+  pub IsSound-put : (keeps : K → V → Type 0) (hash_of : K → ℕ) (lives : ExpirationPolicy) (new : Contents K V) (hash : ℕ) (v : V) (info : EntryInfo) (slot : WriteSlot K) → ((a b : K) (w : V) → eq a b ≡ true → keeps a w → keeps b w)
+      → hash ≡ hash_of key → keeps key v → IsSound keeps hash_of lives contents → GoesWith slot → Puts slot hash v info contents new → IsDated lives info → IsSound keeps hash_of lives new
+  IsSound-put keeps hash_of lives new hash v info (Occupied n shared) alike hashed kept sound goes put dated =
       let row = goes.0 in
       let done = rw goes.1 at put in
       IsSound-overwritten keeps hash_of lives contents new sound n row v info _ goes.1 (alike key (arc_value row.key) v (laws.symm key (arc_value row.key) ∙ goes.2) kept)
       (λ was. alike (arc_value row.key) (arc_value shared) row.value (laws.congr (arc_value row.key) key (arc_value shared) goes.2 ∙ laws.symm key (arc_value shared) ∙ goes.3) was)
       done.0 done.1 dated
-  IsSound-put keeps hash_of lives new hash v info (New shared) alike hashed kept sound goes put dated =
+  IsSound-put keeps hash_of lives new hash v info (Vacant shared) alike hashed kept sound goes put dated =
       IsSound-added keeps hash_of lives contents new sound put.0 _ (hashed ∙ ap hash_of (sym goes)) (subst (λ k. keeps k v) (sym goes) kept) put.1 put.2 put.3 dated
 
   -- A target is where the definitions write: over the write that is held for the key, whose stored key it has, or anew where
   -- none is held.
-  abbrev pub IsWhere : Target K → Type 0
-  IsWhere (Over n shared) = (row : Row K V) × (row_under n (entries contents) ≡ Some row) × (eq (arc_value row.key) key ≡ true) × (arc_value shared ≡ arc_value row.key)
-  IsWhere (New shared) = (held eq key (stored_orders contents) ≡ []) × (arc_value shared ≡ key)
+  abbrev pub IsWhere : WriteSlot K → Type 0
+  IsWhere (Occupied n shared) = (row : Row K V) × (row_under n (entries contents) ≡ Some row) × (eq (arc_value row.key) key ≡ true) × (arc_value shared ≡ arc_value row.key)
+  IsWhere (Vacant shared) = (held eq key (stored_orders contents) ≡ []) × (arc_value shared ≡ key)
 
   -- so is the target by a lookup of the key
-  pub where-lookup : {keeps : K → V → Type 0} {hash_of : K → ℕ} {lives : Lives} → IsSound keeps hash_of lives contents → ((a b : K) → eq a b ≡ true → hash_of a ≡ hash_of b)
-      → (hash : ℕ) (lookup : Lookup K) (target : Target K) → hash ≡ hash_of key → IsLookupOf eq key hash (entries contents) lookup → IsTargetFor key lookup target → IsWhere target
-  where-lookup sound respects hash (Stored n stored) (Over m shared) hashed is for_it =
+  pub where-lookup : {keeps : K → V → Type 0} {hash_of : K → ℕ} {lives : ExpirationPolicy} → IsSound keeps hash_of lives contents → ((a b : K) → eq a b ≡ true → hash_of a ≡ hash_of b)
+      → (hash : ℕ) (lookup : Lookup K) (slot : WriteSlot K) → hash ≡ hash_of key → IsLookupOf eq key hash (entries contents) lookup → IsSlotFor key lookup slot → IsWhere slot
+  where-lookup sound respects hash (Stored n stored) (Occupied m shared) hashed is for_it =
       (is.0, ap (λ i. row_under i (entries contents)) for_it.0 ∙ is.1, same-key eq key hash is.0 is.2, ap arc_value for_it.1 ∙ is.3)
-  where-lookup sound respects hash (Stored n stored) (New shared) hashed is for_it = absurd for_it
-  where-lookup sound respects hash Absent (Over m shared) hashed is for_it = absurd for_it
-  where-lookup {hash_of = hash_of} sound respects hash Absent (New shared) hashed is for_it = (held-absent eq contents hash_of respects sound.hashed key hash hashed is, for_it)
+  where-lookup sound respects hash (Stored n stored) (Vacant shared) hashed is for_it = absurd for_it
+  where-lookup sound respects hash Absent (Occupied m shared) hashed is for_it = absurd for_it
+  where-lookup {hash_of = hash_of} sound respects hash Absent (Vacant shared) hashed is for_it = (held-absent eq contents hash_of respects sound.hashed key hash hashed is, for_it)
 
   -- Once a value was put there, the view is that after a write.
-  pub becomes-put : (settings : Settings K V) (lives : Lives) (expired_alike : HasLives settings lives) (frequency : List ℕ → ℕ → ℕ) (latest number : ℕ) → HasOneEach eq (stored_orders contents) → AreDated lives (entries contents)
-      → (new : Contents K V) (v : V) (at hash weight : ℕ) (info : EntryInfo) (target : Target K) → max latest at < 2 ^ 64 → IsWhere target → hash ≡ settings.behaviour.hash key → weight ≡ settings.behaviour.weight key v
-      → IsInfoOf settings.behaviour target v weight (max latest at) contents info → Puts target hash v info contents new
+  pub becomes-put : (settings : Settings K V) (lives : ExpirationPolicy) (expired_alike : HasLives settings lives) (frequency : List ℕ → ℕ → ℕ) (latest number : ℕ) → HasOneEach eq (stored_orders contents) → AreDated lives (entries contents)
+      → (new : Contents K V) (v : V) (at hash weight : ℕ) (info : EntryInfo) (slot : WriteSlot K) → max latest at < 2 ^ 64 → IsWhere slot → hash ≡ settings.behaviour.hash key → weight ≡ settings.behaviour.weight key v
+      → IsInfoOf settings.behaviour slot v weight (max latest at) contents info → Puts slot hash v info contents new
       → Becomes eq (view_with settings contents frequency latest number) (Written key v at) (view_with settings new frequency (max latest at) (number + 1))
-  becomes-put settings lives expired_alike frequency latest number one dated new v at hash weight info (Over n shared) is_moment is hashed weighed kept put =
+  becomes-put settings lives expired_alike frequency latest number one dated new v at hash weight info (Occupied n shared) is_moment is hashed weighed kept put =
       let row = is.0 in
       let done = rw is.1 at put in
       let own = rw (is.1, is.3) at kept.own in
@@ -104,7 +104,7 @@ module _ {K V : Type 0} (eq : K → K → Bool) (laws : IsEquivalence eq) (key :
       (ap (λ t. given (cond t (settings.behaviour.lifetimes.updated (arc_value row.key) v (max latest at) (rest (own_of row.info) (max latest at))) (settings.behaviour.lifetimes.created (arc_value row.key) v (max latest at))) (max latest at)) live ∙ sym own)
       (sym kept.shown))
       is.3 refl (rw modified (sym why)) done.0 done.1
-  becomes-put settings lives expired_alike frequency latest number one dated new v at hash weight info (New shared) is_moment is hashed weighed kept put =
+  becomes-put settings lives expired_alike frequency latest number one dated new v at hash weight info (Vacant shared) is_moment is hashed weighed kept put =
       let own = rw is.1 at kept.own in
       let row : Row K V = record { key = shared; hash = hash; value = v; info = info } in
       becomes-opened eq settings contents frequency latest number new key v at put.0 row is.0
@@ -112,15 +112,15 @@ module _ {K V : Type 0} (eq : K → K → Bool) (laws : IsEquivalence eq) (key :
       put.1 put.2 put.3
 
   -- so it is where the moment has just been recorded
-  pub becomes-put-now : (settings : Settings K V) (lives : Lives) (expired_alike : HasLives settings lives) (frequency : List ℕ → ℕ → ℕ) (moment number : ℕ) → HasOneEach eq (stored_orders contents) → AreDated lives (entries contents)
-      → (new : Contents K V) (v : V) (at hash weight : ℕ) (info : EntryInfo) (target : Target K) → max moment at < 2 ^ 64 → IsWhere target → hash ≡ settings.behaviour.hash key → weight ≡ settings.behaviour.weight key v
-      → IsInfoOf settings.behaviour target v weight (max moment at) contents info → Puts target hash v info contents new
+  pub becomes-put-now : (settings : Settings K V) (lives : ExpirationPolicy) (expired_alike : HasLives settings lives) (frequency : List ℕ → ℕ → ℕ) (moment number : ℕ) → HasOneEach eq (stored_orders contents) → AreDated lives (entries contents)
+      → (new : Contents K V) (v : V) (at hash weight : ℕ) (info : EntryInfo) (slot : WriteSlot K) → max moment at < 2 ^ 64 → IsWhere slot → hash ≡ settings.behaviour.hash key → weight ≡ settings.behaviour.weight key v
+      → IsInfoOf settings.behaviour slot v weight (max moment at) contents info → Puts slot hash v info contents new
       → Becomes eq (view_with settings contents frequency (max moment at) number) (Written key v at) (view_with settings new frequency (max moment at) (number + 1))
-  becomes-put-now settings lives expired_alike frequency moment number one dated new v at hash weight info target is_moment is hashed weighed kept put =
+  becomes-put-now settings lives expired_alike frequency moment number one dated new v at hash weight info slot is_moment is hashed weighed kept put =
       let idle : max (max moment at) at ≡ max moment at = omega arith in
       subst (λ m. Becomes eq (view_with settings contents frequency (max moment at) number) (Written key v at) (view_with settings new frequency m (number + 1))) idle
-      (becomes-put settings lives expired_alike frequency (max moment at) number one dated new v at hash weight info target (rw idle is_moment) is hashed weighed
-      (subst (λ m. IsInfoOf settings.behaviour target v weight m contents info) (sym idle) kept) put)
+      (becomes-put settings lives expired_alike frequency (max moment at) number one dated new v at hash weight info slot (rw idle is_moment) is hashed weighed
+      (subst (λ m. IsInfoOf settings.behaviour slot v weight m contents info) (sym idle) kept) put)
 
 -- what is held after a maintenance was held before it
 stood : {A : Type 0} (t : Bool) (x y : A) → y ∷ [] ≡ option_to_list (cond t None (Some x)) → y ≡ x
@@ -143,17 +143,17 @@ module _ {K V : Type 0} (eq : K → K → Bool) (laws : IsEquivalence eq) (setti
   one-kept k = (_, held-now k (one k).0 (one k).1)
 
   -- and the target of a key that was looked for before is where the definitions write now
-  pub where-now : (key : K) {keeps : K → V → Type 0} {hash_of : K → ℕ} {lives : Lives} → IsSound keeps hash_of lives contents → IsSound keeps hash_of lives kept
-      → ((a b : K) → eq a b ≡ true → hash_of a ≡ hash_of b) → (hash : ℕ) (lookup : Lookup K) (own : Arc K Global) (target : Target K) → hash ≡ hash_of key → arc_value own ≡ key
-      → IsLookupOf eq key hash (entries contents) lookup → IsTargetNow eq hash lookup own (entries kept) target → IsWhere eq laws key kept target
-  where-now key sound sound_then respects hash (Stored n stored) own (Over m shared) hashed owned is still =
+  pub where-now : (key : K) {keeps : K → V → Type 0} {hash_of : K → ℕ} {lives : ExpirationPolicy} → IsSound keeps hash_of lives contents → IsSound keeps hash_of lives kept
+      → ((a b : K) → eq a b ≡ true → hash_of a ≡ hash_of b) → (hash : ℕ) (lookup : Lookup K) (own : Arc K Global) (slot : WriteSlot K) → hash ≡ hash_of key → arc_value own ≡ key
+      → IsLookupOf eq key hash (entries contents) lookup → IsSlotNow eq hash lookup own (entries kept) slot → IsWhere eq laws key kept slot
+  where-now key sound sound_then respects hash (Stored n stored) own (Occupied m shared) hashed owned is still =
       let same : eq (arc_value (still.1).key) key ≡ true = same-key eq key hash still.1 (rw owned at still.3) in
       let before = held-row eq contents one key n is.0 is.1 (same-key eq key hash is.0 is.2) in
       let then = held-row eq kept one-kept key m still.1 still.2 same in
       let it : stored_write still.1 ≡ stored_write is.0 = stood _ (stored_write is.0) (stored_write still.1) (sym then ∙ held-now key (Some (stored_write is.0)) before) in
       (still.1, still.2, same, ap arc_value still.0 ∙ is.3 ∙ ap (λ (w : Write K V). w.key) (sym it))
-  where-now key {hash_of = hash_of} sound sound_then respects hash (Stored n stored) own (New shared) hashed owned is still =
+  where-now key {hash_of = hash_of} sound sound_then respects hash (Stored n stored) own (Vacant shared) hashed owned is still =
       (held-absent eq kept hash_of respects sound_then.hashed key hash hashed (rw owned at still.1), ap arc_value still.0 ∙ owned)
-  where-now key sound sound_then respects hash Absent own (Over m shared) hashed owned is still = absurd still
-  where-now key {hash_of = hash_of} sound sound_then respects hash Absent own (New shared) hashed owned is still =
+  where-now key sound sound_then respects hash Absent own (Occupied m shared) hashed owned is still = absurd still
+  where-now key {hash_of = hash_of} sound sound_then respects hash Absent own (Vacant shared) hashed owned is still =
       (held-now key None (held-absent eq contents hash_of respects sound.hashed key hash hashed is) ∙ nothing_stood _, ap arc_value still ∙ owned)

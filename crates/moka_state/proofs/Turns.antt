@@ -17,9 +17,9 @@ use Rattle.moka_model.proofs.Callers.{IsViewOf, whole, view-of, stands-moved, le
 use Rattle.moka_turns.specs.declared.turn_key.TurnKey.{TurnKey}
 use Rattle.moka_turns.specs.declared.table.OpenTurn.{OpenTurn}
 use Rattle.moka_turns.specs.declared.table.EndedTurn.{EndedTurn}
-use Rattle.moka_turns.specs.Keeps.{AreSound, turns_in}
+use Rattle.moka_turns.specs.Represents.{AreSound, turns_in}
 use Rattle.moka_table.specs.Table.{Contents, entries}
-use Rattle.moka_ways.specs.StateData.{SettingsData, StateData}
+use Rattle.moka_expiration.specs.StateData.{SettingsData, StateData}
 use Rattle.moka_state.specs.State.{books_by}
 
 -- what the turns of a legal list are

@@ -12,8 +12,8 @@ use Rattle.moka_model.specs.Entries.{entry_of}
 use Rattle.moka_model.specs.Lives.{Settings, Write}
 use Rattle.moka_model.specs.Steps.{AcceptedStep, events_in}
 use Rattle.moka_model.specs.Calls.{Call, Begin, Entered, IsWait, IfAnswered, accepted, acceptable, live_at}
-use Rattle.moka_ways.specs.StateData.{StateData}
-use Rattle.moka_table.specs.Look.{IsSaid}
+use Rattle.moka_expiration.specs.StateData.{StateData}
+use Rattle.moka_table.specs.LiveEntry.{IsSaid}
 use Rattle.moka_state.specs.declared.answers.Begun.{Begun}
 use Rattle.moka_state.specs.declared.answers.Begun.TheVariants as begins
 use Rattle.moka_state.specs.Given.{Gives, of_begin}

@@ -13,9 +13,9 @@ use Rattle.moka_model.specs.Calls as calls
 use Rattle.moka_model.specs.Entries.{entry_of}
 use Rattle.moka_rows.specs.declared.rows.Row.{Row}
 use Rattle.moka_rows.specs.Rows.{row_under, IsRowOf, NoneIsRowOf}
-use Rattle.moka_table.specs.Look.{IsEntryOfRow}
-use Rattle.moka_table.specs.Target.{is_live_row}
-use Rattle.moka_ways.specs.StateData.{StateData}
+use Rattle.moka_table.specs.LiveEntry.{IsEntryOfRow}
+use Rattle.moka_table.specs.WriteSlot.{is_live_row}
+use Rattle.moka_expiration.specs.StateData.{StateData}
 use Rattle.moka_state.specs.declared.answers.BegunCompute.{BegunCompute}
 use Rattle.moka_state.specs.declared.answers.BegunCompute.TheVariants as begins
 use Rattle.moka_state.specs.declared.compute.Shown.{Shown}

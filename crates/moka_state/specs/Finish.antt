@@ -14,7 +14,7 @@ use Rattle.moka_model.specs.declared.comp_result.CompResult.TheVariants as resul
 use Rattle.moka_model.specs.Turns.{fits}
 use Rattle.moka_model.specs.Calls as calls
 use Rattle.moka_model.specs.Entries.{entry_of}
-use Rattle.moka_ways.specs.StateData.{StateData}
+use Rattle.moka_expiration.specs.StateData.{StateData}
 use Rattle.moka_turns.specs.declared.handles.Turn.{Turn}
 use Rattle.moka_turns.specs.Handles.{turn_name}
 use Rattle.moka_state.specs.declared.answers.Answer.{Answer}

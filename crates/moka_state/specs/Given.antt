@@ -13,9 +13,9 @@ use Rattle.moka_model.specs.Entries.{entry_of}
 use Rattle.moka_model.specs.CompResults.{of_computed}
 use Rattle.moka_model.specs.StandsFor.{IsAnswerOf}
 use Rattle.moka_model.specs.Turns.{Name}
-use Rattle.moka_turns.specs.Keeps.{end_of}
-use Rattle.moka_turns.specs.declared.table.Told.{Told}
-use Rattle.moka_turns.specs.declared.table.Told.TheVariants as tells
+use Rattle.moka_turns.specs.Represents.{end_of}
+use Rattle.moka_turns.specs.declared.table.CollectState.{CollectState}
+use Rattle.moka_turns.specs.declared.table.CollectState.TheVariants as tells
 use Rattle.moka_turns.specs.declared.handles.Ticket.{Ticket}
 use Rattle.moka_turns.specs.declared.handles.CollectRefused.{CollectRefused}
 use Rattle.moka_turns.specs.Handles.{turn_name, ticket_name}
@@ -112,6 +112,6 @@ module _ {K V E : Type 0} where
   IfUnspent P collected = ⊤
 
 -- What the table of turns returns for a ticket of this name, as an answer of the specification.
-abbrev pub told_as : {K V E : Type 0} → Name K → Told K V E → calls.Answer K V E
+abbrev pub told_as : {K V E : Type 0} → Name K → CollectState K V E → calls.Answer K V E
 told_as name (tells.NotYet ticket) = NotYet
 told_as name (tells.Ended key end) = answer_by name (end_of end)

@@ -4,7 +4,7 @@ use Rattle.moka_policy.specs.declared.policy.Refused.{Refused}
 use Rattle.moka_model.specs.declared.entry.Entry.{Entry}
 use Rattle.moka_model.specs.Entries.{entry_of}
 use Rattle.moka_model.specs.Calls.{Answer, Entered}
-use Rattle.moka_ways.specs.StateData.{StateData}
+use Rattle.moka_expiration.specs.StateData.{StateData}
 use Rattle.moka_state.specs.declared.or_insert.OrInsertRefused.{OrInsertRefused}
 
 module _ {K V E : Type 0} where

@@ -9,11 +9,11 @@ use Rattle.std.specs.declared.time.Duration.{Duration}
 use Rattle.moka_model.specs.Lives.{Write}
 use Rattle.moka_model.specs.Maintenance.{Queues}
 use Rattle.moka_model.specs.StandsFor.{Books}
-use Rattle.moka_ways.specs.declared.lives.Lives.{Lives}
-use Rattle.moka_ways.specs.Behaviour.{BehaviourData}
+use Rattle.moka_expiration.specs.declared.expiration_policy.ExpirationPolicy.{ExpirationPolicy}
+use Rattle.moka_expiration.specs.Behaviour.{BehaviourData}
 use Rattle.moka_table.specs.Table.{Contents, entries, stored_writes, removal_of}
-use Rattle.moka_ways.specs.Lives.{AreDated}
-pub use Rattle.moka_ways.specs.StateData.{SettingsData, StateData}
+use Rattle.moka_expiration.specs.ExpirationPolicy.{AreDated}
+pub use Rattle.moka_expiration.specs.StateData.{SettingsData, StateData}
 
 -- The settings of a state that is built from these.
 abbrev pub settings_of : {H W X : Type 0} → Option (String Global) → Option Duration → Option Duration → Option ℕ → ℕ → Bool →
@@ -49,7 +49,7 @@ module _ {K V : Type 0} where
 
   -- Each row has the hash of its key, and the deadline of its value. Each key with its value, stored or in a notice,
   -- satisfies the value invariant.
-  pub record IsSound (keeps : K → V → Type 0) (hash_of : K → ℕ) (lives : Lives) (contents : Contents K V) : Type 0 where
+  pub record IsSound (keeps : K → V → Type 0) (hash_of : K → ℕ) (lives : ExpirationPolicy) (contents : Contents K V) : Type 0 where
     pub dated : AreDated lives (entries contents)
     pub hashed : AllByRecursion (λ p. p.1.hash ≡ hash_of (arc_value p.1.key)) (entries contents)
     pub kept : AllByRecursion (λ p. keeps (arc_value p.1.key) p.1.value) (entries contents)

@@ -2,7 +2,7 @@
 use Rattle.std.specs.Prelude.{◌≡◌, ◌↔◌, ◌⊎◌, true, false, Result, IsOk, OnOk, OnErr, IfErr, IsErrAnd}
 use Rattle.moka_policy.specs.declared.policy.Refused.TheVariants.{OutOfMemory, NumbersUsedUp}
 use Rattle.moka_model.specs.Numbers.{greatest_number, stores_nothing}
-use Rattle.moka_ways.specs.StateData.{StateData}
+use Rattle.moka_expiration.specs.StateData.{StateData}
 use Rattle.moka_state.specs.declared.state.InsertRefused.{InsertRefused}
 
 -- A write of a value under a key ends, between an old state and a new one. If it succeeds, `follows` holds. If it

@@ -4,8 +4,8 @@ ghost use Rattle.std.specs.Arc.{arc_value};
 ghost use Rattle.moka_model.specs.Turns.{Name};
 ghost use Rattle.moka_model.specs.Calls.{answer_by};
 ghost use Rattle.moka_turns.specs.Handles.{ticket_name};
-ghost use Rattle.moka_turns.specs.Keeps.{end_of};
-ghost use Rattle.moka_turns.specs.Told.{IfEnded, IfNotYet};
+ghost use Rattle.moka_turns.specs.Represents.{end_of};
+ghost use Rattle.moka_turns.specs.CollectState.{IfEnded, IfNotYet};
 ghost use Rattle.moka_state.specs.Given.{IfUnspent, of_collected, told_as};
 
 use moka_model::comp_result::CompResult;
@@ -14,7 +14,7 @@ use moka_model::turns::Outcome;
 use moka_policy::policy::Refused;
 pub use moka_turns::handles::CollectRefused;
 use moka_turns::handles::{Ticket, Turn};
-use moka_turns::table::{Told, TurnEnd};
+use moka_turns::table::{CollectState, TurnEnd};
 use std::sync::Arc;
 
 /// The result of a begin. It cannot be dropped: a turn has to be ended, and a ticket spent.
@@ -80,7 +80,7 @@ pub struct FinishRefused<K, V, E> {
 }
 
 // Returns what a ticket gets from the end of its turn. An entry has the ticket's key.
-fn ended<K: Drop, V, E>(key: Arc<K>, end: TurnEnd<V, E>) -> Collected<K, V, E>
+fn collected_end<K: Drop, V, E>(key: Arc<K>, end: TurnEnd<V, E>) -> Collected<K, V, E>
     ensures reply { (name : Name K) → arc_value key ≡ name.key →
         of_collected result ≡ answer_by name (end_of end) }
     ensures spent { (name : Name K) → IfUnspent (λ ticket. ticket_name ticket ≡ name) result }
@@ -98,14 +98,14 @@ fn ended<K: Drop, V, E>(key: Arc<K>, end: TurnEnd<V, E>) -> Collected<K, V, E>
 }
 
 /// Converts what the table of turns returns for a ticket into what its caller gets.
-pub(crate) fn told_to_caller<K: Drop, V, E>(told: Told<K, V, E>) -> Collected<K, V, E>
+pub(crate) fn told_to_caller<K: Drop, V, E>(told: CollectState<K, V, E>) -> Collected<K, V, E>
     ensures reply { (name : Name K) → IfEnded (λ key. arc_value key ≡ name.key) told →
         of_collected result ≡ told_as name told }
     ensures unspent { (name : Name K) → IfNotYet (λ ticket. ticket_name ticket ≡ name) told →
         IfUnspent (λ ticket. ticket_name ticket ≡ name) result }
 {
     match told {
-        Told::NotYet(ticket) => Collected::NotYet(ticket),
-        Told::Ended(key, end) => ended(key, end),
+        CollectState::NotYet(ticket) => Collected::NotYet(ticket),
+        CollectState::Ended(key, end) => collected_end(key, end),
     }
 }

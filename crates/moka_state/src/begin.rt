@@ -8,13 +8,13 @@ ghost use Rattle.moka_state.specs.Hashes.{IsHashOf};
 
 use crate::answers::Begun;
 use crate::state::State;
+use moka_expiration::view::StateView;
 use moka_model::entry::Entry;
 use moka_model::turns::Kind;
 use moka_policy::policy::{CacheTypes, FrequencySource, Refused};
 use moka_rows::rows::RowStore;
 use moka_turns::begin::TurnBegun;
 use moka_turns::turn_key::TurnKey;
-use moka_ways::view::StateView;
 use std::alloc::AllocError;
 use std::hash::Hash;
 use std::sync::Arc;
@@ -117,7 +117,7 @@ impl<K: Hash + Drop, V: Clone, C: CacheTypes<K, V>, R: RowStore<K, V>> State<K, 
         let Ok(entry) = self.table.entry(number) else {
             return Err(Refused::OutOfMemory);
         };
-        self.upkeep
+        self.housekeeper
             .hit(&mut self.table, number, hash, now, &self.behaviour);
         self.latest = now;
         Ok(Some(entry))
@@ -158,7 +158,7 @@ impl<K: Hash + Drop, V: Clone, C: CacheTypes<K, V>, R: RowStore<K, V>> State<K, 
             Ok(begun) => begun,
             Err(cause) => return Err(cause),
         };
-        self.upkeep.source.note(hash);
+        self.housekeeper.source.note(hash);
         self.latest = now;
         match begun {
             TurnBegun::Wait(ticket) => Ok(Begun::Wait(ticket)),

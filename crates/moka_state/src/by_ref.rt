@@ -8,10 +8,10 @@ ghost use Rattle.moka_state.specs.Forms.{IfRefusedUnasked, IsForm, IsOptional, I
 use crate::answers::Begun;
 use crate::get_with::without;
 use crate::state::State;
+use moka_expiration::view::StateView;
 use moka_model::turns::{Kind, Outcome};
 use moka_policy::policy::{CacheTypes, Refused};
 use moka_rows::rows::RowStore;
-use moka_ways::view::StateView;
 use std::hash::Hash;
 use std::sync::Arc;
 

@@ -13,6 +13,8 @@ ghost use Rattle.moka_state.specs.Hashes.{IsHashOf};
 use crate::answers::{BegunCompute, FinishRefused, Finished};
 use crate::finish::place_for;
 use crate::state::State;
+use moka_expiration::live_value::copy_of_live;
+use moka_expiration::view::StateView;
 use moka_model::comp_result::CompResult;
 use moka_model::entry::Entry;
 use moka_model::notification::RemovalCause;
@@ -20,11 +22,9 @@ use moka_model::turns::{Kind, Op, Outcome};
 use moka_policy::policy::{CacheTypes, FrequencySource, Refused};
 use moka_rows::rows::RowStore;
 use moka_table::table::Table;
-use moka_table::target::NewValue;
+use moka_table::write_slot::NewValue;
 use moka_turns::handles::Turn;
 use moka_turns::turn_key::TurnKey;
-use moka_ways::live_value::copy_of_live;
-use moka_ways::view::StateView;
 use std::alloc::AllocError;
 use std::hash::Hash;
 use std::sync::Arc;
@@ -53,7 +53,7 @@ fn kept_copy<V: Clone>(value: &V, keep: bool) -> Result<Option<V>, AllocError>
 
 // Finds what is live for a key at a moment, with a clone to keep aside if `keep` is true. Can fail
 // only if a value is live.
-fn look<K: Eq + Drop, V: Clone, R: RowStore<K, V>>(
+fn find_live<K: Eq + Drop, V: Clone, R: RowStore<K, V>>(
     table: &Table<K, V, R>,
     key: &K,
     hash: u64,
@@ -80,7 +80,7 @@ fn look<K: Eq + Drop, V: Clone, R: RowStore<K, V>>(
 }
 
 // Makes the result of a compute that does nothing.
-fn left<K, V>(key: Arc<K>, kept: Option<V>) -> CompResult<K, V>
+fn unchanged_result<K, V>(key: Arc<K>, kept: Option<V>) -> CompResult<K, V>
     ensures { IsLeft (arc_value key) kept result }
 {
     match kept {
@@ -90,7 +90,7 @@ fn left<K, V>(key: Arc<K>, kept: Option<V>) -> CompResult<K, V>
 }
 
 // Makes the result of a compute that removes the entry.
-fn removed<K, V>(key: Arc<K>, found: Option<V>) -> CompResult<K, V>
+fn removed_result<K, V>(key: Arc<K>, found: Option<V>) -> CompResult<K, V>
     ensures { IsRemoved (arc_value key) found result }
 {
     match found {
@@ -100,7 +100,7 @@ fn removed<K, V>(key: Arc<K>, found: Option<V>) -> CompResult<K, V>
 }
 
 // Makes the result of a compute that stores a value, by whether its begin found a live one.
-fn put<K, V>(key: Arc<K>, value: V, was_shown: bool) -> CompResult<K, V>
+fn put_result<K, V>(key: Arc<K>, value: V, was_shown: bool) -> CompResult<K, V>
     ensures { IsPut (arc_value key) value was_shown result }
 {
     if was_shown {
@@ -110,7 +110,7 @@ fn put<K, V>(key: Arc<K>, value: V, was_shown: bool) -> CompResult<K, V>
 }
 
 // Makes the error of a failed finish.
-fn refused<K, V, E>(turn: Turn<K>, op: Op<V>, cause: Refused) -> FinishRefused<K, V, E>
+fn refusal<K, V, E>(turn: Turn<K>, op: Op<V>, cause: Refused) -> FinishRefused<K, V, E>
     ensures { result ≡ record { turn = turn; outcome = Outcome.Op op; cause = cause } }
 {
     FinishRefused {
@@ -209,12 +209,12 @@ impl<K: Hash + Drop, V: Clone, C: CacheTypes<K, V>, R: RowStore<K, V>> State<K, 
         if next == u64::MAX {
             return Err(Refused::NumbersUsedUp);
         }
-        let Ok(found) = look(&self.table, &*wanted.key, hash, keep, now) else {
+        let Ok(found) = find_live(&self.table, &*wanted.key, hash, keep, now) else {
             return Err(Refused::OutOfMemory);
         };
         let Some(shown) = found else {
             let turn = self.turns.open_shown(wanted, next, false, None)?;
-            self.upkeep.source.note(hash);
+            self.housekeeper.source.note(hash);
             self.latest = now;
             self.next_number += 1;
             return Ok(BegunCompute::Run(turn, None));
@@ -225,7 +225,7 @@ impl<K: Hash + Drop, V: Clone, C: CacheTypes<K, V>, R: RowStore<K, V>> State<K, 
             kept,
         } = shown;
         let turn = self.turns.open_shown(wanted, next, true, kept)?;
-        self.upkeep
+        self.housekeeper
             .hit(&mut self.table, number, hash, now, &self.behaviour);
         self.latest = now;
         self.next_number += 1;
@@ -274,11 +274,11 @@ impl<K: Hash + Drop, V: Clone, C: CacheTypes<K, V>, R: RowStore<K, V>> State<K, 
         let hash = self.behaviour.hash(turn.key());
         let turn = turn.rehashed(hash);
         let Some(_) = self.turns.waiting_for(&turn) else {
-            return Err(refused(turn, Op::Nop, Refused::UnknownTurn));
+            return Err(refusal(turn, Op::Nop, Refused::UnknownTurn));
         };
         let (key, open) = self.turns.finish_computed(turn);
         self.latest = self.latest.max(now);
-        Ok(Finished::Computed(left(key, open.kept)))
+        Ok(Finished::Computed(unchanged_result(key, open.kept)))
     }
 
     // Ends a compute that removes the entry.
@@ -299,7 +299,7 @@ impl<K: Hash + Drop, V: Clone, C: CacheTypes<K, V>, R: RowStore<K, V>> State<K, 
         let hash = self.behaviour.hash(turn.key());
         let turn = turn.rehashed(hash);
         let Some(_) = self.turns.waiting_for(&turn) else {
-            return Err(refused(turn, Op::Remove, Refused::UnknownTurn));
+            return Err(refusal(turn, Op::Remove, Refused::UnknownTurn));
         };
         let now = self.latest.max(now);
         let Some(number) = self.table.find(turn.key(), hash) else {
@@ -310,12 +310,12 @@ impl<K: Hash + Drop, V: Clone, C: CacheTypes<K, V>, R: RowStore<K, V>> State<K, 
         let row = self.table.row(number);
         let cause = row.info().cause(now, RemovalCause::Explicit);
         let Ok(found) = copy_of_live(row, now) else {
-            return Err(refused(turn, Op::Remove, Refused::OutOfMemory));
+            return Err(refusal(turn, Op::Remove, Refused::OutOfMemory));
         };
         self.table.evict(number, cause);
         let (key, _open) = self.turns.finish_computed(turn);
         self.latest = now;
-        Ok(Finished::Computed(removed(key, found)))
+        Ok(Finished::Computed(removed_result(key, found)))
     }
 
     // Ends a compute that puts a value.
@@ -335,7 +335,7 @@ impl<K: Hash + Drop, V: Clone, C: CacheTypes<K, V>, R: RowStore<K, V>> State<K, 
             (Finish (turn_name turn) (Outcome.Op (Op.Put value)) now) self.new)
             self.old self.new turn (Outcome.Op (Op.Put value)) result }
     {
-        if self.upkeep.max_capacity == Some(0) {
+        if self.housekeeper.max_capacity == Some(0) {
             return self.put_unstored(turn, value, now);
         }
         self.put_stored(turn, value, now)
@@ -361,14 +361,14 @@ impl<K: Hash + Drop, V: Clone, C: CacheTypes<K, V>, R: RowStore<K, V>> State<K, 
         let hash = self.behaviour.hash(turn.key());
         let turn = turn.rehashed(hash);
         let Some(_) = self.turns.waiting_for(&turn) else {
-            return Err(refused(turn, Op::Put(value), Refused::UnknownTurn));
+            return Err(refusal(turn, Op::Put(value), Refused::UnknownTurn));
         };
         let Ok(copy) = value.clone() else {
-            return Err(refused(turn, Op::Put(value), Refused::OutOfMemory));
+            return Err(refusal(turn, Op::Put(value), Refused::OutOfMemory));
         };
         self.latest = self.latest.max(now);
         let (key, open) = self.turns.finish_computed(turn);
-        Ok(Finished::Computed(put(key, copy, open.shown)))
+        Ok(Finished::Computed(put_result(key, copy, open.shown)))
     }
 
     // Ends a compute that puts a value which is stored.
@@ -392,17 +392,17 @@ impl<K: Hash + Drop, V: Clone, C: CacheTypes<K, V>, R: RowStore<K, V>> State<K, 
         let hash = self.behaviour.hash(turn.key());
         let turn = turn.rehashed(hash);
         let Some(_) = self.turns.waiting_for(&turn) else {
-            return Err(refused(turn, Op::Put(value), Refused::UnknownTurn));
+            return Err(refusal(turn, Op::Put(value), Refused::UnknownTurn));
         };
         if self.next_number == u64::MAX {
-            return Err(refused(turn, Op::Put(value), Refused::NumbersUsedUp));
+            return Err(refusal(turn, Op::Put(value), Refused::NumbersUsedUp));
         }
         let Ok(answer) = value.clone() else {
-            return Err(refused(turn, Op::Put(value), Refused::OutOfMemory));
+            return Err(refusal(turn, Op::Put(value), Refused::OutOfMemory));
         };
         let weight = self.behaviour.weight(turn.key(), &value);
         let Ok(place) = place_for(&mut self.table, &turn, hash, self.alloc) else {
-            return Err(refused(turn, Op::Put(value), Refused::OutOfMemory));
+            return Err(refusal(turn, Op::Put(value), Refused::OutOfMemory));
         };
         let now = self.latest.max(now);
         let new = NewValue {
@@ -411,7 +411,7 @@ impl<K: Hash + Drop, V: Clone, C: CacheTypes<K, V>, R: RowStore<K, V>> State<K, 
             weight,
             now,
         };
-        self.upkeep.write(
+        self.housekeeper.write(
             &mut self.table,
             place,
             new,
@@ -421,6 +421,6 @@ impl<K: Hash + Drop, V: Clone, C: CacheTypes<K, V>, R: RowStore<K, V>> State<K, 
         self.latest = now;
         self.next_number += 1;
         let (key, open) = self.turns.finish_computed(turn);
-        Ok(Finished::Computed(put(key, answer, open.shown)))
+        Ok(Finished::Computed(put_result(key, answer, open.shown)))
     }
 }

@@ -13,13 +13,13 @@ ghost use Rattle.moka_state.specs.Forms.{EndsTurn, IfRefusedUnasked};
 
 use crate::answers::{BegunCompute, FinishRefused, Finished};
 use crate::state::State;
+use moka_expiration::view::StateView;
 use moka_model::comp_result::CompResult;
 use moka_model::entry::Entry;
 use moka_model::turns::{Kind, Op, Outcome};
 use moka_policy::policy::{CacheTypes, Refused};
 use moka_rows::rows::RowStore;
 use moka_turns::handles::Turn;
-use moka_ways::view::StateView;
 use std::hash::Hash;
 
 impl<K: Hash + Drop, V: Clone, C: CacheTypes<K, V>, R: RowStore<K, V>> State<K, V, C, R> {

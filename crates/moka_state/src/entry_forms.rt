@@ -15,12 +15,12 @@ ghost use Rattle.moka_state.specs.OrInsert.{OrInsertEnds, of_or_default as of_en
 use crate::answers::{Answer, Begun};
 use crate::get_with::without;
 use crate::state::State;
+use moka_expiration::view::StateView;
 use moka_model::entry::Entry;
 use moka_model::turns::{Kind, Outcome};
 use moka_policy::policy::{CacheTypes, Refused};
 use moka_rows::rows::RowStore;
 use moka_turns::handles::Turn;
-use moka_ways::view::StateView;
 use std::hash::Hash;
 use std::sync::Arc;
 

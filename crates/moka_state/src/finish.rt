@@ -7,25 +7,25 @@ ghost use Rattle.moka_model.specs.Turns.{Ended, moved};
 ghost use Rattle.moka_model.specs.Calls.{Finish, Entered, fresh_entry};
 ghost use Rattle.moka_model.specs.Numbers.{stores_nothing};
 ghost use Rattle.moka_table.specs.Table.{SameRows};
-ghost use Rattle.moka_table.specs.Target.{IsPlaceOf};
+ghost use Rattle.moka_table.specs.WriteSlot.{IsPlanOf};
 ghost use Rattle.moka_turns.specs.Handles.{turn_name};
-ghost use Rattle.moka_turns.specs.Keeps.{Keeps, AreSound, end_of};
+ghost use Rattle.moka_turns.specs.Represents.{Represents, AreSound, end_of};
 ghost use Rattle.moka_turns.specs.Open.{IsOpenFor};
 ghost use Rattle.moka_state.specs.Given.{Gives, of_answer};
 ghost use Rattle.moka_state.specs.Finish.{FinishEnds, Fits, IsCopiesOf, OutcomeKeeps, outcome_of};
 
 use crate::answers::{Answer, FinishRefused, Finished};
 use crate::state::State;
+use moka_expiration::view::StateView;
 use moka_model::entry::Entry;
 use moka_model::turns::Outcome;
 use moka_policy::policy::{CacheTypes, Refused};
 use moka_rows::rows::RowStore;
 use moka_table::table::Table;
-use moka_table::target::{NewValue, Place};
+use moka_table::write_slot::{NewValue, WritePlan};
 use moka_turns::handles::Turn;
-use moka_turns::table::{TurnEnd, Turns};
+use moka_turns::table::{TurnEnd, TurnTable};
 use moka_turns::turn_key::TurnKey;
-use moka_ways::view::StateView;
 use std::alloc::{AllocError, Global};
 use std::hash::Hash;
 use std::sync::Arc;
@@ -83,7 +83,7 @@ fn failed_end<V, E: Drop>(error: &Arc<E>, waiting: u64) -> Result<Option<TurnEnd
 
 // Ends an open turn with a value, and returns its entry.
 fn conclude<K: Eq + Drop, V: Clone, E: Drop>(
-    turns: &mut Turns<K, V, E>,
+    turns: &mut TurnTable<K, V, E>,
     turn: Turn<K>,
     copies: Copies<K, V>,
     is_replaced: bool,
@@ -97,9 +97,9 @@ fn conclude<K: Eq + Drop, V: Clone, E: Drop>(
         → turn.key.hash ≡ hash_of (arc_value turn.key.key)
         → AreSound K.eq ts
         → IfSome copies.kept (V.is_clone value)
-        → Keeps K.eq V.is_clone hash_of ts
+        → Represents K.eq V.is_clone hash_of ts
         (get ⟦<TurnKey<K> as PartialEq>⟧.eq turns.old.opened) (get nat_eq turns.old.ended)
-        → Keeps K.eq V.is_clone hash_of
+        → Represents K.eq V.is_clone hash_of
         (moved (Ended turn.number (turning.Value value is_replaced)) ts)
         (get ⟦<TurnKey<K> as PartialEq>⟧.eq turns.new.opened) (get nat_eq turns.new.ended) }
 {
@@ -119,9 +119,9 @@ pub(crate) fn place_for<K: Eq + Drop, V: Drop, R: RowStore<K, V>>(
     turn: &Turn<K>,
     hash: u64,
     alloc: Global,
-) -> Result<Place<K>, AllocError>
+) -> Result<WritePlan<K>, AllocError>
     ensures place { IfOk result
-        (IsPlaceOf K.eq (arc_value turn.now.key.key) hash table.new) }
+        (IsPlanOf K.eq (arc_value turn.now.key.key) hash table.new) }
     ensures room { OnOk result (0 < table.new.room) }
     ensures same { SameRows table.old table.new }
     ensures may_hide { table.new.may_hide ≡ table.old.may_hide }
@@ -134,7 +134,7 @@ pub(crate) fn place_for<K: Eq + Drop, V: Drop, R: RowStore<K, V>>(
 }
 
 // Makes the error of a failed finish with a value.
-fn refused<K, V, E>(turn: Turn<K>, value: V, cause: Refused) -> FinishRefused<K, V, E>
+fn refusal<K, V, E>(turn: Turn<K>, value: V, cause: Refused) -> FinishRefused<K, V, E>
     ensures { result ≡ record { turn = turn; outcome = Outcome.Value value; cause = cause } }
 {
     FinishRefused {
@@ -162,7 +162,7 @@ impl<K: Hash + Drop, V: Clone, C: CacheTypes<K, V>, R: RowStore<K, V>> State<K, 
             (Finish (turn_name turn) (Outcome.Value value) now) self.new)
             self.old self.new turn (Outcome.Value value) result }
     {
-        if self.upkeep.max_capacity == Some(0) {
+        if self.housekeeper.max_capacity == Some(0) {
             return self.finish_unstored(turn, value, now);
         }
         self.finish_stored(turn, value, now)
@@ -189,10 +189,10 @@ impl<K: Hash + Drop, V: Clone, C: CacheTypes<K, V>, R: RowStore<K, V>> State<K, 
         let hash = self.behaviour.hash(turn.key());
         let turn = turn.rehashed(hash);
         let Some(waiting) = self.turns.waiting_for(&turn) else {
-            return Err(refused(turn, value, Refused::UnknownTurn));
+            return Err(refusal(turn, value, Refused::UnknownTurn));
         };
         let Ok(copies) = Copies::new(&turn, &value, waiting) else {
-            return Err(refused(turn, value, Refused::OutOfMemory));
+            return Err(refusal(turn, value, Refused::OutOfMemory));
         };
         self.latest = self.latest.max(now);
         let answer = conclude(&mut self.turns, turn, copies, false);
@@ -220,17 +220,17 @@ impl<K: Hash + Drop, V: Clone, C: CacheTypes<K, V>, R: RowStore<K, V>> State<K, 
         let hash = self.behaviour.hash(turn.key());
         let turn = turn.rehashed(hash);
         let Some(waiting) = self.turns.waiting_for(&turn) else {
-            return Err(refused(turn, value, Refused::UnknownTurn));
+            return Err(refusal(turn, value, Refused::UnknownTurn));
         };
         if self.next_number == u64::MAX {
-            return Err(refused(turn, value, Refused::NumbersUsedUp));
+            return Err(refusal(turn, value, Refused::NumbersUsedUp));
         }
         let Ok(copies) = Copies::new(&turn, &value, waiting) else {
-            return Err(refused(turn, value, Refused::OutOfMemory));
+            return Err(refusal(turn, value, Refused::OutOfMemory));
         };
         let weight = self.behaviour.weight(turn.key(), &value);
         let Ok(place) = place_for(&mut self.table, &turn, hash, self.alloc) else {
-            return Err(refused(turn, value, Refused::OutOfMemory));
+            return Err(refusal(turn, value, Refused::OutOfMemory));
         };
         let now = self.latest.max(now);
         let new = NewValue {
@@ -239,7 +239,7 @@ impl<K: Hash + Drop, V: Clone, C: CacheTypes<K, V>, R: RowStore<K, V>> State<K, 
             weight,
             now,
         };
-        let is_replaced = self.upkeep.write(
+        let is_replaced = self.housekeeper.write(
             &mut self.table,
             place,
             new,

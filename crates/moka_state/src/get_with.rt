@@ -11,11 +11,11 @@ ghost use Rattle.moka_state.specs.Forms.{EndsTurn, IfRefusedUnasked, IsFailed, I
 
 use crate::answers::{Answer, Begun, FinishRefused, Finished};
 use crate::state::State;
+use moka_expiration::view::StateView;
 use moka_model::turns::{Kind, Outcome};
 use moka_policy::policy::{CacheTypes, Refused};
 use moka_rows::rows::RowStore;
 use moka_turns::handles::Turn;
-use moka_ways::view::StateView;
 use std::alloc::AllocError;
 use std::hash::Hash;
 use std::sync::Arc;

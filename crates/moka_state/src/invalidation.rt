@@ -6,11 +6,11 @@ ghost use Rattle.moka_model.specs.Calls.{InvalidateIf};
 ghost use Rattle.moka_predicate_ids.specs.PredicateId.{id_by, stream_after_id, IsIdText};
 
 use crate::state::State;
+use moka_expiration::view::StateView;
 use moka_policy::policy::CacheTypes;
 use moka_predicate_ids::predicate_error::PredicateError;
 use moka_predicate_ids::predicate_id::{PredicateId, new_predicate_id};
 use moka_rows::rows::RowStore;
-use moka_ways::view::StateView;
 use rand_core::Rng;
 use std::hash::Hash;
 use std::sync::Arc;

@@ -4,6 +4,7 @@
 mod again;
 pub mod answers;
 pub mod begin;
+pub mod by_hash;
 pub mod by_ref;
 pub mod compute;
 mod compute_forms;
@@ -12,7 +13,6 @@ pub mod entry_selector;
 pub mod finish;
 pub mod get_with;
 mod handed_out;
-pub mod hashed;
 pub mod invalidation;
 pub mod or_insert;
 mod recorded;
@@ -26,9 +26,9 @@ mod turn_replies;
 mod turn_step;
 pub mod value_initializer;
 
-pub use moka_due::due_rows;
+pub use moka_expiration::view;
+pub use moka_expiring_rows::expiring_rows;
 pub use moka_predicate_ids::{predicate_error, predicate_id};
 pub use moka_rows::{list_rows, packed, rows};
 pub use moka_slab::slab_rows;
 pub use moka_turns::{handles, turn_name};
-pub use moka_ways::view;

@@ -12,11 +12,11 @@ ghost use Rattle.moka_state.specs.OrInsert.{OrInsertEnds, of_or_default, of_or_i
 
 use crate::get_with::without;
 use crate::state::State;
+use moka_expiration::view::StateView;
 use moka_model::entry::Entry;
 use moka_policy::policy::{CacheTypes, FrequencySource, Refused};
 use moka_rows::rows::RowStore;
-use moka_table::target::NewValue;
-use moka_ways::view::StateView;
+use moka_table::write_slot::NewValue;
 use std::alloc::AllocError;
 use std::hash::Hash;
 use std::sync::Arc;
@@ -159,8 +159,8 @@ impl<K: Hash + Drop, V: Clone, C: CacheTypes<K, V>, R: RowStore<K, V>> State<K, 
             let cause = Refused::OutOfMemory;
             return Err(OrInsertRefused { value, cause });
         };
-        if self.upkeep.max_capacity == Some(0) {
-            self.upkeep.source.note(hash);
+        if self.housekeeper.max_capacity == Some(0) {
+            self.housekeeper.source.note(hash);
             self.latest = self.latest.max(now);
             return Ok(entry);
         }
@@ -208,7 +208,7 @@ impl<K: Hash + Drop, V: Clone, C: CacheTypes<K, V>, R: RowStore<K, V>> State<K, 
         ensures { result ≡ (not (stores_nothing self.now.settings.max_capacity)
             && (self.now.books.next_number == greatest_number)) }
     {
-        self.upkeep.max_capacity != Some(0) && self.next_number == u64::MAX
+        self.housekeeper.max_capacity != Some(0) && self.next_number == u64::MAX
     }
 
     // Notes a lookup that found no live value, and then writes. Allocates before anything changes.
@@ -248,8 +248,8 @@ impl<K: Hash + Drop, V: Clone, C: CacheTypes<K, V>, R: RowStore<K, V>> State<K, 
             weight,
             now,
         };
-        self.upkeep.source.note(new.hash);
-        self.upkeep.write(
+        self.housekeeper.source.note(new.hash);
+        self.housekeeper.write(
             &mut self.table,
             place,
             new,

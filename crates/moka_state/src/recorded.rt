@@ -6,9 +6,9 @@ ghost use Rattle.moka_state.specs.Step.{IsReplyTo, StepKeeps, ReplyKeeps, after_
 
 use crate::state::State;
 use crate::step::{Reply, Step};
+use moka_expiration::view::StateView;
 use moka_policy::policy::{CacheTypes, Refused};
 use moka_rows::rows::RowStore;
-use moka_ways::view::StateView;
 use std::hash::Hash;
 
 /// A step and its reply.

@@ -5,9 +5,9 @@ ghost use Rattle.moka_model.specs.Steps.{events_in};
 ghost use Rattle.moka_model.specs.Calls.{Remove, InvalidateAll, Found, live_at};
 
 use crate::state::State;
+use moka_expiration::view::StateView;
 use moka_policy::policy::{CacheTypes, Refused};
 use moka_rows::rows::RowStore;
-use moka_ways::view::StateView;
 use std::hash::Hash;
 
 impl<K: Hash + Drop, V: Clone, C: CacheTypes<K, V>, R: RowStore<K, V>> State<K, V, C, R> {

@@ -6,10 +6,10 @@ ghost use Rattle.moka_model.specs.Calls.{Get, Found, live_at};
 ghost use Rattle.moka_state.specs.State.{all_writes};
 
 use crate::state::State;
+use moka_expiration::live_value::copy_of_live;
+use moka_expiration::view::StateView;
 use moka_policy::policy::{CacheTypes, Refused};
 use moka_rows::rows::RowStore;
-use moka_ways::live_value::copy_of_live;
-use moka_ways::view::StateView;
 use std::hash::Hash;
 use std::sync::Arc;
 

@@ -13,22 +13,22 @@ ghost use Rattle.moka_model.specs.Steps.{events_in};
 ghost use Rattle.moka_model.specs.Calls.{Get, ContainsKey, Insert, Invalidate, RunPendingTasks, RunPendingTasksUpTo, EntryCount, WeightedSize, TakeNotice, Found, Contains, Counted, Left, Noticed, live_at};
 ghost use Rattle.moka_policy.specs.Policy.{is_lru};
 ghost use Rattle.moka_table.specs.Table.{entries, removal_of};
-ghost use Rattle.moka_ways.specs.Behaviour.{hash_by};
+ghost use Rattle.moka_expiration.specs.Behaviour.{hash_by};
 ghost use Rattle.moka_state.specs.State.{StateData, settings_of, books_by, all_writes, IsSound};
 ghost use Rattle.moka_state.specs.Write.{WriteEnds};
 ghost use Rattle.moka_turns.specs.Views.{turns_of};
 
-use moka_due::due_rows::DueRows;
-use moka_maintain::upkeep::Upkeep;
+use moka_expiration::behaviour::Behaviour;
+use moka_expiration::expiration_policy::ExpirationPolicy;
+use moka_expiration::view::StateView;
+use moka_expiring_rows::expiring_rows::ExpiringRows;
+use moka_ghost::snapshot::SharedSnapshot;
+use moka_housekeeper::housekeeper::Housekeeper;
 use moka_model::notification::Notice;
 use moka_policy::policy::{CacheTypes, EvictionPolicy, FrequencySource, Policy, Refused};
 use moka_rows::rows::RowStore;
-use moka_snapshot::snapshot::SharedSnapshot;
 use moka_table::table::Table;
-use moka_turns::table::Turns;
-use moka_ways::behaviour::Behaviour;
-use moka_ways::lives::Lives;
-use moka_ways::view::StateView;
+use moka_turns::table::TurnTable;
 use std::alloc::Global;
 use std::hash::Hash;
 use std::marker::Model;
@@ -104,14 +104,14 @@ impl<K: Drop, V: Drop> From<InsertRefused<K, V>> for Refused {
 pub struct State<K: Hash + Drop, V: Clone, C: CacheTypes<K, V>, R: RowStore<K, V>> {
     name: Option<String>,
     pub(crate) table: Table<K, V, R>,
-    pub(crate) upkeep: Upkeep<C::Frequency>,
+    pub(crate) housekeeper: Housekeeper<C::Frequency>,
     pub(crate) latest: u64,
     pub(crate) closures: bool,
     pub(crate) flush_limit: Option<u64>,
     first_number: u64,
     pub(crate) next_number: u64,
     pub(crate) behaviour: Behaviour<K, V, C>,
-    pub(crate) turns: Turns<K, V, C::Error>,
+    pub(crate) turns: TurnTable<K, V, C::Error>,
     pub(crate) alloc: Global,
     // The table as it was when the cache was built. Only contracts use it.
     opening: SharedSnapshot<Table<K, V, R>>,
@@ -121,23 +121,23 @@ pub struct State<K: Hash + Drop, V: Clone, C: CacheTypes<K, V>, R: RowStore<K, V
 ///
 /// # Complexity
 ///
-/// A lookup reads at most as many rows as have the key's hash. Clause `few` of `DueRows::find` says
+/// A lookup reads at most as many rows as have the key's hash. Clause `few` of `ExpiringRows::find` says
 /// so, and no call searches for a key by other means.
 ///
 /// ```
 /// type Sessions = CacheState<u64, String, Plain>;
 /// ```
-pub type CacheState<K, V, C> = State<K, V, C, DueRows<K, V>>;
+pub type CacheState<K, V, C> = State<K, V, C, ExpiringRows<K, V>>;
 
 impl<K: Hash + Drop, V: Clone, C: CacheTypes<K, V>, R: RowStore<K, V>> Model for State<K, V, C, R> {
     ghost Value = { StateData K V C.Hasher C.Weigher C.Expiry C.Frequency C.Error };
 
     ghost view = { λ state. record {
-      settings = settings_of state.name state.upkeep.lives.time_to_live
-          state.upkeep.lives.time_to_idle state.upkeep.max_capacity state.first_number
+      settings = settings_of state.name state.housekeeper.lives.time_to_live
+          state.housekeeper.lives.time_to_idle state.housekeeper.max_capacity state.first_number
           state.closures state.flush_limit state.behaviour;
       books = books_by state.table state.latest state.next_number;
-      source = state.upkeep.source;
+      source = state.housekeeper.source;
       initial_room = state.opening.value.room;
       turns = turns_of
           (hash_by C.Hasher.build_hasher C.Hasher.Hasher.write C.Hasher.Hasher.finish K.hash_input
@@ -148,7 +148,7 @@ impl<K: Hash + Drop, V: Clone, C: CacheTypes<K, V>, R: RowStore<K, V>> Model for
     ghost invariant = { λ state. IsSound C.keeps
         (hash_by C.Hasher.build_hasher C.Hasher.Hasher.write C.Hasher.Hasher.finish K.hash_input
         state.behaviour.hasher)
-        state.upkeep.lives state.table
+        state.housekeeper.lives state.table
         × LimitsSome state.flush_limit };
 }
 
@@ -191,8 +191,8 @@ impl<K: Hash + Drop, V: Clone, C: CacheTypes<K, V>, R: RowStore<K, V>> State<K, 
             opening: SharedSnapshot::of(&table),
             name: settings.name,
             table,
-            upkeep: Upkeep {
-                lives: Lives {
+            housekeeper: Housekeeper {
+                lives: ExpirationPolicy {
                     time_to_live: settings.time_to_live,
                     time_to_idle: settings.time_to_idle,
                 },
@@ -210,7 +210,7 @@ impl<K: Hash + Drop, V: Clone, C: CacheTypes<K, V>, R: RowStore<K, V>> State<K, 
                 settings.weigher,
                 settings.expiry,
             ),
-            turns: Turns::new(alloc),
+            turns: TurnTable::new(alloc),
             alloc,
         })
     }
@@ -386,7 +386,7 @@ impl<K: Hash + Drop, V: Clone, C: CacheTypes<K, V>, R: RowStore<K, V>> State<K, 
         ensures settings { self.new.settings ≡ self.old.settings }
     {
         let now = self.latest.max(now);
-        self.upkeep
+        self.housekeeper
             .maintain(&mut self.table, self.behaviour.policy(), now);
         self.latest = now;
     }
@@ -434,7 +434,7 @@ impl<K: Hash + Drop, V: Clone, C: CacheTypes<K, V>, R: RowStore<K, V>> State<K, 
         let now = self.latest.max(now);
         let policy = self.behaviour.policy();
         let is_cut = self
-            .upkeep
+            .housekeeper
             .maintain_up_to(&mut self.table, policy, now, Some(limit));
         self.latest = now;
         is_cut
@@ -482,9 +482,9 @@ impl<K: Hash + Drop, V: Clone, C: CacheTypes<K, V>, R: RowStore<K, V>> State<K, 
         ensures time_to_idle { option_map as_nanos result.time_to_idle
             ≡ self.now.settings.time_to_idle }
     {
-        let lives = &self.upkeep.lives;
+        let lives = &self.housekeeper.lives;
         Policy::new(
-            self.upkeep.max_capacity,
+            self.housekeeper.max_capacity,
             1,
             lives.time_to_live,
             lives.time_to_idle,

@@ -12,6 +12,7 @@ ghost use Rattle.moka_state.specs.Step.{call_of, IsReplyTo, StepKeeps, ReplyKeep
 
 use crate::or_insert::OrInsertRefused;
 use crate::state::{InsertRefused, State};
+use moka_expiration::view::StateView;
 use moka_model::comp_result::CompResult;
 use moka_model::entry::Entry;
 use moka_model::notification::Notice;
@@ -20,7 +21,6 @@ use moka_policy::policy::{CacheTypes, Refused};
 use moka_predicate_ids::predicate_error::PredicateError;
 use moka_rows::rows::RowStore;
 use moka_turns::turn_name::TurnName;
-use moka_ways::view::StateView;
 use std::collections::VecDeque;
 use std::hash::Hash;
 use std::sync::Arc;

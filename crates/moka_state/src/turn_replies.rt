@@ -10,7 +10,7 @@ use crate::answers::{
 };
 use crate::step::Reply;
 use moka_policy::policy::{CacheTypes, Refused};
-use moka_turns::naming::{name_of_ticket, name_of_turn};
+use moka_turns::by_name::{name_of_ticket, name_of_turn};
 
 /// Converts the result of a begin into a reply.
 pub(crate) fn begun_reply<K: Eq + Drop, V: Clone, C: CacheTypes<K, V>>(

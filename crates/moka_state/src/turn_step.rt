@@ -14,12 +14,12 @@ use crate::answers::Begun;
 use crate::state::State;
 use crate::step::Reply;
 use crate::turn_replies::{begun_reply, collect_reply, compute_reply, done_reply, finish_reply};
+use moka_expiration::view::StateView;
 use moka_model::turns::{Kind, Outcome};
 use moka_policy::policy::{CacheTypes, Refused};
 use moka_rows::rows::RowStore;
-use moka_turns::naming::{ticket_of, turn_of};
+use moka_turns::by_name::{ticket_of, turn_of};
 use moka_turns::turn_name::TurnName;
-use moka_ways::view::StateView;
 use std::hash::Hash;
 use std::sync::Arc;
 

@@ -7,10 +7,10 @@ ghost use Rattle.moka_state.specs.Given.{Gives, IfUnspent, of_done, of_collect};
 
 use crate::answers::{CollectRefused, Collected, told_to_caller};
 use crate::state::State;
+use moka_expiration::view::StateView;
 use moka_policy::policy::{CacheTypes, Refused};
 use moka_rows::rows::RowStore;
 use moka_turns::handles::{Ticket, Turn};
-use moka_ways::view::StateView;
 use std::hash::Hash;
 
 impl<K: Hash + Drop, V: Clone, C: CacheTypes<K, V>, R: RowStore<K, V>> State<K, V, C, R> {

@@ -3,13 +3,13 @@ use Rattle.std.proofs.Common.{◌≡◌, ℕ, Option, ap, ◌∙◌, subst, refl
 use Rattle.std.specs.Arc.{arc_value}
 use Rattle.moka_model.specs.declared.turns.Kind.{Kind}
 use Rattle.moka_model.specs.declared.turns.Kind.TheVariants.{Compute}
-use Rattle.moka_waiting.specs.declared.answers.Begun.{Begun}
-use Rattle.moka_waiting.specs.declared.answers.Collected.{Collected}
-use Rattle.moka_waiting.specs.declared.answers.Collected.TheVariants.{Ready, NotYet, Again}
-use Rattle.moka_waiting.specs.declared.answers.Waited.{Waited}
-use Rattle.moka_waiting.specs.Holds.{HoldsOfCollected, HoldsOfWaited}
-use Rattle.moka_waiting.specs.Rounds.{Ends}
-use Rattle.moka_waiting.proofs.Callers.{ends-hold}
+use Rattle.moka_single_flight.specs.declared.replies.Begun.{Begun}
+use Rattle.moka_single_flight.specs.declared.replies.Collected.{Collected}
+use Rattle.moka_single_flight.specs.declared.replies.Collected.TheVariants.{Ready, NotYet, Again}
+use Rattle.moka_single_flight.specs.declared.replies.Joined.{Joined}
+use Rattle.moka_single_flight.specs.Holds.{HoldsOfCollected, HoldsOfJoined}
+use Rattle.moka_single_flight.specs.Rounds.{Ends}
+use Rattle.moka_single_flight.proofs.Callers.{ends-hold}
 use Rattle.moka_turns.specs.declared.handles.Turn.{Turn}
 use Rattle.moka_turns.specs.declared.handles.Ticket.{Ticket}
 use Rattle.moka_state.specs.declared.answers.Answer.{Answer}
@@ -33,7 +33,7 @@ module _ {K V E : Type 0} (keeps : K → V → Type 0) where
   given-for kind key ticket Again of tells = tt
 
   -- an initializer gets an answer or the turn, for its kind and key
-  pub asked : (most : Option ℕ) (caller : InitializerData K) (waited : Waited (Answer K V E) (Turn K)) (then : InitializerData K) → Ends BeginsAs CollectsAs most caller waited then → HoldsOfWaited (IsGivenTo keeps caller.kind caller.key) (IsTurnFor caller.kind caller.key) waited
+  pub asked : (most : Option ℕ) (caller : InitializerData K) (waited : Joined (Answer K V E) (Turn K)) (then : InitializerData K) → Ends BeginsAs CollectsAs most caller waited then → HoldsOfJoined (IsGivenTo keeps caller.kind caller.key) (IsTurnFor caller.kind caller.key) waited
   asked most caller waited then ends =
       (ends-hold BeginsAs CollectsAs (λ it. it ≡ caller) (IsGivenTo keeps caller.kind caller.key) (IsTurnFor caller.kind caller.key) (IsTicketFor caller.kind caller.key)
       (λ old told new is begun. (begun.0 ∙ is, subst (λ (it : InitializerData K). BeginTells keeps it told) is begun.1))
@@ -53,7 +53,7 @@ module _ {K V : Type 0} (keeps : K → V → Type 0) where
   ended-for key ticket Again of ends = tt
 
   -- a compute gets the turn of a compute of its key
-  pub computes : (most : Option ℕ) (caller : ComputerData K) (waited : Waited (Unit {0}) (ShownTurn K V)) (then : ComputerData K) → Ends BeginsComputing CollectsComputing most caller waited then → HoldsOfWaited (λ value. ⊥) (IsShownTurn keeps caller.key) waited
+  pub computes : (most : Option ℕ) (caller : ComputerData K) (waited : Joined (Unit {0}) (ShownTurn K V)) (then : ComputerData K) → Ends BeginsComputing CollectsComputing most caller waited then → HoldsOfJoined (λ value. ⊥) (IsShownTurn keeps caller.key) waited
   computes most caller waited then ends =
       (ends-hold BeginsComputing CollectsComputing (λ it. it ≡ caller) (λ value. ⊥) (IsShownTurn keeps caller.key) (IsTicketFor Compute caller.key)
       (λ old told new is begun. (begun.0 ∙ is, subst (λ (it : ComputerData K). ComputeTells keeps it told) is begun.1))

@@ -25,8 +25,8 @@ pub record BuilderData (W X L : Type 0) : Type 0 where
   pub num_segments : ℕ
 
 -- A builder with no settings: one segment, no bound, TinyLFU, and sequence numbers from 0.
-abbrev pub nothing_said : {W X L : Type 0} → BuilderData W X L
-nothing_said = record {
+abbrev pub default_settings : {W X L : Type 0} → BuilderData W X L
+default_settings = record {
   name = None;
   max_capacity = None;
   initial_capacity = 0;

@@ -1,7 +1,7 @@
 -- What contracts know of a shared cache of several segments: the part of it that never changes.
 use Rattle.std.specs.Prelude.{◌≡◌, ℕ, ◌^◌, List, slice_get, Option, Some, None, option_map}
 use Rattle.std.specs.List.{AllByRecursion}
-use Rattle.moka_segments.specs.Segments.{bits_for, segment_of, share}
+use Rattle.moka_segment_model.specs.Segments.{bits_for, segment_of, share}
 use Rattle.moka_state.specs.StateData.{SettingsData}
 use Rattle.moka_sync.specs.Builder.{BuilderData, settings_built}
 use Rattle.moka_sync.specs.Cache.{CacheData, IsMadeOf}

@@ -3,15 +3,15 @@ use Rattle.std.specs.Prelude.{◌≡◌, IfSome}
 use Rattle.std.specs.Arc.{arc_value}
 use Rattle.moka_model.specs.declared.turns.Kind.{Kind}
 use Rattle.moka_model.specs.declared.turns.Kind.TheVariants.{Compute}
-use Rattle.moka_waiting.specs.declared.answers.Begun.{Begun}
-use Rattle.moka_waiting.specs.declared.answers.Collected.{Collected}
-use Rattle.moka_waiting.specs.Holds.{HoldsOfBegun, HoldsOfCollected}
+use Rattle.moka_single_flight.specs.declared.replies.Begun.{Begun}
+use Rattle.moka_single_flight.specs.declared.replies.Collected.{Collected}
+use Rattle.moka_single_flight.specs.Holds.{HoldsOfBegun, HoldsOfCollected}
 use Rattle.moka_turns.specs.declared.handles.Turn.{Turn}
 use Rattle.moka_turns.specs.declared.handles.Ticket.{Ticket}
 use Rattle.moka_turns.specs.Handles.{ticket_name}
 use Rattle.moka_state.specs.Begin.{EntryKeeps}
 use Rattle.moka_state.specs.declared.answers.Answer.{Answer}
-use Rattle.moka_locked.specs.Kept.{GivenKeeps, AnswerFits}
+use Rattle.moka_guarded.specs.Kept.{GivenKeeps, AnswerFits}
 use Rattle.moka_sync.specs.declared.value_initializer.Asked.{Asked}
 use Rattle.moka_sync.specs.declared.value_initializer.Asked.TheVariants as asked
 use Rattle.moka_sync.specs.declared.value_initializer.ShownTurn.{ShownTurn}

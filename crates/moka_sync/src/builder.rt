@@ -4,16 +4,16 @@ ghost use Rattle.std.specs.Arc.{arc_value};
 ghost use Rattle.std.specs.List.{AllByRecursion};
 ghost use Rattle.std.specs.String.{string_bytes};
 ghost use Rattle.moka_policy.specs.Policy.{is_lru};
-ghost use Rattle.moka_sync.specs.Builder.{BuilderData, nothing_said, segments_refused, build_refused, settings_built};
+ghost use Rattle.moka_sync.specs.Builder.{BuilderData, default_settings, segments_refused, build_refused, settings_built};
 ghost use Rattle.moka_sync.specs.Cache.{IsBuilt};
-ghost use Rattle.moka_segments.specs.Segments.{share, bits_for};
+ghost use Rattle.moka_segment_model.specs.Segments.{share, bits_for};
 ghost use Rattle.moka_segmented.specs.SegmentedData.{data_of};
 
+use crate::build::cache_of;
 use crate::cache::Cache;
-use crate::opening::cache_of;
 use moka_policy::builder_utils::{BuildError, ensure_expirations, ensure_flush_limit};
 use moka_policy::policy::{CacheTypes, EvictionPolicy, Expiry, Listener, Weigher};
-use moka_segmented::opening::{bits_for, opened};
+use moka_segmented::opening::{bits_for, build_segments};
 use moka_segmented::segment::SegmentedState;
 use moka_segmented::segmented_view::SegmentedStateView;
 use moka_state::state::{CacheState, Settings};
@@ -93,7 +93,7 @@ impl<K: Hash + Drop, V: Clone, C: CacheTypes<K, V>, T> Model for CacheBuilder<K,
 impl<K: Hash + Drop, V: Clone, C: CacheTypes<K, V>> Default for CacheBuilder<K, V, C, Single> {
     /// Creates a builder with no settings: one segment, no bound, TinyLFU.
     fn default() -> Self
-        ensures { result ≡ nothing_said }
+        ensures { result ≡ default_settings }
     {
         CacheBuilder {
             name: None,
@@ -289,7 +289,7 @@ impl<K: Hash + Drop, V: Clone, C: CacheTypes<K, V>, T> CacheBuilder<K, V, C, T> 
 impl<K: Hash + Drop, V: Clone, C: CacheTypes<K, V>> CacheBuilder<K, V, C, Single> {
     /// Creates a builder with this capacity and no other setting.
     pub fn new(max_capacity: u64) -> Self
-        ensures { result ≡ record nothing_said { max_capacity = Some max_capacity } }
+        ensures { result ≡ record default_settings { max_capacity = Some max_capacity } }
     {
         CacheBuilder::default().max_capacity(max_capacity)
     }
@@ -362,7 +362,7 @@ impl<K: Hash + Drop, V: Clone, C: CacheTypes<K, V>> CacheBuilder<K, V, C, Single
         ensures refused { IfErr result (λ cause.
             cause ≡ unwrap_or (build_refused self) BuildError.OutOfMemory) }
     {
-        let (state, _listener) = self.limited()?.opened(alloc, hasher)?;
+        let (state, _listener) = self.validate()?.into_state_and_listener(alloc, hasher)?;
         Ok(state)
     }
 
@@ -389,8 +389,8 @@ impl<K: Hash + Drop, V: Clone, C: CacheTypes<K, V>> CacheBuilder<K, V, C, Single
         ensures refused { IfErr result (λ cause.
             cause ≡ unwrap_or (build_refused self) BuildError.OutOfMemory) }
     {
-        let told = self.limited()?;
-        let name = copied(alloc, told.name.as_deref())?;
+        let told = self.validate()?;
+        let name = copy_name(alloc, told.name.as_deref())?;
         let parts = told.parts(alloc, hasher, clock)?;
         cache_of(
             alloc,
@@ -403,7 +403,7 @@ impl<K: Hash + Drop, V: Clone, C: CacheTypes<K, V>> CacheBuilder<K, V, C, Single
     }
 
     // Builds the state, and returns the listener beside it.
-    fn opened(
+    fn into_state_and_listener(
         self,
         alloc: Global,
         hasher: C::Hasher,
@@ -419,7 +419,7 @@ impl<K: Hash + Drop, V: Clone, C: CacheTypes<K, V>> CacheBuilder<K, V, C, Single
             (key : K) (value : V) → C.keeps key value → C.Listener.hears listener key value)) }
         ensures cause { IfErr result (λ cause. cause ≡ BuildError.OutOfMemory) }
     {
-        let (settings, listener) = self.settled(alloc, hasher)?;
+        let (settings, listener) = self.into_settings(alloc, hasher)?;
         Ok((state_of(alloc, settings)?, listener))
     }
 }
@@ -451,8 +451,8 @@ impl<K: Hash + Drop, V: Clone, C: CacheTypes<K, V>> CacheBuilder<K, V, C, Segmen
             cause ≡ unwrap_or (build_refused self) BuildError.OutOfMemory) }
     {
         let bits = bits_for(self.num_segments);
-        let (settings, _listener) = self.limited()?.settled(alloc, hasher)?;
-        match opened(alloc, settings, bits) {
+        let (settings, _listener) = self.validate()?.into_settings(alloc, hasher)?;
+        match build_segments(alloc, settings, bits) {
             Ok(cache) => Ok(cache),
             Err(_) => Err(BuildError::OutOfMemory),
         }
@@ -461,7 +461,7 @@ impl<K: Hash + Drop, V: Clone, C: CacheTypes<K, V>> CacheBuilder<K, V, C, Segmen
 
 impl<K: Hash + Drop, V: Clone, C: CacheTypes<K, V>, T> CacheBuilder<K, V, C, T> {
     // Checks the lifetimes and the flush limit, and returns the builder unchanged.
-    pub(crate) fn limited(self) -> Result<Self, BuildError>
+    pub(crate) fn validate(self) -> Result<Self, BuildError>
         ensures same { IfOk result (λ builder. builder ≡ self) }
         ensures accepted { OnOk result (build_refused self ≡ None) }
         ensures refused { IfErr result (λ cause. Some cause ≡ build_refused self) }
@@ -472,7 +472,7 @@ impl<K: Hash + Drop, V: Clone, C: CacheTypes<K, V>, T> CacheBuilder<K, V, C, T> 
     }
 
     // Makes the settings of a state, and returns the listener beside them.
-    pub(crate) fn settled(
+    pub(crate) fn into_settings(
         self,
         alloc: Global,
         hasher: C::Hasher,
@@ -501,8 +501,8 @@ impl<K: Hash + Drop, V: Clone, C: CacheTypes<K, V>, T> CacheBuilder<K, V, C, T> 
             eviction_policy: self.eviction_policy,
             time_to_live: self.time_to_live,
             time_to_idle: self.time_to_idle,
-            weigher: shared(alloc, self.weigher)?,
-            expiry: shared(alloc, self.expiry)?,
+            weigher: share_option(alloc, self.weigher)?,
+            expiry: share_option(alloc, self.expiry)?,
             closures: self.closures,
             flush_limit: self.flush_limit,
             first_number: self.first_number,
@@ -567,7 +567,7 @@ fn state_of<K: Hash + Drop, V: Clone, C: CacheTypes<K, V>>(
 }
 
 // Moves a value, if there is one, into an `Arc`. Fails only with `OutOfMemory`.
-fn shared<T: Drop>(alloc: Global, value: Option<T>) -> Result<Option<Arc<T>>, BuildError>
+fn share_option<T: Drop>(alloc: Global, value: Option<T>) -> Result<Option<Arc<T>>, BuildError>
     ensures shared { IfOk result (λ shared. option_map arc_value shared ≡ value) }
     ensures cause { IfErr result (λ cause. cause ≡ BuildError.OutOfMemory) }
 {
@@ -586,7 +586,7 @@ pub(crate) fn share<T: Drop>(alloc: Global, value: T) -> Result<Arc<T>, BuildErr
 }
 
 // Copies a name, if there is one. Fails only with `OutOfMemory`.
-fn copied(alloc: Global, name: Option<&str>) -> Result<Option<String>, BuildError>
+fn copy_name(alloc: Global, name: Option<&str>) -> Result<Option<String>, BuildError>
     ensures copied { IfOk result (λ copy. option_map string_bytes copy ≡ option_map (λ name. name.now) name.entry) }
     ensures cause { IfErr result (λ cause. cause ≡ BuildError.OutOfMemory) }
 {

@@ -3,13 +3,13 @@ ghost use Rattle.std.specs.Prelude.{◌≡◌, ◌⊎◌, [], option_map, Some, 
 ghost use Rattle.std.specs.Arc.{arc_value};
 ghost use Rattle.std.specs.Duration.{as_nanos};
 ghost use Rattle.moka_state.specs.Begin.{EntryKeeps};
-ghost use Rattle.moka_sync.specs.Builder.{nothing_said};
+ghost use Rattle.moka_sync.specs.Builder.{default_settings};
 ghost use Rattle.moka_sync.specs.Cache.{CacheData, IsBuilt, Shows};
 
 use crate::builder::{CacheBuilder, Single};
-use crate::hearer::Hearer;
-use crate::opened::Opened;
-use moka_locked::locked::{Gone, Locked};
+use crate::mutex_with_initial::MutexWithInitial;
+use crate::removal_notifier::RemovalNotifier;
+use moka_guarded::guarded::{GuardedState, PendingNotices};
 use moka_model::entry::Entry;
 use moka_model::notification::Notice;
 use moka_policy::builder_utils::BuildError;
@@ -29,9 +29,9 @@ use std::sync::{Arc, Condvar, MutexGuard, Wait};
 /// What all clones of a cache share. The name and the policy are those of the state that went under
 /// the lock.
 #[derive(Drop)]
-pub(crate) struct Inside<K: Hash + Drop, V: Clone, C: CacheTypes<K, V>, W> {
+pub(crate) struct Inner<K: Hash + Drop, V: Clone, C: CacheTypes<K, V>, W> {
     /// The state and its clock, under the lock.
-    pub locked: Opened<Locked<K, V, C>>,
+    pub locked: MutexWithInitial<GuardedState<K, V, C>>,
     /// Where callers that wait for a turn sleep until some turn has ended.
     pub ended: Condvar,
     /// The cache's name, if it has one.
@@ -39,7 +39,7 @@ pub(crate) struct Inside<K: Hash + Drop, V: Clone, C: CacheTypes<K, V>, W> {
     /// The capacity and the lifetimes that it was built with.
     pub policy: Policy,
     /// The listener, if there is one.
-    pub listener: Option<Arc<Hearer<K, V, C>>>,
+    pub listener: Option<Arc<RemovalNotifier<K, V, C>>>,
     /// What keys and errors are allocated from when they are shared.
     pub alloc: Global,
     /// Lets the lock and the sleepers wait.
@@ -67,16 +67,16 @@ pub(crate) struct Inside<K: Hash + Drop, V: Clone, C: CacheTypes<K, V>, W> {
 /// costs a state, and the locks.
 #[derive(Drop)]
 pub struct Cache<K: Hash + Drop, V: Clone, C: CacheTypes<K, V>, W> {
-    pub(crate) inside: Arc<Inside<K, V, C, W>>,
+    pub(crate) inner: Arc<Inner<K, V, C, W>>,
 }
 
 impl<K: Hash + Drop, V: Clone, C: CacheTypes<K, V>, W> Model for Cache<K, V, C, W> {
     ghost Value = { CacheData K V C.Hasher C.Weigher C.Expiry C.Frequency C.Error C.Listener C.Clock };
 
     ghost view = { λ cache. record {
-      opening = (arc_value cache.inside).locked.state;
-      clock = (arc_value cache.inside).locked.clock;
-      listener = option_map arc_value (arc_value cache.inside).listener;
+      opening = (arc_value cache.inner).locked.state;
+      clock = (arc_value cache.inner).locked.clock;
+      listener = option_map arc_value (arc_value cache.inner).listener;
     } };
 }
 
@@ -85,7 +85,7 @@ impl<K: Hash + Drop, V: Clone, C: CacheTypes<K, V>, W: Drop> Clone for Cache<K, 
 
     fn clone(&self) -> Result<Self, AllocError> {
         Ok(Cache {
-            inside: self.inside.clone()?,
+            inner: self.inner.clone()?,
         })
     }
 }
@@ -94,8 +94,8 @@ impl<K: Hash + Drop, V: Clone, C: CacheTypes<K, V>, W> Debug for Cache<K, V, C, 
     /// Writes the cache's name and policy. Shows no entries, so it takes no lock.
     fn fmt<O: Write>(&self, f: &mut Formatter<O>) -> fmt::Result {
         f.debug_struct("Cache")
-            .field("name", &self.inside.name)
-            .field("policy", &self.inside.policy)
+            .field("name", &self.inner.name)
+            .field("policy", &self.inner.policy)
             .finish()
     }
 }
@@ -103,7 +103,7 @@ impl<K: Hash + Drop, V: Clone, C: CacheTypes<K, V>, W> Debug for Cache<K, V, C, 
 impl<K: Hash + Drop, V: Clone, C: CacheTypes<K, V>, W: Drop> Cache<K, V, C, W> {
     /// Returns a builder with no settings.
     pub fn builder() -> CacheBuilder<K, V, C, Single>
-        ensures { result ≡ nothing_said }
+        ensures { result ≡ default_settings }
     {
         CacheBuilder::default()
     }
@@ -112,7 +112,7 @@ impl<K: Hash + Drop, V: Clone, C: CacheTypes<K, V>, W: Drop> Cache<K, V, C, W> {
     pub fn name(&self) -> Option<&str>
         ensures { option_map (λ name. name.now) result ≡ self.now.opening.settings.name }
     {
-        self.inside.name.as_deref()
+        self.inner.name.as_deref()
     }
 
     /// Returns the capacity and the lifetimes that the cache was built with. The number of segments
@@ -125,7 +125,7 @@ impl<K: Hash + Drop, V: Clone, C: CacheTypes<K, V>, W: Drop> Cache<K, V, C, W> {
         ensures time_to_idle { option_map as_nanos result.time_to_idle
             ≡ self.now.opening.settings.time_to_idle }
     {
-        self.inside.policy
+        self.inner.policy
     }
 }
 
@@ -152,7 +152,7 @@ where
         waits: W,
     ) -> Result<Self, BuildError>
         ensures built { IfOk result (IsBuilt
-            (record nothing_said { max_capacity = Some max_capacity }) hasher clock) }
+            (record default_settings { max_capacity = Some max_capacity }) hasher clock) }
         ensures empty { IfOk result (λ cache. ⟦<C as StateView<K, V>>⟧.stands_for
             (⟦<C as StateView<K, V>>⟧.settings cache.opening.settings) cache.opening []) }
         ensures cause { IfErr result (λ cause. cause ≡ BuildError.OutOfMemory) }
@@ -208,9 +208,9 @@ impl<K: Hash + Drop, V: Clone, C: CacheTypes<K, V>, W: Wait> Cache<K, V, C, W> {
     {
         let mut locked = self.lock();
         let done = locked.insert(key, value);
-        let gone = locked.take_gone();
+        let pending = locked.take_pending_notices();
         drop(locked);
-        self.let_go(gone);
+        self.notify_removed(pending);
         done
     }
 
@@ -232,9 +232,9 @@ impl<K: Hash + Drop, V: Clone, C: CacheTypes<K, V>, W: Wait> Cache<K, V, C, W> {
     {
         let mut locked = self.lock();
         let done = locked.or_insert(key, value);
-        let gone = locked.take_gone();
+        let pending = locked.take_pending_notices();
         drop(locked);
-        self.let_go(gone);
+        self.notify_removed(pending);
         done
     }
 
@@ -244,9 +244,9 @@ impl<K: Hash + Drop, V: Clone, C: CacheTypes<K, V>, W: Wait> Cache<K, V, C, W> {
     pub fn invalidate(&self, key: &K) {
         let mut locked = self.lock();
         locked.invalidate(key);
-        let gone = locked.take_gone();
+        let pending = locked.take_pending_notices();
         drop(locked);
-        self.let_go(gone);
+        self.notify_removed(pending);
     }
 
     /// Removes the entry of `key`, live or expired, and returns a clone of its live value. The
@@ -263,9 +263,9 @@ impl<K: Hash + Drop, V: Clone, C: CacheTypes<K, V>, W: Wait> Cache<K, V, C, W> {
     {
         let mut locked = self.lock();
         let found = locked.remove(key);
-        let gone = locked.take_gone();
+        let pending = locked.take_pending_notices();
         drop(locked);
-        self.let_go(gone);
+        self.notify_removed(pending);
         found
     }
 
@@ -337,9 +337,9 @@ impl<K: Hash + Drop, V: Clone, C: CacheTypes<K, V>, W: Wait> Cache<K, V, C, W> {
     pub fn run_pending_tasks(&self) {
         let mut locked = self.lock();
         locked.run_pending_tasks();
-        let gone = locked.take_gone();
+        let pending = locked.take_pending_notices();
         drop(locked);
-        self.let_go(gone);
+        self.notify_removed(pending);
     }
 
     /// Runs maintenance, but evicts at most `limit` entries. Returns whether something is left to
@@ -353,9 +353,9 @@ impl<K: Hash + Drop, V: Clone, C: CacheTypes<K, V>, W: Wait> Cache<K, V, C, W> {
     pub fn run_pending_tasks_up_to(&self, limit: u64) -> bool {
         let mut locked = self.lock();
         let is_cut = locked.run_pending_tasks_up_to(limit);
-        let gone = locked.take_gone();
+        let pending = locked.take_pending_notices();
         drop(locked);
-        self.let_go(gone);
+        self.notify_removed(pending);
         is_cut
     }
 
@@ -380,35 +380,35 @@ impl<K: Hash + Drop, V: Clone, C: CacheTypes<K, V>, W: Wait> Cache<K, V, C, W> {
     }
 
     // Locks the state and its clock, once nobody else holds the lock.
-    pub(crate) fn lock(&self) -> MutexGuard<'_, Locked<K, V, C>> {
-        self.inside.locked.lock(&self.inside.waits)
+    pub(crate) fn lock(&self) -> MutexGuard<'_, GuardedState<K, V, C>> {
+        self.inner.locked.lock(&self.inner.waits)
     }
 
     // Calls the listener with no lock held: for the first notice, and for at most `others` more.
     // Each of these is taken under the lock by itself.
-    pub(crate) fn let_go(&self, gone: Gone<K, V>)
-        requires { IfSome gone.first (λ notice. C.keeps (arc_value notice.key) notice.value) }
+    pub(crate) fn notify_removed(&self, pending: PendingNotices<K, V>)
+        requires { IfSome pending.first (λ notice. C.keeps (arc_value notice.key) notice.value) }
     {
-        let Gone { first, others } = gone;
+        let PendingNotices { first, others } = pending;
         let Some(first) = first else {
             return;
         };
-        self.tell(first);
+        self.notify(first);
         for _ in 0..others {
             let next = self.lock().take_notice();
             let Some(notice) = next else {
                 return;
             };
-            self.tell(notice);
+            self.notify(notice);
         }
     }
 
     // Calls the listener, if there is one.
-    fn tell(&self, notice: Notice<K, V>)
+    fn notify(&self, notice: Notice<K, V>)
         requires { C.keeps (arc_value notice.key) notice.value }
     {
-        if let Some(listener) = &self.inside.listener {
-            listener.tell(notice);
+        if let Some(listener) = &self.inner.listener {
+            listener.notify(notice);
         }
     }
 }
@@ -431,9 +431,9 @@ impl<K: Hash + Drop, V: Clone + Default, C: CacheTypes<K, V>, W: Wait> Cache<K, 
     {
         let mut locked = self.lock();
         let done = locked.or_default(key);
-        let gone = locked.take_gone();
+        let pending = locked.take_pending_notices();
         drop(locked);
-        self.let_go(gone);
+        self.notify_removed(pending);
         done
     }
 }

@@ -4,7 +4,7 @@ ghost use Rattle.std.specs.Arc.{arc_value};
 ghost use Rattle.moka_model.specs.Entries.{entry_of};
 ghost use Rattle.moka_state.specs.Begin.{EntryKeeps};
 ghost use Rattle.moka_state.specs.Finish.{IsComputed, OutcomeKeeps};
-ghost use Rattle.moka_locked.specs.Kept.{ResultKeeps};
+ghost use Rattle.moka_guarded.specs.Kept.{ResultKeeps};
 
 use crate::cache::Cache;
 use crate::value_initializer::ShownTurn;

@@ -4,7 +4,7 @@ ghost use Rattle.std.specs.Arc.{arc_value};
 ghost use Rattle.moka_model.specs.Entries.{entry_of};
 ghost use Rattle.moka_state.specs.Begin.{EntryKeeps};
 ghost use Rattle.moka_state.specs.Finish.{Fits, IsGiven, OutcomeKeeps, outcome_of};
-ghost use Rattle.moka_locked.specs.Kept.{AnswerFits, GivenKeeps};
+ghost use Rattle.moka_guarded.specs.Kept.{AnswerFits, GivenKeeps};
 
 use crate::cache::Cache;
 use crate::value_initializer::Asked;
@@ -24,7 +24,7 @@ pub(crate) fn without<F: Drop>(_closure: F) -> Option<F> {
 impl<K: Hash + Drop, V: Clone, C: CacheTypes<K, V>, W: Wait> Cache<K, V, C, W> {
     // Returns the live entry of a key, unless `replace_if` returns true for its value. A hit
     // allocates only the clone and shares the key; a miss changes nothing.
-    pub(crate) fn look<F: FnMut(&V) -> bool + Drop>(
+    pub(crate) fn find_acceptable<F: FnMut(&V) -> bool + Drop>(
         &self,
         key: &K,
         replace_if: Option<F>,
@@ -32,14 +32,14 @@ impl<K: Hash + Drop, V: Clone, C: CacheTypes<K, V>, W: Wait> Cache<K, V, C, W> {
         requires asks { IfSome replace_if (λ f. F.IsAlwaysCallable f) }
         ensures { IfOk result (λ found. IfSome found (EntryKeeps C.keeps key.now)) }
     {
-        self.lock().look(key, replace_if)
+        self.lock().find_acceptable(key, replace_if)
     }
 
     // Moves a value into an `Arc`. Fails only with `OutOfMemory`.
     pub(crate) fn share<T: Drop>(&self, value: T) -> Result<Arc<T>, Refused>
         ensures { IfOk result (λ shared. arc_value shared ≡ value) }
     {
-        match Arc::new(self.inside.alloc, value) {
+        match Arc::new(self.inner.alloc, value) {
             Ok(shared) => Ok(shared),
             Err(_) => Err(Refused::OutOfMemory),
         }
@@ -55,7 +55,7 @@ impl<K: Hash + Drop, V: Clone, C: CacheTypes<K, V>, W: Wait> Cache<K, V, C, W> {
         requires keeps { (v : V) → F.post init v → C.keeps key v }
         ensures { IfOk result (λ entry. C.keeps key (entry_of entry).value) }
     {
-        if let Some(found) = self.look(&key, without(|_: &V| false))? {
+        if let Some(found) = self.find_acceptable(&key, without(|_: &V| false))? {
             return Ok(found);
         }
         let key = self.share(key)?;
@@ -108,7 +108,7 @@ impl<K: Hash + Drop, V: Clone, C: CacheTypes<K, V>, W: Wait> Cache<K, V, C, W> {
         requires keeps { (o : Option V) → F.post init o → IfSome o (C.keeps key) }
         ensures { IfOk result (λ found. IfSome found (λ entry. C.keeps key (entry_of entry).value)) }
     {
-        if let Some(found) = self.look(&key, without(|_: &V| false))? {
+        if let Some(found) = self.find_acceptable(&key, without(|_: &V| false))? {
             return Ok(Some(found));
         }
         let key = self.share(key)?;
@@ -149,7 +149,7 @@ impl<K: Hash + Drop, V: Clone, C: CacheTypes<K, V>, W: Wait> Cache<K, V, C, W> {
         requires keeps { (r : Result V C.Error) → F.post init r → IfOk r (C.keeps key) }
         ensures { IfOk result (λ tried. IfOk tried (λ entry. C.keeps key (entry_of entry).value)) }
     {
-        if let Some(found) = self.look(&key, without(|_: &V| false))? {
+        if let Some(found) = self.find_acceptable(&key, without(|_: &V| false))? {
             return Ok(Ok(found));
         }
         let key = self.share(key)?;
@@ -255,7 +255,7 @@ impl<K: Hash + Clone + Drop, V: Clone, C: CacheTypes<K, V>, W: Wait> Cache<K, V,
         requires keeps { (v : V) → F.post init v → C.keeps key.now v }
         ensures { IfOk result (λ entry. C.keeps key.now (entry_of entry).value) }
     {
-        if let Some(found) = self.look(key, without(|_: &V| false))? {
+        if let Some(found) = self.find_acceptable(key, without(|_: &V| false))? {
             return Ok(found);
         }
         let copy = self.share_copy(key)?;
@@ -291,7 +291,7 @@ impl<K: Hash + Clone + Drop, V: Clone, C: CacheTypes<K, V>, W: Wait> Cache<K, V,
         ensures { IfOk result (λ found.
             IfSome found (λ entry. C.keeps key.now (entry_of entry).value)) }
     {
-        if let Some(found) = self.look(key, without(|_: &V| false))? {
+        if let Some(found) = self.find_acceptable(key, without(|_: &V| false))? {
             return Ok(Some(found));
         }
         let copy = self.share_copy(key)?;
@@ -310,7 +310,7 @@ impl<K: Hash + Clone + Drop, V: Clone, C: CacheTypes<K, V>, W: Wait> Cache<K, V,
         ensures { IfOk result (λ tried.
             IfOk tried (λ entry. C.keeps key.now (entry_of entry).value)) }
     {
-        if let Some(found) = self.look(key, without(|_: &V| false))? {
+        if let Some(found) = self.find_acceptable(key, without(|_: &V| false))? {
             return Ok(Ok(found));
         }
         let copy = self.share_copy(key)?;

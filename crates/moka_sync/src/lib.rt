@@ -1,6 +1,7 @@
 //! Caches that threads share, and the builder of all caches.
 #![tactic(auto)]
 
+mod build;
 pub mod builder;
 pub mod cache;
 mod compute_forms;
@@ -8,9 +9,8 @@ pub mod concurrent_cache_ext;
 mod entry_forms;
 pub mod entry_selector;
 mod get_with;
-mod hearer;
-mod opened;
-mod opening;
+mod mutex_with_initial;
+mod removal_notifier;
 pub mod segment;
 mod segment_forms;
 mod segment_turns;

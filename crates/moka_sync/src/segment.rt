@@ -5,12 +5,13 @@ ghost use Rattle.std.specs.Duration.{as_nanos};
 ghost use Rattle.std.specs.List.{AllByRecursion};
 ghost use Rattle.moka_segmented.specs.SegmentedData.{data_of};
 ghost use Rattle.moka_state.specs.Begin.{EntryKeeps};
-ghost use Rattle.moka_sync.specs.Builder.{nothing_said, segments_refused};
+ghost use Rattle.moka_sync.specs.Builder.{default_settings, segments_refused};
 ghost use Rattle.moka_sync.specs.Segments.{SegmentedCacheData, IsBuiltInSegments, IsSegmentOf};
-ghost use Rattle.moka_walks.specs.Walks.{start};
+ghost use Rattle.moka_iter.specs.Walks.{start};
 
 use crate::builder::{CacheBuilder, Segmented};
 use crate::cache::Cache;
+use moka_iter::iter::Iter;
 use moka_model::entry::Entry;
 use moka_policy::builder_utils::BuildError;
 use moka_policy::policy::{CacheTypes, Policy, Refused};
@@ -19,7 +20,6 @@ use moka_state::or_insert::OrInsertRefused;
 use moka_state::predicate_error::PredicateError;
 use moka_state::state::{InsertRefused, Settings};
 use moka_state::view::StateView;
-use moka_walks::iter::Iter;
 use std::alloc::{AllocError, Global};
 use std::fmt::{self, Debug, Formatter, Write};
 use std::hash::{BuildHasher, Hash, Hasher, RandomState};
@@ -54,16 +54,16 @@ pub(crate) struct AllSegments<K: Hash + Drop, V: Clone, C: CacheTypes<K, V>, W> 
 /// more, with no lock held.
 #[derive(Drop)]
 pub struct SegmentedCache<K: Hash + Drop, V: Clone, C: CacheTypes<K, V>, W> {
-    pub(crate) inside: Arc<AllSegments<K, V, C, W>>,
+    pub(crate) inner: Arc<AllSegments<K, V, C, W>>,
 }
 
 impl<K: Hash + Drop, V: Clone, C: CacheTypes<K, V>, W> Model for SegmentedCache<K, V, C, W> {
     ghost Value = { SegmentedCacheData K V C.Hasher C.Weigher C.Expiry C.Frequency C.Error C.Listener C.Clock };
 
     ghost view = { λ cache. record {
-      bits = (arc_value cache.inside).bits;
-      settings = data_of (arc_value cache.inside).settings;
-      segments = (arc_value cache.inside).segments.items;
+      bits = (arc_value cache.inner).bits;
+      settings = data_of (arc_value cache.inner).settings;
+      segments = (arc_value cache.inner).segments.items;
     } };
 }
 
@@ -72,7 +72,7 @@ impl<K: Hash + Drop, V: Clone, C: CacheTypes<K, V>, W: Drop> Clone for Segmented
 
     fn clone(&self) -> Result<Self, AllocError> {
         Ok(SegmentedCache {
-            inside: self.inside.clone()?,
+            inner: self.inner.clone()?,
         })
     }
 }
@@ -81,7 +81,7 @@ impl<K: Hash + Drop, V: Clone, C: CacheTypes<K, V>, W> Debug for SegmentedCache<
     /// Writes the cache's name and policy. Shows no entries, so it takes no lock.
     fn fmt<O: Write>(&self, f: &mut Formatter<O>) -> fmt::Result {
         f.debug_struct("SegmentedCache")
-            .field("name", &self.inside.settings.name)
+            .field("name", &self.inner.settings.name)
             .field("policy", &self.policy())
             .finish()
     }
@@ -97,7 +97,7 @@ impl<K: Hash + Drop, V: Clone, C: CacheTypes<K, V>, W> SegmentedCache<K, V, C, W
     /// - `TooManySegments`: the number is greater than 2^63.
     pub fn builder(num_segments: usize) -> Result<CacheBuilder<K, V, C, Segmented>, BuildError>
         ensures told { IfOk result
-            (λ builder. builder ≡ record nothing_said { num_segments = num_segments }) }
+            (λ builder. builder ≡ record default_settings { num_segments = num_segments }) }
         ensures refused { IfErr result (λ cause. segments_refused num_segments ≡ Some cause) }
     {
         CacheBuilder::default().segments(num_segments)
@@ -107,7 +107,7 @@ impl<K: Hash + Drop, V: Clone, C: CacheTypes<K, V>, W> SegmentedCache<K, V, C, W
     pub fn name(&self) -> Option<&str>
         ensures { option_map (λ name. name.now) result ≡ self.now.settings.name }
     {
-        self.inside.settings.name.as_deref()
+        self.inner.settings.name.as_deref()
     }
 
     /// Returns the capacity, the lifetimes and the number of segments that the cache was built
@@ -120,10 +120,10 @@ impl<K: Hash + Drop, V: Clone, C: CacheTypes<K, V>, W> SegmentedCache<K, V, C, W
         ensures time_to_idle { option_map as_nanos result.time_to_idle
             ≡ self.now.settings.time_to_idle }
     {
-        let settings = &self.inside.settings;
+        let settings = &self.inner.settings;
         Policy::new(
             settings.max_capacity,
-            self.inside.segments.len(),
+            self.inner.segments.len(),
             settings.time_to_live,
             settings.time_to_idle,
         )
@@ -135,9 +135,9 @@ impl<K: Hash + Drop, V: Clone, C: CacheTypes<K, V>, W> SegmentedCache<K, V, C, W
             ((⟦<C as StateView<K, V>>⟧.settings self.now.settings).behaviour.hash key.now)
             self.now.segments result.now }
     {
-        let mut state = self.inside.settings.hasher.build_hasher();
+        let mut state = self.inner.settings.hasher.build_hasher();
         key.hash(&mut state);
-        &self.inside.segments[number_of_segment(self.inside.bits, state.finish())]
+        &self.inner.segments[number_of_segment(self.inner.bits, state.finish())]
     }
 }
 
@@ -168,7 +168,7 @@ where
         waits: W,
     ) -> Result<Self, BuildError>
         ensures built { IfOk result (IsBuiltInSegments
-            (record nothing_said { max_capacity = Some max_capacity; num_segments = num_segments })
+            (record default_settings { max_capacity = Some max_capacity; num_segments = num_segments })
             hasher clock) }
         ensures empty { IfOk result (λ cache. AllByRecursion (λ segment.
             ⟦<C as StateView<K, V>>⟧.stands_for
@@ -236,7 +236,7 @@ impl<K: Hash + Drop, V: Clone, C: CacheTypes<K, V>, W: Wait> SegmentedCache<K, V
     ///
     /// Visits every entry.
     pub fn invalidate_all(&self) {
-        for segment in &self.inside.segments {
+        for segment in &self.inner.segments {
             segment.invalidate_all();
         }
     }
@@ -291,10 +291,10 @@ impl<K: Hash + Drop, V: Clone, C: CacheTypes<K, V>, W: Wait> SegmentedCache<K, V
         ensures cause { IfErr result
             (λ cause. cause ≡ PredicateError.InvalidationClosuresDisabled) }
     {
-        if !self.inside.settings.closures {
+        if !self.inner.settings.closures {
             return Err(PredicateError::InvalidationClosuresDisabled);
         }
-        for segment in &self.inside.segments {
+        for segment in &self.inner.segments {
             // This never fails: each segment was built with support for closures too.
             let _ = segment.hide_where(predicate);
         }
@@ -303,7 +303,7 @@ impl<K: Hash + Drop, V: Clone, C: CacheTypes<K, V>, W: Wait> SegmentedCache<K, V
 
     /// Calls [`Cache::run_pending_tasks`] on one segment after another.
     pub fn run_pending_tasks(&self) {
-        for segment in &self.inside.segments {
+        for segment in &self.inner.segments {
             segment.run_pending_tasks();
         }
     }
@@ -312,7 +312,7 @@ impl<K: Hash + Drop, V: Clone, C: CacheTypes<K, V>, W: Wait> SegmentedCache<K, V
     /// limit. Returns whether any of them left something to do.
     pub fn run_pending_tasks_up_to(&self, limit: u64) -> bool {
         let mut is_cut = false;
-        for segment in &self.inside.segments {
+        for segment in &self.inner.segments {
             is_cut |= segment.run_pending_tasks_up_to(limit);
         }
         is_cut
@@ -322,7 +322,7 @@ impl<K: Hash + Drop, V: Clone, C: CacheTypes<K, V>, W: Wait> SegmentedCache<K, V
     /// expired. It is at most `u64::MAX`.
     pub fn entry_count(&self) -> u64 {
         let mut count: u64 = 0;
-        for segment in &self.inside.segments {
+        for segment in &self.inner.segments {
             count = count.saturating_add(segment.entry_count());
         }
         count
@@ -331,7 +331,7 @@ impl<K: Hash + Drop, V: Clone, C: CacheTypes<K, V>, W: Wait> SegmentedCache<K, V
     /// Returns the total weight of the stored entries in all segments. It is at most `u64::MAX`.
     pub fn weighted_size(&self) -> u64 {
         let mut weight: u64 = 0;
-        for segment in &self.inside.segments {
+        for segment in &self.inner.segments {
             weight = weight.saturating_add(segment.weighted_size());
         }
         weight
@@ -342,7 +342,7 @@ impl<K: Hash + Drop, V: Clone, C: CacheTypes<K, V>, W: Wait> SegmentedCache<K, V
         ensures caches { result.caches ≡ self.entry.now.segments }
         ensures start { result.cursor ≡ start }
     {
-        Iter::new(&self.inside.segments)
+        Iter::new(&self.inner.segments)
     }
 }
 
@@ -359,7 +359,7 @@ impl<K: Hash + Drop, V: Clone + Default, C: CacheTypes<K, V>, W: Wait> Segmented
 impl<'i, K: Hash + Drop, V: Clone, C: CacheTypes<K, V>, W: Wait> IntoIterator
     for &'i SegmentedCache<K, V, C, W> {
     ghost use Rattle.std.specs.Prelude.{◌≡◌};
-    ghost use Rattle.moka_walks.specs.Walks.{start};
+    ghost use Rattle.moka_iter.specs.Walks.{start};
 
     type Item = Result<(Arc<K>, V), Refused>;
 

@@ -7,7 +7,7 @@ ghost use Rattle.moka_state.specs.Begin.{FoundKeeps, FoundKeepsFor, IsNamed};
 ghost use Rattle.moka_state.specs.Compute.{IsCompute, ShownKeepsFor};
 ghost use Rattle.moka_state.specs.Finish.{Fits, IsFinished, OutcomeKeeps, outcome_of};
 ghost use Rattle.moka_state.specs.Given.{IfUnspent};
-ghost use Rattle.moka_locked.specs.Kept.{CollectedFits, CollectedKeeps, FinishedKeeps};
+ghost use Rattle.moka_guarded.specs.Kept.{CollectedFits, CollectedKeeps, FinishedKeeps};
 
 use crate::segment::SegmentedCache;
 use moka_model::turns::{Kind, Outcome};

@@ -7,7 +7,7 @@ ghost use Rattle.moka_state.specs.Begin.{FoundKeeps, FoundKeepsFor, IsNamed};
 ghost use Rattle.moka_state.specs.Compute.{IsCompute, ShownKeepsFor};
 ghost use Rattle.moka_state.specs.Finish.{Fits, IsFinished, OutcomeKeeps, outcome_of};
 ghost use Rattle.moka_state.specs.Given.{IfUnspent};
-ghost use Rattle.moka_locked.specs.Kept.{CollectedFits, CollectedKeeps, FinishedKeeps};
+ghost use Rattle.moka_guarded.specs.Kept.{CollectedFits, CollectedKeeps, FinishedKeeps};
 
 use crate::cache::Cache;
 use moka_model::turns::{Kind, Outcome};
@@ -96,10 +96,10 @@ impl<K: Hash + Drop, V: Clone, C: CacheTypes<K, V>, W: Wait> Cache<K, V, C, W> {
     {
         let mut locked = self.lock();
         let done = locked.finish(turn, outcome);
-        let gone = locked.take_gone();
+        let pending = locked.take_pending_notices();
         drop(locked);
-        self.inside.ended.notify_all();
-        self.let_go(gone);
+        self.inner.ended.notify_all();
+        self.notify_removed(pending);
         done
     }
 
@@ -113,7 +113,7 @@ impl<K: Hash + Drop, V: Clone, C: CacheTypes<K, V>, W: Wait> Cache<K, V, C, W> {
         ensures cause { IfErr result (λ cause. cause ≡ Refused.UnknownTurn) }
     {
         let done = self.lock().abandon(turn);
-        self.inside.ended.notify_all();
+        self.inner.ended.notify_all();
         done
     }
 

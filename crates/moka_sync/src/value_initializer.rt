@@ -8,7 +8,7 @@ ghost use Rattle.std.specs.Arc.{arc_value};
 ghost use Rattle.moka_turns.specs.Handles.{ticket_name};
 ghost use Rattle.moka_state.specs.Begin.{FoundKeeps, FoundKeepsFor, IsNamed};
 ghost use Rattle.moka_state.specs.Given.{IfUnspent};
-ghost use Rattle.moka_locked.specs.Kept.{CollectedFits, CollectedKeeps};
+ghost use Rattle.moka_guarded.specs.Kept.{CollectedFits, CollectedKeeps};
 ghost use Rattle.moka_sync.specs.Waiting.{AskedKeeps, IsShownTurn};
 
 use crate::cache::Cache;
@@ -16,12 +16,12 @@ use crate::entry_forms::without;
 use moka_model::entry::Entry;
 use moka_model::turns::Kind;
 use moka_policy::policy::{CacheTypes, Refused};
+use moka_single_flight::participant::Participant;
+use moka_single_flight::replies as waiting;
+use moka_single_flight::replies::Joined;
+use moka_single_flight::wait::{MAX_RETRIES, wait_for};
 use moka_state::answers::{Answer, Begun, BegunCompute, CollectRefused, Collected};
 use moka_state::handles::{Ticket, Turn};
-use moka_waiting::answers as waiting;
-use moka_waiting::answers::Waited;
-use moka_waiting::caller::Caller;
-use moka_waiting::wait::{MAX_RETRIES, wait_for};
 use std::hash::Hash;
 use std::marker::{Model, PhantomData};
 use std::sync::{Arc, Wait};
@@ -94,10 +94,13 @@ impl<K, V, P: FnMut(&V) -> bool> Initializer<K, V, P> {
     }
 }
 
-impl<K: Hash + Drop, V: Clone, C: CacheTypes<K, V>, W: Wait, P: FnMut(&V) -> bool + Drop> Caller<
-    Cache<K, V, C, W>,
-    Answer<K, V, C::Error>,
-> for Initializer<K, V, P> {
+impl<
+    K: Hash + Drop,
+    V: Clone,
+    C: CacheTypes<K, V>,
+    W: Wait,
+    P: FnMut(&V) -> bool + Drop,
+> Participant<Cache<K, V, C, W>, Answer<K, V, C::Error>> for Initializer<K, V, P> {
     ghost use Rattle.std.specs.Prelude.{◌≡◌, ⊤};
     ghost use Rattle.moka_sync.specs.Waiting.{BeginTells, CollectTells};
 
@@ -152,7 +155,7 @@ impl<K: Hash + Drop, V: Clone, C: CacheTypes<K, V>, W: Wait, P: FnMut(&V) -> boo
     }
 }
 
-impl<K: Hash + Drop, V: Clone, C: CacheTypes<K, V>, W: Wait> Caller<Cache<K, V, C, W>, ()>
+impl<K: Hash + Drop, V: Clone, C: CacheTypes<K, V>, W: Wait> Participant<Cache<K, V, C, W>, ()>
     for Computer<K> {
     ghost use Rattle.std.specs.Prelude.{◌≡◌, ⊤};
     ghost use Rattle.moka_model.specs.declared.turns.Kind.TheVariants.{Compute};
@@ -231,7 +234,7 @@ impl<K: Hash + Drop, V: Clone, C: CacheTypes<K, V>, W: Wait> Cache<K, V, C, W> {
         let mut locked = self.lock();
         match locked.collect(ticket) {
             Ok(Collected::NotYet(ticket)) => {
-                drop(self.inside.ended.wait(&self.inside.waits, locked));
+                drop(self.inner.ended.wait(&self.inner.waits, locked));
                 Ok(Collected::NotYet(ticket))
             }
             Ok(collected) => Ok(collected),
@@ -257,10 +260,10 @@ impl<K: Hash + Drop, V: Clone, C: CacheTypes<K, V>, W: Wait> Cache<K, V, C, W> {
         ensures { IfOk result (AskedKeeps C.keeps kind (arc_value key)) }
     {
         let mut caller = Initializer::new(key, kind, replace_if);
-        match wait_for(&self.inside.waits, &mut caller, self, Some(MAX_RETRIES)) {
-            Ok(Waited::Value(answer)) => Ok(Asked::Answer(answer)),
-            Ok(Waited::Turn(turn)) => Ok(Asked::Turn(turn)),
-            Ok(Waited::TooMany) => Err(Refused::WaitsAbandoned),
+        match wait_for(&self.inner.waits, &mut caller, self, Some(MAX_RETRIES)) {
+            Ok(Joined::Value(answer)) => Ok(Asked::Answer(answer)),
+            Ok(Joined::Turn(turn)) => Ok(Asked::Turn(turn)),
+            Ok(Joined::TooMany) => Err(Refused::WaitsAbandoned),
             Err(cause) => Err(cause),
         }
     }
@@ -270,10 +273,10 @@ impl<K: Hash + Drop, V: Clone, C: CacheTypes<K, V>, W: Wait> Cache<K, V, C, W> {
         ensures { IfOk result (IsShownTurn C.keeps (arc_value key)) }
     {
         let mut caller = Computer { key, keep };
-        match wait_for(&self.inside.waits, &mut caller, self, None) {
-            Ok(Waited::Turn(turn)) => Ok(turn),
-            Ok(Waited::Value(())) => unreachable!(),
-            Ok(Waited::TooMany) => unreachable!(),
+        match wait_for(&self.inner.waits, &mut caller, self, None) {
+            Ok(Joined::Turn(turn)) => Ok(turn),
+            Ok(Joined::Value(())) => unreachable!(),
+            Ok(Joined::TooMany) => unreachable!(),
             Err(cause) => Err(cause),
         }
     }

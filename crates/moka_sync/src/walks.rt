@@ -1,10 +1,10 @@
 //! Iteration over a shared cache. It holds no lock between two steps.
 ghost use Rattle.std.specs.Prelude.{◌≡◌, ◌∷◌, []};
-ghost use Rattle.moka_walks.specs.Walks.{start};
+ghost use Rattle.moka_iter.specs.Walks.{start};
 
 use crate::cache::Cache;
+use moka_iter::iter::{Iter, ScanningGet};
 use moka_policy::policy::{CacheTypes, Refused};
-use moka_walks::iter::{Iter, ScanningGet};
 use std::hash::Hash;
 use std::slice;
 use std::sync::{Arc, Wait};
@@ -64,7 +64,7 @@ impl<K: Hash + Drop, V: Clone, C: CacheTypes<K, V>, W: Wait> Cache<K, V, C, W> {
 impl<'i, K: Hash + Drop, V: Clone, C: CacheTypes<K, V>, W: Wait> IntoIterator
     for &'i Cache<K, V, C, W> {
     ghost use Rattle.std.specs.Prelude.{◌≡◌, ◌∷◌, []};
-    ghost use Rattle.moka_walks.specs.Walks.{start};
+    ghost use Rattle.moka_iter.specs.Walks.{start};
 
     type Item = Result<(Arc<K>, V), Refused>;
 

@@ -1,7 +1,15 @@
-//! The tests of the builder, and of the shared cache.
+//! The tests of the shared cache: what each call returns, and how callers wait for each other.
 #![tactic(auto)]
 
 #[cfg(test)]
-mod building;
+mod caches;
 #[cfg(test)]
-mod shared;
+mod calls;
+#[cfg(test)]
+mod marks;
+#[cfg(test)]
+mod replies;
+#[cfg(test)]
+mod told;
+#[cfg(test)]
+mod waiting;

@@ -1,5 +1,5 @@
-pub mod Look
+pub mod LiveEntry
 pub mod Lookup
 pub mod Notices
 pub mod Table
-pub mod Target
+pub mod WriteSlot

@@ -11,7 +11,7 @@ use Rattle.moka_rows.specs.declared.rows.Row.{Row}
 use Rattle.moka_rows.specs.declared.rows.Order.{Order}
 use Rattle.moka_rows.specs.declared.rows.Order.TheVariants.{Admitted, Waiting}
 use Rattle.moka_table.specs.declared.table.Weights.{Weights}
-use Rattle.moka_ways.specs.Lives.{own_of}
+use Rattle.moka_expiration.specs.ExpirationPolicy.{own_of}
 use Rattle.moka_rows.specs.Rows.{with_row, without_row, row_under}
 
 -- The contents of a table: the rows of both orders, the notices not taken, whether a row may be invalidated, and a

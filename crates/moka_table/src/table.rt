@@ -9,7 +9,7 @@ ghost use Rattle.moka_table.specs.Lookup.{IsLookupOf};
 ghost use Rattle.moka_table.specs.Table.{Contents, entries, weight_of, weight_in, AreShown, SameRows, UsesRow, TakesRow, EvictsOne, IsKept};
 
 use moka_model::notification::{Notice, RemovalCause};
-use moka_rows::rows::{Before, EntryInfo, Order, Row, RowStore, Touch};
+use moka_rows::rows::{Access, EntryInfo, Order, Previous, Row, RowStore};
 use std::alloc::{AllocError, Global};
 use std::collections::VecDeque;
 use std::marker::Model;
@@ -316,7 +316,7 @@ impl<K: Eq + Drop, V: Drop, R: RowStore<K, V>> Table<K, V, R> {
     /// Applies an access to a row. Keeps the weight, the moment of the last write and the mark
     /// `is_hidden`.
     #[inline(always)]
-    pub fn touch(&mut self, number: usize, touch: Touch)
+    pub fn touch(&mut self, number: usize, touch: Access)
         requires { IsSome (row_under number (entries self.old)) }
         ensures rows { UsesRow number (touched touch) self.old self.new }
         ensures notices { self.new.notices ≡ self.old.notices }

@@ -4,8 +4,8 @@ ghost use Rattle.moka_state.specs.Rows.{row_under};
 
 use crate::subject::room;
 use moka_state::list_rows::ListRows;
-use moka_state::packed::PackedInfo;
-use moka_state::rows::{EntryInfo, Row, RowStore, Touch};
+use moka_state::packed::PackedEntryInfo;
+use moka_state::rows::{Access, EntryInfo, Row, RowStore};
 use std::alloc::{AllocError, Global};
 use std::process::Abort;
 use std::sync::Arc;
@@ -40,7 +40,7 @@ const USED: EntryInfo = EntryInfo {
 };
 
 /// An access at the moment of `LATER`.
-const AT_LATER: Touch = Touch {
+const AT_LATER: Access = Access {
     last_accessed: 8,
     own_life: None,
     deadline: None,
@@ -66,7 +66,7 @@ enum Use {
     Read,
     IsAdmitted,
     Next,
-    Touch,
+    Access,
     Overwrite(&'static str),
     Remove,
 }
@@ -79,7 +79,7 @@ enum Answer {
     /// The row of this key, found by its row number.
     Key(u64),
     Value(&'static str, EntryInfo),
-    Before(&'static str),
+    Previous(&'static str),
     Absent,
 }
 
@@ -127,11 +127,11 @@ fn used<R: RowStore<u64, &'static str>>(
         Use::Read => value_of(rows.row(number)),
         Use::IsAdmitted => Answer::Is(rows.is_admitted(number)),
         Use::Next => row_of(keys, rows.next(number, &mut 0)),
-        Use::Touch => {
+        Use::Access => {
             rows.touch(number, AT_LATER);
             Answer::Done
         }
-        Use::Overwrite(value) => Answer::Before(rows.overwrite(number, value, LATER).value),
+        Use::Overwrite(value) => Answer::Previous(rows.overwrite(number, value, LATER).value),
         Use::Remove => value_of(&rows.remove(number).0),
     }
 }
@@ -175,7 +175,7 @@ fn add<R: RowStore<u64, &'static str>>(
         key,
         hash,
         value,
-        info: PackedInfo::new(FIRST),
+        info: PackedEntryInfo::new(FIRST),
     }))
 }
 
@@ -238,10 +238,10 @@ const KEPT: [(Call, Answer); 21] = [
     (Call::Of(2, 7, Use::Read), Answer::Value("two", FIRST)),
     (
         Call::Of(2, 7, Use::Overwrite("two again")),
-        Answer::Before("two"),
+        Answer::Previous("two"),
     ),
     (Call::Of(2, 7, Use::Read), Answer::Value("two again", LATER)),
-    (Call::Of(1, 7, Use::Touch), Answer::Done),
+    (Call::Of(1, 7, Use::Access), Answer::Done),
     (Call::Of(1, 7, Use::Read), Answer::Value("one", USED)),
     (
         Call::Of(2, 7, Use::Remove),
@@ -282,11 +282,11 @@ const ADMITTED: [(Call, Answer); 22] = [
     (Call::Of(2, 7, Use::Next), Answer::Absent),
     (Call::Of(2, 7, Use::IsAdmitted), Answer::Is(true)),
     // An access makes a resident row the most recently used.
-    (Call::Of(1, 7, Use::Touch), Answer::Done),
+    (Call::Of(1, 7, Use::Access), Answer::Done),
     (Call::FirstAdmitted, Answer::Key(2)),
     (
         Call::Of(2, 7, Use::Overwrite("again")),
-        Answer::Before("two"),
+        Answer::Previous("two"),
     ),
     (Call::FirstAdmitted, Answer::Key(1)),
 ];

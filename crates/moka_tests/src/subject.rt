@@ -15,7 +15,7 @@ use crate::keys::{ByNumber, Collides, Key};
 use crate::values::{Counts, EitherText, Given, Types, Value, Watch};
 use moka_base::notification::RemovalCause;
 use moka_base::policy::{CacheTypes, EvictionPolicy, Predicate, Refused};
-use moka_state::due_rows::DueRows;
+use moka_state::expiring_rows::ExpiringRows;
 use moka_state::list_rows::ListRows;
 use moka_state::predicate_error::PredicateError;
 use moka_state::rows::RowStore;
@@ -31,7 +31,7 @@ use std::test::Fail;
 use std::time::Duration;
 
 /// The row store of the caches.
-pub(crate) type CacheRows<K, V> = DueRows<K, V>;
+pub(crate) type CacheRows<K, V> = ExpiringRows<K, V>;
 
 /// How a cache is built. A flush limit of 0 counts as none, and so does one beside a weigher.
 #[derive(Clone, Copy)]

@@ -19,7 +19,7 @@ use Rattle.moka_turns.specs.declared.table.OpenTurn.{OpenTurn}
 use Rattle.moka_turns.specs.declared.table.TurnEnd.{TurnEnd}
 use Rattle.moka_turns.specs.declared.table.EndedTurn.{EndedTurn}
 use Rattle.moka_turns.specs.TurnKey.{same_key}
-use Rattle.moka_turns.specs.Keeps.{name_of, end_of, Agree, IsOpenRow, IsEndedRow, Keeps, AreSound}
+use Rattle.moka_turns.specs.Represents.{name_of, end_of, Agree, IsOpenRow, IsEndedRow, Represents, AreSound}
 use Rattle.moka_turns.proofs.Searches.{found-none, found-one, at_most_one, after_end, none-open, others-open, others-ended, own-ended, own-gone, own-before}
 
 pub same_kind-refl : (a : Kind) → same_kind a a ≡ true
@@ -104,7 +104,7 @@ module _ {A B : Type 0} (P : A → B → Type 0) where
 
 module _ {K V E : Type 0} (eq : K → K → Bool) (laws : IsEquivalence eq) (is_clone : V → V → Type 0) (hash_of : K → ℕ) (respects : (a b : K) → eq a b ≡ true → hash_of a ≡ hash_of b)
     (ts : List (Turn K V E)) (sound : AreSound eq ts) (old_open : TurnKey K → Option (OpenTurn V)) (old_ended : ℕ → Option (EndedTurn K V E))
-    (keeps : Keeps eq is_clone hash_of ts old_open old_ended) (q : TurnKey K) (hashed : q.hash ≡ hash_of (arc_value q.key)) (row : OpenTurn V) (there : old_open q ≡ Some row) where
+    (keeps : Represents eq is_clone hash_of ts old_open old_ended) (q : TurnKey K) (hashed : q.hash ≡ hash_of (arc_value q.key)) (row : OpenTurn V) (there : old_open q ≡ Some row) where
   -- the turn of the entry
   pub the_turn : (t : Turn K V E) × (found (is_open_for eq q.kind (arc_value q.key)) ts ≡ Some t) × IsOpenRow eq is_clone t row
   the_turn = agree-some (IsOpenRow eq is_clone) (found (is_open_for eq q.kind (arc_value q.key)) ts) (old_open q) row (keeps.opened_is q hashed) there
@@ -200,12 +200,12 @@ module _ {K V E : Type 0} (eq : K → K → Bool) (laws : IsEquivalence eq) (is_
                 rw (own-gone eq ts sound.0 sound.1 t member.0 is_open_now final none, kept) tt
 
     -- the table keeps the turns, of which that one has ended
-    pub end-keeps : Keeps eq is_clone hash_of ts_after new_open new_ended
+    pub end-keeps : Represents eq is_clone hash_of ts_after new_open new_ended
     end-keeps = record { opened_is = opened_after; ended_is = ended_after }
 
 -- The turn with a name, by its key and its number.
 module _ {K V E : Type 0} (eq : K → K → Bool) (is_clone : V → V → Type 0) (hash_of : K → ℕ) (ts : List (Turn K V E)) (sound : AreSound eq ts)
-    (opened : TurnKey K → Option (OpenTurn V)) (ended : ℕ → Option (EndedTurn K V E)) (keeps : Keeps eq is_clone hash_of ts opened ended) (q : TurnKey K) (hashed : q.hash ≡ hash_of (arc_value q.key)) (number : ℕ) where
+    (opened : TurnKey K → Option (OpenTurn V)) (ended : ℕ → Option (EndedTurn K V E)) (keeps : Represents eq is_clone hash_of ts opened ended) (q : TurnKey K) (hashed : q.hash ≡ hash_of (arc_value q.key)) (number : ℕ) where
   name_parts : (u : Turn K V E) → is_open_as eq (name_of q number) u ≡ true → (u.name.number ≡ number) × (is_open_for eq q.kind (arc_value q.key) u ≡ true)
   name_parts u on_u =
       let one = and_parts (is_open u) (same_name eq u.name (name_of q number)) on_u in

@@ -15,7 +15,7 @@ use Rattle.moka_turns.specs.declared.begin.TurnBegun.{TurnBegun}
 use Rattle.moka_turns.specs.declared.begin.TurnBegun.TheVariants.{Run, Wait}
 use Rattle.moka_turns.specs.declared.handles.Turn as turn_handles
 use Rattle.moka_turns.specs.Handles.{turn_name}
-use Rattle.moka_turns.specs.Keeps.{name_of, IsOpenRow, Keeps, AreSound}
+use Rattle.moka_turns.specs.Represents.{name_of, IsOpenRow, Represents, AreSound}
 use Rattle.moka_turns.specs.Begun.{IsBegun}
 use Rattle.moka_turns.proofs.Abandons.{the_turn, unknown, known}
 use Rattle.moka_turns.proofs.Opens.{none-agree}
@@ -31,7 +31,7 @@ same-there {V} o row other is there = let e : row ≡ other = cc in ap (λ (r : 
 
 module _ {K V E : Type 0} (eq : K → K → Bool) (laws : IsEquivalence eq) (is_clone : V → V → Type 0) (hash_of : K → ℕ) (respects : (a b : K) → eq a b ≡ true → hash_of a ≡ hash_of b)
     (ts : List (Turn K V E)) (sound : AreSound eq ts) (opened : TurnKey K → Option (OpenTurn V)) (ended : ℕ → Option (EndedTurn K V E))
-    (keeps : Keeps eq is_clone hash_of ts opened ended) (q : TurnKey K) (hashed : q.hash ≡ hash_of (arc_value q.key)) where
+    (keeps : Represents eq is_clone hash_of ts opened ended) (q : TurnKey K) (hashed : q.hash ≡ hash_of (arc_value q.key)) where
   module _ (After : List (Turn K V E) → Type 0) (number : ℕ) (may_wait : Bool) (result : Result (TurnBegun K) Refused) where
     abbrev Begun : Option (Turn K V E) → Type 0
     Begun o = IsBegun After q number may_wait ts o result
@@ -50,7 +50,7 @@ module _ {K V E : Type 0} (eq : K → K → Bool) (laws : IsEquivalence eq) (is_
 
   module _ (new_open : TurnKey K → Option (OpenTurn V)) (new_ended : ℕ → Option (EndedTurn K V E)) (number : ℕ) (may_wait : Bool) where
     abbrev After : List (Turn K V E) → Type 0
-    After after = Keeps eq is_clone hash_of after new_open new_ended
+    After after = Represents eq is_clone hash_of after new_open new_ended
 
     -- a ticket of the open turn is given out
     pub waits : (row : OpenTurn V) → opened q ≡ Some row → (own : ℕ) → (row.number ≡ own) × (row.unspent < 2 ^ 64 - 1) → may_wait ≡ true → After (moved (Waited own) ts)

@@ -10,7 +10,7 @@ use Rattle.moka_turns.specs.declared.turn_key.TurnKey.{TurnKey}
 use Rattle.moka_turns.specs.declared.table.OpenTurn.{OpenTurn}
 use Rattle.moka_turns.specs.declared.table.EndedTurn.{EndedTurn}
 use Rattle.moka_turns.specs.TurnKey.{same_key}
-use Rattle.moka_turns.specs.Keeps.{Agree, IsOpenRow, IsEndedRow, Keeps, AreSound}
+use Rattle.moka_turns.specs.Represents.{Agree, IsOpenRow, IsEndedRow, Represents, AreSound}
 use Rattle.moka_turns.proofs.Searches.{found-one, at_most_one, found-other}
 use Rattle.moka_turns.proofs.Opens.{and-false}
 use Rattle.moka_turns.proofs.Abandons.{the_turn, member, is_open_now, passes, fails}
@@ -40,7 +40,7 @@ module _ {K V E : Type 0} where
 
 module _ {K V E : Type 0} (eq : K → K → Bool) (laws : IsEquivalence eq) (is_clone : V → V → Type 0) (hash_of : K → ℕ) (respects : (a b : K) → eq a b ≡ true → hash_of a ≡ hash_of b)
     (ts : List (Turn K V E)) (sound : AreSound eq ts) (old_open : TurnKey K → Option (OpenTurn V)) (ended : ℕ → Option (EndedTurn K V E))
-    (keeps : Keeps eq is_clone hash_of ts old_open ended) (q : TurnKey K) (hashed : q.hash ≡ hash_of (arc_value q.key)) (row : OpenTurn V) (there : old_open q ≡ Some row)
+    (keeps : Represents eq is_clone hash_of ts old_open ended) (q : TurnKey K) (hashed : q.hash ≡ hash_of (arc_value q.key)) (row : OpenTurn V) (there : old_open q ≡ Some row)
     (new_open : TurnKey K → Option (OpenTurn V)) (change : Turn K V E → Turn K V E) (named : (u : Turn K V E) → (change u).name ≡ u.name) (as_open : (u : Turn K V E) → is_open (change u) ≡ is_open u)
     (row_after : OpenTurn V) (stands_after : (u : Turn K V E) → IsOpenRow eq is_clone u row → IsOpenRow eq is_clone (change u) row_after)
     (opened : (p : TurnKey K) → new_open p ≡ cond (same_key eq q p) (Some row_after) (old_open p)) where
@@ -89,5 +89,5 @@ module _ {K V E : Type 0} (eq : K → K → Bool) (laws : IsEquivalence eq) (is_
       still u now = ap (λ b. (u.name.number == m) && (not b && has_ticket u)) now ∙ and-false (u.name.number == m)
 
   -- the table keeps the turns, of which that one has changed
-  pub change-keeps : Keeps eq is_clone hash_of with_change new_open ended
+  pub change-keeps : Represents eq is_clone hash_of with_change new_open ended
   change-keeps = record { opened_is = opened_after; ended_is = ended_after }

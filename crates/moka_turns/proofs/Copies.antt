@@ -2,7 +2,7 @@
 use Rattle.std.proofs.Common.{◌≡◌, true, Option, Some, None, refl, ◌∙◌, subst, is_none}
 use Rattle.moka_model.specs.Turns.{End, Value, Nothing, Failed, Computed, Abandoned}
 use Rattle.moka_model.specs.Calls.{IsCopyOf, IsCopiedEnd}
-use Rattle.moka_turns.specs.Told.{TakesCopy}
+use Rattle.moka_turns.specs.CollectState.{TakesCopy}
 
 -- an open turn has no end
 pub none-there : {A : Type 0} (o : Option A) → is_none o ≡ true → o ≡ None

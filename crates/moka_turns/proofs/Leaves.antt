@@ -12,8 +12,8 @@ use Rattle.moka_model.proofs.Callers.{found-is, Was, changed, left, in_numbered,
 use Rattle.moka_turns.specs.declared.turn_key.TurnKey.{TurnKey}
 use Rattle.moka_turns.specs.declared.table.OpenTurn.{OpenTurn}
 use Rattle.moka_turns.specs.declared.table.EndedTurn.{EndedTurn}
-use Rattle.moka_turns.specs.Keeps.{name_of, Agree, IsOpenRow, IsEndedRow, Keeps, AreSound}
-use Rattle.moka_turns.specs.Table.{one_less, kept_ended}
+use Rattle.moka_turns.specs.Represents.{name_of, Agree, IsOpenRow, IsEndedRow, Represents, AreSound}
+use Rattle.moka_turns.specs.Table.{one_less, retained_ended}
 use Rattle.moka_turns.proofs.Searches.{found-none, found-one, at_most_one, found-other, in_mapped}
 use Rattle.moka_turns.proofs.Opens.{and-false}
 use Rattle.moka_turns.proofs.Abandons.{agree-some, some-agree, kinds-same, the_turn, member}
@@ -44,7 +44,7 @@ some-left (suc n) = refl
 
 module _ {K V E : Type 0} (eq : K → K → Bool) (laws : IsEquivalence eq) (is_clone : V → V → Type 0) (hash_of : K → ℕ) (respects : (a b : K) → eq a b ≡ true → hash_of a ≡ hash_of b)
     (ts : List (Turn K V E)) (sound : AreSound eq ts) (opened : TurnKey K → Option (OpenTurn V)) (ended : ℕ → Option (EndedTurn K V E))
-    (keeps : Keeps eq is_clone hash_of ts opened ended) (q : TurnKey K) (hashed : q.hash ≡ hash_of (arc_value q.key)) (number : ℕ) where
+    (keeps : Represents eq is_clone hash_of ts opened ended) (q : TurnKey K) (hashed : q.hash ≡ hash_of (arc_value q.key)) (number : ℕ) where
   parts : (u : Turn K V E) → has_ticket_as eq (name_of q number) u ≡ true → (has_ticket u ≡ true) × (u.name.number ≡ number) × (is_for eq q.kind (arc_value q.key) u ≡ true)
   parts u on_u =
       let one = and_parts (has_ticket u) (same_name eq u.name (name_of q number)) on_u in
@@ -100,7 +100,7 @@ module _ {K V E : Type 0} (eq : K → K → Bool) (laws : IsEquivalence eq) (is_
     pub ended-number : t.name.number ≡ number
     ended-number = facts.0
 
-    module _ (new_ended : ℕ → Option (EndedTurn K V E)) (spent_is : (m : ℕ) → new_ended m ≡ cond (number == m) (kept_ended (one_less row)) (ended m)) where
+    module _ (new_ended : ℕ → Option (EndedTurn K V E)) (spent_is : (m : ℕ) → new_ended m ≡ cond (number == m) (retained_ended (one_less row)) (ended m)) where
       abbrev after_it : List (Turn K V E)
       after_it = map (numbered number spent) ts
 
@@ -118,7 +118,7 @@ module _ {K V E : Type 0} (eq : K → K → Bool) (laws : IsEquivalence eq) (is_
         where
           other : ((m == number) ≡ false) × (m ≢ number) → Agree (IsEndedRow eq is_clone) (found (is_ended_as m) after_it) (new_ended m)
           other differs =
-              let still : new_ended m ≡ ended m = spent_is m ∙ ap (λ b. cond b (kept_ended (one_less row)) (ended m)) (ne_eqb number m (λ e. differs.1 (sym e))) in
+              let still : new_ended m ≡ ended m = spent_is m ∙ ap (λ b. cond b (retained_ended (one_less row)) (ended m)) (ne_eqb number m (λ e. differs.1 (sym e))) in
               rw (ap first_of (found-other (is_ended_as m) number spent ts (λ u is_u same. (off u same, off (spent u) same))), still) (keeps.ended_is m)
             where
               off : (u : Turn K V E) → u.name.number ≡ number → is_ended_as m u ≡ false
@@ -127,8 +127,8 @@ module _ {K V E : Type 0} (eq : K → K → Bool) (laws : IsEquivalence eq) (is_
           own : ((m == number) ≡ true) × (m ≡ number) → Agree (IsEndedRow eq is_clone) (found (is_ended_as m) after_it) (new_ended m)
           own same = subst (λ n. Agree (IsEndedRow eq is_clone) (found (is_ended_as n) after_it) (new_ended n)) (sym same.1) (go (nat_lt 0 (row.unspent - 1)) refl)
             where
-              now : new_ended number ≡ kept_ended (one_less row)
-              now = spent_is number ∙ ap (λ b. cond b (kept_ended (one_less row)) (ended number)) (eq-eqb number number refl)
+              now : new_ended number ≡ retained_ended (one_less row)
+              now = spent_is number ∙ ap (λ b. cond b (retained_ended (one_less row)) (ended number)) (eq-eqb number number refl)
 
               last : has_ticket (spent t) ≡ nat_lt 0 (row.unspent - 1)
               last = ap (λ n. nat_le 1 (n - 1)) (sym the_ended.2.unspent) ∙ sym (some-left (row.unspent - 1))
@@ -167,7 +167,7 @@ module _ {K V E : Type 0} (eq : K → K → Bool) (laws : IsEquivalence eq) (is_
                       by_was (v, is_v, left other e) = ap (is_ended_as number) (sym e) ∙ ap (λ b. b && (not (is_open v) && has_ticket v)) (ne_eqb v.name.number number other)
 
       -- the table keeps the turns, of which that one has a ticket less
-      pub leave-keeps : Keeps eq is_clone hash_of after_it opened new_ended
+      pub leave-keeps : Represents eq is_clone hash_of after_it opened new_ended
       leave-keeps = record { opened_is = opened_after; ended_is = ended_after }
 
   abbrev pub is_awaited : OpenTurn V → Bool

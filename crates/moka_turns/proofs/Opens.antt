@@ -12,7 +12,7 @@ use Rattle.moka_turns.specs.declared.turn_key.TurnKey.{TurnKey}
 use Rattle.moka_turns.specs.declared.table.OpenTurn.{OpenTurn}
 use Rattle.moka_turns.specs.declared.table.EndedTurn.{EndedTurn}
 use Rattle.moka_turns.specs.TurnKey.{same_key}
-use Rattle.moka_turns.specs.Keeps.{name_of, Agree, IsOpenRow, IsEndedRow, Keeps}
+use Rattle.moka_turns.specs.Represents.{name_of, Agree, IsOpenRow, IsEndedRow, Represents}
 use Rattle.moka_turns.proofs.Abandons.{same_kind-refl}
 
 pub and-false : (b : Bool) → (b && false) ≡ false
@@ -36,7 +36,7 @@ module _ {K V E : Type 0} where
       ap first_of (filter-append test ts (u ∷ []) ∙ ap (λ l. l ++ filter test (u ∷ [])) (first-none (filter test ts) none) ∙ ap (λ b. cond b (u ∷ []) []) passes)
 
 module _ {K V E : Type 0} (eq : K → K → Bool) (laws : IsEquivalence eq) (is_clone : V → V → Type 0) (hash_of : K → ℕ) (respects : (a b : K) → eq a b ≡ true → hash_of a ≡ hash_of b)
-    (ts : List (Turn K V E)) (old_open new_open : TurnKey K → Option (OpenTurn V)) (ended : ℕ → Option (EndedTurn K V E)) (keeps : Keeps eq is_clone hash_of ts old_open ended)
+    (ts : List (Turn K V E)) (old_open new_open : TurnKey K → Option (OpenTurn V)) (ended : ℕ → Option (EndedTurn K V E)) (keeps : Represents eq is_clone hash_of ts old_open ended)
     (q : TurnKey K) (hashed : q.hash ≡ hash_of (arc_value q.key)) (absent : old_open q ≡ None) (row : OpenTurn V) (kept : Option V) (copy : IsCopyOf is_clone kept row.kept) (none_waits : row.unspent ≡ 0)
     (opened : (p : TurnKey K) → new_open p ≡ cond (same_key eq q p) (Some row) (old_open p)) where
   abbrev t : Turn K V E
@@ -78,5 +78,5 @@ module _ {K V E : Type 0} (eq : K → K → Bool) (laws : IsEquivalence eq) (is_
   ended_after m = rw (found-before (is_ended_as m) ts t (and-false (row.number == m))) (keeps.ended_is m)
 
   -- the table keeps the turns, and the new one
-  pub add-keeps : Keeps eq is_clone hash_of with_opened new_open ended
+  pub add-keeps : Represents eq is_clone hash_of with_opened new_open ended
   add-keeps = record { opened_is = opened_after; ended_is = ended_after }

@@ -17,7 +17,7 @@ use Rattle.moka_turns.specs.declared.table.OpenTurn.{OpenTurn}
 use Rattle.moka_turns.specs.declared.table.EndedTurn.{EndedTurn}
 use Rattle.moka_turns.specs.TurnKey.{same_key}
 use Rattle.moka_turns.proofs.Abandons.{kinds-same}
-use Rattle.moka_turns.specs.Keeps.{open_turn, ended_turn, is_hashed, turns_in, IsOpenRow, IsEndedRow, Keeps}
+use Rattle.moka_turns.specs.Represents.{open_turn, ended_turn, is_hashed, turns_in, IsOpenRow, IsEndedRow, Represents}
 
 same_kind-sym : (a b : Kind) → same_kind a b ≡ same_kind b a
 same_kind-sym With With = refl
@@ -146,7 +146,7 @@ module _ {K V E : Type 0} (eq : K → K → Bool) (laws : IsEquivalence eq) (is_
   by-ended-turn m (Some a) (Some b) is = record { kind = is.kind; key = is.key; end = is.end; unspent = is.unspent }
 
   -- what a table keeps, by its lookups, is what a state keeps, by kinds and keys
-  pub keeps-holds : (ts : List (Turn K V E)) → Keeps eq is_clone hash_of ts (λ q. lookup (same_key eq q) opened) (λ m. lookup (nat_eq m) ended) → Holds eq is_clone ts (turns_in hash_of opened ended)
+  pub keeps-holds : (ts : List (Turn K V E)) → Represents eq is_clone hash_of ts (λ q. lookup (same_key eq q) opened) (λ m. lookup (nat_eq m) ended) → Holds eq is_clone ts (turns_in hash_of opened ended)
   keeps-holds ts keeps = record {
     opened = λ kind k.
         let q : TurnKey K = record { hash = hash_of k; kind = kind; key = record { ptr = null_ptr; value = k } } in
@@ -158,7 +158,7 @@ module _ {K V E : Type 0} (eq : K → K → Bool) (laws : IsEquivalence eq) (is_
   }
 
   -- and conversely
-  pub holds-keeps : (ts : List (Turn K V E)) → Holds eq is_clone ts (turns_in hash_of opened ended) → Keeps eq is_clone hash_of ts (λ q. lookup (same_key eq q) opened) (λ m. lookup (nat_eq m) ended)
+  pub holds-keeps : (ts : List (Turn K V E)) → Holds eq is_clone ts (turns_in hash_of opened ended) → Represents eq is_clone hash_of ts (λ q. lookup (same_key eq q) opened) (λ m. lookup (nat_eq m) ended)
   holds-keeps ts holds = record {
     opened_is = λ q hashed.
         subst (Agree (IsOpenRow eq is_clone) (found (is_open_for eq q.kind (arc_value q.key)) ts)) (ap (option_map row_of) (all-open q.kind (arc_value q.key)) ∙ open-found E eq laws hash_of respects q hashed opened)
@@ -182,13 +182,13 @@ module _ {K : Type 0} (eq : K → K → Bool) where
 module _ {K V E : Type 0} (eq : K → K → Bool) (laws : IsEquivalence eq) (is_clone : V → V → Type 0) (hash_of : K → ℕ) (respects : (a b : K) → eq a b ≡ true → hash_of a ≡ hash_of b)
     (opened : List (TurnKey K × OpenTurn V)) (ended : List (ℕ × EndedTurn K V E)) (ts : List (Turn K V E)) where
   -- the same for a table's own lookups
-  pub table-holds : Keeps eq is_clone hash_of ts (λ q. lookup (is_at eq q) opened) (λ m. lookup (nat_eq m) ended) → Holds eq is_clone ts (turns_in hash_of opened ended)
+  pub table-holds : Represents eq is_clone hash_of ts (λ q. lookup (is_at eq q) opened) (λ m. lookup (nat_eq m) ended) → Holds eq is_clone ts (turns_in hash_of opened ended)
   table-holds keeps = keeps-holds eq laws is_clone hash_of respects opened ended ts (record {
     opened_is = λ q hashed. subst (Agree (IsOpenRow eq is_clone) (found (is_open_for eq q.kind (arc_value q.key)) ts)) (lookup-kinds eq q opened) (keeps.opened_is q hashed);
     ended_is = keeps.ended_is;
   })
 
-  pub table-keeps : Holds eq is_clone ts (turns_in hash_of opened ended) → Keeps eq is_clone hash_of ts (λ q. lookup (is_at eq q) opened) (λ m. lookup (nat_eq m) ended)
+  pub table-keeps : Holds eq is_clone ts (turns_in hash_of opened ended) → Represents eq is_clone hash_of ts (λ q. lookup (is_at eq q) opened) (λ m. lookup (nat_eq m) ended)
   table-keeps holds =
       let keeps = holds-keeps eq laws is_clone hash_of respects opened ended ts holds in
       record {

@@ -10,7 +10,7 @@ use Rattle.moka_turns.specs.declared.turn_key.TurnKey.{TurnKey}
 use Rattle.moka_turns.specs.declared.handles.Ticket.{Ticket}
 use Rattle.moka_turns.specs.declared.begin.TurnBegun.{TurnBegun}
 use Rattle.moka_turns.specs.declared.begin.TurnBegun.TheVariants.{Run, Wait}
-use Rattle.moka_turns.specs.Keeps.{name_of}
+use Rattle.moka_turns.specs.Represents.{name_of}
 use Rattle.moka_turns.specs.Handles.{turn_name, ticket_name}
 
 -- The result of beginning a turn of a kind and key. It depends on the number that the turn would draw, and on the open

@@ -4,7 +4,7 @@ use Rattle.moka_model.specs.Turns.{Name}
 use Rattle.moka_turns.specs.declared.handles.Turn.{Turn}
 use Rattle.moka_turns.specs.declared.handles.Ticket.{Ticket}
 use Rattle.moka_turns.specs.declared.turn_name.TurnName.{TurnName}
-use Rattle.moka_turns.specs.Keeps.{name_of}
+use Rattle.moka_turns.specs.Represents.{name_of}
 
 module _ {K : Type 0} where
   -- The name of a turn.

@@ -1,8 +1,8 @@
 pub mod Begun
 pub mod Handles
-pub mod Keeps
+pub mod Represents
 pub mod Open
 pub mod Table
-pub mod Told
+pub mod CollectState
 pub mod TurnKey
 pub mod Views

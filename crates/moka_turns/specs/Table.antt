@@ -19,5 +19,5 @@ module _ {K V E : Type 0} where
   one_less turn = record turn { unspent = turn.unspent - 1 }
 
   -- An ended entry is kept while it has unspent tickets.
-  abbrev pub kept_ended : EndedTurn K V E → Option (EndedTurn K V E)
-  kept_ended turn = if nat_lt 0 turn.unspent then Some turn else None
+  abbrev pub retained_ended : EndedTurn K V E → Option (EndedTurn K V E)
+  retained_ended turn = if nat_lt 0 turn.unspent then Some turn else None

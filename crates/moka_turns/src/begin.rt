@@ -7,11 +7,11 @@ ghost use Rattle.moka_model.specs.Turns.{Opened, found, is_open_for, moved};
 ghost use Rattle.moka_model.specs.Calls.{IsCopyOf};
 ghost use Rattle.moka_model.specs.Numbers.{greatest_number};
 ghost use Rattle.moka_turns.specs.Handles.{turn_name};
-ghost use Rattle.moka_turns.specs.Keeps.{Keeps, AreSound, name_of};
+ghost use Rattle.moka_turns.specs.Represents.{Represents, AreSound, name_of};
 ghost use Rattle.moka_turns.specs.Begun.{IsBegun, IfRun, IfWait, IsNamed, as_waiting};
 
 use crate::handles::{Ticket, Turn};
-use crate::table::{OpenTurn, Turns};
+use crate::table::{OpenTurn, TurnTable};
 use crate::turn_key::TurnKey;
 use moka_policy::policy::Refused;
 
@@ -23,7 +23,7 @@ pub enum TurnBegun<K> {
     Wait(Ticket<K>),
 }
 
-impl<K: Eq + Drop, V: Clone, E: Drop> Turns<K, V, E> {
+impl<K: Eq + Drop, V: Clone, E: Drop> TurnTable<K, V, E> {
     /// Returns a ticket of the open turn of a kind and key, or opens a turn with this sequence
     /// number.
     ///
@@ -46,9 +46,9 @@ impl<K: Eq + Drop, V: Clone, E: Drop> Turns<K, V, E> {
             → ((a b : K) → K.eq a b ≡ true → hash_of a ≡ hash_of b)
             → key.hash ≡ hash_of (arc_value key.key)
             → AreSound K.eq ts
-            → Keeps K.eq V.is_clone hash_of ts
+            → Represents K.eq V.is_clone hash_of ts
             (get ⟦<TurnKey<K> as PartialEq>⟧.eq self.old.opened) (get nat_eq self.old.ended)
-            → IsBegun (λ after. Keeps K.eq V.is_clone hash_of after
+            → IsBegun (λ after. Represents K.eq V.is_clone hash_of after
             (get ⟦<TurnKey<K> as PartialEq>⟧.eq self.new.opened) (get nat_eq self.new.ended))
             key number may_wait ts (found (is_open_for K.eq key.kind (arc_value key.key)) ts)
             result }
@@ -84,9 +84,9 @@ impl<K: Eq + Drop, V: Clone, E: Drop> Turns<K, V, E> {
             → ((a b : K) → K.eq a b ≡ true → hash_of a ≡ hash_of b)
             → key.hash ≡ hash_of (arc_value key.key)
             → AreSound K.eq ts
-            → Keeps K.eq V.is_clone hash_of ts
+            → Represents K.eq V.is_clone hash_of ts
             (get ⟦<TurnKey<K> as PartialEq>⟧.eq self.old.opened) (get nat_eq self.old.ended)
-            → IsBegun (λ after. Keeps K.eq V.is_clone hash_of after
+            → IsBegun (λ after. Represents K.eq V.is_clone hash_of after
             (get ⟦<TurnKey<K> as PartialEq>⟧.eq self.new.opened) (get nat_eq self.new.ended))
             key number may_wait ts (found (is_open_for K.eq key.kind (arc_value key.key)) ts)
             result }
@@ -117,9 +117,9 @@ impl<K: Eq + Drop, V: Clone, E: Drop> Turns<K, V, E> {
             → ((a b : K) → K.eq a b ≡ true → hash_of a ≡ hash_of b)
             → key.hash ≡ hash_of (arc_value key.key)
             → AreSound K.eq ts
-            → Keeps K.eq V.is_clone hash_of ts
+            → Represents K.eq V.is_clone hash_of ts
             (get ⟦<TurnKey<K> as PartialEq>⟧.eq self.old.opened) (get nat_eq self.old.ended)
-            → IsBegun (λ after. Keeps K.eq V.is_clone hash_of after
+            → IsBegun (λ after. Represents K.eq V.is_clone hash_of after
             (get ⟦<TurnKey<K> as PartialEq>⟧.eq self.new.opened) (get nat_eq self.new.ended))
             key number true ts (found (is_open_for K.eq key.kind (arc_value key.key)) ts)
             (as_waiting result) }
@@ -142,9 +142,9 @@ impl<K: Eq + Drop, V: Clone, E: Drop> Turns<K, V, E> {
             → ((a b : K) → K.eq a b ≡ true → hash_of a ≡ hash_of b)
             → key.hash ≡ hash_of (arc_value key.key)
             → AreSound K.eq ts
-            → Keeps K.eq V.is_clone hash_of ts
+            → Represents K.eq V.is_clone hash_of ts
             (get ⟦<TurnKey<K> as PartialEq>⟧.eq self.old.opened) (get nat_eq self.old.ended)
-            → IsBegun (λ after. Keeps K.eq V.is_clone hash_of after
+            → IsBegun (λ after. Represents K.eq V.is_clone hash_of after
             (get ⟦<TurnKey<K> as PartialEq>⟧.eq self.new.opened) (get nat_eq self.new.ended))
             key number may_wait ts (found (is_open_for K.eq key.kind (arc_value key.key)) ts)
             result }
@@ -181,9 +181,9 @@ impl<K: Eq + Drop, V: Clone, E: Drop> Turns<K, V, E> {
             → ((a b : K) → K.eq a b ≡ true → hash_of a ≡ hash_of b)
             → key.hash ≡ hash_of (arc_value key.key)
             → IsCopyOf V.is_clone value kept
-            → Keeps K.eq V.is_clone hash_of ts
+            → Represents K.eq V.is_clone hash_of ts
             (get ⟦<TurnKey<K> as PartialEq>⟧.eq self.old.opened) (get nat_eq self.old.ended)
-            → Keeps K.eq V.is_clone hash_of (moved (Opened (name_of key number) shown value) ts)
+            → Represents K.eq V.is_clone hash_of (moved (Opened (name_of key number) shown value) ts)
             (get ⟦<TurnKey<K> as PartialEq>⟧.eq self.new.opened) (get nat_eq self.new.ended)) }
         ensures name { IfOk result (λ turn. turn_name turn ≡ name_of key number) }
         ensures cause { IfErr result (λ cause. cause ≡ Refused.OutOfMemory) }

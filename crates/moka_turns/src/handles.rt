@@ -1,7 +1,7 @@
 //! What a caller holds of a turn. Neither handle can be dropped: one call consumes each.
 ghost use Rattle.std.specs.Prelude.{◌≡◌, IfOk};
 ghost use Rattle.std.specs.Arc.{arc_value};
-ghost use Rattle.moka_turns.specs.Keeps.{name_of};
+ghost use Rattle.moka_turns.specs.Represents.{name_of};
 
 use crate::turn_key::TurnKey;
 use moka_model::turns::Kind;

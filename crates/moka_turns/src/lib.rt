@@ -3,8 +3,8 @@
 #![tactic(auto)]
 
 pub mod begin;
+pub mod by_name;
 pub mod handles;
-pub mod naming;
 pub mod table;
 pub mod turn_key;
 pub mod turn_name;

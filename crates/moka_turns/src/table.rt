@@ -7,17 +7,17 @@ ghost use Rattle.std.specs.Arc.{arc_value};
 ghost use Rattle.moka_model.specs.Turns as turning;
 ghost use Rattle.moka_model.specs.Turns.{Abandoned, Ended, Opened, Spent, Waited, moved, found, has_ticket_as, is_open_as};
 ghost use Rattle.moka_model.specs.Calls.{IsCopiedEnd, IsCopyOf};
-ghost use Rattle.moka_turns.specs.Keeps.{Keeps, AreSound, end_of, name_of};
-ghost use Rattle.moka_turns.specs.Told.{IsTold, IfNotYet, IfEnded, IsUnspent, TakesCopy};
+ghost use Rattle.moka_turns.specs.Represents.{Represents, AreSound, end_of, name_of};
+ghost use Rattle.moka_turns.specs.CollectState.{IsTold, IfNotYet, IfEnded, IsUnspent, TakesCopy};
 ghost use Rattle.moka_turns.specs.Open.{IsOpenAs, IsOpenWith, IsOpenFor};
-ghost use Rattle.moka_turns.specs.Table.{with_unspent, one_less, kept_ended, HasRoom};
+ghost use Rattle.moka_turns.specs.Table.{with_unspent, one_less, retained_ended, HasRoom};
 
 use crate::handles::{CollectRefused, Ticket, Turn};
 use crate::turn_key::TurnKey;
 use indexmap::IndexMap;
-use moka_links::as_is::AsIs;
 use moka_model::turns::Kind;
 use moka_policy::policy::Refused;
+use moka_row_index::identity_hasher::IdentityHasher;
 use std::alloc::{AllocError, Global};
 use std::hash::BuildHasherDefault;
 use std::sync::Arc;
@@ -61,12 +61,12 @@ pub struct EndedTurn<K, V, E> {
     pub unspent: u64,
 }
 
-type Open<K, V> = IndexMap<TurnKey<K>, OpenTurn<V>, BuildHasherDefault<AsIs>>;
+type Open<K, V> = IndexMap<TurnKey<K>, OpenTurn<V>, BuildHasherDefault<IdentityHasher>>;
 
-type Ended<K, V, E> = IndexMap<u64, EndedTurn<K, V, E>, BuildHasherDefault<AsIs>>;
+type Ended<K, V, E> = IndexMap<u64, EndedTurn<K, V, E>, BuildHasherDefault<IdentityHasher>>;
 
 /// The result of collecting a ticket.
-pub enum Told<K, V, E> {
+pub enum CollectState<K, V, E> {
     /// The turn is open. This is the ticket, unspent.
     NotYet(Ticket<K>),
     /// The turn has ended. These are the ticket's key, and a clone of what the turn ended with.
@@ -79,20 +79,20 @@ pub enum Told<K, V, E> {
 /// Each open turn has the room that it needs once it has ended. So the table grows in `reserve`
 /// only. Other calls may clone a value.
 #[derive(Drop)]
-pub struct Turns<K: Eq + Drop, V: Drop, E: Drop> {
+pub struct TurnTable<K: Eq + Drop, V: Drop, E: Drop> {
     opened: Open<K, V>,
     ended: Ended<K, V, E>,
     ghost room: { index_map_len opened ≤ spare ended },
 }
 
-impl<K: Eq + Drop, V: Drop, E: Drop> Turns<K, V, E> {
+impl<K: Eq + Drop, V: Drop, E: Drop> TurnTable<K, V, E> {
     /// Creates a table without turns. Does not allocate.
     pub fn new(alloc: Global) -> Self
         ensures opened { (key : TurnKey K) → get ⟦<TurnKey<K> as PartialEq>⟧.eq result.opened key ≡ None }
         ensures ended { (number : ℕ) → get nat_eq result.ended number ≡ None }
         ensures nothing { IsEmpty result.opened × IsEmpty result.ended }
     {
-        Turns {
+        TurnTable {
             opened: IndexMap::with_hasher(alloc, BuildHasherDefault::new()),
             ended: IndexMap::with_hasher(alloc, BuildHasherDefault::new()),
         }
@@ -189,7 +189,7 @@ impl<K: Eq + Drop, V: Drop, E: Drop> Turns<K, V, E> {
     pub fn leave_ended(&mut self, number: u64) -> Option<EndedTurn<K, V, E>>
         requires { IsSome (get nat_eq self.old.ended number) }
         ensures spent { IfSome (get nat_eq self.old.ended number)
-            (λ turn. Updates nat_eq self.old.ended self.new.ended number (kept_ended (one_less turn))) }
+            (λ turn. Updates nat_eq self.old.ended self.new.ended number (retained_ended (one_less turn))) }
         ensures last { IfSome result (λ turn. get nat_eq self.old.ended number ≡ Some turn) }
         ensures opened { self.new.opened ≡ self.old.opened }
     {
@@ -205,7 +205,7 @@ impl<K: Eq + Drop, V: Drop, E: Drop> Turns<K, V, E> {
     // Returns whether an ended turn has at most one unspent ticket.
     fn is_last(&self, number: u64) -> bool
         ensures { IfSome (get nat_eq self.now.ended number)
-            (λ turn. kept_ended (one_less turn) ≡ (if result then None else Some (one_less turn))) }
+            (λ turn. retained_ended (one_less turn) ≡ (if result then None else Some (one_less turn))) }
     {
         match self.ended.get(&number) {
             Some(turn) => turn.unspent <= 1,
@@ -246,7 +246,7 @@ impl<K: Eq + Drop, V: Drop, E: Drop> Turns<K, V, E> {
     }
 }
 
-impl<K: Eq + Drop, V: Clone, E: Drop> Turns<K, V, E> {
+impl<K: Eq + Drop, V: Clone, E: Drop> TurnTable<K, V, E> {
     /// Adds an open turn. Its room has to be made before. Does not allocate.
     pub fn add(&mut self, key: TurnKey<K>, turn: OpenTurn<V>)
         requires absent { get ⟦<TurnKey<K> as PartialEq>⟧.eq self.old.opened key ≡ None }
@@ -258,8 +258,8 @@ impl<K: Eq + Drop, V: Clone, E: Drop> Turns<K, V, E> {
             → key.hash ≡ hash_of (arc_value key.key)
             → IsCopyOf V.is_clone kept turn.kept
             → turn.unspent ≡ 0
-            → Keeps K.eq V.is_clone hash_of ts (get ⟦<TurnKey<K> as PartialEq>⟧.eq self.old.opened) (get nat_eq self.old.ended)
-            → Keeps K.eq V.is_clone hash_of (moved (Opened (name_of key turn.number) turn.shown kept) ts)
+            → Represents K.eq V.is_clone hash_of ts (get ⟦<TurnKey<K> as PartialEq>⟧.eq self.old.opened) (get nat_eq self.old.ended)
+            → Represents K.eq V.is_clone hash_of (moved (Opened (name_of key turn.number) turn.shown kept) ts)
             (get ⟦<TurnKey<K> as PartialEq>⟧.eq self.new.opened) (get nat_eq self.new.ended) }
     {
         match self.opened.insert(key, turn) {
@@ -276,9 +276,9 @@ impl<K: Eq + Drop, V: Clone, E: Drop> Turns<K, V, E> {
             → ((a b : K) → K.eq a b ≡ true → hash_of a ≡ hash_of b)
             → turn.key.hash ≡ hash_of (arc_value turn.key.key)
             → AreSound K.eq ts
-            → Keeps K.eq V.is_clone hash_of ts (get ⟦<TurnKey<K> as PartialEq>⟧.eq self.old.opened) (get nat_eq self.old.ended)
+            → Represents K.eq V.is_clone hash_of ts (get ⟦<TurnKey<K> as PartialEq>⟧.eq self.old.opened) (get nat_eq self.old.ended)
             → MatchOption (found (is_open_as K.eq (name_of turn.key turn.number)) ts) (result ≡ false)
-            (λ t. (result ≡ true) × Keeps K.eq V.is_clone hash_of (moved (Ended t.name.number Abandoned) ts)
+            (λ t. (result ≡ true) × Represents K.eq V.is_clone hash_of (moved (Ended t.name.number Abandoned) ts)
             (get ⟦<TurnKey<K> as PartialEq>⟧.eq self.new.opened) (get nat_eq self.new.ended)) }
         ensures unchanged { result ≡ false → IsUnchanged self.old.opened self.new.opened × IsUnchanged self.old.ended self.new.ended }
     {
@@ -300,8 +300,8 @@ impl<K: Eq + Drop, V: Clone, E: Drop> Turns<K, V, E> {
             → ((a b : K) → K.eq a b ≡ true → hash_of a ≡ hash_of b)
             → key.now.hash ≡ hash_of (arc_value key.now.key)
             → AreSound K.eq ts
-            → Keeps K.eq V.is_clone hash_of ts (get ⟦<TurnKey<K> as PartialEq>⟧.eq self.old.opened) (get nat_eq self.old.ended)
-            → Keeps K.eq V.is_clone hash_of (moved (Waited number) ts)
+            → Represents K.eq V.is_clone hash_of ts (get ⟦<TurnKey<K> as PartialEq>⟧.eq self.old.opened) (get nat_eq self.old.ended)
+            → Represents K.eq V.is_clone hash_of (moved (Waited number) ts)
             (get ⟦<TurnKey<K> as PartialEq>⟧.eq self.new.opened) (get nat_eq self.new.ended)) }
         ensures number { IfSome result (λ number.
             IfSome (get ⟦<TurnKey<K> as PartialEq>⟧.eq self.old.opened key.now)
@@ -325,9 +325,9 @@ impl<K: Eq + Drop, V: Clone, E: Drop> Turns<K, V, E> {
             → ((a b : K) → K.eq a b ≡ true → hash_of a ≡ hash_of b)
             → ticket.key.hash ≡ hash_of (arc_value ticket.key.key)
             → AreSound K.eq ts
-            → Keeps K.eq V.is_clone hash_of ts (get ⟦<TurnKey<K> as PartialEq>⟧.eq self.old.opened) (get nat_eq self.old.ended)
+            → Represents K.eq V.is_clone hash_of ts (get ⟦<TurnKey<K> as PartialEq>⟧.eq self.old.opened) (get nat_eq self.old.ended)
             → MatchOption (found (has_ticket_as K.eq (name_of ticket.key ticket.number)) ts) (result ≡ false)
-            (λ t. (result ≡ true) × Keeps K.eq V.is_clone hash_of (moved (Spent t.name.number) ts)
+            (λ t. (result ≡ true) × Represents K.eq V.is_clone hash_of (moved (Spent t.name.number) ts)
             (get ⟦<TurnKey<K> as PartialEq>⟧.eq self.new.opened) (get nat_eq self.new.ended)) }
         ensures unchanged { result ≡ false → IsUnchanged self.old.opened self.new.opened × IsUnchanged self.old.ended self.new.ended }
     {
@@ -352,7 +352,7 @@ impl<K: Eq + Drop, V: Clone, E: Drop> Turns<K, V, E> {
             (λ turn. TakesCopy (Some (end_of turn.end)))) }
     {
         match self.ended.get(&number) {
-            Some(turn) => turn.end.copied(),
+            Some(turn) => turn.end.copy(),
             None => unreachable!(),
         }
     }
@@ -373,7 +373,7 @@ impl<K: Eq + Drop, V: Clone, E: Drop> Turns<K, V, E> {
             → ((u v w : V) → V.is_clone u v → V.is_clone v w → V.is_clone u w)
             → key.now.hash ≡ hash_of (arc_value key.now.key)
             → AreSound K.eq ts
-            → Keeps K.eq V.is_clone hash_of ts (get ⟦<TurnKey<K> as PartialEq>⟧.eq self.now.opened) (get nat_eq self.now.ended)
+            → Represents K.eq V.is_clone hash_of ts (get ⟦<TurnKey<K> as PartialEq>⟧.eq self.now.opened) (get nat_eq self.now.ended)
             → IfSome (found (has_ticket_as K.eq (name_of key.now number)) ts)
             (λ t. IsCopiedEnd V.is_clone t.end (option_map end_of copy))) }
     {
@@ -401,7 +401,7 @@ impl<K: Eq + Drop, V: Clone, E: Drop> Turns<K, V, E> {
             → ((u v w : V) → V.is_clone u v → V.is_clone v w → V.is_clone u w)
             → key.now.hash ≡ hash_of (arc_value key.now.key)
             → AreSound K.eq ts
-            → Keeps K.eq V.is_clone hash_of ts (get ⟦<TurnKey<K> as PartialEq>⟧.eq self.now.opened) (get nat_eq self.now.ended)
+            → Represents K.eq V.is_clone hash_of ts (get ⟦<TurnKey<K> as PartialEq>⟧.eq self.now.opened) (get nat_eq self.now.ended)
             → IfSome (found (is_open_as K.eq (name_of key.now number)) ts)
             (λ t. IsCopyOf V.is_clone t.kept copy)) }
     {
@@ -423,14 +423,14 @@ impl<K: Eq + Drop, V: Clone, E: Drop> Turns<K, V, E> {
     ///
     /// - `UnknownTicket`: no turn of this table has the ticket's name and an unspent ticket.
     /// - `OutOfMemory`: cloning what the turn ended with failed.
-    pub fn collect(&mut self, ticket: Ticket<K>) -> Result<Told<K, V, E>, CollectRefused<K>>
+    pub fn collect(&mut self, ticket: Ticket<K>) -> Result<CollectState<K, V, E>, CollectRefused<K>>
         ensures collects { (hash_of : K → ℕ) (ts : List (turning.Turn K V E))
             → ((a b : K) → K.eq a b ≡ true → hash_of a ≡ hash_of b)
             → ((u v w : V) → V.is_clone u v → V.is_clone v w → V.is_clone u w)
             → ticket.key.hash ≡ hash_of (arc_value ticket.key.key)
             → AreSound K.eq ts
-            → Keeps K.eq V.is_clone hash_of ts (get ⟦<TurnKey<K> as PartialEq>⟧.eq self.old.opened) (get nat_eq self.old.ended)
-            → IsTold V.is_clone (λ t. Keeps K.eq V.is_clone hash_of (moved (Spent t.name.number) ts)
+            → Represents K.eq V.is_clone hash_of ts (get ⟦<TurnKey<K> as PartialEq>⟧.eq self.old.opened) (get nat_eq self.old.ended)
+            → IsTold V.is_clone (λ t. Represents K.eq V.is_clone hash_of (moved (Spent t.name.number) ts)
             (get ⟦<TurnKey<K> as PartialEq>⟧.eq self.new.opened) (get nat_eq self.new.ended))
             (found (has_ticket_as K.eq (name_of ticket.key ticket.number)) ts) result }
         ensures ticket_back { IfErr result (λ refused. refused.ticket ≡ ticket) }
@@ -440,7 +440,7 @@ impl<K: Eq + Drop, V: Clone, E: Drop> Turns<K, V, E> {
         ensures unchanged { IsUnspent result → IsUnchanged self.old.opened self.new.opened × IsUnchanged self.old.ended self.new.ended }
     {
         if self.is_awaited(&ticket.key, ticket.number) {
-            return Ok(Told::NotYet(ticket));
+            return Ok(CollectState::NotYet(ticket));
         }
         if !self.is_its(&ticket.key, ticket.number) {
             let cause = Refused::UnknownTicket;
@@ -453,7 +453,7 @@ impl<K: Eq + Drop, V: Clone, E: Drop> Turns<K, V, E> {
         let Ticket { key, number } = ticket;
         self.leave_ended(number);
         let TurnKey { key, .. } = key;
-        Ok(Told::Ended(key, end))
+        Ok(CollectState::Ended(key, end))
     }
 
     /// Returns how many tickets of a turn are unspent, or `None` if it is no open turn of this
@@ -466,7 +466,7 @@ impl<K: Eq + Drop, V: Clone, E: Drop> Turns<K, V, E> {
             → ((a b : K) → K.eq a b ≡ true → hash_of a ≡ hash_of b)
             → turn.now.key.hash ≡ hash_of (arc_value turn.now.key.key)
             → AreSound K.eq ts
-            → Keeps K.eq V.is_clone hash_of ts
+            → Represents K.eq V.is_clone hash_of ts
             (get ⟦<TurnKey<K> as PartialEq>⟧.eq self.now.opened) (get nat_eq self.now.ended)
             → MatchOption (found (is_open_as K.eq (name_of turn.now.key turn.now.number)) ts)
             (result ≡ None) (λ t. IsSome result × (t.name.number ≡ turn.now.number)) }
@@ -506,9 +506,9 @@ impl<K: Eq + Drop, V: Clone, E: Drop> Turns<K, V, E> {
             → turn.key.hash ≡ hash_of (arc_value turn.key.key)
             → AreSound K.eq ts
             → IfSome end (λ kept. IsCopiedEnd V.is_clone (Some final) (Some (end_of kept)))
-            → Keeps K.eq V.is_clone hash_of ts
+            → Represents K.eq V.is_clone hash_of ts
             (get ⟦<TurnKey<K> as PartialEq>⟧.eq self.old.opened) (get nat_eq self.old.ended)
-            → Keeps K.eq V.is_clone hash_of (moved (Ended turn.number final) ts)
+            → Represents K.eq V.is_clone hash_of (moved (Ended turn.number final) ts)
             (get ⟦<TurnKey<K> as PartialEq>⟧.eq self.new.opened) (get nat_eq self.new.ended) }
     {
         let Turn { key, number: _ } = turn;
@@ -560,11 +560,11 @@ impl<K: Eq + Drop, V: Clone, E: Drop> Turns<K, V, E> {
             → ((a b : K) → K.eq a b ≡ true → hash_of a ≡ hash_of b)
             → turn.key.hash ≡ hash_of (arc_value turn.key.key)
             → AreSound K.eq ts
-            → Keeps K.eq V.is_clone hash_of ts
+            → Represents K.eq V.is_clone hash_of ts
             (get ⟦<TurnKey<K> as PartialEq>⟧.eq self.old.opened) (get nat_eq self.old.ended)
             → IfSome (found (is_open_as K.eq (name_of turn.key turn.number)) ts) (λ t.
             (result.1.shown ≡ t.shown) × IsCopyOf V.is_clone t.kept result.1.kept
-            × Keeps K.eq V.is_clone hash_of (moved (Ended t.name.number turning.Computed) ts)
+            × Represents K.eq V.is_clone hash_of (moved (Ended t.name.number turning.Computed) ts)
             (get ⟦<TurnKey<K> as PartialEq>⟧.eq self.new.opened) (get nat_eq self.new.ended)) }
     {
         let Turn { key, number: _ } = turn;
@@ -595,7 +595,7 @@ impl<V: Clone, E: Drop> TurnEnd<V, E> {
     /// # Errors
     ///
     /// - `AllocError`: an allocation failed. Only for a value or an error.
-    pub fn copied(&self) -> Result<TurnEnd<V, E>, AllocError>
+    pub fn copy(&self) -> Result<TurnEnd<V, E>, AllocError>
         ensures copy { IfOk result (λ copy.
             IsCopiedEnd V.is_clone (Some (end_of self.now)) (Some (end_of copy))) }
         ensures refused { IfErr result (λ _. TakesCopy (Some (end_of self.now))) }

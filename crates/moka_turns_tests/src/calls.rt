@@ -1,6 +1,6 @@
 //! The calls of a table of turns as data, and their results.
 use moka_model::turns::Kind;
-use moka_turns::table::{EndedTurn, OpenTurn, TurnEnd, Turns};
+use moka_turns::table::{EndedTurn, OpenTurn, TurnEnd, TurnTable};
 use moka_turns::turn_key::TurnKey;
 use std::alloc::{AllocError, Global};
 use std::sync::Arc;
@@ -31,7 +31,7 @@ pub enum Call {
 
 /// The result of a call.
 #[derive(Clone, Copy, Debug, PartialEq)]
-pub enum Answer {
+pub enum Reply {
     Done,
     Absent,
     Number(u64),
@@ -85,7 +85,7 @@ pub fn new_turn<V>(number: u64) -> OpenTurn<V> {
 
 /// Opens a turn if none of its kind and key is open. Returns whether it did.
 pub fn open<V: Clone, E: Drop>(
-    turns: &mut Turns<u64, V, E>,
+    turns: &mut TurnTable<u64, V, E>,
     key: TurnKey<u64>,
     number: u64,
 ) -> Result<bool, AllocError> {
@@ -98,7 +98,10 @@ pub fn open<V: Clone, E: Drop>(
 }
 
 /// Takes a ticket of an open turn, and returns the turn's number.
-pub fn wait<V: Clone, E: Drop>(turns: &mut Turns<u64, V, E>, key: &TurnKey<u64>) -> Option<u64> {
+pub fn wait<V: Clone, E: Drop>(
+    turns: &mut TurnTable<u64, V, E>,
+    key: &TurnKey<u64>,
+) -> Option<u64> {
     if turns.find(key).is_none() {
         return None;
     }
@@ -107,7 +110,7 @@ pub fn wait<V: Clone, E: Drop>(turns: &mut Turns<u64, V, E>, key: &TurnKey<u64>)
 
 /// Ends an open turn, and returns it.
 pub fn end<V: Clone, E: Drop>(
-    turns: &mut Turns<u64, V, E>,
+    turns: &mut TurnTable<u64, V, E>,
     key: TurnKey<u64>,
     end: TurnEnd<V, E>,
 ) -> Option<OpenTurn<V>> {
@@ -118,7 +121,7 @@ pub fn end<V: Clone, E: Drop>(
 }
 
 /// Leaves a ticket of an open turn if it has one. Returns whether it had.
-pub fn leave_open<V: Clone, E: Drop>(turns: &mut Turns<u64, V, E>, key: &TurnKey<u64>) -> bool {
+pub fn leave_open<V: Clone, E: Drop>(turns: &mut TurnTable<u64, V, E>, key: &TurnKey<u64>) -> bool {
     let waits = match turns.find(key) {
         Some(turn) => turn.unspent > 0,
         None => false,
@@ -131,7 +134,7 @@ pub fn leave_open<V: Clone, E: Drop>(turns: &mut Turns<u64, V, E>, key: &TurnKey
 
 /// Leaves a ticket of an ended turn. Returns the turn with its last ticket.
 pub fn leave_ended<V: Clone, E: Drop>(
-    turns: &mut Turns<u64, V, E>,
+    turns: &mut TurnTable<u64, V, E>,
     number: u64,
 ) -> Option<EndedTurn<u64, V, E>> {
     if turns.ended(number).is_none() {
@@ -140,38 +143,42 @@ pub fn leave_ended<V: Clone, E: Drop>(
     turns.leave_ended(number)
 }
 
-fn opened(turn: Option<&OpenTurn<u64>>) -> Answer {
+fn opened(turn: Option<&OpenTurn<u64>>) -> Reply {
     match turn {
-        Some(turn) => Answer::Open(turn.number, turn.unspent),
-        None => Answer::Absent,
+        Some(turn) => Reply::Open(turn.number, turn.unspent),
+        None => Reply::Absent,
     }
 }
 
-fn kept(turn: Option<&EndedTurn<u64, u64, u64>>) -> Answer {
+fn kept(turn: Option<&EndedTurn<u64, u64, u64>>) -> Reply {
     match turn {
-        Some(turn) => Answer::Kept(
+        Some(turn) => Reply::Kept(
             turn.key.kind,
             *turn.key.key,
             final_of(&turn.end),
             turn.unspent,
         ),
-        None => Answer::Absent,
+        None => Reply::Absent,
     }
 }
 
-fn done(done: bool) -> Answer {
-    if done { Answer::Done } else { Answer::Absent }
+fn done(done: bool) -> Reply {
+    if done { Reply::Done } else { Reply::Absent }
 }
 
 /// Makes a call and returns its result.
-fn made(alloc: Global, turns: &mut Turns<u64, u64, u64>, call: Call) -> Result<Answer, AllocError> {
+fn made(
+    alloc: Global,
+    turns: &mut TurnTable<u64, u64, u64>,
+    call: Call,
+) -> Result<Reply, AllocError> {
     Ok(match call {
         Call::Find(kind, key) => opened(turns.find(&key_of(alloc, kind, key)?)),
         Call::Ended(number) => kept(turns.ended(number)),
         Call::Open(kind, key, number) => done(open(turns, key_of(alloc, kind, key)?, number)?),
         Call::Wait(kind, key) => match wait(turns, &key_of(alloc, kind, key)?) {
-            Some(number) => Answer::Number(number),
-            None => Answer::Absent,
+            Some(number) => Reply::Number(number),
+            None => Reply::Absent,
         },
         Call::End(kind, key, last) => {
             let key = key_of(alloc, kind, key)?;
@@ -183,8 +190,8 @@ fn made(alloc: Global, turns: &mut Turns<u64, u64, u64>, call: Call) -> Result<A
 }
 
 /// Returns the results of some calls of a new table.
-pub fn answers(alloc: Global, calls: &[Call]) -> Result<Vec<Answer>, AllocError> {
-    let mut turns = Turns::new(alloc);
+pub fn replies(alloc: Global, calls: &[Call]) -> Result<Vec<Reply>, AllocError> {
+    let mut turns = TurnTable::new(alloc);
     let mut found = Vec::new(alloc);
     for call in calls {
         found.push(made(alloc, &mut turns, *call)?)?;

@@ -2,7 +2,7 @@
 //! or says where it failed: `scripts/refused_memory` tries each.
 use crate::calls::{end, key_of, leave_ended, leave_open, open, wait};
 use moka_model::turns::Kind;
-use moka_turns::table::{TurnEnd, Turns};
+use moka_turns::table::{TurnEnd, TurnTable};
 use moka_turns::turn_key::TurnKey;
 use std::alloc::{AllocError, Global};
 use std::process::Abort;
@@ -10,7 +10,7 @@ use std::sync::Arc;
 use std::test::Fail;
 
 /// Turns that compute texts for numbers.
-type Texts = Turns<u64, String, u64>;
+type Texts = TurnTable<u64, String, u64>;
 
 /// Creates the key of a turn. Retries once if an allocation fails.
 fn given(alloc: Global, key: u64) -> Result<TurnKey<u64>, AllocError> {
@@ -80,7 +80,7 @@ fn every_turn_is_kept_where_memory_is_refused(rt: HostRuntime) -> Result<(), Fai
 
 /// Returns the text in a clone of an end.
 fn copied(end: &TurnEnd<String, u64>) -> Result<Option<String>, AllocError> {
-    Ok(match end.copied()? {
+    Ok(match end.copy()? {
         TurnEnd::Value(text, _) => Some(text),
         _ => None,
     })

@@ -10,7 +10,7 @@ use crate::told::{
 use crate::turns::{Begins, BeginsCompute, Collects, Finishes, Given, Turns};
 use moka::common::iter::WalkCursor;
 use moka::policy::Refused;
-use moka::state::{DueRows, StateEntrySelector};
+use moka::state::{ExpiringRows, StateEntrySelector};
 use moka::sync::value_initializer::{Kind, Ticket, Turn};
 use rand_core::SeedableRng;
 use rand_xoshiro::SplitMix64;
@@ -18,7 +18,7 @@ use std::alloc::Global;
 use std::slice;
 use std::sync::Arc;
 
-type Selector<'a> = StateEntrySelector<'a, u64, u64, PlainTypes, DueRows<u64, u64>>;
+type Selector<'a> = StateEntrySelector<'a, u64, u64, PlainTypes, ExpiringRows<u64, u64>>;
 
 impl Subject for Twin {
     fn at(&mut self, now: u64) {

@@ -2,8 +2,8 @@
 //! results, or runs workers that share a cache.
 #![tactic(auto)]
 
-use mokabox_script::program::run_program;
-use mokabox_script::script::Status;
+use mokabox_interpreter::program::run_program;
+use mokabox_interpreter::script::Status;
 use mokabox_threads::arguments::workers_of;
 use mokabox_threads::threads::{OpenGate, run_threads};
 use std::io::{BufReader, BufWriter};

@@ -3,8 +3,8 @@ use moka::PredicateError;
 use moka::common::builder_utils::BuildError;
 use moka::notification::RemovalCause;
 use moka::policy::Refused;
-use mokabox_lines::answer::{Answer, Became, Live, Measure, write_answer};
-use mokabox_script::script::Status;
+use mokabox_interpreter::script::Status;
+use mokabox_syntax::answer::{Answer, Became, Live, Measure, write_answer};
 use std::test::Fail;
 
 // Each `Answer` is printed as its line.

@@ -1,7 +1,7 @@
 //! Arguments, and readers and writers that fail.
 use crate::runs::{Row, SOUND, Way, goes};
-use mokabox_script::program::run_program;
-use mokabox_script::script::Status;
+use mokabox_interpreter::program::run_program;
+use mokabox_interpreter::script::Status;
 use std::fs;
 use std::io::BufWriter;
 use std::test::Fail;

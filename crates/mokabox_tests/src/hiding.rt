@@ -1,6 +1,6 @@
 //! Scripts that remove entries by key, all at once, and by value.
 use crate::runs::{Row, prints, prints_bytes};
-use mokabox_script::script::Status;
+use mokabox_interpreter::script::Status;
 use std::io::Write;
 use std::test::Fail;
 

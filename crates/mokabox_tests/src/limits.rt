@@ -1,6 +1,6 @@
 //! Scripts with limits on maintenance and flushes.
 use crate::runs::{Row, prints};
-use mokabox_script::script::Status;
+use mokabox_interpreter::script::Status;
 use std::test::Fail;
 
 const TASKS: [Row; 4] = [

@@ -1,6 +1,6 @@
 //! Bad lines, very long lines, and very many lines.
 use crate::runs::prints_bytes;
-use mokabox_script::script::Status;
+use mokabox_interpreter::script::Status;
 use std::alloc::{AllocError, Global};
 use std::io::Write;
 use std::test::Fail;

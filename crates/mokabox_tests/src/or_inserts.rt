@@ -1,6 +1,6 @@
 //! Scripts of `or-insert`.
 use crate::runs::{Row, prints, prints_bytes};
-use mokabox_script::script::Status;
+use mokabox_interpreter::script::Status;
 use std::io::Write;
 use std::test::Fail;
 

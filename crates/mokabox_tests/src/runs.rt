@@ -1,6 +1,6 @@
 //! One run of the program, over a reader and a writer that are set to go and to fail in some way.
-use mokabox_script::program::run_program;
-use mokabox_script::script::Status;
+use mokabox_interpreter::program::run_program;
+use mokabox_interpreter::script::Status;
 use std::alloc::Global;
 use std::io;
 use std::io::{BufReader, Error, ErrorKind, Read, Write};

@@ -1,6 +1,6 @@
 //! Scripts whose entries expire, are evicted and are admitted.
 use crate::runs::{Row, prints};
-use mokabox_script::script::Status;
+use mokabox_interpreter::script::Status;
 use std::test::Fail;
 
 const LIVES: [Row; 8] = [

@@ -1,6 +1,6 @@
 //! Scripts whose cache has several segments.
 use crate::runs::{Row, prints};
-use mokabox_script::script::Status;
+use mokabox_interpreter::script::Status;
 use std::test::Fail;
 
 const BUILT: [Row; 8] = [

@@ -4,9 +4,9 @@ use Rattle.std.specs.Prelude.{Result, Ok, Err, IfOk, codes, if◌then◌else◌}
 use Rattle.std.specs.Fmt.{decimal}
 use Rattle.std.specs.Str.{bytes_eq}
 use Rattle.moka_policy.specs.declared.policy.Refused.{Refused}
-use Rattle.mokabox_lines.specs.Answer.{answer_line}
-use Rattle.mokabox_lines.specs.Fields.{number_of}
-use Rattle.mokabox_lines.specs.declared.answer.Answer.TheVariants as answers
+use Rattle.mokabox_syntax.specs.Answer.{answer_line}
+use Rattle.mokabox_syntax.specs.Fields.{number_of}
+use Rattle.mokabox_syntax.specs.declared.answer.Answer.TheVariants as answers
 use Rattle.mokabox_threads.specs.declared.threads.Counts.{Counts}
 use Rattle.mokabox_threads.specs.declared.threads.Ended.{Ended}
 use Rattle.mokabox_threads.specs.declared.threads.Ended.TheVariants as endings

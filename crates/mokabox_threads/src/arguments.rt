@@ -3,7 +3,7 @@ ghost use Rattle.std.specs.Prelude.{◌≡◌, ◌≤◌, map, IfSome};
 ghost use Rattle.std.specs.String.{string_bytes};
 ghost use Rattle.mokabox_threads.specs.Threads.{few, workers_by};
 
-use mokabox_lines::fields::number;
+use mokabox_syntax::fields::number;
 
 /// The greatest number of workers.
 pub const MOST_WORKERS: u64 = 16;

@@ -7,7 +7,7 @@ use crate::worker::{Texts, count, work};
 use moka::policy::{ManualClock, Refused};
 use moka::ready::FoldState;
 use moka::sync::CacheBuilder;
-use mokabox_lines::answer::{Answer, write_answer};
+use mokabox_syntax::answer::{Answer, write_answer};
 use std::alloc::Global;
 use std::io::Write;
 use std::sync::Wait;

@@ -1,6 +1,6 @@
 use Rattle.std.proofs.Common.{◌≡◌, ◌-◌, unwrap_or, sym, ap, ◌∙◌, arith}
-use Rattle.moka_segments.specs.Segments.{first_from}
-use Rattle.moka_segments.proofs.Callers.{enough, is-enough, not-enough, first-found, first-on}
+use Rattle.moka_segment_model.specs.Segments.{first_from}
+use Rattle.moka_segment_model.proofs.Callers.{enough, is-enough, not-enough, first-found, first-on}
 use Rattle.moka_segmented.proofs.opening.bits_for.Goals as goal
 
 pub returns-then-segments-count_of-clause-bits : goal.returns-then-segments-count_of-clause-bits

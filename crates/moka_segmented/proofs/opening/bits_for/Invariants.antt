@@ -1,6 +1,6 @@
 use Rattle.std.proofs.Common.{◌≡◌, ◌-◌}
-use Rattle.moka_segments.specs.Segments.{first_from}
-use Rattle.moka_segments.proofs.Callers.{enough}
+use Rattle.moka_segment_model.specs.Segments.{first_from}
+use Rattle.moka_segment_model.proofs.Callers.{enough}
 use Rattle.moka_segmented.proofs.opening.bits_for.Given as goal
 
 -- none before are enough, so the first that are is the first from there on

@@ -1,6 +1,6 @@
 use Rattle.std.proofs.Common.{◌≡◌, ◌++◌, ◌∷◌, [], ap, ◌∙◌}
-use Rattle.moka_ways.specs.Behaviour.{hash_by, behaviour_by}
-use Rattle.moka_ways.specs.StateData.{estimates, view_by}
+use Rattle.moka_expiration.specs.Behaviour.{hash_by, behaviour_by}
+use Rattle.moka_expiration.specs.StateData.{estimates, view_by}
 use Rattle.moka_history.proofs.StepForms.{form, of-record}
 use Rattle.moka_history.proofs.history.History.add.Goals as goal
 

@@ -1,7 +1,7 @@
 use Rattle.std.proofs.Common.{true, refl}
 use Rattle.std.specs.Arc.{arc_value}
-use Rattle.moka_ways.specs.Behaviour.{hash_by, behaviour_by}
-use Rattle.moka_ways.specs.StateData.{estimates}
+use Rattle.moka_expiration.specs.Behaviour.{hash_by, behaviour_by}
+use Rattle.moka_expiration.specs.StateData.{estimates}
 use Rattle.moka_model.specs.Calls.{Begin, live_at}
 use Rattle.moka_model.specs.Steps.{events_in}
 use Rattle.moka_state.specs.Begin.{GivesBegun, IsSaidOf}

@@ -1,10 +1,10 @@
 use Rattle.std.proofs.Common.{◌≡◌, ◌<◌, min, Some, length, ap, sym, ◌∙◌, refl, arith}
 use Rattle.std.specs.List.{slice_get}
 use Rattle.std.proofs.lemmas.Option.{slice_get_read}
-use Rattle.moka_ways.specs.Behaviour.{hash_by, behaviour_by}
-use Rattle.moka_ways.specs.StateData.{estimates}
+use Rattle.moka_expiration.specs.Behaviour.{hash_by, behaviour_by}
+use Rattle.moka_expiration.specs.StateData.{estimates}
 use Rattle.moka_model.specs.Numbers.{greatest_number}
-use Rattle.moka_segments.specs.Segments.{sum_below}
+use Rattle.moka_segment_model.specs.Segments.{sum_below}
 use Rattle.moka_segmented.specs.SegmentedData.{SegmentedData, stored_at}
 use Rattle.moka_segmented.proofs.Noticing.{counted-more, stored-there, entries-answer, count-stays}
 use Rattle.moka_segmented.proofs.segment.Segmented.entry_count.Goals as goal

@@ -1,7 +1,7 @@
 use Rattle.std.proofs.Common.{◌≡◌, ◌<◌, length, ap, ◌∙◌, refl, arith, Some}
 use Rattle.std.specs.List.{slice_get}
 use Rattle.std.proofs.lemmas.Option.{slice_get_read}
-use Rattle.moka_segments.proofs.Callers.{first-found, first-on}
+use Rattle.moka_segment_model.proofs.Callers.{first-found, first-on}
 use Rattle.moka_segmented.specs.SegmentedData.{SegmentedData, has_notice}
 use Rattle.moka_segmented.proofs.Noticing.{is-noticed, none-noticed, notice-there}
 use Rattle.moka_segmented.proofs.segment.Segmented.first_noticed.Goals as goal

@@ -1,8 +1,8 @@
 use Rattle.std.proofs.Common.{None, option_map}
 use Rattle.moka_model.specs.declared.turns.Kind.TheVariants.{With}
 use Rattle.moka_model.specs.declared.turns.Outcome.TheVariants.{Value}
-use Rattle.moka_ways.specs.Behaviour.{hash_by, behaviour_by}
-use Rattle.moka_ways.specs.StateData.{estimates}
+use Rattle.moka_expiration.specs.Behaviour.{hash_by, behaviour_by}
+use Rattle.moka_expiration.specs.StateData.{estimates}
 use Rattle.moka_segmented.specs.SegmentedData.{SegmentedData, data_of, segmented_settings_by}
 use Rattle.moka_segmented.proofs.Forms.{routed-form, unasked-by}
 use Rattle.moka_segmented.proofs.Hashing.{all-hash-set}

@@ -3,8 +3,8 @@ use Rattle.moka_model.specs.declared.turns.Kind.TheVariants.{With}
 use Rattle.moka_model.specs.declared.turns.Outcome.TheVariants.{Value}
 use Rattle.moka_model.specs.Steps.{events_in}
 use Rattle.moka_model.specs.Calls.{live_at}
-use Rattle.moka_ways.specs.Behaviour.{hash_by, behaviour_by}
-use Rattle.moka_ways.specs.StateData.{estimates}
+use Rattle.moka_expiration.specs.Behaviour.{hash_by, behaviour_by}
+use Rattle.moka_expiration.specs.StateData.{estimates}
 use Rattle.moka_state.specs.Begin.{IsSaidOf}
 use Rattle.moka_segmented.specs.SegmentedData.{SegmentedData, data_of, segmented_settings_by}
 use Rattle.moka_segmented.proofs.Forms.{routed-form, unasked-by}

@@ -1,6 +1,6 @@
 use Rattle.std.proofs.Common.{◌≡◌, true, IsOk, IsErrAnd, ◌↔◌, refl}
-use Rattle.moka_ways.specs.Behaviour.{hash_by, behaviour_by}
-use Rattle.moka_ways.specs.StateData.{StateData, estimates, settings_by}
+use Rattle.moka_expiration.specs.Behaviour.{hash_by, behaviour_by}
+use Rattle.moka_expiration.specs.StateData.{StateData, estimates, settings_by}
 use Rattle.moka_state.specs.Hashes.{IsHashOf}
 use Rattle.moka_model.specs.Calls.{Insert, IsOutOfNumbers}
 use Rattle.moka_model.specs.Numbers.{stores_nothing}

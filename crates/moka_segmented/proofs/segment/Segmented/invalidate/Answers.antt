@@ -1,6 +1,6 @@
 use Rattle.std.proofs.Common.{refl}
-use Rattle.moka_ways.specs.Behaviour.{hash_by, behaviour_by}
-use Rattle.moka_ways.specs.StateData.{StateData, estimates, settings_by}
+use Rattle.moka_expiration.specs.Behaviour.{hash_by, behaviour_by}
+use Rattle.moka_expiration.specs.StateData.{StateData, estimates, settings_by}
 use Rattle.moka_state.specs.Hashes.{IsHashOf}
 use Rattle.moka_model.specs.Calls.{Invalidate}
 use Rattle.moka_segmented.specs.SegmentedData.{SegmentedData, data_of, segmented_settings_by}

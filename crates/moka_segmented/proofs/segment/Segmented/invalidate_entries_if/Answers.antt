@@ -1,6 +1,6 @@
 use Rattle.std.proofs.Common.{refl}
-use Rattle.moka_ways.specs.Behaviour.{hash_by, behaviour_by}
-use Rattle.moka_ways.specs.StateData.{estimates}
+use Rattle.moka_expiration.specs.Behaviour.{hash_by, behaviour_by}
+use Rattle.moka_expiration.specs.StateData.{estimates}
 use Rattle.moka_segmented.proofs.Broadcast.{supported-by}
 use Rattle.moka_segmented.proofs.Routed.{not-both}
 use Rattle.moka_segmented.proofs.segment.Segmented.invalidate_entries_if.Goals as goal

@@ -1,6 +1,6 @@
 use Rattle.std.proofs.Common.{Some, sym, ap}
-use Rattle.moka_ways.specs.Behaviour.{hash_by, behaviour_by}
-use Rattle.moka_ways.specs.StateData.{estimates}
+use Rattle.moka_expiration.specs.Behaviour.{hash_by, behaviour_by}
+use Rattle.moka_expiration.specs.StateData.{estimates}
 use Rattle.moka_model.specs.Calls.{Leave}
 use Rattle.moka_turns.specs.Handles.{ticket_name}
 use Rattle.moka_state.specs.Given.{Gives, of_done}

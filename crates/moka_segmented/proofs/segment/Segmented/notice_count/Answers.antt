@@ -2,7 +2,7 @@ use Rattle.std.proofs.Common.{◌≡◌, ◌<◌, min, Some, length, ap, sym, �
 use Rattle.std.specs.List.{slice_get}
 use Rattle.std.proofs.lemmas.Option.{slice_get_read}
 use Rattle.moka_model.specs.Numbers.{greatest_number}
-use Rattle.moka_segments.specs.Segments.{sum_below}
+use Rattle.moka_segment_model.specs.Segments.{sum_below}
 use Rattle.moka_segmented.specs.SegmentedData.{SegmentedData, notices_at}
 use Rattle.moka_segmented.proofs.Noticing.{counted-more, notices-there}
 use Rattle.moka_segmented.proofs.segment.Segmented.notice_count.Goals as goal

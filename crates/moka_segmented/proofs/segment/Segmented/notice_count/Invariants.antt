@@ -1,6 +1,6 @@
 use Rattle.std.proofs.Common.{◌≡◌, min}
 use Rattle.moka_model.specs.Numbers.{greatest_number}
-use Rattle.moka_segments.specs.Segments.{sum_below}
+use Rattle.moka_segment_model.specs.Segments.{sum_below}
 use Rattle.moka_segmented.specs.SegmentedData.{notices_at}
 use Rattle.moka_segmented.proofs.segment.Segmented.notice_count.Given as goal
 

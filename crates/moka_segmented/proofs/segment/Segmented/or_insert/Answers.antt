@@ -1,7 +1,7 @@
 use Rattle.std.proofs.Common.{refl}
 use Rattle.std.specs.Arc.{arc_value}
-use Rattle.moka_ways.specs.Behaviour.{hash_by, behaviour_by}
-use Rattle.moka_ways.specs.StateData.{StateData, estimates, settings_by}
+use Rattle.moka_expiration.specs.Behaviour.{hash_by, behaviour_by}
+use Rattle.moka_expiration.specs.StateData.{StateData, estimates, settings_by}
 use Rattle.moka_model.specs.Calls.{OrInsert}
 use Rattle.moka_state.specs.Given.{Gives}
 use Rattle.moka_state.specs.Hashes.{IsHashOf}

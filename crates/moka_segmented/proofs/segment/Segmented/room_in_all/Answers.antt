@@ -2,7 +2,7 @@ use Rattle.std.proofs.Common.{◌≡◌, ◌<◌, length, Some, ap, sym, ◌∙�
 use Rattle.std.specs.List.{slice_get}
 use Rattle.std.proofs.lemmas.Bool.Decides.{eqb_tells}
 use Rattle.std.proofs.lemmas.Option.{slice_get_read, slice_get_past}
-use Rattle.moka_ways.specs.StateData.{StateData}
+use Rattle.moka_expiration.specs.StateData.{StateData}
 use Rattle.moka_segmented.specs.SegmentedData.{SegmentedData, data_of}
 use Rattle.moka_segmented.proofs.Hashing.{all-hash-by}
 use Rattle.moka_segmented.proofs.Broadcast.{below-or-past}

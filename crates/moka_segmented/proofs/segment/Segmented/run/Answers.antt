@@ -1,10 +1,10 @@
 use Rattle.std.proofs.Common.{[], ◌∷◌, ◌++◌, sym, ap, ◌∙◌, subst, arith, append_assoc}
 use Rattle.std.proofs.lemmas.List.{append-nil}
-use Rattle.moka_ways.specs.Behaviour.{hash_by, behaviour_by}
-use Rattle.moka_ways.specs.StateData.{estimates}
-use Rattle.moka_ways.specs.Behaviour.{weight_by}
+use Rattle.moka_expiration.specs.Behaviour.{hash_by, behaviour_by}
+use Rattle.moka_expiration.specs.StateData.{estimates}
+use Rattle.moka_expiration.specs.Behaviour.{weight_by}
 use Rattle.moka_model.specs.SizeLaws.{LimitsSome}
-use Rattle.moka_segments.specs.Segments.{SegmentedSettings}
+use Rattle.moka_segment_model.specs.Segments.{SegmentedSettings}
 use Rattle.moka_segmented.proofs.Bounds.{all-bounded}
 use Rattle.moka_segmented.proofs.Runs.{IsRunIn-more, all-stand-more, same_as_rest-empty}
 use Rattle.moka_segmented.proofs.segment.Segmented.run.Goals as goal

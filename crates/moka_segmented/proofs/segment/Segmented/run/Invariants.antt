@@ -3,11 +3,11 @@ use Rattle.std.specs.Vec.{vec_capacity}
 use Rattle.std.specs.VecDeque.{deque_len}
 use Rattle.std.specs.List.{AllByRecursion}
 use Rattle.moka_model.specs.Calls.{Call}
-use Rattle.moka_ways.specs.Behaviour.{hash_by, behaviour_by}
-use Rattle.moka_ways.specs.StateData.{estimates}
+use Rattle.moka_expiration.specs.Behaviour.{hash_by, behaviour_by}
+use Rattle.moka_expiration.specs.StateData.{estimates}
 use Rattle.moka_state.specs.declared.step.Step.{Step}
 use Rattle.moka_state.specs.Step.{StepKeeps}
-use Rattle.moka_segments.specs.Segments.{SegmentedSettings, AllStandFor}
+use Rattle.moka_segment_model.specs.Segments.{SegmentedSettings, AllStandFor}
 use Rattle.moka_segmented.specs.SegmentedData.{segmented_view_by}
 use Rattle.moka_segmented.specs.Step.{IsRunIn, after_all_in}
 use Rattle.moka_segmented.proofs.segment.Segmented.run.Given as goal

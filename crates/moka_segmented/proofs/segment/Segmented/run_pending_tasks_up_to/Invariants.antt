@@ -1,7 +1,7 @@
 use Rattle.std.proofs.Common.{◌≡◌}
 use Rattle.std.specs.Arc.{arc_value}
-use Rattle.moka_ways.specs.Behaviour.{hash_by, behaviour_by}
-use Rattle.moka_ways.specs.StateData.{estimates, view_by}
+use Rattle.moka_expiration.specs.Behaviour.{hash_by, behaviour_by}
+use Rattle.moka_expiration.specs.StateData.{estimates, view_by}
 use Rattle.moka_model.specs.Calls.{RunPendingTasksUpTo}
 use Rattle.moka_segmented.specs.SegmentedData.{AllHashBy, data_of}
 use Rattle.moka_segmented.proofs.Broadcast.{Together}

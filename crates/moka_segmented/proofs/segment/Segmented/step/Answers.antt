@@ -1,9 +1,9 @@
 use Rattle.std.proofs.Common.{◌≡◌, Some, sym}
-use Rattle.moka_ways.specs.Behaviour.{hash_by, behaviour_by}
-use Rattle.moka_ways.specs.StateData.{StateData, estimates, settings_by}
+use Rattle.moka_expiration.specs.Behaviour.{hash_by, behaviour_by}
+use Rattle.moka_expiration.specs.StateData.{StateData, estimates, settings_by}
 use Rattle.moka_state.specs.Hashes.{IsHashOf}
 use Rattle.moka_state.specs.Step.{call_of}
-use Rattle.moka_segments.specs.Segments.{key_in}
+use Rattle.moka_segment_model.specs.Segments.{key_in}
 use Rattle.moka_segmented.specs.SegmentedData.{SegmentedData, data_of, segmented_settings_by}
 use Rattle.moka_segmented.proofs.Hashing.{hash-at, hash-of-step, all-hash-set}
 use Rattle.moka_segmented.proofs.Routed.{Routing}

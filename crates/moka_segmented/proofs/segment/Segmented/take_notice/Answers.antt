@@ -1,12 +1,12 @@
 use Rattle.std.proofs.Common.{◌≡◌, ◌<◌, Some, length, ap, sym, refl, arith, option_map}
 use Rattle.std.specs.List.{slice_get}
 use Rattle.std.proofs.lemmas.Option.{slice_get_read}
-use Rattle.moka_ways.specs.Behaviour.{hash_by, behaviour_by}
-use Rattle.moka_ways.specs.StateData.{estimates}
+use Rattle.moka_expiration.specs.Behaviour.{hash_by, behaviour_by}
+use Rattle.moka_expiration.specs.StateData.{estimates}
 use Rattle.moka_model.specs.Calls.{Noticed}
 use Rattle.moka_table.specs.Table.{removal_of}
-use Rattle.moka_segments.specs.Segments.{first_from}
-use Rattle.moka_segments.proofs.Callers.{first_from-passes}
+use Rattle.moka_segment_model.specs.Segments.{first_from}
+use Rattle.moka_segment_model.proofs.Callers.{first_from-passes}
 use Rattle.moka_segmented.specs.SegmentedData.{SegmentedData, data_of, has_notice}
 use Rattle.moka_segmented.proofs.Hashing.{all-hash-set}
 use Rattle.moka_segmented.proofs.Noticing.{taken-answers, taken-follows, none-answers, none-follows, kept-some, kept-fewer, kept-none}

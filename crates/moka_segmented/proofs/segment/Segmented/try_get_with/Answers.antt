@@ -1,7 +1,7 @@
 use Rattle.std.proofs.Common.{None, option_map}
 use Rattle.moka_model.specs.declared.turns.Kind.TheVariants.{Try}
-use Rattle.moka_ways.specs.Behaviour.{hash_by, behaviour_by}
-use Rattle.moka_ways.specs.StateData.{estimates}
+use Rattle.moka_expiration.specs.Behaviour.{hash_by, behaviour_by}
+use Rattle.moka_expiration.specs.StateData.{estimates}
 use Rattle.moka_state.specs.Forms.{tried_outcome}
 use Rattle.moka_segmented.specs.SegmentedData.{SegmentedData, data_of, segmented_settings_by}
 use Rattle.moka_segmented.proofs.Forms.{routed-form, unasked-by}

@@ -1,13 +1,13 @@
 use Rattle.std.proofs.Common.{[], ◌∷◌, ◌++◌, sym, ◌∙◌, arith}
-use Rattle.moka_links.specs.Links.{admitted_of}
+use Rattle.moka_row_index.specs.RowIndex.{admitted_of}
 use Rattle.moka_slab.proofs.Walks.{walks-first, walks-end, walks-more, walks-here, walks-linked, walks-admitted, walks-expired, walks-alive}
 use Rattle.moka_slab.proofs.slab_rows.SlabRows.walk_to_expired.Goals as goal
 
 pub loop-init : goal.loop-init
 loop-init g c = ([], admitted_of c.args.self.now.links, walks-first c.args.self.now.rows c.args.self.now.links c.args.now c.first_admitted-cursor.result c.first_admitted-cursor.ensures)
 
-pub shelved-requires : goal.shelved-requires
-shelved-requires g c =
+pub counted_row-requires : goal.counted_row-requires
+counted_row-requires g c =
     let on = rw c.in-Some.is at c.loop.invariant in
     walks-linked c.args.self.now.rows c.args.self.now.links c.args.now c.in-Some.at c.loop.counter on.0 on.1 on.2
 
@@ -15,7 +15,7 @@ pub returns-then-is_expired : goal.returns-then-is_expired
 returns-then-is_expired g c =
     let on = rw c.in-Some.is at c.loop.invariant in
     let row = c.row.result.now in
-    walks-expired c.args.self.now.rows c.args.self.now.links c.args.now c.in-Some.at c.loop.counter on.0 on.1 on.2 row (rw c.row.ensures c.shelved.ensures) (sym (rw c.info.ensures at c.is_expired.ensures) ∙ c.if-is_expired.true)
+    walks-expired c.args.self.now.rows c.args.self.now.links c.args.now c.in-Some.at c.loop.counter on.0 on.1 on.2 row (rw c.row.ensures c.counted_row.ensures) (sym (rw c.info.ensures at c.is_expired.ensures) ∙ c.if-is_expired.true)
 
 pub next-cursor-requires : goal.next-cursor-requires
 next-cursor-requires g c =
@@ -29,7 +29,7 @@ loop-preserved g c =
     let next = c.next-cursor.ensures.admitted (walks-admitted c.args.self.now.rows c.args.self.now.links c.args.now c.in-Some.at c.loop.counter on.0 on.1 on.2) in (
       on.0 ++ c.in-Some.at ∷ [],
       (walks-here c.args.self.now.rows c.args.self.now.links c.args.now c.in-Some.at c.loop.counter on.0 on.1 on.2).0,
-      walks-alive c.args.self.now.rows c.args.self.now.links c.args.now c.in-Some.at c.loop.counter on.0 on.1 on.2 row (rw c.row.ensures c.shelved.ensures) (sym (rw c.info.ensures at c.is_expired.ensures) ∙ c.if-is_expired.false)
+      walks-alive c.args.self.now.rows c.args.self.now.links c.args.now c.in-Some.at c.loop.counter on.0 on.1 on.2 row (rw c.row.ensures c.counted_row.ensures) (sym (rw c.info.ensures at c.is_expired.ensures) ∙ c.if-is_expired.false)
           c.next-cursor.result next,
     )
 

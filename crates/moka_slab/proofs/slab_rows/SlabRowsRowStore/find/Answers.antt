@@ -5,34 +5,34 @@ use Rattle.moka_slab.proofs.slab_rows.SlabRowsRowStore.find.Goals as goal
 pub loop-at-init : goal.loop-at-init
 loop-at-init g c = rw (c.first-at.ensures, c.requires) (sought-first c.args.self.now.rows c.args.self.now.links c.args.self.now.tied g.K.PartialEq.eq c.args.key.now c.args.hash)
 
-pub look-row-requires-clause-linked : goal.look-row-requires-clause-linked
-look-row-requires-clause-linked g c = (going c.args.self.now.rows c.args.self.now.links c.args.self.now.tied g.K.PartialEq.eq c.args.key.now c.args.hash c.loop-at.at c.loop-at.reads c.in-Some.number c.in-Some.is c.loop-at.invariant).linked
+pub read_counted-row-requires-clause-linked : goal.read_counted-row-requires-clause-linked
+read_counted-row-requires-clause-linked g c = (going c.args.self.now.rows c.args.self.now.links c.args.self.now.tied g.K.PartialEq.eq c.args.key.now c.args.hash c.loop-at.at c.loop-at.reads c.in-Some.number c.in-Some.is c.loop-at.invariant).linked
 
-pub look-row-requires-clause-fits : goal.look-row-requires-clause-fits
-look-row-requires-clause-fits g c = going-fits c.args.self.now.rows c.args.self.now.links c.args.self.now.tied g.K.PartialEq.eq c.args.key.now c.args.hash c.loop-at.reads c.in-Some.number (going c.args.self.now.rows c.args.self.now.links c.args.self.now.tied g.K.PartialEq.eq c.args.key.now c.args.hash c.loop-at.at c.loop-at.reads c.in-Some.number c.in-Some.is c.loop-at.invariant)
+pub read_counted-row-requires-clause-fits : goal.read_counted-row-requires-clause-fits
+read_counted-row-requires-clause-fits g c = going-fits c.args.self.now.rows c.args.self.now.links c.args.self.now.tied g.K.PartialEq.eq c.args.key.now c.args.hash c.loop-at.reads c.in-Some.number (going c.args.self.now.rows c.args.self.now.links c.args.self.now.tied g.K.PartialEq.eq c.args.key.now c.args.hash c.loop-at.at c.loop-at.reads c.in-Some.number c.in-Some.is c.loop-at.invariant)
 
 pub returns-then-eq-clause-found : goal.returns-then-eq-clause-found
 returns-then-eq-clause-found g c =
-    sought-found c.args.self.now.rows c.args.self.now.links c.args.self.now.tied g.K.PartialEq.eq c.args.key.now c.args.hash c.loop-at.reads c.in-Some.number c.look-row.result.now
-    (going c.args.self.now.rows c.args.self.now.links c.args.self.now.tied g.K.PartialEq.eq c.args.key.now c.args.hash c.loop-at.at c.loop-at.reads c.in-Some.number c.in-Some.is c.loop-at.invariant) c.look-row.ensures.row (ap (λ k. g.K.PartialEq.eq k c.args.key.now) (sym c.deref.ensures) ∙ sym c.eq.ensures ∙ c.if-eq.true)
+    sought-found c.args.self.now.rows c.args.self.now.links c.args.self.now.tied g.K.PartialEq.eq c.args.key.now c.args.hash c.loop-at.reads c.in-Some.number c.read_counted-row.result.now
+    (going c.args.self.now.rows c.args.self.now.links c.args.self.now.tied g.K.PartialEq.eq c.args.key.now c.args.hash c.loop-at.at c.loop-at.reads c.in-Some.number c.in-Some.is c.loop-at.invariant) c.read_counted-row.ensures.row (ap (λ k. g.K.PartialEq.eq k c.args.key.now) (sym c.deref.ensures) ∙ sym c.eq.ensures ∙ c.if-eq.true)
 
 pub returns-then-eq-clause-stored : goal.returns-then-eq-clause-stored
 returns-then-eq-clause-stored g c = sought-stored c.args.self.now.rows c.args.self.now.links c.args.self.now.tied g.K.PartialEq.eq c.args.key.now c.args.hash c.loop-at.reads c.in-Some.number (going c.args.self.now.rows c.args.self.now.links c.args.self.now.tied g.K.PartialEq.eq c.args.key.now c.args.hash c.loop-at.at c.loop-at.reads c.in-Some.number c.in-Some.is c.loop-at.invariant)
 
 pub returns-then-eq-clause-counted : goal.returns-then-eq-clause-counted
-returns-then-eq-clause-counted g c = rw c.look-row.ensures.counted (going-counted c.args.self.now.rows c.args.self.now.links c.args.self.now.tied g.K.PartialEq.eq c.args.key.now c.args.hash c.loop-at.reads c.in-Some.number (going c.args.self.now.rows c.args.self.now.links c.args.self.now.tied g.K.PartialEq.eq c.args.key.now c.args.hash c.loop-at.at c.loop-at.reads c.in-Some.number c.in-Some.is c.loop-at.invariant))
+returns-then-eq-clause-counted g c = rw c.read_counted-row.ensures.counted (going-counted c.args.self.now.rows c.args.self.now.links c.args.self.now.tied g.K.PartialEq.eq c.args.key.now c.args.hash c.loop-at.reads c.in-Some.number (going c.args.self.now.rows c.args.self.now.links c.args.self.now.tied g.K.PartialEq.eq c.args.key.now c.args.hash c.loop-at.at c.loop-at.reads c.in-Some.number c.in-Some.is c.loop-at.invariant))
 
 pub returns-then-eq-clause-few : goal.returns-then-eq-clause-few
-returns-then-eq-clause-few g c = rw c.look-row.ensures.counted (going-reads c.args.self.now.rows c.args.self.now.links c.args.self.now.tied g.K.PartialEq.eq c.args.key.now c.args.hash c.loop-at.reads c.in-Some.number (going c.args.self.now.rows c.args.self.now.links c.args.self.now.tied g.K.PartialEq.eq c.args.key.now c.args.hash c.loop-at.at c.loop-at.reads c.in-Some.number c.in-Some.is c.loop-at.invariant))
+returns-then-eq-clause-few g c = rw c.read_counted-row.ensures.counted (going-reads c.args.self.now.rows c.args.self.now.links c.args.self.now.tied g.K.PartialEq.eq c.args.key.now c.args.hash c.loop-at.reads c.in-Some.number (going c.args.self.now.rows c.args.self.now.links c.args.self.now.tied g.K.PartialEq.eq c.args.key.now c.args.hash c.loop-at.at c.loop-at.reads c.in-Some.number c.in-Some.is c.loop-at.invariant))
 
-pub same-at-requires : goal.same-at-requires
-same-at-requires g c = (going c.args.self.now.rows c.args.self.now.links c.args.self.now.tied g.K.PartialEq.eq c.args.key.now c.args.hash c.loop-at.at c.loop-at.reads c.in-Some.number c.in-Some.is c.loop-at.invariant).linked
+pub next_in_chain-at-requires : goal.next_in_chain-at-requires
+next_in_chain-at-requires g c = (going c.args.self.now.rows c.args.self.now.links c.args.self.now.tied g.K.PartialEq.eq c.args.key.now c.args.hash c.loop-at.at c.loop-at.reads c.in-Some.number c.in-Some.is c.loop-at.invariant).linked
 
 pub loop-at-preserved : goal.loop-at-preserved
 loop-at-preserved g c =
-    rw (c.same-at.ensures, c.look-row.ensures.counted)
-    (sought-next c.args.self.now.rows c.args.self.now.links c.args.self.now.tied g.K.PartialEq.eq c.args.key.now c.args.hash c.loop-at.reads c.in-Some.number c.look-row.result.now
-    (going c.args.self.now.rows c.args.self.now.links c.args.self.now.tied g.K.PartialEq.eq c.args.key.now c.args.hash c.loop-at.at c.loop-at.reads c.in-Some.number c.in-Some.is c.loop-at.invariant) c.look-row.ensures.row (ap (λ k. g.K.PartialEq.eq k c.args.key.now) (sym c.deref.ensures) ∙ sym c.eq.ensures ∙ c.if-eq.false))
+    rw (c.next_in_chain-at.ensures, c.read_counted-row.ensures.counted)
+    (sought-next c.args.self.now.rows c.args.self.now.links c.args.self.now.tied g.K.PartialEq.eq c.args.key.now c.args.hash c.loop-at.reads c.in-Some.number c.read_counted-row.result.now
+    (going c.args.self.now.rows c.args.self.now.links c.args.self.now.tied g.K.PartialEq.eq c.args.key.now c.args.hash c.loop-at.at c.loop-at.reads c.in-Some.number c.in-Some.is c.loop-at.invariant) c.read_counted-row.ensures.row (ap (λ k. g.K.PartialEq.eq k c.args.key.now) (sym c.deref.ensures) ∙ sym c.eq.ensures ∙ c.if-eq.false))
 
 pub returns-clause-absent : goal.returns-clause-absent
 returns-clause-absent g c = sought-absent c.args.self.now.rows c.args.self.now.links c.args.self.now.tied g.K.PartialEq.eq c.args.key.now c.args.hash c.loop-at.reads (rw c.in_default.is at c.loop-at.invariant)

@@ -1,5 +1,5 @@
 use Rattle.std.proofs.Common.{inl, rules}
-use Rattle.moka_links.specs.Links.{admitted_of}
+use Rattle.moka_row_index.specs.RowIndex.{admitted_of}
 use Rattle.moka_slab.specs.Kept.{row_at}
 use Rattle.moka_slab.proofs.KeptLemmas.{first-numbered}
 use Rattle.moka_slab.proofs.slab_rows.SlabRowsRowStore.first_admitted.Goals as goal

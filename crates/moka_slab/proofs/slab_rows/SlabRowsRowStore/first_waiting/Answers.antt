@@ -1,5 +1,5 @@
 use Rattle.std.proofs.Common.{inr, rules}
-use Rattle.moka_links.specs.Links.{waiting_of}
+use Rattle.moka_row_index.specs.RowIndex.{waiting_of}
 use Rattle.moka_slab.specs.Kept.{row_at}
 use Rattle.moka_slab.proofs.KeptLemmas.{first-numbered}
 use Rattle.moka_slab.proofs.TiedLemmas.{numbers-differ}

@@ -1,5 +1,5 @@
 use Rattle.std.proofs.Common.{inl, inr, sym, ◌∙◌}
-use Rattle.moka_links.specs.Links.{admitted_of, waiting_of}
+use Rattle.moka_row_index.specs.RowIndex.{admitted_of, waiting_of}
 use Rattle.moka_slab.proofs.KeptLemmas.{some-of, after-numbered}
 use Rattle.moka_slab.specs.Kept.{row_at}
 use Rattle.moka_slab.proofs.TiedLemmas.{linked-found, by-order, numbers-differ}

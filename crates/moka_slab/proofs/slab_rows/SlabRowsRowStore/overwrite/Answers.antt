@@ -1,7 +1,7 @@
 use Rattle.std.proofs.Common.{◌-◌, Some, refl, subst, arith}
 use Rattle.slab.specs.Slab.{with_value}
 use Rattle.moka_rows.specs.Rows.{overwritten}
-use Rattle.moka_links.proofs.Callers.{linked-above}
+use Rattle.moka_row_index.proofs.Callers.{linked-above}
 use Rattle.moka_slab.proofs.TiedLemmas.{linked-found, Puts, puts-write, used-tied, used-orders, under-all, order-said}
 use Rattle.moka_slab.proofs.RoomLemmas.{room-kept, len-write}
 use Rattle.moka_slab.proofs.slab_rows.SlabRowsRowStore.overwrite.Goals as goal

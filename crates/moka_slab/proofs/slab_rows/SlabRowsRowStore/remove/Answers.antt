@@ -1,5 +1,5 @@
 use Rattle.std.proofs.Common.{◌≡◌, ℕ, ◌+◌, ◌-◌, ◌≤◌, None, arith}
-use Rattle.moka_links.proofs.Callers.{linked-above}
+use Rattle.moka_row_index.proofs.Callers.{linked-above}
 use Rattle.moka_slab.proofs.RoomLemmas.{room-kept}
 use Rattle.moka_slab.proofs.TiedLemmas.{linked-found, puts-update, removed-tied, removed-rest, under-all, order-said}
 use Rattle.moka_slab.proofs.slab_rows.SlabRowsRowStore.remove.Goals as goal

@@ -4,7 +4,7 @@ use Rattle.moka_model.specs.Steps.{events_in}
 use Rattle.moka_model.specs.Calls.{Begin, Entered, live_at, look_event}
 use Rattle.moka_model.specs.Entries.{entry_of}
 use Rattle.moka_model.proofs.Callers.{view-of, stands-after}
-use Rattle.moka_ways.specs.Behaviour.{hash_by}
+use Rattle.moka_expiration.specs.Behaviour.{hash_by}
 use Rattle.moka_table.proofs.Callers.{of-row}
 use Rattle.moka_table.specs.Table.{stored_write}
 use Rattle.moka_state.proofs.Alike.{hash-alike}
@@ -30,7 +30,7 @@ returns-in_default-clause-looks g c = (
         let hash = rw (← c.self.view_is) at c.requires.hash in
         let there = rw (← c.self.view_is) at stands in
         let rejects = rw c.max-now.ensures at c.in_default.ensures.1 in
-        rejects-live eq laws _ s.table _ s.latest s.next_number given steps there s.upkeep.lives refl c.self.invariant.0.dated hash_of alike c.self.invariant.0.hashed _ _ key c.args.now c.args.hash hash (omega (arith, c.max-now.ensures)) c.in_default.ensures.0 rejects;
+        rejects-live eq laws _ s.table _ s.latest s.next_number given steps there s.housekeeper.lives refl c.self.invariant.0.dated hash_of alike c.self.invariant.0.hashed _ _ key c.args.now c.args.hash hash (omega (arith, c.max-now.ensures)) c.in_default.ensures.0 rejects;
     stands = rw (← c.self.view_is) refl;
   },
 )
@@ -49,7 +49,7 @@ returns-in_default-entry-clause-looks g c = (
         let hash = rw (← c.self.view_is) at c.requires.hash in
         let there = rw (← c.self.view_is) at stands in
         let accepts = rw c.max-now.ensures at c.in-Some.ensures.1 in
-        let it = accepts-live eq laws _ s.table _ s.latest s.next_number given steps there s.upkeep.lives refl c.self.invariant.0.dated hash_of alike c.self.invariant.0.hashed _ _ key c.args.now c.args.hash hash (omega (arith, c.max-now.ensures)) c.in-Some.ensures.0 c.in-Some.number accepts in
+        let it = accepts-live eq laws _ s.table _ s.latest s.next_number given steps there s.housekeeper.lives refl c.self.invariant.0.dated hash_of alike c.self.invariant.0.hashed _ _ key c.args.now c.args.hash hash (omega (arith, c.max-now.ensures)) c.in-Some.ensures.0 c.in-Some.number accepts in
         (it.2, refl);
     stands = rw (← c.self.view_is) refl;
   },
@@ -60,7 +60,7 @@ invariant_of-self g c =
     let s = c.self.inside in
     let accepts = c.in-Some.ensures.1 in
     let used = rw accepts.1 at c.hit.ensures.used in
-    rw c.hit.ensures.lives (IsSound-touched _ _ s.upkeep.lives s.table c.hit.new.table c.self.invariant.0 c.in-Some.number accepts.0 used.0 accepts.1 used.2 c.hit.ensures.notices used.1.dated, c.self.invariant.1)
+    rw c.hit.ensures.lives (IsSound-touched _ _ s.housekeeper.lives s.table c.hit.new.table c.self.invariant.0 c.in-Some.number accepts.0 used.0 accepts.1 used.2 c.hit.ensures.notices used.1.dated, c.self.invariant.1)
 
 pub returns-clause-looks : goal.returns-clause-looks
 returns-clause-looks g c = (
@@ -76,7 +76,7 @@ returns-clause-looks g c = (
         let hash = rw (← c.self.view_is) at c.requires.hash in
         let there = rw (← c.self.view_is) at stands in
         let accepts = rw c.max-now.ensures at c.in-Some.ensures.1 in
-        let it = accepts-live eq laws _ s.table _ s.latest s.next_number given steps there s.upkeep.lives refl c.self.invariant.0.dated hash_of alike c.self.invariant.0.hashed _ _ key c.args.now c.args.hash hash (omega (arith, c.max-now.ensures)) c.in-Some.ensures.0 c.in-Some.number accepts in
+        let it = accepts-live eq laws _ s.table _ s.latest s.next_number given steps there s.housekeeper.lives refl c.self.invariant.0.dated hash_of alike c.self.invariant.0.hashed _ _ key c.args.now c.args.hash hash (omega (arith, c.max-now.ensures)) c.in-Some.ensures.0 c.in-Some.number accepts in
         let entry = rw it.1 at c.in-Ok.ensures in
         (it.2, λ kind initializer. gives-found eq g.V.Clone.is_clone g.V.Clone.is_infallible given steps key kind c.in-Some.ensures.0 c.args.now initializer _ it.3 (Entered (entry_of c.in-Ok.entry)) entry);
     stands = λ kind initializer given steps stands.
@@ -89,9 +89,9 @@ returns-clause-looks g c = (
         let hash = rw (← c.self.view_is) at c.requires.hash in
         let there = rw (← c.self.view_is) at stands in
         let accepts = rw c.max-now.ensures at c.in-Some.ensures.1 in
-        let it = accepts-live eq laws _ s.table _ s.latest s.next_number given steps there s.upkeep.lives refl c.self.invariant.0.dated hash_of alike c.self.invariant.0.hashed _ _ key c.args.now c.args.hash hash (omega (arith, c.max-now.ensures)) c.in-Some.ensures.0 c.in-Some.number accepts in
+        let it = accepts-live eq laws _ s.table _ s.latest s.next_number given steps there s.housekeeper.lives refl c.self.invariant.0.dated hash_of alike c.self.invariant.0.hashed _ _ key c.args.now c.args.hash hash (omega (arith, c.max-now.ensures)) c.in-Some.ensures.0 c.in-Some.number accepts in
         let uses = rw c.max-now.ensures at c.hit.ensures.used in
-        let becomes = hits-live eq laws _ s.table _ s.latest s.next_number given steps there s.upkeep.lives refl c.self.invariant.0.dated hash_of alike c.self.invariant.0.hashed _ _ key c.args.now c.args.hash hash (omega (arith, c.max-now.ensures)) c.in-Some.ensures.0 c.in-Some.number c.hit.new.table accepts uses c.hit.ensures.notices _ (estimates-noted g.C.Frequency.FrequencySource.noted g.C.Frequency.FrequencySource.count s.upkeep.source c.hit.new.self.source c.args.hash _ c.hit.ensures.noted hash) in
+        let becomes = hits-live eq laws _ s.table _ s.latest s.next_number given steps there s.housekeeper.lives refl c.self.invariant.0.dated hash_of alike c.self.invariant.0.hashed _ _ key c.args.now c.args.hash hash (omega (arith, c.max-now.ensures)) c.in-Some.ensures.0 c.in-Some.number c.hit.new.table accepts uses c.hit.ensures.notices _ (estimates-noted g.C.Frequency.FrequencySource.noted g.C.Frequency.FrequencySource.count s.housekeeper.source c.hit.new.self.source c.args.hash _ c.hit.ensures.noted hash) in
         rw (c.hit.ensures.lives, c.hit.ensures.max_capacity, c.max-now.ensures)
         (stands-after eq given _ steps there (Begin key kind c.in-Some.ensures.0 c.args.now) _ (look_event c.in-Some.ensures.0 key c.args.now ∷ [])
         (after-found eq g.V.Clone.is_clone g.V.Clone.is_infallible given steps key kind c.in-Some.ensures.0 c.args.now initializer _ it.3)
@@ -120,5 +120,5 @@ returns-in_default-entry-clause-live g c given steps stands =
     let hash = rw (← c.self.view_is) at c.requires.hash in
     let there = rw (← c.self.view_is) at stands in
     let accepts = rw c.max-now.ensures at c.in-Some.ensures.1 in
-    let it = accepts-live eq laws _ s.table _ s.latest s.next_number given steps there s.upkeep.lives refl c.self.invariant.0.dated hash_of alike c.self.invariant.0.hashed _ _ key c.args.now c.args.hash hash (omega (arith, c.max-now.ensures)) c.in-Some.ensures.0 c.in-Some.number accepts in
+    let it = accepts-live eq laws _ s.table _ s.latest s.next_number given steps there s.housekeeper.lives refl c.self.invariant.0.dated hash_of alike c.self.invariant.0.hashed _ _ key c.args.now c.args.hash hash (omega (arith, c.max-now.ensures)) c.in-Some.ensures.0 c.in-Some.number accepts in
     acceptable-live c.in-Some.ensures.0 (live_at eq given key c.args.now (events_in steps)) (stored_write it.0) it.3

@@ -8,12 +8,12 @@ use Rattle.moka_model.specs.Calls.{BeginCompute}
 use Rattle.moka_model.specs.Entries.{entry_of}
 use Rattle.moka_model.specs.StandsFor.{Books}
 use Rattle.moka_model.proofs.Callers.{view-of}
-use Rattle.moka_ways.specs.Behaviour.{hash_by}
+use Rattle.moka_expiration.specs.Behaviour.{hash_by}
 use Rattle.moka_table.specs.Table.{stored_write}
 use Rattle.moka_table.proofs.Callers.{of-row}
 use Rattle.moka_turns.specs.declared.turn_key.TurnKey.{TurnKey}
 use Rattle.moka_turns.specs.Handles.{turn_name, ticket_name}
-use Rattle.moka_turns.specs.Keeps.{name_of}
+use Rattle.moka_turns.specs.Represents.{name_of}
 use Rattle.moka_turns.proofs.Views.{table-keeps, table-holds}
 use Rattle.moka_state.proofs.Alike.{hash-alike}
 use Rattle.moka_state.proofs.Becoming.{becomes-passed, estimates-noted}
@@ -146,7 +146,7 @@ returns-in_default-found-clause-begins g c = record {
       let counted = ap (λ (b : Books _ _). b.next_number) there.books in
       let opened = none-open eq g.V.Clone.is_clone hash_of (turns steps) _ _ keeps q hash c.is_awaitable.result c.is_awaitable.ensures c.if-is_awaitable.false in
       let shown = rw (c.deref.ensures, c.max-now.ensures, c.in_default-found.is) at c.in-Ok.ensures in
-      let live = shows-none eq g.V.Clone.is_clone laws _ s.table _ s.latest s.next_number given steps there s.upkeep.lives refl c.self.invariant.0.dated hash_of alike c.self.invariant.0.hashed key c.args.keep c.args.now c.args.hash hash (omega (arith, c.max-now.ensures)) shown in
+      let live = shows-none eq g.V.Clone.is_clone laws _ s.table _ s.latest s.next_number given steps there s.housekeeper.lives refl c.self.invariant.0.dated hash_of alike c.self.invariant.0.hashed key c.args.keep c.args.now c.args.hash hash (omega (arith, c.max-now.ensures)) shown in
       compute-runs eq g.V.Clone.is_clone g.V.Clone.is_infallible given steps key c.args.keep c.args.now opened s.next_number counted c.if-next.false (turn_name c.in_ok-turn.turn) c.in_ok-turn.ensures.name None live None tt;
   stands = λ given steps stands.
       let s = c.self.inside in
@@ -163,8 +163,8 @@ returns-in_default-found-clause-begins g c = record {
       let counted = ap (λ (b : Books _ _). b.next_number) there.books in
       let opened = none-open eq g.V.Clone.is_clone hash_of (turns steps) _ _ keeps q hash c.is_awaitable.result c.is_awaitable.ensures c.if-is_awaitable.false in
       let shown = rw (c.deref.ensures, c.max-now.ensures, c.in_default-found.is) at c.in-Ok.ensures in
-      let live = shows-none eq g.V.Clone.is_clone laws _ s.table _ s.latest s.next_number given steps there s.upkeep.lives refl c.self.invariant.0.dated hash_of alike c.self.invariant.0.hashed key c.args.keep c.args.now c.args.hash hash (omega (arith, c.max-now.ensures)) shown in
-      let becomes = looks-in-vain eq laws _ s.table _ s.latest s.next_number given steps there None key c.args.now live _ (estimates-noted g.C.Frequency.FrequencySource.noted g.C.Frequency.FrequencySource.count s.upkeep.source c.note.new.self c.args.hash _ c.note.ensures hash) in
+      let live = shows-none eq g.V.Clone.is_clone laws _ s.table _ s.latest s.next_number given steps there s.housekeeper.lives refl c.self.invariant.0.dated hash_of alike c.self.invariant.0.hashed key c.args.keep c.args.now c.args.hash hash (omega (arith, c.max-now.ensures)) shown in
+      let becomes = looks-in-vain eq laws _ s.table _ s.latest s.next_number given steps there None key c.args.now live _ (estimates-noted g.C.Frequency.FrequencySource.noted g.C.Frequency.FrequencySource.count s.housekeeper.source c.note.new.self c.args.hash _ c.note.ensures hash) in
       let value : Option g.row.V.Denot = cond c.args.keep None None in
       let left = c.in_ok-turn.ensures.opens hash_of (turns steps) value alike hash (nothing-kept g.V.Clone.is_clone c.args.keep) keeps in
       rw c.max-now.ensures (move-stands eq given _ _ _ steps there (BeginCompute key c.args.keep c.args.now) (Drawn ∷ Looked key c.args.now ∷ []) _
@@ -181,7 +181,7 @@ invariant_of-self-2 g c =
     let s = c.self.inside in
     let shown = rw c.in-Some.is at c.in-Ok.ensures in
     let used = rw shown.1 at c.hit.ensures.used in
-    rw c.hit.ensures.lives (IsSound-touched _ _ s.upkeep.lives s.table c.hit.new.table c.self.invariant.0 c.in-Some.shown.number shown.0 used.0 shown.1 used.2 c.hit.ensures.notices used.1.dated, c.self.invariant.1)
+    rw c.hit.ensures.lives (IsSound-touched _ _ s.housekeeper.lives s.table c.hit.new.table c.self.invariant.0 c.in-Some.shown.number shown.0 used.0 shown.1 used.2 c.hit.ensures.notices used.1.dated, c.self.invariant.1)
 
 pub returns-clause-begins : goal.returns-clause-begins
 returns-clause-begins g c = record {
@@ -200,7 +200,7 @@ returns-clause-begins g c = record {
       let counted = ap (λ (b : Books _ _). b.next_number) there.books in
       let opened = none-open eq g.V.Clone.is_clone hash_of (turns steps) _ _ keeps q hash c.is_awaitable.result c.is_awaitable.ensures c.if-is_awaitable.false in
       let shown = rw (c.deref.ensures, c.max-now.ensures, c.in-Some.is) at c.in-Ok.ensures in
-      let it = shows-live eq g.V.Clone.is_clone laws _ s.table _ s.latest s.next_number given steps there s.upkeep.lives refl c.self.invariant.0.dated hash_of alike c.self.invariant.0.hashed key c.args.keep c.args.now c.args.hash hash (omega (arith, c.max-now.ensures)) c.in-Some.shown shown in
+      let it = shows-live eq g.V.Clone.is_clone laws _ s.table _ s.latest s.next_number given steps there s.housekeeper.lives refl c.self.invariant.0.dated hash_of alike c.self.invariant.0.hashed key c.args.keep c.args.now c.args.hash hash (omega (arith, c.max-now.ensures)) c.in-Some.shown shown in
       compute-runs eq g.V.Clone.is_clone g.V.Clone.is_infallible given steps key c.args.keep c.args.now opened s.next_number counted c.if-next.false (turn_name c.in_ok-turn-2.turn) c.in_ok-turn-2.ensures.name (Some (stored_write it.0)) it.1 (Some (entry_of c.in-Some.shown.entry)) it.2;
   stands = λ given steps stands.
       let s = c.self.inside in
@@ -217,8 +217,8 @@ returns-clause-begins g c = record {
       let counted = ap (λ (b : Books _ _). b.next_number) there.books in
       let opened = none-open eq g.V.Clone.is_clone hash_of (turns steps) _ _ keeps q hash c.is_awaitable.result c.is_awaitable.ensures c.if-is_awaitable.false in
       let shown = rw (c.deref.ensures, c.max-now.ensures, c.in-Some.is) at c.in-Ok.ensures in
-      let it = shows-live eq g.V.Clone.is_clone laws _ s.table _ s.latest s.next_number given steps there s.upkeep.lives refl c.self.invariant.0.dated hash_of alike c.self.invariant.0.hashed key c.args.keep c.args.now c.args.hash hash (omega (arith, c.max-now.ensures)) c.in-Some.shown shown in
-      let becomes = shows-hit eq g.V.Clone.is_clone laws _ s.table _ s.latest s.next_number given steps there s.upkeep.lives refl c.self.invariant.0.dated hash_of alike c.self.invariant.0.hashed key c.args.keep c.args.now c.args.hash hash (omega (arith, c.max-now.ensures)) c.in-Some.shown c.hit.new.table shown (rw c.max-now.ensures at c.hit.ensures.used) c.hit.ensures.notices _ (estimates-noted g.C.Frequency.FrequencySource.noted g.C.Frequency.FrequencySource.count s.upkeep.source c.hit.new.self.source c.args.hash _ c.hit.ensures.noted hash) in
+      let it = shows-live eq g.V.Clone.is_clone laws _ s.table _ s.latest s.next_number given steps there s.housekeeper.lives refl c.self.invariant.0.dated hash_of alike c.self.invariant.0.hashed key c.args.keep c.args.now c.args.hash hash (omega (arith, c.max-now.ensures)) c.in-Some.shown shown in
+      let becomes = shows-hit eq g.V.Clone.is_clone laws _ s.table _ s.latest s.next_number given steps there s.housekeeper.lives refl c.self.invariant.0.dated hash_of alike c.self.invariant.0.hashed key c.args.keep c.args.now c.args.hash hash (omega (arith, c.max-now.ensures)) c.in-Some.shown c.hit.new.table shown (rw c.max-now.ensures at c.hit.ensures.used) c.hit.ensures.notices _ (estimates-noted g.C.Frequency.FrequencySource.noted g.C.Frequency.FrequencySource.count s.housekeeper.source c.hit.new.self.source c.args.hash _ c.hit.ensures.noted hash) in
       let value : Option g.row.V.Denot = cond c.args.keep (Some it.0.value) None in
       let left = c.in_ok-turn-2.ensures.opens hash_of (turns steps) value alike hash it.3 keeps in
       rw (c.hit.ensures.lives, c.hit.ensures.max_capacity, c.max-now.ensures) (move-stands eq given _ _ _ steps there (BeginCompute key c.args.keep c.args.now) (Drawn ∷ Looked key c.args.now ∷ []) _

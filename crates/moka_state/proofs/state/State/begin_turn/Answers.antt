@@ -6,7 +6,7 @@ use Rattle.moka_model.specs.Steps.{events_in, turns}
 use Rattle.moka_model.specs.Calls.{Begin, look_event}
 use Rattle.moka_model.specs.StandsFor.{Books}
 use Rattle.moka_model.proofs.Callers.{view-of}
-use Rattle.moka_ways.specs.Behaviour.{hash_by}
+use Rattle.moka_expiration.specs.Behaviour.{hash_by}
 use Rattle.moka_turns.specs.declared.turn_key.TurnKey.{TurnKey}
 use Rattle.moka_turns.specs.Handles.{turn_name, ticket_name}
 use Rattle.moka_turns.proofs.Views.{table-keeps, table-holds}
@@ -76,7 +76,7 @@ returns-in-Wait-clause-begins g c said unacceptable = record {
       let counted = ap (λ (b : Books _ _). b.next_number) there.books in
       let begins = c.in-Ok.ensures.begins hash_of (turns steps) alike hash sound keeps in
       let told = waits-told eq g.V.Clone.is_clone hash_of _ _ q _ _ _ _ c.in-Wait.ticket (rw c.in-Wait.is at begins) in
-      let becomes = looks-in-vain eq laws _ s.table _ s.latest s.next_number given steps there said key c.args.now none _ (estimates-noted g.C.Frequency.FrequencySource.noted g.C.Frequency.FrequencySource.count s.upkeep.source c.note.new.self c.args.hash _ c.note.ensures hash) in
+      let becomes = looks-in-vain eq laws _ s.table _ s.latest s.next_number given steps there said key c.args.now none _ (estimates-noted g.C.Frequency.FrequencySource.noted g.C.Frequency.FrequencySource.count s.housekeeper.source c.note.new.self c.args.hash _ c.note.ensures hash) in
       rw c.max-now.ensures (move-stands eq given _ _ _ steps there (Begin key c.args.kind said c.args.now) (look_event said key c.args.now ∷ []) (Waited told.0.name.number)
       (after-wait eq g.V.Clone.is_clone g.V.Clone.is_infallible given steps key c.args.kind said c.args.now c.requires.initializer none sound.0 told.0 told.1) _
       (view-becomes eq laws given _ _ (events_in steps) (look_event said key c.args.now) (view-of eq given _ steps there) becomes)
@@ -119,7 +119,7 @@ returns-in-Run-clause-begins g c said unacceptable = record {
       let counted = ap (λ (b : Books _ _). b.next_number) there.books in
       let begins = c.in-Ok.ensures.begins hash_of (turns steps) alike hash sound keeps in
       let told = runs-told eq g.V.Clone.is_clone hash_of _ _ q _ _ _ _ c.in-Run.turn (rw c.in-Run.is at begins) in
-      let becomes = looks-in-vain eq laws _ s.table _ s.latest s.next_number given steps there said key c.args.now none _ (estimates-noted g.C.Frequency.FrequencySource.noted g.C.Frequency.FrequencySource.count s.upkeep.source c.note.new.self c.args.hash _ c.note.ensures hash) in
+      let becomes = looks-in-vain eq laws _ s.table _ s.latest s.next_number given steps there said key c.args.now none _ (estimates-noted g.C.Frequency.FrequencySource.noted g.C.Frequency.FrequencySource.count s.housekeeper.source c.note.new.self c.args.hash _ c.note.ensures hash) in
       rw c.max-now.ensures (move-stands eq given _ _ _ steps there (Begin key c.args.kind said c.args.now) (Drawn ∷ look_event said key c.args.now ∷ []) _
       (after-run eq g.V.Clone.is_clone g.V.Clone.is_infallible given steps key c.args.kind said c.args.now c.requires.initializer none sound.0 told.0) _
       (view-becomes eq laws given _ _ _ Drawn

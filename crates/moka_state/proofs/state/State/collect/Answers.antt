@@ -3,7 +3,7 @@ use Rattle.std.specs.Prelude.{Ok, Err}
 use Rattle.moka_model.specs.Turns.{Name}
 use Rattle.moka_model.specs.Steps.{turns}
 use Rattle.moka_model.specs.Calls.{Collect}
-use Rattle.moka_ways.specs.Behaviour.{hash_by}
+use Rattle.moka_expiration.specs.Behaviour.{hash_by}
 use Rattle.moka_turns.specs.Handles.{ticket_name}
 use Rattle.moka_turns.proofs.Views.{table-keeps, table-holds}
 use Rattle.moka_state.specs.Given.{Gives}

@@ -1,10 +1,10 @@
 use Rattle.std.proofs.Common.{◌≡◌, Bool, true, false, not, ◌||◌, cond, max, Some, None, is_some, ◌∙◌, ap, sym, refl, arith}
 use Rattle.moka_model.specs.Lives.{has_come}
 use Rattle.moka_model.specs.Calls.{ContainsKey, Contains}
-use Rattle.moka_ways.specs.Lives.{IsDated}
+use Rattle.moka_expiration.specs.ExpirationPolicy.{IsDated}
 use Rattle.moka_rows.specs.declared.rows.EntryInfo.{EntryInfo}
 use Rattle.moka_table.proofs.Callers.{of-row}
-use Rattle.moka_ways.proofs.Callers.{alive-kept}
+use Rattle.moka_expiration.proofs.Callers.{alive-kept}
 use Rattle.moka_state.proofs.Finds.{live-row, live-absent}
 use Rattle.moka_state.proofs.Alike.{hash-alike}
 use Rattle.moka_state.proofs.Held.{same-key}
@@ -29,10 +29,10 @@ pub returns-in-Some-clause-reply : goal.returns-in-Some-clause-reply
 returns-in-Some-clause-reply g c given steps stands =
     let s = c.self.inside in
     let row = c.row.result.now in
-    let dated = of-row (λ r. IsDated s.upkeep.lives r.info) c.in-Some.number _ row c.self.invariant.0.dated c.row.ensures in
+    let dated = of-row (λ r. IsDated s.housekeeper.lives r.info) c.in-Some.number _ row c.self.invariant.0.dated c.row.ensures in
     let key = same-key g.K.PartialEq.eq c.args.key.now c.args.hash row (rw c.row.ensures at c.in-Some.ensures.found) in
-    let alive = alive-kept s.upkeep.lives row.info dated (max s.latest c.args.now) (omega (arith, c.max-now.ensures)) in
-    let it = live-row g.K.PartialEq.eq g.met.K.Eq.laws _ s.table _ s.latest s.next_number given steps (rw (← c.self.view_is) at stands) s.upkeep.lives refl c.args.key.now c.args.now c.in-Some.number row c.row.ensures key _ alive in
+    let alive = alive-kept s.housekeeper.lives row.info dated (max s.latest c.args.now) (omega (arith, c.max-now.ensures)) in
+    let it = live-row g.K.PartialEq.eq g.met.K.Eq.laws _ s.table _ s.latest s.next_number given steps (rw (← c.self.view_is) at stands) s.housekeeper.lives refl c.args.key.now c.args.now c.in-Some.number row c.row.ensures key _ alive in
     sym (ap (λ o. Contains (is_some o)) it
     ∙ ap Contains (is_some-cond (not (row.info.is_hidden || has_come row.info.deadline (max s.latest c.args.now))) _)
     ∙ ap (λ t. Contains (not t)) (sym (c.is_dead.ensures ∙ ap (λ (i : EntryInfo). i.is_hidden || has_come i.deadline c.max-now.result) c.info.ensures ∙ ap (λ m. row.info.is_hidden || has_come row.info.deadline m) c.max-now.ensures)))

@@ -7,7 +7,7 @@ use Rattle.moka_model.specs.Steps.{events_in, turns}
 use Rattle.moka_model.specs.Calls.{GaveError}
 use Rattle.moka_model.specs.Events.{Passed}
 use Rattle.moka_model.proofs.Callers.{view-of}
-use Rattle.moka_ways.specs.Behaviour.{hash_by}
+use Rattle.moka_expiration.specs.Behaviour.{hash_by}
 use Rattle.moka_turns.specs.Handles.{turn_name}
 use Rattle.moka_turns.proofs.Views.{table-keeps, table-holds}
 use Rattle.moka_state.proofs.Becoming.{becomes-passed}

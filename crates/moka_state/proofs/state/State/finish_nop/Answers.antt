@@ -6,7 +6,7 @@ use Rattle.moka_model.specs.Turns.{Name}
 use Rattle.moka_model.specs.Steps.{events_in, turns}
 use Rattle.moka_model.specs.Events.{Passed, Invalidated}
 use Rattle.moka_model.proofs.Callers.{view-of}
-use Rattle.moka_ways.specs.Behaviour.{hash_by}
+use Rattle.moka_expiration.specs.Behaviour.{hash_by}
 use Rattle.moka_turns.specs.Handles.{turn_name}
 use Rattle.moka_turns.proofs.Changes.{given-there}
 use Rattle.moka_turns.proofs.Views.{table-keeps, table-holds}
@@ -18,7 +18,7 @@ use Rattle.moka_state.proofs.Views.{view-becomes}
 use Rattle.moka_state.proofs.state.State.finish_nop.Goals as goal
 
 pub returns-in_default : goal.returns-in_default
-returns-in_default g c = rw c.refused.ensures (record {
+returns-in_default g c = rw c.refusal.ensures (record {
   reply = λ given steps stands.
       let s = c.self.inside in
       let eq = g.K.PartialEq.eq in
@@ -57,7 +57,7 @@ returns g c = record {
       let ends = given-there _ _ t.0 t.1 (rw name at (c.finish_computed-key.ensures.finishes hash_of (turns steps) c.hash-hash.ensures.alike hashed sound keeps)) in
       let keyed = ap arc_value c.finish_computed-key.ensures.key ∙ ap (λ (n : Name g.row.K.Denot). n.key) name in
       finish-given eq given steps (turn_name c.args.turn) (Op Nop) c.args.now c.requires g.V.Clone.is_clone g.V.Clone.is_infallible t.0 t.1 _
-      (left-answer g.V.Clone.is_clone _ _ (turn_name c.args.turn) keyed t.0.kept c.finish_computed-key.result.1.kept ends.1 c.left.result c.left.ensures) (λ out. no-less out.0);
+      (left-answer g.V.Clone.is_clone _ _ (turn_name c.args.turn) keyed t.0.kept c.finish_computed-key.result.1.kept ends.1 c.unchanged_result.result c.unchanged_result.ensures) (λ out. no-less out.0);
   stands = λ given steps stands.
       let s = c.self.inside in
       let eq = g.K.PartialEq.eq in
@@ -76,7 +76,7 @@ returns g c = record {
       (table-holds eq laws g.V.Clone.is_clone hash_of c.hash-hash.ensures.alike _ _ _ ends.2));
   given =
       let keyed = ap arc_value c.finish_computed-key.ensures.key ∙ ap (λ (n : Name g.row.K.Denot). n.key) c.rehashed-turn.ensures.name in
-      left-given g.V.Clone.is_clone _ (turn_name c.args.turn).key keyed c.finish_computed-key.result.1.kept c.left.result c.left.ensures;
+      left-given g.V.Clone.is_clone _ (turn_name c.args.turn).key keyed c.finish_computed-key.result.1.kept c.unchanged_result.result c.unchanged_result.ensures;
   refused = tt;
   turn_back = tt;
   outcome_back = tt;

@@ -13,9 +13,9 @@ use Rattle.moka_model.specs.Calls.{IsCopyOf}
 use Rattle.moka_model.proofs.Callers.{view-of}
 use Rattle.moka_rows.specs.declared.rows.EntryInfo.{EntryInfo}
 use Rattle.moka_rows.specs.Rows.{cause_at}
-use Rattle.moka_ways.specs.Behaviour.{hash_by}
-use Rattle.moka_ways.specs.Lives.{IsDated}
-use Rattle.moka_ways.proofs.Callers.{alive-kept, cause-kept}
+use Rattle.moka_expiration.specs.Behaviour.{hash_by}
+use Rattle.moka_expiration.specs.ExpirationPolicy.{IsDated}
+use Rattle.moka_expiration.proofs.Callers.{alive-kept, cause-kept}
 use Rattle.moka_table.specs.Table.{stored_write}
 use Rattle.moka_table.proofs.Callers.{of-row}
 use Rattle.moka_turns.specs.Handles.{turn_name}
@@ -33,7 +33,7 @@ use Rattle.moka_state.proofs.Views.{view-becomes, one-each}
 use Rattle.moka_state.proofs.state.State.finish_remove.Goals as goal
 
 pub returns-in_default : goal.returns-in_default
-returns-in_default g c = rw c.refused.ensures (record {
+returns-in_default g c = rw c.refusal.ensures (record {
   reply = λ given steps stands.
       let s = c.self.inside in
       let eq = g.K.PartialEq.eq in
@@ -111,7 +111,7 @@ returns-in_default-find g c = record {
 }
 
 pub returns-in_default-copy_of_live : goal.returns-in_default-copy_of_live
-returns-in_default-copy_of_live g c = rw c.refused-in_default-copy_of_live.ensures (record {
+returns-in_default-copy_of_live g c = rw c.refusal-in_default-copy_of_live.ensures (record {
   reply = λ given steps stands.
       let s = c.self.inside in
       let eq = g.K.PartialEq.eq in
@@ -130,10 +130,10 @@ returns-in_default-copy_of_live g c = rw c.refused-in_default-copy_of_live.ensur
       let hash = rw c.key.ensures at c.hash-hash.ensures.hash in
       let row = c.row-row.result.now in
       let dead = row.info.is_hidden || has_come row.info.deadline c.max-now.result in
-      let dated = of-row (λ r. IsDated s.upkeep.lives r.info) c.in-Some-find.number _ row c.self.invariant.0.dated c.row-row.ensures in
+      let dated = of-row (λ r. IsDated s.housekeeper.lives r.info) c.in-Some-find.number _ row c.self.invariant.0.dated c.row-row.ensures in
       let of_key = same-key eq key c.hash-hash.result row (rw (c.row-row.ensures, c.key-2.ensures, keyed) at c.in-Some-find.ensures.found) in
-      let alive = alive-kept s.upkeep.lives row.info dated (max s.latest c.args.now) (omega (arith, c.max-now.ensures)) ∙ ap (λ m. not (row.info.is_hidden || has_come row.info.deadline m)) (sym c.max-now.ensures) in
-      let live = live-row eq laws _ s.table _ s.latest s.next_number given steps there s.upkeep.lives refl key c.args.now c.in-Some-find.number row c.row-row.ensures of_key (not dead) alive in
+      let alive = alive-kept s.housekeeper.lives row.info dated (max s.latest c.args.now) (omega (arith, c.max-now.ensures)) ∙ ap (λ m. not (row.info.is_hidden || has_come row.info.deadline m)) (sym c.max-now.ensures) in
+      let live = live-row eq laws _ s.table _ s.latest s.next_number given steps there s.housekeeper.lives refl key c.args.now c.in-Some-find.number row c.row-row.ensures of_key (not dead) alive in
       finish-memory eq given steps (turn_name c.args.turn) (Op Remove) c.args.now c.requires g.V.Clone.is_clone g.V.Clone.is_infallible t.0 t.1
       (may-fail g.V.Clone.is_infallible dead _ _ live (λ is. true≢false (sym (c.in_default-copy_of_live.ensures.dead is))) (λ fine. true≢false (sym (c.in_default-copy_of_live.ensures.infallible fine)))) (λ out. no-less out.0);
   stands = tt;
@@ -148,7 +148,7 @@ pub invariant_of-self-2 : goal.invariant_of-self-2
 invariant_of-self-2 g c =
     let s = c.self.inside in
     let row = c.row-row.result.now in
-    (IsSound-taken _ _ s.upkeep.lives s.table c.evict.new.self c.self.invariant.0 c.in-Some-find.number row _ c.row-row.ensures c.evict.ensures.rows (rw c.row-row.ensures at c.evict.ensures.notices), c.self.invariant.1)
+    (IsSound-taken _ _ s.housekeeper.lives s.table c.evict.new.self c.self.invariant.0 c.in-Some-find.number row _ c.row-row.ensures c.evict.ensures.rows (rw c.row-row.ensures at c.evict.ensures.notices), c.self.invariant.1)
 
 pub returns : goal.returns
 returns g c = record {
@@ -172,13 +172,13 @@ returns g c = record {
       let owned = ap arc_value c.finish_computed-key-2.ensures.key ∙ keyed in
       let row = c.row-row.result.now in
       let dead = row.info.is_hidden || has_come row.info.deadline c.max-now.result in
-      let dated = of-row (λ r. IsDated s.upkeep.lives r.info) c.in-Some-find.number _ row c.self.invariant.0.dated c.row-row.ensures in
+      let dated = of-row (λ r. IsDated s.housekeeper.lives r.info) c.in-Some-find.number _ row c.self.invariant.0.dated c.row-row.ensures in
       let of_key = same-key eq key c.hash-hash.result row (rw (c.row-row.ensures, c.key-2.ensures, keyed) at c.in-Some-find.ensures.found) in
-      let alive = alive-kept s.upkeep.lives row.info dated (max s.latest c.args.now) (omega (arith, c.max-now.ensures)) ∙ ap (λ m. not (row.info.is_hidden || has_come row.info.deadline m)) (sym c.max-now.ensures) in
-      let live = live-row eq laws _ s.table _ s.latest s.next_number given steps there s.upkeep.lives refl key c.args.now c.in-Some-find.number row c.row-row.ensures of_key (not dead) alive in
+      let alive = alive-kept s.housekeeper.lives row.info dated (max s.latest c.args.now) (omega (arith, c.max-now.ensures)) ∙ ap (λ m. not (row.info.is_hidden || has_come row.info.deadline m)) (sym c.max-now.ensures) in
+      let live = live-row eq laws _ s.table _ s.latest s.next_number given steps there s.housekeeper.lives refl key c.args.now c.in-Some-find.number row c.row-row.ensures of_key (not dead) alive in
       let copy = subst (λ o. IsCopyOf g.V.Clone.is_clone o c.in-Ok.found) (sym (ap (option_map (λ (w : Write _ _). w.value)) live ∙ value-live dead (stored_write row))) c.in-Ok.ensures.copy in
       finish-given eq given steps (turn_name c.args.turn) (Op Remove) c.args.now c.requires g.V.Clone.is_clone g.V.Clone.is_infallible t.0 t.1 _
-      (removed-answer g.V.Clone.is_clone _ _ (turn_name c.args.turn) owned _ c.in-Ok.found copy c.removed.result c.removed.ensures) (λ out. no-less out.0);
+      (removed-answer g.V.Clone.is_clone _ _ (turn_name c.args.turn) owned _ c.in-Ok.found copy c.removed_result.result c.removed_result.ensures) (λ out. no-less out.0);
   stands = λ given steps stands.
       let s = c.self.inside in
       let eq = g.K.PartialEq.eq in
@@ -199,10 +199,10 @@ returns g c = record {
       let owned = ap arc_value c.finish_computed-key-2.ensures.key ∙ keyed in
       let row = c.row-row.result.now in
       let dead = row.info.is_hidden || has_come row.info.deadline c.max-now.result in
-      let dated = of-row (λ r. IsDated s.upkeep.lives r.info) c.in-Some-find.number _ row c.self.invariant.0.dated c.row-row.ensures in
+      let dated = of-row (λ r. IsDated s.housekeeper.lives r.info) c.in-Some-find.number _ row c.self.invariant.0.dated c.row-row.ensures in
       let of_key = same-key eq key c.hash-hash.result row (rw (c.row-row.ensures, c.key-2.ensures, keyed) at c.in-Some-find.ensures.found) in
       let why = c.cause-cause.ensures ∙ ap (λ (i : EntryInfo). cause_at Explicit i c.max-now.result) c.info.ensures ∙ ap (λ m. cause_at Explicit row.info m) c.max-now.ensures
-      ∙ sym (cause-kept s.upkeep.lives row.info dated (max s.latest c.args.now) (omega (arith, c.max-now.ensures)) Explicit) in
+      ∙ sym (cause-kept s.housekeeper.lives row.info dated (max s.latest c.args.now) (omega (arith, c.max-now.ensures)) Explicit) in
       let one = one-each eq laws given _ steps there in
       rw c.max-now.ensures (finish-stands eq given steps (turn_name c.args.turn) (Op Remove) c.args.now c.requires _ _ _ there t.0 t.1 _
       (view-becomes eq laws given _ _ (events_in steps) (Invalidated key c.args.now) (view-of eq given _ steps there)
@@ -210,7 +210,7 @@ returns g c = record {
       (table-holds eq laws g.V.Clone.is_clone hash_of alike _ _ _ ends.2));
   given =
       let owned = ap arc_value c.finish_computed-key-2.ensures.key ∙ ap (λ (n : Name g.row.K.Denot). n.key) c.rehashed-turn.ensures.name in
-      removed-given g.V.Clone.is_clone _ (turn_name c.args.turn).key owned c.in-Ok.found c.removed.result c.removed.ensures;
+      removed-given g.V.Clone.is_clone _ (turn_name c.args.turn).key owned c.in-Ok.found c.removed_result.result c.removed_result.ensures;
   refused = tt;
   turn_back = tt;
   outcome_back = tt;

@@ -9,7 +9,7 @@ use Rattle.moka_model.specs.Steps.{events_in, turns}
 use Rattle.moka_model.specs.Calls.{Entered}
 use Rattle.moka_model.specs.Events.{Passed}
 use Rattle.moka_model.proofs.Callers.{whole, view-of, out_of_numbers-insert}
-use Rattle.moka_ways.specs.Behaviour.{hash_by}
+use Rattle.moka_expiration.specs.Behaviour.{hash_by}
 use Rattle.moka_turns.specs.Handles.{turn_name}
 use Rattle.moka_turns.specs.Views.{turns_of}
 use Rattle.moka_turns.proofs.Views.{table-keeps, table-holds}
@@ -22,7 +22,7 @@ use Rattle.std.proofs.lemmas.Bool.{true≢false}
 use Rattle.moka_state.proofs.state.State.finish_stored.Goals as goal
 
 pub returns-in_default : goal.returns-in_default
-returns-in_default g c = rw c.refused.ensures (record {
+returns-in_default g c = rw c.refusal.ensures (record {
   reply = λ given steps stands.
       let s = c.self.inside in
       let eq = g.K.PartialEq.eq in
@@ -45,7 +45,7 @@ returns-in_default g c = rw c.refused.ensures (record {
 })
 
 pub returns-then-self : goal.returns-then-self
-returns-then-self g c = rw c.refused-then-self.ensures (record {
+returns-then-self g c = rw c.refusal-then-self.ensures (record {
   reply = λ given steps stands.
       let s = c.self.inside in
       let eq = g.K.PartialEq.eq in
@@ -70,7 +70,7 @@ returns-then-self g c = rw c.refused-then-self.ensures (record {
 })
 
 pub returns-in_default-new : goal.returns-in_default-new
-returns-in_default-new g c = rw c.refused-in_default-new.ensures (record {
+returns-in_default-new g c = rw c.refusal-in_default-new.ensures (record {
   reply = λ given steps stands.
       let s = c.self.inside in
       let eq = g.K.PartialEq.eq in
@@ -95,7 +95,7 @@ returns-in_default-new g c = rw c.refused-in_default-new.ensures (record {
 })
 
 pub returns-in_default-place_for : goal.returns-in_default-place_for
-returns-in_default-place_for g c = rw c.refused-in_default-place_for.ensures (record {
+returns-in_default-place_for g c = rw c.refusal-in_default-place_for.ensures (record {
   reply = λ given steps stands.
       let s = c.self.inside in
       let eq = g.K.PartialEq.eq in
@@ -123,8 +123,8 @@ pub invariant_of-self-2 : goal.invariant_of-self-2
 invariant_of-self-2 g c =
     let s = c.self.inside in
     let keyed = ap (λ (n : Name _). n.key) c.rehashed-turn.ensures.name in
-    let kept = IsSound-same _ _ s.upkeep.lives s.table c.place_for.new.table c.in-Ok-place_for.ensures.same c.self.invariant.0 in (
-      sound-written g.K.PartialEq.eq g.met.K.Eq.laws _ s.upkeep.lives _ s.upkeep.max_capacity s.flush_limit c.place_for.new.table c.write-is_replaced.new.table kept g.met.C.CacheTypes.equal_keys_keep (turn_name c.args.turn).key _ (rw c.key.ensures at c.hash-hash.ensures.hash) c.requires.kept
+    let kept = IsSound-same _ _ s.housekeeper.lives s.table c.place_for.new.table c.in-Ok-place_for.ensures.same c.self.invariant.0 in (
+      sound-written g.K.PartialEq.eq g.met.K.Eq.laws _ s.housekeeper.lives _ s.housekeeper.max_capacity s.flush_limit c.place_for.new.table c.write-is_replaced.new.table kept g.met.C.CacheTypes.equal_keys_keep (turn_name c.args.turn).key _ (rw c.key.ensures at c.hash-hash.ensures.hash) c.requires.kept
           c.in-Ok-place_for.place c.write-is_replaced.result (rw keyed at c.in-Ok-place_for.ensures.place) (c.write-is_replaced.ensures kept.dated),
       c.self.invariant.1,
     )
@@ -150,9 +150,9 @@ returns g c = record {
       let hash = rw c.key.ensures at c.hash-hash.ensures.hash in
       let weighed = rw (c.key-2.ensures ∙ keyed) at c.weight-weight.ensures in
       let place = rw keyed at c.in-Ok-place_for.ensures.place in
-      let kept = IsSound-same _ _ s.upkeep.lives s.table c.place_for.new.table c.in-Ok-place_for.ensures.same c.self.invariant.0 in
+      let kept = IsSound-same _ _ s.housekeeper.lives s.table c.place_for.new.table c.in-Ok-place_for.ensures.same c.self.invariant.0 in
       let same = subst (λ view. StandsFor eq g.V.Clone.is_clone given (whole view rows) steps) (same-view _ _ s.latest s.next_number s.table c.place_for.new.table c.in-Ok-place_for.ensures.same) there in
-      let replaced = replaced-written eq laws given _ s.upkeep.lives refl _ c.place_for.new.table c.write-is_replaced.new.table s.latest s.next_number (events_in steps) (view-of eq given _ steps same) kept c.hash-hash.ensures.alike (turn_name c.args.turn).key c.args.now _
+      let replaced = replaced-written eq laws given _ s.housekeeper.lives refl _ c.place_for.new.table c.write-is_replaced.new.table s.latest s.next_number (events_in steps) (view-of eq given _ steps same) kept c.hash-hash.ensures.alike (turn_name c.args.turn).key c.args.now _
       hash weighed c.max-now.ensures (omega (arith, c.max-now.ensures)) c.in-Ok-place_for.place c.write-is_replaced.result place (c.write-is_replaced.ensures kept.dated) in
       rw c.conclude-answer.ensures.entry (finish-given eq given steps (turn_name c.args.turn) (Value c.args.value) c.args.now c.requires.fits g.V.Clone.is_clone g.V.Clone.is_infallible t.0 t.1 _
       (c.in-Ok.ensures.key ∙ keyed, c.in-Ok.ensures.answer, refl, replaced) (λ out. left out));
@@ -173,11 +173,11 @@ returns g c = record {
       let hash = rw c.key.ensures at c.hash-hash.ensures.hash in
       let weighed = rw (c.key-2.ensures ∙ keyed) at c.weight-weight.ensures in
       let place = rw keyed at c.in-Ok-place_for.ensures.place in
-      let kept = IsSound-same _ _ s.upkeep.lives s.table c.place_for.new.table c.in-Ok-place_for.ensures.same c.self.invariant.0 in
+      let kept = IsSound-same _ _ s.housekeeper.lives s.table c.place_for.new.table c.in-Ok-place_for.ensures.same c.self.invariant.0 in
       let same = subst (λ view. StandsFor eq g.V.Clone.is_clone given (whole view rows) steps) (same-view _ _ s.latest s.next_number s.table c.place_for.new.table c.in-Ok-place_for.ensures.same) there in
-      let replaced = replaced-written eq laws given _ s.upkeep.lives refl _ c.place_for.new.table c.write-is_replaced.new.table s.latest s.next_number (events_in steps) (view-of eq given _ steps same) kept c.hash-hash.ensures.alike (turn_name c.args.turn).key c.args.now _
+      let replaced = replaced-written eq laws given _ s.housekeeper.lives refl _ c.place_for.new.table c.write-is_replaced.new.table s.latest s.next_number (events_in steps) (view-of eq given _ steps same) kept c.hash-hash.ensures.alike (turn_name c.args.turn).key c.args.now _
       hash weighed c.max-now.ensures (omega (arith, c.max-now.ensures)) c.in-Ok-place_for.place c.write-is_replaced.result place (c.write-is_replaced.ensures kept.dated) in
-      let written = view-written eq laws given _ s.upkeep.lives refl _ c.place_for.new.table c.write-is_replaced.new.table s.latest s.next_number (events_in steps) (view-of eq given _ steps same) kept c.hash-hash.ensures.alike (turn_name c.args.turn).key c.args.now _
+      let written = view-written eq laws given _ s.housekeeper.lives refl _ c.place_for.new.table c.write-is_replaced.new.table s.latest s.next_number (events_in steps) (view-of eq given _ steps same) kept c.hash-hash.ensures.alike (turn_name c.args.turn).key c.args.now _
       hash weighed c.max-now.ensures (omega (arith, c.max-now.ensures)) c.in-Ok-place_for.place c.write-is_replaced.result place (c.write-is_replaced.ensures kept.dated) (rw (← c.self.view_is) at c.requires.stores) in
       let ended = c.conclude-answer.ensures.keeps hash_of (turns steps) c.args.value c.hash-hash.ensures.alike hashed sound c.in-Ok.ensures.kept keeps in
       rw c.max-now.ensures (finish-stands eq given steps (turn_name c.args.turn) (Value c.args.value) c.args.now c.requires.fits _ _ _ there t.0 t.1 _ written

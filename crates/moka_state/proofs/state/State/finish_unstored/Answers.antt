@@ -9,7 +9,7 @@ use Rattle.moka_model.specs.Steps.{events_in, turns}
 use Rattle.moka_model.specs.Calls.{Entered}
 use Rattle.moka_model.specs.Events.{Passed}
 use Rattle.moka_model.proofs.Callers.{whole, view-of, out_of_numbers-insert}
-use Rattle.moka_ways.specs.Behaviour.{hash_by}
+use Rattle.moka_expiration.specs.Behaviour.{hash_by}
 use Rattle.moka_turns.specs.Handles.{turn_name}
 use Rattle.moka_turns.specs.Views.{turns_of}
 use Rattle.moka_turns.proofs.Views.{table-keeps, table-holds}
@@ -22,7 +22,7 @@ use Rattle.std.proofs.lemmas.Bool.{true≢false}
 use Rattle.moka_state.proofs.state.State.finish_unstored.Goals as goal
 
 pub returns-in_default : goal.returns-in_default
-returns-in_default g c = rw c.refused.ensures (record {
+returns-in_default g c = rw c.refusal.ensures (record {
   reply = λ given steps stands.
       let s = c.self.inside in
       let eq = g.K.PartialEq.eq in
@@ -45,7 +45,7 @@ returns-in_default g c = rw c.refused.ensures (record {
 })
 
 pub returns-in_default-new : goal.returns-in_default-new
-returns-in_default-new g c = rw c.refused-in_default-new.ensures (record {
+returns-in_default-new g c = rw c.refusal-in_default-new.ensures (record {
   reply = λ given steps stands.
       let s = c.self.inside in
       let eq = g.K.PartialEq.eq in

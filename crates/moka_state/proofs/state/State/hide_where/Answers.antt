@@ -6,7 +6,7 @@ pub invariant_of-self : goal.invariant_of-self
 invariant_of-self g c =
     let s = c.self.inside in
     let test = g.C.CacheTypes.test c.args.predicate.now in
-    (IsSound-hidden test s.table c.hide_where.new.self (c.hide_where.ensures.admitted test c.requires.tests) (c.hide_where.ensures.waiting test c.requires.tests) c.hide_where.ensures.notices _ _ s.upkeep.lives c.self.invariant.0, c.self.invariant.1)
+    (IsSound-hidden test s.table c.hide_where.new.self (c.hide_where.ensures.admitted test c.requires.tests) (c.hide_where.ensures.waiting test c.requires.tests) c.hide_where.ensures.notices _ _ s.housekeeper.lives c.self.invariant.0, c.self.invariant.1)
 
 pub returns-clause-stands : goal.returns-clause-stands
 returns-clause-stands g c =

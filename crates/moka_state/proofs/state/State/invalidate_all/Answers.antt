@@ -8,7 +8,7 @@ use Rattle.moka_state.proofs.state.State.invalidate_all.Goals as goal
 pub invariant_of-self : goal.invariant_of-self
 invariant_of-self g c =
     let s = c.self.inside in
-    (IsSound-hidden (λ _ _. true) s.table c.hide_all.new.self c.hide_all.ensures.admitted c.hide_all.ensures.waiting c.hide_all.ensures.notices _ _ s.upkeep.lives c.self.invariant.0, c.self.invariant.1)
+    (IsSound-hidden (λ _ _. true) s.table c.hide_all.new.self c.hide_all.ensures.admitted c.hide_all.ensures.waiting c.hide_all.ensures.notices _ _ s.housekeeper.lives c.self.invariant.0, c.self.invariant.1)
 
 pub returns-clause-stands : goal.returns-clause-stands
 returns-clause-stands g c =

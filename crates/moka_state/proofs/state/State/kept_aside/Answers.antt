@@ -1,6 +1,6 @@
 use Rattle.std.proofs.Common.{sym, ap, ◌∙◌}
 use Rattle.moka_model.specs.Steps.{turns}
-use Rattle.moka_ways.specs.Behaviour.{hash_by}
+use Rattle.moka_expiration.specs.Behaviour.{hash_by}
 use Rattle.moka_turns.proofs.Views.{table-keeps}
 use Rattle.moka_state.proofs.Replied.{IfOk-by}
 use Rattle.moka_state.proofs.Turns.{sound-turns}

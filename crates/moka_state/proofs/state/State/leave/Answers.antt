@@ -2,8 +2,8 @@ use Rattle.std.proofs.Common.{◌≡◌, option_map, refl, sym, ap, ◌∙◌}
 use Rattle.moka_model.specs.Turns.{Spent, Name, found, has_ticket_as}
 use Rattle.moka_model.specs.Steps.{turns}
 use Rattle.moka_model.specs.Calls.{Leave, Done, spends}
-use Rattle.moka_ways.specs.Behaviour.{hash_by}
-use Rattle.moka_turns.specs.Keeps.{name_of}
+use Rattle.moka_expiration.specs.Behaviour.{hash_by}
+use Rattle.moka_turns.specs.Represents.{name_of}
 use Rattle.moka_turns.proofs.Views.{table-keeps, table-holds}
 use Rattle.moka_state.proofs.Turns.{sound-turns, found-told, none-told, gives-accepted, no-less, stands-found, same-turns}
 use Rattle.moka_state.proofs.state.State.leave.Goals as goal

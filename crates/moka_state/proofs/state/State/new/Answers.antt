@@ -1,6 +1,6 @@
 use Rattle.std.proofs.Common.{refl, ap}
-use Rattle.moka_ways.specs.Behaviour.{hash_by}
-use Rattle.moka_ways.specs.StateData.{estimates}
+use Rattle.moka_expiration.specs.Behaviour.{hash_by}
+use Rattle.moka_expiration.specs.StateData.{estimates}
 use Rattle.moka_turns.proofs.Views.{nothing-kept}
 use Rattle.moka_state.proofs.Sound.{IsSound-empty, limits-some}
 use Rattle.moka_state.proofs.Turns.{new-books}

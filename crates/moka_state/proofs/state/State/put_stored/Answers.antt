@@ -13,7 +13,7 @@ use Rattle.moka_model.specs.Steps.{events_in, turns}
 use Rattle.moka_model.specs.Calls.{Entered}
 use Rattle.moka_model.specs.Events.{Passed}
 use Rattle.moka_model.proofs.Callers.{whole, view-of, out_of_numbers-insert}
-use Rattle.moka_ways.specs.Behaviour.{hash_by}
+use Rattle.moka_expiration.specs.Behaviour.{hash_by}
 use Rattle.moka_turns.specs.Handles.{turn_name}
 use Rattle.moka_turns.specs.Views.{turns_of}
 use Rattle.moka_turns.proofs.Views.{table-keeps, table-holds}
@@ -26,7 +26,7 @@ use Rattle.std.proofs.lemmas.Bool.{true≢false}
 use Rattle.moka_state.proofs.state.State.put_stored.Goals as goal
 
 pub returns-in_default : goal.returns-in_default
-returns-in_default g c = rw c.refused.ensures (record {
+returns-in_default g c = rw c.refusal.ensures (record {
   reply = λ given steps stands.
       let s = c.self.inside in
       let eq = g.K.PartialEq.eq in
@@ -49,7 +49,7 @@ returns-in_default g c = rw c.refused.ensures (record {
 })
 
 pub returns-then-self : goal.returns-then-self
-returns-then-self g c = rw c.refused-then-self.ensures (record {
+returns-then-self g c = rw c.refusal-then-self.ensures (record {
   reply = λ given steps stands.
       let s = c.self.inside in
       let eq = g.K.PartialEq.eq in
@@ -74,7 +74,7 @@ returns-then-self g c = rw c.refused-then-self.ensures (record {
 })
 
 pub returns-in_default-clone : goal.returns-in_default-clone
-returns-in_default-clone g c = rw c.refused-in_default-clone.ensures (record {
+returns-in_default-clone g c = rw c.refusal-in_default-clone.ensures (record {
   reply = λ given steps stands.
       let s = c.self.inside in
       let eq = g.K.PartialEq.eq in
@@ -99,7 +99,7 @@ returns-in_default-clone g c = rw c.refused-in_default-clone.ensures (record {
 })
 
 pub returns-in_default-place_for : goal.returns-in_default-place_for
-returns-in_default-place_for g c = rw c.refused-in_default-place_for.ensures (record {
+returns-in_default-place_for g c = rw c.refusal-in_default-place_for.ensures (record {
   reply = λ given steps stands.
       let s = c.self.inside in
       let eq = g.K.PartialEq.eq in
@@ -127,8 +127,8 @@ pub invariant_of-self-2 : goal.invariant_of-self-2
 invariant_of-self-2 g c =
     let s = c.self.inside in
     let keyed = ap (λ (n : Name _). n.key) c.rehashed-turn.ensures.name in
-    let kept = IsSound-same _ _ s.upkeep.lives s.table c.place_for.new.table c.in-Ok-place_for.ensures.same c.self.invariant.0 in (
-      sound-written g.K.PartialEq.eq g.met.K.Eq.laws _ s.upkeep.lives _ s.upkeep.max_capacity s.flush_limit c.place_for.new.table c.write.new.table kept g.met.C.CacheTypes.equal_keys_keep (turn_name c.args.turn).key _ (rw c.key.ensures at c.hash-hash.ensures.hash) c.requires.kept
+    let kept = IsSound-same _ _ s.housekeeper.lives s.table c.place_for.new.table c.in-Ok-place_for.ensures.same c.self.invariant.0 in (
+      sound-written g.K.PartialEq.eq g.met.K.Eq.laws _ s.housekeeper.lives _ s.housekeeper.max_capacity s.flush_limit c.place_for.new.table c.write.new.table kept g.met.C.CacheTypes.equal_keys_keep (turn_name c.args.turn).key _ (rw c.key.ensures at c.hash-hash.ensures.hash) c.requires.kept
           c.in-Ok-place_for.place c.write.result (rw keyed at c.in-Ok-place_for.ensures.place) (c.write.ensures kept.dated),
       c.self.invariant.1,
     )
@@ -152,7 +152,7 @@ returns g c = record {
       let ends = given-there _ _ t.0 t.1 (rw name at (c.finish_computed-key.ensures.finishes hash_of (turns steps) c.hash-hash.ensures.alike hashed sound keeps)) in
       let owned = ap arc_value c.finish_computed-key.ensures.key ∙ ap (λ (n : Name _). n.key) name in
       finish-given eq given steps (turn_name c.args.turn) (Op (Put c.args.value)) c.args.now c.requires.fits g.V.Clone.is_clone g.V.Clone.is_infallible t.0 t.1 _
-      (put-answer g.V.Clone.is_clone _ c.args.value c.in-Ok.answer c.in-Ok.ensures.cases _ (turn_name c.args.turn) owned t.0.shown c.finish_computed-key.result.1.shown ends.0 c.put.result c.put.ensures) (λ out. left out);
+      (put-answer g.V.Clone.is_clone _ c.args.value c.in-Ok.answer c.in-Ok.ensures.cases _ (turn_name c.args.turn) owned t.0.shown c.finish_computed-key.result.1.shown ends.0 c.put_result.result c.put_result.ensures) (λ out. left out);
   stands = λ given steps stands.
       let s = c.self.inside in
       let eq = g.K.PartialEq.eq in
@@ -170,16 +170,16 @@ returns g c = record {
       let hash = rw c.key.ensures at c.hash-hash.ensures.hash in
       let weighed = rw (c.key-2.ensures ∙ keyed) at c.weight-weight.ensures in
       let place = rw keyed at c.in-Ok-place_for.ensures.place in
-      let kept = IsSound-same _ _ s.upkeep.lives s.table c.place_for.new.table c.in-Ok-place_for.ensures.same c.self.invariant.0 in
+      let kept = IsSound-same _ _ s.housekeeper.lives s.table c.place_for.new.table c.in-Ok-place_for.ensures.same c.self.invariant.0 in
       let same = subst (λ view. StandsFor eq g.V.Clone.is_clone given (whole view rows) steps) (same-view _ _ s.latest s.next_number s.table c.place_for.new.table c.in-Ok-place_for.ensures.same) there in
-      let written = view-written eq laws given _ s.upkeep.lives refl _ c.place_for.new.table c.write.new.table s.latest s.next_number (events_in steps) (view-of eq given _ steps same) kept c.hash-hash.ensures.alike (turn_name c.args.turn).key c.args.now _
+      let written = view-written eq laws given _ s.housekeeper.lives refl _ c.place_for.new.table c.write.new.table s.latest s.next_number (events_in steps) (view-of eq given _ steps same) kept c.hash-hash.ensures.alike (turn_name c.args.turn).key c.args.now _
       hash weighed c.max-now.ensures (omega (arith, c.max-now.ensures)) c.in-Ok-place_for.place c.write.result place (c.write.ensures kept.dated) (rw (← c.self.view_is) at c.requires.stores) in
       let ends = given-there _ _ t.0 t.1 (rw name at (c.finish_computed-key.ensures.finishes hash_of (turns steps) c.hash-hash.ensures.alike hashed sound keeps)) in
       rw c.max-now.ensures (finish-stands eq given steps (turn_name c.args.turn) (Op (Put c.args.value)) c.args.now c.requires.fits _ _ _ there t.0 t.1 _ written
       (table-holds eq laws g.V.Clone.is_clone hash_of c.hash-hash.ensures.alike _ _ _ ends.2));
   given =
       let owned = ap arc_value c.finish_computed-key.ensures.key ∙ ap (λ (n : Name _). n.key) c.rehashed-turn.ensures.name in
-      put-given g.V.Clone.is_clone _ c.args.value c.in-Ok.answer c.in-Ok.ensures.cases (turn_name c.args.turn).key owned c.finish_computed-key.result.1.shown c.put.result c.put.ensures;
+      put-given g.V.Clone.is_clone _ c.args.value c.in-Ok.answer c.in-Ok.ensures.cases (turn_name c.args.turn).key owned c.finish_computed-key.result.1.shown c.put_result.result c.put_result.ensures;
   refused = tt;
   turn_back = tt;
   outcome_back = tt;

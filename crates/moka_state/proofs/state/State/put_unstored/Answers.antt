@@ -13,7 +13,7 @@ use Rattle.moka_model.specs.Steps.{events_in, turns}
 use Rattle.moka_model.specs.Calls.{Entered}
 use Rattle.moka_model.specs.Events.{Passed}
 use Rattle.moka_model.proofs.Callers.{whole, view-of, out_of_numbers-insert}
-use Rattle.moka_ways.specs.Behaviour.{hash_by}
+use Rattle.moka_expiration.specs.Behaviour.{hash_by}
 use Rattle.moka_turns.specs.Handles.{turn_name}
 use Rattle.moka_turns.specs.Views.{turns_of}
 use Rattle.moka_turns.proofs.Views.{table-keeps, table-holds}
@@ -26,7 +26,7 @@ use Rattle.std.proofs.lemmas.Bool.{true≢false}
 use Rattle.moka_state.proofs.state.State.put_unstored.Goals as goal
 
 pub returns-in_default : goal.returns-in_default
-returns-in_default g c = rw c.refused.ensures (record {
+returns-in_default g c = rw c.refusal.ensures (record {
   reply = λ given steps stands.
       let s = c.self.inside in
       let eq = g.K.PartialEq.eq in
@@ -49,7 +49,7 @@ returns-in_default g c = rw c.refused.ensures (record {
 })
 
 pub returns-in_default-clone : goal.returns-in_default-clone
-returns-in_default-clone g c = rw c.refused-in_default-clone.ensures (record {
+returns-in_default-clone g c = rw c.refusal-in_default-clone.ensures (record {
   reply = λ given steps stands.
       let s = c.self.inside in
       let eq = g.K.PartialEq.eq in
@@ -92,7 +92,7 @@ returns g c = record {
       let ends = given-there _ _ t.0 t.1 (rw name at (c.finish_computed-key.ensures.finishes hash_of (turns steps) c.hash-hash.ensures.alike hashed sound keeps)) in
       let owned = ap arc_value c.finish_computed-key.ensures.key ∙ ap (λ (n : Name _). n.key) name in
       finish-given eq given steps (turn_name c.args.turn) (Op (Put c.args.value)) c.args.now c.requires.fits g.V.Clone.is_clone g.V.Clone.is_infallible t.0 t.1 _
-      (put-answer g.V.Clone.is_clone _ c.args.value c.in-Ok.copy c.in-Ok.ensures.cases _ (turn_name c.args.turn) owned t.0.shown c.finish_computed-key.result.1.shown ends.0 c.put.result c.put.ensures) (λ out. left out);
+      (put-answer g.V.Clone.is_clone _ c.args.value c.in-Ok.copy c.in-Ok.ensures.cases _ (turn_name c.args.turn) owned t.0.shown c.finish_computed-key.result.1.shown ends.0 c.put_result.result c.put_result.ensures) (λ out. left out);
   stands = λ given steps stands.
       let s = c.self.inside in
       let eq = g.K.PartialEq.eq in
@@ -111,7 +111,7 @@ returns g c = record {
       (table-holds eq laws g.V.Clone.is_clone hash_of c.hash-hash.ensures.alike _ _ _ ends.2));
   given =
       let owned = ap arc_value c.finish_computed-key.ensures.key ∙ ap (λ (n : Name _). n.key) c.rehashed-turn.ensures.name in
-      put-given g.V.Clone.is_clone _ c.args.value c.in-Ok.copy c.in-Ok.ensures.cases (turn_name c.args.turn).key owned c.finish_computed-key.result.1.shown c.put.result c.put.ensures;
+      put-given g.V.Clone.is_clone _ c.args.value c.in-Ok.copy c.in-Ok.ensures.cases (turn_name c.args.turn).key owned c.finish_computed-key.result.1.shown c.put_result.result c.put_result.ensures;
   refused = tt;
   turn_back = tt;
   outcome_back = tt;

@@ -7,8 +7,8 @@ use Rattle.moka_model.specs.Events.{Invalidated}
 use Rattle.moka_model.specs.Calls.{Remove, IsCopyOf}
 use Rattle.moka_rows.specs.declared.rows.EntryInfo.{EntryInfo}
 use Rattle.moka_rows.specs.Rows.{cause_at}
-use Rattle.moka_ways.specs.Lives.{IsDated}
-use Rattle.moka_ways.proofs.Callers.{alive-kept, cause-kept}
+use Rattle.moka_expiration.specs.ExpirationPolicy.{IsDated}
+use Rattle.moka_expiration.proofs.Callers.{alive-kept, cause-kept}
 use Rattle.moka_table.specs.Table.{stored_write}
 use Rattle.moka_table.proofs.Callers.{of-row}
 use Rattle.moka_state.proofs.Becoming.{becomes-unremoved, becomes-removed}
@@ -37,16 +37,16 @@ pub invariant_of-self-2 : goal.invariant_of-self-2
 invariant_of-self-2 g c =
     let s = c.self.inside in
     let row = c.row-row.result.now in
-    (IsSound-taken _ _ s.upkeep.lives s.table c.evict.new.self c.self.invariant.0 c.in-Some.number row _ c.row-row.ensures c.evict.ensures.rows (rw c.row-row.ensures at c.evict.ensures.notices), c.self.invariant.1)
+    (IsSound-taken _ _ s.housekeeper.lives s.table c.evict.new.self c.self.invariant.0 c.in-Some.number row _ c.row-row.ensures c.evict.ensures.rows (rw c.row-row.ensures at c.evict.ensures.notices), c.self.invariant.1)
 
 pub returns-clause-stands : goal.returns-clause-stands
 returns-clause-stands g c =
     let s = c.self.inside in
     let row = c.row-row.result.now in
     let key = same-key g.K.PartialEq.eq c.args.key.now c.args.hash row (rw c.row-row.ensures at c.in-Some.ensures.found) in
-    let dated = of-row (λ r. IsDated s.upkeep.lives r.info) c.in-Some.number _ row c.self.invariant.0.dated c.row-row.ensures in
+    let dated = of-row (λ r. IsDated s.housekeeper.lives r.info) c.in-Some.number _ row c.self.invariant.0.dated c.row-row.ensures in
     let why = c.cause-cause.ensures ∙ ap (λ (i : EntryInfo). cause_at Explicit i c.max-now.result) c.info.ensures ∙ ap (λ m. cause_at Explicit row.info m) c.max-now.ensures
-    ∙ sym (cause-kept s.upkeep.lives row.info dated (max s.latest c.args.now) (omega (arith, c.max-now.ensures)) Explicit) in
+    ∙ sym (cause-kept s.housekeeper.lives row.info dated (max s.latest c.args.now) (omega (arith, c.max-now.ensures)) Explicit) in
     rw (← c.self.view_is, c.max-now.ensures) (follows-event g.K.PartialEq.eq g.met.K.Eq.laws _ _ (Remove c.args.key.now c.args.now) (Invalidated c.args.key.now c.args.now) (λ _ _. refl)
     (λ one. becomes-removed g.K.PartialEq.eq _ s.table _ s.latest s.next_number one c.evict.new.self c.args.key.now c.args.now c.in-Some.number row c.row-row.ensures key _ refl refl why c.evict.ensures.rows (rw c.row-row.ensures at c.evict.ensures.notices)))
 
@@ -55,10 +55,10 @@ returns-clause-reply g c given steps stands =
     let s = c.self.inside in
     let row = c.row-row.result.now in
     let dead = row.info.is_hidden || has_come row.info.deadline c.max-now.result in
-    let dated = of-row (λ r. IsDated s.upkeep.lives r.info) c.in-Some.number _ row c.self.invariant.0.dated c.row-row.ensures in
+    let dated = of-row (λ r. IsDated s.housekeeper.lives r.info) c.in-Some.number _ row c.self.invariant.0.dated c.row-row.ensures in
     let key = same-key g.K.PartialEq.eq c.args.key.now c.args.hash row (rw c.row-row.ensures at c.in-Some.ensures.found) in
-    let alive = alive-kept s.upkeep.lives row.info dated (max s.latest c.args.now) (omega (arith, c.max-now.ensures)) ∙ ap (λ m. not (row.info.is_hidden || has_come row.info.deadline m)) (sym c.max-now.ensures) in
-    let it = live-row g.K.PartialEq.eq g.met.K.Eq.laws _ s.table _ s.latest s.next_number given steps (rw (← c.self.view_is) at stands) s.upkeep.lives refl c.args.key.now c.args.now c.in-Some.number row c.row-row.ensures key (not dead) alive in
+    let alive = alive-kept s.housekeeper.lives row.info dated (max s.latest c.args.now) (omega (arith, c.max-now.ensures)) ∙ ap (λ m. not (row.info.is_hidden || has_come row.info.deadline m)) (sym c.max-now.ensures) in
+    let it = live-row g.K.PartialEq.eq g.met.K.Eq.laws _ s.table _ s.latest s.next_number given steps (rw (← c.self.view_is) at stands) s.housekeeper.lives refl c.args.key.now c.args.now c.in-Some.number row c.row-row.ensures key (not dead) alive in
     subst (λ o. IsCopyOf g.V.Clone.is_clone o c.in_ok-found.found) (sym (ap (option_map (λ (w : Write _ _). w.value)) it ∙ value-live dead (stored_write row))) c.in_ok-found.ensures.copy
 
 pub returns-in_err-found-clause-miss : goal.returns-in_err-found-clause-miss
@@ -66,10 +66,10 @@ returns-in_err-found-clause-miss g c given steps stands nothing =
     let s = c.self.inside in
     let row = c.row-row.result.now in
     let dead = row.info.is_hidden || has_come row.info.deadline c.max-now.result in
-    let dated = of-row (λ r. IsDated s.upkeep.lives r.info) c.in-Some.number _ row c.self.invariant.0.dated c.row-row.ensures in
+    let dated = of-row (λ r. IsDated s.housekeeper.lives r.info) c.in-Some.number _ row c.self.invariant.0.dated c.row-row.ensures in
     let key = same-key g.K.PartialEq.eq c.args.key.now c.args.hash row (rw c.row-row.ensures at c.in-Some.ensures.found) in
-    let alive = alive-kept s.upkeep.lives row.info dated (max s.latest c.args.now) (omega (arith, c.max-now.ensures)) ∙ ap (λ m. not (row.info.is_hidden || has_come row.info.deadline m)) (sym c.max-now.ensures) in
-    let it = live-row g.K.PartialEq.eq g.met.K.Eq.laws _ s.table _ s.latest s.next_number given steps (rw (← c.self.view_is) at stands) s.upkeep.lives refl c.args.key.now c.args.now c.in-Some.number row c.row-row.ensures key (not dead) alive in
+    let alive = alive-kept s.housekeeper.lives row.info dated (max s.latest c.args.now) (omega (arith, c.max-now.ensures)) ∙ ap (λ m. not (row.info.is_hidden || has_come row.info.deadline m)) (sym c.max-now.ensures) in
+    let it = live-row g.K.PartialEq.eq g.met.K.Eq.laws _ s.table _ s.latest s.next_number given steps (rw (← c.self.view_is) at stands) s.housekeeper.lives refl c.args.key.now c.args.now c.in-Some.number row c.row-row.ensures key (not dead) alive in
     absurd (true≢false (sym (c.in_err-found.ensures.dead (none-live dead (stored_write row) (sym it ∙ nothing)))))
 
 pub returns-in_err-found-clause-copied : goal.returns-in_err-found-clause-copied
@@ -77,10 +77,10 @@ returns-in_err-found-clause-copied g c given steps stands =
     let s = c.self.inside in
     let row = c.row-row.result.now in
     let dead = row.info.is_hidden || has_come row.info.deadline c.max-now.result in
-    let dated = of-row (λ r. IsDated s.upkeep.lives r.info) c.in-Some.number _ row c.self.invariant.0.dated c.row-row.ensures in
+    let dated = of-row (λ r. IsDated s.housekeeper.lives r.info) c.in-Some.number _ row c.self.invariant.0.dated c.row-row.ensures in
     let key = same-key g.K.PartialEq.eq c.args.key.now c.args.hash row (rw c.row-row.ensures at c.in-Some.ensures.found) in
-    let alive = alive-kept s.upkeep.lives row.info dated (max s.latest c.args.now) (omega (arith, c.max-now.ensures)) ∙ ap (λ m. not (row.info.is_hidden || has_come row.info.deadline m)) (sym c.max-now.ensures) in
-    let it = live-row g.K.PartialEq.eq g.met.K.Eq.laws _ s.table _ s.latest s.next_number given steps (rw (← c.self.view_is) at stands) s.upkeep.lives refl c.args.key.now c.args.now c.in-Some.number row c.row-row.ensures key (not dead) alive in
+    let alive = alive-kept s.housekeeper.lives row.info dated (max s.latest c.args.now) (omega (arith, c.max-now.ensures)) ∙ ap (λ m. not (row.info.is_hidden || has_come row.info.deadline m)) (sym c.max-now.ensures) in
+    let it = live-row g.K.PartialEq.eq g.met.K.Eq.laws _ s.table _ s.latest s.next_number given steps (rw (← c.self.view_is) at stands) s.housekeeper.lives refl c.args.key.now c.args.now c.in-Some.number row c.row-row.ensures key (not dead) alive in
     rw it (if-live _ _ dead (stored_write row) (λ fine. absurd (true≢false (sym (c.in_err-found.ensures.infallible fine)))))
 
 pub returns-clause-kept : goal.returns-clause-kept

@@ -3,8 +3,8 @@ use Rattle.std.specs.Arc.{arc_value}
 use Rattle.std.proofs.lemmas.Bool.{true≢false}
 use Rattle.moka_model.specs.Lives.{Write, has_come}
 use Rattle.moka_model.specs.Calls.{IsCopyOf}
-use Rattle.moka_ways.specs.Lives.{IsDated}
-use Rattle.moka_ways.proofs.Callers.{alive-kept}
+use Rattle.moka_expiration.specs.ExpirationPolicy.{IsDated}
+use Rattle.moka_expiration.proofs.Callers.{alive-kept}
 use Rattle.moka_table.specs.Table.{stored_write}
 use Rattle.moka_table.proofs.Callers.{of-row}
 use Rattle.moka_state.proofs.Finds.{live-row, live-absent}
@@ -23,10 +23,10 @@ returns-clause-reply g c given steps stands =
     let s = c.self.inside in
     let row = c.row.result.now in
     let dead = row.info.is_hidden || has_come row.info.deadline c.max-now.result in
-    let dated = of-row (λ r. IsDated s.upkeep.lives r.info) c.in-Some.number _ row c.self.invariant.0.dated c.row.ensures in
+    let dated = of-row (λ r. IsDated s.housekeeper.lives r.info) c.in-Some.number _ row c.self.invariant.0.dated c.row.ensures in
     let key = same-key g.K.PartialEq.eq c.args.key.now c.hash-hash.result row (rw c.row.ensures at c.in-Some.ensures.found) in
-    let alive = alive-kept s.upkeep.lives row.info dated (max s.latest c.args.now) (omega (arith, c.max-now.ensures)) ∙ ap (λ m. not (row.info.is_hidden || has_come row.info.deadline m)) (sym c.max-now.ensures) in
-    let it = live-row g.K.PartialEq.eq g.met.K.Eq.laws _ s.table _ s.latest s.next_number given steps (rw (← c.self.view_is) at stands) s.upkeep.lives refl c.args.key.now c.args.now c.in-Some.number row c.row.ensures key (not dead) alive in
+    let alive = alive-kept s.housekeeper.lives row.info dated (max s.latest c.args.now) (omega (arith, c.max-now.ensures)) ∙ ap (λ m. not (row.info.is_hidden || has_come row.info.deadline m)) (sym c.max-now.ensures) in
+    let it = live-row g.K.PartialEq.eq g.met.K.Eq.laws _ s.table _ s.latest s.next_number given steps (rw (← c.self.view_is) at stands) s.housekeeper.lives refl c.args.key.now c.args.now c.in-Some.number row c.row.ensures key (not dead) alive in
     subst (λ o. IsCopyOf g.V.Clone.is_clone o c.in_ok-found.found) (sym (ap (option_map (λ (w : Write _ _). w.value)) it ∙ value-live dead (stored_write row))) c.in_ok-found.ensures.copy
 
 pub returns-in_err-found-clause-miss : goal.returns-in_err-found-clause-miss
@@ -34,10 +34,10 @@ returns-in_err-found-clause-miss g c given steps stands nothing =
     let s = c.self.inside in
     let row = c.row.result.now in
     let dead = row.info.is_hidden || has_come row.info.deadline c.max-now.result in
-    let dated = of-row (λ r. IsDated s.upkeep.lives r.info) c.in-Some.number _ row c.self.invariant.0.dated c.row.ensures in
+    let dated = of-row (λ r. IsDated s.housekeeper.lives r.info) c.in-Some.number _ row c.self.invariant.0.dated c.row.ensures in
     let key = same-key g.K.PartialEq.eq c.args.key.now c.hash-hash.result row (rw c.row.ensures at c.in-Some.ensures.found) in
-    let alive = alive-kept s.upkeep.lives row.info dated (max s.latest c.args.now) (omega (arith, c.max-now.ensures)) ∙ ap (λ m. not (row.info.is_hidden || has_come row.info.deadline m)) (sym c.max-now.ensures) in
-    let it = live-row g.K.PartialEq.eq g.met.K.Eq.laws _ s.table _ s.latest s.next_number given steps (rw (← c.self.view_is) at stands) s.upkeep.lives refl c.args.key.now c.args.now c.in-Some.number row c.row.ensures key (not dead) alive in
+    let alive = alive-kept s.housekeeper.lives row.info dated (max s.latest c.args.now) (omega (arith, c.max-now.ensures)) ∙ ap (λ m. not (row.info.is_hidden || has_come row.info.deadline m)) (sym c.max-now.ensures) in
+    let it = live-row g.K.PartialEq.eq g.met.K.Eq.laws _ s.table _ s.latest s.next_number given steps (rw (← c.self.view_is) at stands) s.housekeeper.lives refl c.args.key.now c.args.now c.in-Some.number row c.row.ensures key (not dead) alive in
     absurd (true≢false (sym (c.in_err-found.ensures.dead (none-live dead (stored_write row) (sym it ∙ nothing)))))
 
 pub returns-in_err-found-clause-copied : goal.returns-in_err-found-clause-copied
@@ -45,10 +45,10 @@ returns-in_err-found-clause-copied g c given steps stands =
     let s = c.self.inside in
     let row = c.row.result.now in
     let dead = row.info.is_hidden || has_come row.info.deadline c.max-now.result in
-    let dated = of-row (λ r. IsDated s.upkeep.lives r.info) c.in-Some.number _ row c.self.invariant.0.dated c.row.ensures in
+    let dated = of-row (λ r. IsDated s.housekeeper.lives r.info) c.in-Some.number _ row c.self.invariant.0.dated c.row.ensures in
     let key = same-key g.K.PartialEq.eq c.args.key.now c.hash-hash.result row (rw c.row.ensures at c.in-Some.ensures.found) in
-    let alive = alive-kept s.upkeep.lives row.info dated (max s.latest c.args.now) (omega (arith, c.max-now.ensures)) ∙ ap (λ m. not (row.info.is_hidden || has_come row.info.deadline m)) (sym c.max-now.ensures) in
-    let it = live-row g.K.PartialEq.eq g.met.K.Eq.laws _ s.table _ s.latest s.next_number given steps (rw (← c.self.view_is) at stands) s.upkeep.lives refl c.args.key.now c.args.now c.in-Some.number row c.row.ensures key (not dead) alive in
+    let alive = alive-kept s.housekeeper.lives row.info dated (max s.latest c.args.now) (omega (arith, c.max-now.ensures)) ∙ ap (λ m. not (row.info.is_hidden || has_come row.info.deadline m)) (sym c.max-now.ensures) in
+    let it = live-row g.K.PartialEq.eq g.met.K.Eq.laws _ s.table _ s.latest s.next_number given steps (rw (← c.self.view_is) at stands) s.housekeeper.lives refl c.args.key.now c.args.now c.in-Some.number row c.row.ensures key (not dead) alive in
     rw it (if-live _ _ dead (stored_write row) (λ fine. absurd (true≢false (sym (c.in_err-found.ensures.infallible fine)))))
 
 pub returns-clause-kept : goal.returns-clause-kept

@@ -6,8 +6,8 @@ use Rattle.moka_model.proofs.Callers.{same_kind-is}
 use Rattle.moka_turns.proofs.Abandons.{kinds-same}
 use Rattle.moka_state.specs.Given.{of_begin_compute}
 use Rattle.moka_model.specs.StandsFor.{StandsFor}
-use Rattle.moka_ways.specs.Behaviour.{hash_by, behaviour_by}
-use Rattle.moka_ways.specs.StateData.{estimates, view_by}
+use Rattle.moka_expiration.specs.Behaviour.{hash_by, behaviour_by}
+use Rattle.moka_expiration.specs.StateData.{estimates, view_by}
 use Rattle.moka_state.proofs.TurnSteps.{OnOk-by, after-compute, compute-gives, given-stands, OnErr-so}
 use Rattle.moka_state.proofs.state.State.step_begin.Goals as goal
 

@@ -1,8 +1,8 @@
 use Rattle.std.proofs.Common.{sym, subst}
 use Rattle.moka_model.specs.Calls.{Leave}
 use Rattle.moka_model.specs.StandsFor.{StandsFor}
-use Rattle.moka_ways.specs.Behaviour.{hash_by, behaviour_by}
-use Rattle.moka_ways.specs.StateData.{estimates, view_by}
+use Rattle.moka_expiration.specs.Behaviour.{hash_by, behaviour_by}
+use Rattle.moka_expiration.specs.StateData.{estimates, view_by}
 use Rattle.moka_turns.specs.Handles.{ticket_name}
 use Rattle.moka_state.specs.Step.{IsReplyTo, after_reply}
 use Rattle.moka_state.proofs.TurnSteps.{given-stands, OnErr-so}

@@ -20,14 +20,14 @@ returns-then-eq-clause-ends g c missing =
     let eq = g.K.PartialEq.eq in
     let laws = g.met.K.Eq.laws in
     let key = arc_value c.args.key.now in
-    let nothing = nothing-at s.upkeep.max_capacity c.if-eq.ensures in
+    let nothing = nothing-at s.housekeeper.max_capacity c.if-eq.ensures in
     let hash = rw (← c.self.view_is) at c.requires.hash in
-    let notes = estimates-noted g.C.Frequency.FrequencySource.noted g.C.Frequency.FrequencySource.count s.upkeep.source c.note.new.self c.args.hash _ c.note.ensures hash in
+    let notes = estimates-noted g.C.Frequency.FrequencySource.noted g.C.Frequency.FrequencySource.count s.housekeeper.source c.note.new.self c.args.hash _ c.note.ensures hash in
     record {
       reply = λ given steps stands.
           let there = rw (← c.self.view_is) at stands in
           let none = missing given steps stands in
-          let left = or-left eq g.V.Clone.is_clone g.V.Clone.is_infallible given steps key c.args.value c.args.now none s.upkeep.max_capacity s.next_number (ap (λ (t : Settings _ _). t.max_capacity) there.settings) (ap (λ (b : Books _ _). b.next_number) there.books) (sym (rw (← c.self.view_is) at c.wants_number.ensures) ∙ c.if-wants_number.false) in
+          let left = or-left eq g.V.Clone.is_clone g.V.Clone.is_infallible given steps key c.args.value c.args.now none s.housekeeper.max_capacity s.next_number (ap (λ (t : Settings _ _). t.max_capacity) there.settings) (ap (λ (b : Books _ _). b.next_number) there.books) (sym (rw (← c.self.view_is) at c.wants_number.ensures) ∙ c.if-wants_number.false) in
           or-written eq g.V.Clone.is_clone g.V.Clone.is_infallible given steps key c.args.value c.args.now none (entry_of c.in-Ok.entry) c.in-Ok.ensures left;
       stands = λ given steps stands.
           let there = rw (← c.self.view_is) at stands in

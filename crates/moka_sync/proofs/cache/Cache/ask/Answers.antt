@@ -1,5 +1,5 @@
 use Rattle.std.proofs.Common.{Some, subst}
-use Rattle.moka_waiting.specs.declared.answers.Waited.TheVariants.{Value, Turn}
+use Rattle.moka_single_flight.specs.declared.replies.Joined.TheVariants.{Value, Turn}
 use Rattle.moka_sync.specs.Waiting.{InitializerData, IsGivenTo, IsTurnFor}
 use Rattle.moka_sync.proofs.Waiting.{asked}
 use Rattle.moka_sync.proofs.cache.Cache.ask.Goals as goal

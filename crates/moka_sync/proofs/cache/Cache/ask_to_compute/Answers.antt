@@ -1,6 +1,6 @@
 use Rattle.std.proofs.Common.{None}
 use Rattle.std.specs.Arc.{arc_value}
-use Rattle.moka_waiting.specs.declared.answers.Waited.TheVariants.{Value, Turn}
+use Rattle.moka_single_flight.specs.declared.replies.Joined.TheVariants.{Value, Turn}
 use Rattle.moka_sync.proofs.Waiting.{computes}
 use Rattle.moka_sync.proofs.cache.Cache.ask_to_compute.Goals as goal
 

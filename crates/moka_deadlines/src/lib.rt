@@ -1,5 +1,0 @@
-//! An order of numbers with deadlines, and the first number in it whose deadline has come.
-#![tactic(auto)]
-
-pub mod deadlines;
-mod least;

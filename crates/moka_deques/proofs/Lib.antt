@@ -1,0 +1,5 @@
+pub mod Callers
+pub mod ChainLemmas
+pub mod NodeLemmas
+pub mod DequeLemmas
+pub mod PathLemmas

@@ -1,0 +1,4 @@
+pub mod Nodes
+pub mod Deques
+pub mod Paths
+pub mod Rings

@@ -1,0 +1,5 @@
+//! Two orders of numbers, as rings of links.
+#![tactic(auto)]
+
+pub mod deques;
+mod nodes;

@@ -1,3 +1,0 @@
-pub mod DueLemmas
-pub mod Listing
-pub mod Noted

@@ -1,4 +1,0 @@
-//! A row store that finds the first expired row without a walk.
-#![tactic(auto)]
-
-pub mod due_rows;

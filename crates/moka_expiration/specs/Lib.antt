@@ -1,0 +1,3 @@
+pub mod Behaviour
+pub mod ExpirationPolicy
+pub mod StateData

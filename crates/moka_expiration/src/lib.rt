@@ -1,0 +1,7 @@
+//! The behaviour of a cache, and what the data that it keeps means to the specification.
+#![tactic(auto)]
+
+pub mod behaviour;
+pub mod expiration_policy;
+pub mod live_value;
+pub mod view;

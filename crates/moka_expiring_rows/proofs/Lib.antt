@@ -1,0 +1,3 @@
+pub mod RowDeadlineLemmas
+pub mod Listing
+pub mod Noted

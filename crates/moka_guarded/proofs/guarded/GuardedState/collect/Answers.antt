@@ -1,0 +1,27 @@
+use Rattle.moka_expiration.specs.Behaviour.{hash_by, behaviour_by}
+use Rattle.moka_expiration.specs.StateData.{estimates, view_by}
+use Rattle.moka_model.specs.Calls.{Collect}
+use Rattle.moka_guarded.proofs.Kept.{kept-call, collect-keeps, collect-fits}
+use Rattle.moka_turns.specs.Handles.{ticket_name}
+use Rattle.moka_guarded.proofs.guarded.GuardedState.collect.Goals as goal
+
+pub invariant_of-self : goal.invariant_of-self
+invariant_of-self g c =
+    let view = view_by (behaviour_by (hash_by g.C.Hasher.BuildHasher.build_hasher g.C.Hasher.Hasher.Hasher.write g.C.Hasher.Hasher.Hasher.finish g.K.Hash.hash_input) g.C.CacheTypes.weight g.C.CacheTypes.lifetimes) (estimates g.C.Frequency.FrequencySource.noted g.C.Frequency.FrequencySource.count) g.C.Frequency.FrequencySource.opened in
+    kept-call g.C.CacheTypes.keeps g.K.PartialEq.eq g.V.Clone.is_clone g.met.K.Eq.laws g.met.C.CacheTypes.equal_keys_keep view _ _ (Collect (ticket_name c.args.ticket)) _ c.collect.ensures.stands c.collect.ensures.refused tt c.self.invariant
+
+pub returns-clause-kept : goal.returns-clause-kept
+returns-clause-kept g c =
+    let view = view_by (behaviour_by (hash_by g.C.Hasher.BuildHasher.build_hasher g.C.Hasher.Hasher.Hasher.write g.C.Hasher.Hasher.Hasher.finish g.K.Hash.hash_input) g.C.CacheTypes.weight g.C.CacheTypes.lifetimes) (estimates g.C.Frequency.FrequencySource.noted g.C.Frequency.FrequencySource.count) g.C.Frequency.FrequencySource.opened in
+    collect-keeps g.C.CacheTypes.keeps g.K.PartialEq.eq g.V.Clone.is_clone g.met.K.Eq.laws g.met.C.CacheTypes.equal_keys_keep view g.met.C.CacheTypes.copies_keep g.V.Clone.is_infallible c.self.inside.state (ticket_name c.args.ticket) _ c.collect.ensures.reply c.self.invariant
+
+pub returns-clause-fits : goal.returns-clause-fits
+returns-clause-fits g c =
+    let view = view_by (behaviour_by (hash_by g.C.Hasher.BuildHasher.build_hasher g.C.Hasher.Hasher.Hasher.write g.C.Hasher.Hasher.Hasher.finish g.K.Hash.hash_input) g.C.CacheTypes.weight g.C.CacheTypes.lifetimes) (estimates g.C.Frequency.FrequencySource.noted g.C.Frequency.FrequencySource.count) g.C.Frequency.FrequencySource.opened in
+    collect-fits g.C.CacheTypes.keeps g.K.PartialEq.eq g.V.Clone.is_clone g.met.K.Eq.laws g.met.C.CacheTypes.equal_keys_keep view g.met.C.CacheTypes.copies_keep g.V.Clone.is_infallible c.self.inside.state (ticket_name c.args.ticket) _ c.collect.ensures.reply c.self.invariant
+
+pub returns-clause-reply : goal.returns-clause-reply
+returns-clause-reply g c = rw (← c.self.view_is) c.collect.ensures.reply
+
+pub returns-clause-step : goal.returns-clause-step
+returns-clause-step g c = rw (← c.self.view_is) c.collect.ensures.stands

@@ -1,0 +1,135 @@
+//! What the maintenance of a cache depends on, beside its rows and its policy.
+ghost use Rattle.std.specs.Prelude.{◌≡◌, ◌≤◌, ◌<◌, IsSome, IfSome, false, None};
+ghost use Rattle.moka_policy.specs.Policy.{is_lru};
+ghost use Rattle.moka_table.specs.Table.{entries};
+ghost use Rattle.moka_expiration.specs.ExpirationPolicy.{AreDated};
+ghost use Rattle.moka_housekeeper.specs.Maintain.{IsMaintained, IsMaintainedUpTo};
+ghost use Rattle.moka_housekeeper.specs.Write.{HasPlan, WritesAt};
+ghost use Rattle.moka_housekeeper.specs.Hit.{UsesAt};
+ghost use Rattle.moka_rows.specs.Rows.{row_under};
+
+use crate::maintain::maintain_up_to;
+use moka_expiration::behaviour::Behaviour;
+use moka_expiration::expiration_policy::ExpirationPolicy;
+use moka_expiration::view::BehaviourView;
+use moka_policy::policy::{CacheTypes, EvictionPolicy, FrequencySource};
+use moka_rows::rows::RowStore;
+use moka_table::table::Table;
+use moka_table::write_slot::{NewValue, WritePlan};
+use std::hash::Hash;
+
+/// What a maintenance depends on, beside the rows and the policy.
+#[derive(Drop)]
+pub struct Housekeeper<F: FrequencySource> {
+    /// The time to live and the time to idle.
+    pub lives: ExpirationPolicy,
+    /// The bound on the total weight of the resident rows, or `None` if there is no bound.
+    pub max_capacity: Option<u64>,
+    /// Estimates how often each key was looked up. It has noted the hash of each recorded lookup.
+    pub source: F,
+}
+
+impl<F: FrequencySource> Housekeeper<F> {
+    /// Runs a whole maintenance of a table. Does not allocate, and uses no room.
+    pub fn maintain<K: Eq + Drop, V: Drop, R: RowStore<K, V>>(
+        &self,
+        table: &mut Table<K, V, R>,
+        policy: EvictionPolicy,
+        now: u64,
+    )
+        ensures maintained { AreDated self.now.lives (entries table.old) →
+            IsMaintained self.now.lives (is_lru policy) (F.count self.now.source)
+            self.now.max_capacity now table.old table.new }
+        ensures room { table.old.room ≤ table.new.room }
+    {
+        self.maintain_up_to(table, policy, now, None);
+    }
+
+    /// Runs a maintenance of a table within a limit of removals, if there is one. Returns whether a
+    /// part was left undone. Does not allocate, and uses no room.
+    pub fn maintain_up_to<K: Eq + Drop, V: Drop, R: RowStore<K, V>>(
+        &self,
+        table: &mut Table<K, V, R>,
+        policy: EvictionPolicy,
+        now: u64,
+        limit: Option<u64>,
+    ) -> bool
+        ensures maintained { AreDated self.now.lives (entries table.old) →
+            IsMaintainedUpTo self.now.lives (is_lru policy) (F.count self.now.source)
+            self.now.max_capacity now limit table.old table.new result }
+        ensures unlimited { limit ≡ None → result ≡ false }
+        ensures room { table.old.room ≤ table.new.room }
+    {
+        // The clause `visited` bounds this count. Nothing else reads it.
+        let mut visits = 0;
+        maintain_up_to(
+            table,
+            self.max_capacity,
+            policy,
+            &self.source,
+            now,
+            limit,
+            &mut visits,
+        )
+    }
+
+    /// Writes a value to its place, and returns whether a live value was there just before.
+    ///
+    /// If the place says so, a flush within `flush_limit` comes first. The write uses the room that
+    /// was made, and does not allocate.
+    #[inline(always)]
+    pub fn write<K: Hash + Drop, V: Clone, C: CacheTypes<K, V>, R: RowStore<K, V>>(
+        &self,
+        table: &mut Table<K, V, R>,
+        place: WritePlan<K>,
+        new: NewValue<V>,
+        behaviour: &Behaviour<K, V, C>,
+        flush_limit: Option<u64>,
+    ) -> bool
+        requires place { HasPlan place table.old }
+        requires room { 0 < table.old.room }
+        ensures { AreDated self.now.lives (entries table.old) → WritesAt K.eq
+            (⟦<C as BehaviourView<K, V>>⟧.behaviour behaviour.now) self.now.lives
+            (F.count self.now.source) self.now.max_capacity flush_limit place new table.old table.new
+            result }
+    {
+        match place {
+            WritePlan::Now(slot) => table.write(slot, new, behaviour, &self.lives),
+            WritePlan::AfterFlush { lookup, key } => {
+                self.maintain_up_to(table, behaviour.policy(), new.now, flush_limit);
+                let slot = table.slot_now(lookup, key, new.hash);
+                table.write(slot, new, behaviour, &self.lives)
+            }
+        }
+    }
+
+    /// Applies an access to a row whose value is live, and notes the hash of its key.
+    ///
+    /// The entry may get another lifetime of its own. Does not allocate.
+    #[inline(always)]
+    pub fn hit<K: Hash + Drop, V: Clone, C: CacheTypes<K, V>, R: RowStore<K, V>>(
+        &mut self,
+        table: &mut Table<K, V, R>,
+        number: usize,
+        hash: u64,
+        now: u64,
+        behaviour: &Behaviour<K, V, C>,
+    )
+        requires { IsSome (row_under number (entries table.old)) }
+        ensures used { IfSome (row_under number (entries table.old)) (λ row.
+            UsesAt (⟦<C as BehaviourView<K, V>>⟧.behaviour behaviour.now) self.old.lives
+            number row now table.old table.new) }
+        ensures notices { table.new.notices ≡ table.old.notices }
+        ensures noted { self.new.source ≡ F.noted self.old.source hash }
+        ensures lives { self.new.lives ≡ self.old.lives }
+        ensures max_capacity { self.new.max_capacity ≡ self.old.max_capacity }
+    {
+        let row = table.row(number);
+        let info = row.info();
+        let own_life = behaviour.life_of_hit(&row.key, &row.value, info, now);
+        let last_accessed = info.last_accessed.max(now);
+        let touch = self.lives.touch_of(info, last_accessed, own_life);
+        table.touch(number, touch);
+        self.source.note(hash);
+    }
+}

@@ -1,4 +1,0 @@
-use Rattle.moka_locked.proofs.locked.Locked.contains_key.Goals as goal
-
-pub returns : goal.returns
-returns g c = rw (← c.self.view_is) (c.now-now.result, c.now-now.ensures, c.contains_key.ensures.reply)

@@ -1,4 +1,0 @@
-use Rattle.moka_locked.proofs.locked.Locked.weighted_size.Goals as goal
-
-pub returns : goal.returns
-returns g c = rw (← c.self.view_is) c.weighted_size.ensures.reply

@@ -1,5 +1,0 @@
-//! What the lock of a shared cache guards: a state with its clock, and their calls.
-#![tactic(auto)]
-
-pub mod locked;
-mod locked_turns;

@@ -1,4 +1,0 @@
-use Rattle.moka_maintain.proofs.upkeep.Upkeep.maintain_up_to.Goals as goal
-
-pub returns-clause-maintained : goal.returns-clause-maintained
-returns-clause-maintained g c dated = c.maintain_up_to.ensures.maintained c.args.self.now.lives dated

@@ -1,5 +1,0 @@
-use Rattle.moka_maintain.proofs.VisitLaws.{visits-none}
-use Rattle.moka_maintain.proofs.visit_laws.nothing_to_do_takes_no_step.Goals as goal
-
-pub returns : goal.returns
-returns g c is_lru frequency_of capacity at table none shown fit = visits-none is_lru frequency_of capacity at table none shown fit

@@ -1,4 +1,0 @@
-pub mod Nodes
-pub mod Orders
-pub mod Paths
-pub mod Rings

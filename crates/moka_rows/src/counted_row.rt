@@ -1,0 +1,87 @@
+//! Rows as a store keeps them. A lookup reaches a row only by a call that counts it.
+ghost use Rattle.std.specs.Prelude.{◌≡◌, ◌+◌, ◌-◌, ◌<◌, ◌^◌};
+ghost use Rattle.moka_rows.specs.Rows.{touched, overwritten, hidden};
+
+use crate::rows::{Access, EntryInfo, Row};
+use std::marker::Model;
+
+/// A row in a store.
+///
+/// A contract sees the row itself. The field is private, so that a lookup reaches a row, its key or
+/// its hash only by `read_counted`, which counts it. The other calls are for a row whose number is known
+/// already.
+#[derive(Drop)]
+pub struct CountedRow<R> {
+    row: R,
+}
+
+impl<R> Model for CountedRow<R> {
+    ghost Value = { R };
+
+    ghost view = { λ s. s.row };
+}
+
+impl<R> CountedRow<R> {
+    /// Wraps a row for a store.
+    #[inline(always)]
+    pub fn new(row: R) -> Self
+        ensures { result ≡ row }
+    {
+        CountedRow { row }
+    }
+
+    /// Returns the row to a lookup, and adds 1 to `reads`.
+    #[inline(always)]
+    pub fn read_counted(&self, reads: &mut u64) -> &R
+        requires { reads.old < 2 ^ 64 - 1 }
+        ensures row { result.now ≡ self.now }
+        ensures counted { reads.new ≡ reads.old + 1 }
+    {
+        *reads += 1;
+        &self.row
+    }
+
+    /// Returns the row, whose number is known already.
+    #[inline(always)]
+    pub fn row(&self) -> &R
+        ensures { result.now ≡ self.now }
+    {
+        &self.row
+    }
+
+    /// Returns the row itself, for its removal from the store.
+    #[inline(always)]
+    pub fn into_row(self) -> R
+        ensures { result ≡ self }
+    {
+        self.row
+    }
+}
+
+impl<K, V> CountedRow<Row<K, V>> {
+    /// Applies an access to the row.
+    #[inline(always)]
+    pub fn touch(&mut self, touch: Access)
+        ensures { self.new ≡ touched touch self.old }
+    {
+        self.row.touch(touch);
+    }
+
+    /// Replaces the value and its metadata, and returns the old ones.
+    #[inline(always)]
+    pub fn overwrite(&mut self, value: V, info: EntryInfo) -> (V, EntryInfo)
+        ensures value { result.0 ≡ self.old.value }
+        ensures info { result.1 ≡ self.old.info }
+        ensures after { self.new ≡ overwritten value info self.old }
+    {
+        self.row.overwrite(value, info)
+    }
+
+    /// Marks the row invalidated.
+    #[inline(always)]
+    pub fn hide(&mut self)
+        ensures { self.new ≡ hidden self.old }
+    {
+        self.row.hide();
+    }
+}

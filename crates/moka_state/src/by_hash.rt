@@ -1,0 +1,282 @@
+//! Calls that take the hash of their key, for callers that know it already: for example from
+//! choosing one of several states.
+ghost use Rattle.std.specs.Prelude.{◌≡◌, ◌≢◌, ◌≤◌, false, None, IsOk, IfOk, IfErr, IfSome, OnOk, OnErr};
+ghost use Rattle.moka_model.specs.Numbers.{greatest_number, stores_nothing};
+ghost use Rattle.moka_model.specs.Steps.{events_in};
+ghost use Rattle.moka_model.specs.Calls.{Get, ContainsKey, Insert, Invalidate, Remove, Found, Contains, live_at};
+ghost use Rattle.moka_state.specs.Hashes.{IsHashOf};
+ghost use Rattle.moka_state.specs.Write.{WriteEnds};
+
+use crate::state::{InsertRefused, State};
+use moka_expiration::live_value::copy_of_live;
+use moka_expiration::view::StateView;
+use moka_model::notification::RemovalCause;
+use moka_policy::policy::{CacheTypes, FrequencySource, Refused};
+use moka_rows::rows::RowStore;
+use moka_table::into_arc::{IntoArc, Owned};
+use moka_table::write_slot::NewValue;
+use std::hash::Hash;
+
+impl<K: Hash + Drop, V: Clone, C: CacheTypes<K, V>, R: RowStore<K, V>> State<K, V, C, R> {
+    /// Returns the hash of `key` by the cache's hasher, as the calls that take a hash want it.
+    /// Reads no row.
+    #[inline(always)]
+    pub fn hash(&self, key: &K) -> u64
+        ensures { IsHashOf (⟦<C as StateView<K, V>>⟧.settings self.now.settings) key.now result }
+    {
+        self.behaviour.hash(key)
+    }
+
+    /// Works like [`State::get`], given the key's hash, as [`State::hash`] returns it. The key is
+    /// not hashed again.
+    ///
+    /// # Errors
+    ///
+    /// - `OutOfMemory`: cloning the value failed. A miss cannot fail, and does not allocate.
+    ///
+    /// # Complexity
+    ///
+    /// In a `CacheState`, reads no rows but those that have the key's hash.
+    pub fn get_with_hash(&mut self, key: &K, hash: u64, now: u64) -> Result<Option<V>, Refused>
+        requires hash { IsHashOf (⟦<C as StateView<K, V>>⟧.settings self.old.settings)
+            key.now hash }
+        requires within { hash ≤ greatest_number }
+        ensures reply { IfOk result (λ found.
+            ⟦<C as StateView<K, V>>⟧.answers self.old (Get key.now now) (Found found)) }
+        ensures stands { OnOk result
+            (⟦<C as StateView<K, V>>⟧.follows self.old (Get key.now now) self.new) }
+        ensures kept { IfOk result (λ found. IfSome found (C.keeps key.now)) }
+
+        // Only cloning the value can fail, and then nothing has changed.
+        ensures refused { OnErr result (self.new ≡ self.old) }
+        ensures cause { IfErr result (λ cause. cause ≡ Refused.OutOfMemory) }
+
+        // The call succeeds if no value is live, or if clones of the live value cannot fail.
+        ensures miss { ⟦<C as StateView<K, V>>⟧.at_each_history self.old (λ settings steps.
+            live_at K.eq settings key.now now (events_in steps) ≡ None → IsOk result) }
+        ensures copied { ⟦<C as StateView<K, V>>⟧.at_each_history self.old (λ settings steps.
+            IfSome (live_at K.eq settings key.now now (events_in steps)) (λ live.
+            V.is_infallible live.value → IsOk result)) }
+        ensures settings { self.new.settings ≡ self.old.settings }
+    {
+        let now = self.latest.max(now);
+        let Some(number) = self.table.find(key, hash) else {
+            self.housekeeper.source.note(hash);
+            self.latest = now;
+            return Ok(None);
+        };
+        let row = self.table.row(number);
+        let info = row.info();
+        if info.is_dead(now) {
+            self.housekeeper.source.note(hash);
+            self.latest = now;
+            return Ok(None);
+        }
+        let Ok(value) = row.value.clone() else {
+            return Err(Refused::OutOfMemory);
+        };
+        let own_life = self.behaviour.life_of_hit(&row.key, &row.value, info, now);
+        let last_accessed = info.last_accessed.max(now);
+        let touch = self
+            .housekeeper
+            .lives
+            .touch_of(info, last_accessed, own_life);
+        self.table.touch(number, touch);
+        self.housekeeper.source.note(hash);
+        self.latest = now;
+        Ok(Some(value))
+    }
+
+    /// Works like [`State::insert`], given the key's hash, as [`State::hash`] returns it. The key
+    /// is not hashed again.
+    ///
+    /// # Errors
+    ///
+    /// A failed call hands back the key and the value. If the capacity is 0, the call cannot fail,
+    /// and does not allocate.
+    ///
+    /// - `NumbersUsedUp`: the capacity is not 0, and no sequence number is left.
+    /// - `OutOfMemory`: an allocation failed, and a sequence number is left.
+    ///
+    /// # Complexity
+    ///
+    /// In a `CacheState`, reads no rows but those that have the key's hash, apart from a flush.
+    pub fn insert_with_hash(
+        &mut self,
+        key: K,
+        hash: u64,
+        value: V,
+        now: u64,
+    ) -> Result<(), InsertRefused<K, V>>
+        requires hash { IsHashOf (⟦<C as StateView<K, V>>⟧.settings self.old.settings) key hash }
+        requires keeps { C.keeps key value }
+        ensures ends { WriteEnds
+            (⟦<C as StateView<K, V>>⟧.follows self.old (Insert key value now) self.new)
+            self.old self.new key value result }
+        ensures settings { self.new.settings ≡ self.old.settings }
+    {
+        match self.write(Owned(key), hash, value, now) {
+            Ok(()) => Ok(()),
+            Err(InsertRefused { key, value, cause }) => Err(InsertRefused {
+                key: key.0,
+                value,
+                cause,
+            }),
+        }
+    }
+
+    // Writes a value under a key that is in an `Arc` already, or moves into one, given the key's
+    // hash.
+    pub(crate) fn write<S: IntoArc<K>>(
+        &mut self,
+        key: S,
+        hash: u64,
+        value: V,
+        now: u64,
+    ) -> Result<(), InsertRefused<S, V>>
+        requires hash { IsHashOf (⟦<C as StateView<K, V>>⟧.settings self.old.settings)
+            (S.key_of key) hash }
+        requires kept { C.keeps (S.key_of key) value }
+        ensures ends { WriteEnds
+            (⟦<C as StateView<K, V>>⟧.follows self.old (Insert (S.key_of key) value now) self.new)
+            self.old self.new key value result }
+        ensures settings { self.new.settings ≡ self.old.settings }
+    {
+        if self.housekeeper.max_capacity == Some(0) {
+            self.latest = self.latest.max(now);
+            return Ok(());
+        }
+        if self.next_number == u64::MAX {
+            let cause = Refused::NumbersUsedUp;
+            return Err(InsertRefused { key, value, cause });
+        }
+        self.write_anew(key, hash, value, now)
+    }
+
+    // Does a write that draws a sequence number. The weigher gets the call's key, before anything
+    // changes.
+    fn write_anew<S: IntoArc<K>>(
+        &mut self,
+        key: S,
+        hash: u64,
+        value: V,
+        now: u64,
+    ) -> Result<(), InsertRefused<S, V>>
+        requires hash { IsHashOf (⟦<C as StateView<K, V>>⟧.settings self.old.settings)
+            (S.key_of key) hash }
+        requires kept { C.keeps (S.key_of key) value }
+        requires stores { stores_nothing self.old.settings.max_capacity ≡ false }
+        requires number { self.old.books.next_number ≢ greatest_number }
+        ensures ends { WriteEnds
+            (⟦<C as StateView<K, V>>⟧.follows self.old (Insert (S.key_of key) value now) self.new)
+            self.old self.new key value result }
+        ensures settings { self.new.settings ≡ self.old.settings }
+    {
+        let now = self.latest.max(now);
+        let cause = Refused::OutOfMemory;
+        let weight = self.behaviour.weight(key.key(), &value);
+        let place = match self.table.place(key, hash, self.alloc) {
+            Ok(place) => place,
+            Err(key) => return Err(InsertRefused { key, value, cause }),
+        };
+        let new = NewValue {
+            hash,
+            value,
+            weight,
+            now,
+        };
+        self.housekeeper.write(
+            &mut self.table,
+            place,
+            new,
+            &self.behaviour,
+            self.flush_limit,
+        );
+        self.latest = now;
+        self.next_number += 1;
+        Ok(())
+    }
+
+    /// Works like [`State::contains_key`], given the key's hash, as [`State::hash`] returns it. The
+    /// key is not hashed again.
+    pub fn contains_key_with_hash(&self, key: &K, hash: u64, now: u64) -> bool
+        requires hash { IsHashOf (⟦<C as StateView<K, V>>⟧.settings self.now.settings)
+            key.now hash }
+        requires within { hash ≤ greatest_number }
+        ensures reply { ⟦<C as StateView<K, V>>⟧.answers self.now
+            (ContainsKey key.now now) (Contains result) }
+        ensures stands { ⟦<C as StateView<K, V>>⟧.follows self.now
+            (ContainsKey key.now now) self.now }
+    {
+        let now = self.latest.max(now);
+        match self.table.find(key, hash) {
+            None => false,
+            Some(number) => !self.table.row(number).info().is_dead(now),
+        }
+    }
+
+    /// Works like [`State::invalidate`], given the key's hash, as [`State::hash`] returns it. The
+    /// key is not hashed again. Does not allocate.
+    pub fn invalidate_with_hash(&mut self, key: &K, hash: u64, now: u64)
+        requires hash { IsHashOf (⟦<C as StateView<K, V>>⟧.settings self.old.settings)
+            key.now hash }
+        requires within { hash ≤ greatest_number }
+        ensures stands { ⟦<C as StateView<K, V>>⟧.follows
+            self.old (Invalidate key.now now) self.new }
+        ensures settings { self.new.settings ≡ self.old.settings }
+    {
+        let now = self.latest.max(now);
+        self.latest = now;
+        if let Some(number) = self.table.find(key, hash) {
+            let info = self.table.row(number).info();
+            let cause = info.cause(now, RemovalCause::Explicit);
+            self.table.evict(number, cause);
+        }
+    }
+
+    /// Works like [`State::remove`], given the key's hash, as [`State::hash`] returns it. The key
+    /// is not hashed again.
+    ///
+    /// # Errors
+    ///
+    /// - `OutOfMemory`: cloning the value failed. If no value is live, the call cannot fail, and
+    ///   does not allocate.
+    ///
+    /// # Complexity
+    ///
+    /// In a `CacheState`, reads no rows but those that have the key's hash.
+    pub fn remove_with_hash(&mut self, key: &K, hash: u64, now: u64) -> Result<Option<V>, Refused>
+        requires hash { IsHashOf (⟦<C as StateView<K, V>>⟧.settings self.old.settings)
+            key.now hash }
+        requires within { hash ≤ greatest_number }
+        ensures reply { IfOk result (λ found.
+            ⟦<C as StateView<K, V>>⟧.answers self.old (Remove key.now now) (Found found)) }
+        ensures stands { OnOk result
+            (⟦<C as StateView<K, V>>⟧.follows self.old (Remove key.now now) self.new) }
+        ensures kept { IfOk result (λ found. IfSome found (C.keeps key.now)) }
+
+        // Only cloning the value can fail, and then nothing has changed.
+        ensures refused { OnErr result (self.new ≡ self.old) }
+        ensures cause { IfErr result (λ cause. cause ≡ Refused.OutOfMemory) }
+
+        // The call succeeds if no value is live, or if clones of the live value cannot fail.
+        ensures miss { ⟦<C as StateView<K, V>>⟧.at_each_history self.old (λ settings steps.
+            live_at K.eq settings key.now now (events_in steps) ≡ None → IsOk result) }
+        ensures copied { ⟦<C as StateView<K, V>>⟧.at_each_history self.old (λ settings steps.
+            IfSome (live_at K.eq settings key.now now (events_in steps)) (λ live.
+            V.is_infallible live.value → IsOk result)) }
+        ensures settings { self.new.settings ≡ self.old.settings }
+    {
+        let now = self.latest.max(now);
+        let Some(number) = self.table.find(key, hash) else {
+            self.latest = now;
+            return Ok(None);
+        };
+        let row = self.table.row(number);
+        let cause = row.info().cause(now, RemovalCause::Explicit);
+        let found = copy_of_live(row, now)?;
+        self.table.evict(number, cause);
+        self.latest = now;
+        Ok(found)
+    }
+}

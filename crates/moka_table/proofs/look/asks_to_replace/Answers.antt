@@ -1,5 +1,0 @@
-use Rattle.std.proofs.Common.{Some, refl}
-use Rattle.moka_table.proofs.look.asks_to_replace.Goals as goal
-
-pub returns-in-Some : goal.returns-in-Some
-returns-in-Some g c = rw c.in-Some.is (Some c.replace_if.result, (_, record { shown = c.args.value; shows = refl; called = c.replace_if.ensures }), refl)

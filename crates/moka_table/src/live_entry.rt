@@ -1,0 +1,87 @@
+//! Lookups of live values: which of them are acceptable to the caller, and what they return.
+ghost use Rattle.std.specs.Prelude.{◌≡◌, Bool, Option, IsSome, IfSome, IfOk, option_map, slice_get};
+ghost use Rattle.moka_model.specs.Entries.{entry_of};
+ghost use Rattle.moka_rows.specs.Rows.{row_under};
+ghost use Rattle.moka_table.specs.LiveEntry.{Accepts, IsSaid, IsEntryOfRow, is_yes};
+ghost use Rattle.moka_table.specs.Notices.{IsNoticeOf};
+ghost use Rattle.moka_table.specs.Table.{entries, removal_of};
+
+use crate::table::Table;
+use moka_model::entry::Entry;
+use moka_model::notification::Notice;
+use moka_rows::rows::RowStore;
+use std::alloc::AllocError;
+
+// Returns whether there is a closure and it asks to replace the value.
+fn asks_to_replace<V, F: FnMut(&V) -> bool + Drop>(value: &V, replace_if: Option<F>) -> bool
+    requires { IfSome replace_if (λ f. F.IsAlwaysCallable f) }
+    ensures { (said : Option Bool) × IsSaid F.FnMut replace_if value.now said
+        × (result ≡ is_yes said) }
+{
+    match replace_if {
+        Some(mut replace_if) => replace_if(value),
+        None => false,
+    }
+}
+
+impl<K: Eq + Drop, V: Clone, R: RowStore<K, V>> Table<K, V, R> {
+    /// Returns the number of a key's row if its value is live at `now` and acceptable.
+    ///
+    /// A value is acceptable unless `replace_if` returns `true` for it. `replace_if` is called only
+    /// with a live value.
+    pub fn acceptable<F: FnMut(&V) -> bool + Drop>(
+        &self,
+        key: &K,
+        hash: u64,
+        replace_if: Option<F>,
+        now: u64,
+    ) -> Option<usize>
+        requires { IfSome replace_if (λ f. F.IsAlwaysCallable f) }
+        ensures { (said : Option Bool) × Accepts K.eq F.FnMut replace_if key.now hash now
+            (entries self.now) said result }
+    {
+        let number = self.find(key, hash)?;
+        let row = self.row(number);
+        if row.info().is_dead(now) {
+            return None;
+        }
+        if asks_to_replace(&row.value, replace_if) {
+            return None;
+        }
+        Some(number)
+    }
+
+    /// Returns an entry of a row: the stored key, and a clone of the value.
+    ///
+    /// # Errors
+    ///
+    /// - `AllocError`: an allocation failed.
+    pub fn entry(&self, number: usize) -> Result<Entry<K, V>, AllocError>
+        requires { IsSome (row_under number (entries self.now)) }
+        ensures { IfOk result (λ entry. IfSome (row_under number (entries self.now)) (λ row.
+            IsEntryOfRow V.is_clone row (entry_of entry))) }
+    {
+        let row = self.row(number);
+        let key = row.key.clone()?;
+        let value = row.value.clone()?;
+        Ok(Entry::new(key, value, false, false))
+    }
+
+    /// Returns a clone of the notice that is taken next, if there is one.
+    ///
+    /// # Errors
+    ///
+    /// - `AllocError`: an allocation failed.
+    pub fn notice_copy(&self) -> Result<Option<Notice<K, V>>, AllocError>
+        ensures { IfOk result (IsNoticeOf V.is_clone
+            (option_map removal_of (slice_get self.now.notices 0))) }
+    {
+        let Some(notice) = self.first_notice() else {
+            return Ok(None);
+        };
+        let key = notice.key.clone()?;
+        let value = notice.value.clone()?;
+        let cause = notice.cause;
+        Ok(Some(Notice { key, value, cause }))
+    }
+}

@@ -1,0 +1,227 @@
+//! The targets of writes. What a write allocates is allocated before it changes anything.
+ghost use Rattle.std.specs.Prelude.{◌≡◌, ◌<◌, false, IfOk, IfErr, OnOk};
+ghost use Rattle.moka_table.specs.WriteSlot.{IsSlotFor, IsSlotNow, HasSlot, IsInfoOf, Puts, IsPlanOf, Writes, is_over_live};
+ghost use Rattle.moka_expiration.specs.ExpirationPolicy.{IsDated};
+ghost use Rattle.moka_table.specs.Table.{entries, SameRows};
+
+use crate::into_arc::IntoArc;
+use crate::table::{Lookup, Table};
+use moka_expiration::behaviour::Behaviour;
+use moka_expiration::expiration_policy::ExpirationPolicy;
+use moka_expiration::view::BehaviourView;
+use moka_policy::policy::CacheTypes;
+use moka_rows::packed::PackedEntryInfo;
+use moka_rows::rows::{EntryInfo, Row, RowStore};
+use std::alloc::Global;
+use std::hash::Hash;
+use std::sync::Arc;
+
+/// Where a write puts its value.
+#[derive(Drop)]
+pub enum WriteSlot<K> {
+    /// Over the value of the row with this number. `key` is the stored key.
+    Occupied { number: usize, key: Arc<K> },
+    /// Into a new row, under this key.
+    Vacant { key: Arc<K> },
+}
+
+/// Where a write puts its value, as found before the flush that may come first.
+#[derive(Drop)]
+pub enum WritePlan<K> {
+    /// At this target. No flush comes first.
+    Now(WriteSlot<K>),
+    /// Where the written `key` belongs after a flush. `lookup` is where its row was before.
+    AfterFlush { lookup: Lookup<K>, key: Arc<K> },
+}
+
+/// A value to be written.
+#[derive(Drop)]
+pub struct NewValue<V> {
+    /// The hash of its key.
+    pub hash: u64,
+    /// The value.
+    pub value: V,
+    /// Its weight under that key.
+    pub weight: u32,
+    /// When it is written, in nanoseconds.
+    pub now: u64,
+}
+
+/// From this many pending rows on, a write runs a flush first.
+const FLUSH_POINT: usize = 64;
+
+impl<K: Drop> Lookup<K> {
+    /// Returns the target of a write of a key, given where its row is. A key without a row is put
+    /// into an `Arc`.
+    ///
+    /// # Errors
+    ///
+    /// - The key itself: an allocation failed.
+    #[inline(always)]
+    pub fn slot<S: IntoArc<K>>(self, key: S, alloc: Global) -> Result<WriteSlot<K>, S>
+        ensures slot { IfOk result (IsSlotFor (S.key_of key) self) }
+        ensures handed_back { IfErr result (λ back. back ≡ key) }
+    {
+        match self {
+            Lookup::Stored { number, key } => Ok(WriteSlot::Occupied { number, key }),
+            Lookup::Absent => match key.into_arc(alloc) {
+                Ok(key) => Ok(WriteSlot::Vacant { key }),
+                Err(key) => Err(key),
+            },
+        }
+    }
+}
+
+impl<K: Eq + Drop, V: Drop, R: RowStore<K, V>> Table<K, V, R> {
+    /// Returns the target of a write of a key that was looked up before some rows were removed. Its
+    /// own row may be one of them. Does not allocate.
+    #[inline(always)]
+    pub fn slot_now(&self, lookup: Lookup<K>, key: Arc<K>, hash: u64) -> WriteSlot<K>
+        ensures { IsSlotNow K.eq hash lookup key (entries self.now) result }
+    {
+        match lookup {
+            Lookup::Absent => WriteSlot::Vacant { key },
+            Lookup::Stored { key: stored, .. } => match self.find(&*key, hash) {
+                Some(number) => WriteSlot::Occupied {
+                    number,
+                    key: stored,
+                },
+                None => WriteSlot::Vacant { key },
+            },
+        }
+    }
+
+    /// Makes room for a write of a key, and returns its place. All rows and notices stay as they
+    /// were, also if it fails.
+    ///
+    /// # Errors
+    ///
+    /// - The key itself: an allocation failed, or the store cannot number more rows.
+    #[inline(always)]
+    pub fn place<S: IntoArc<K>>(
+        &mut self,
+        key: S,
+        hash: u64,
+        alloc: Global,
+    ) -> Result<WritePlan<K>, S>
+        ensures place { IfOk result (IsPlanOf K.eq (S.key_of key) hash self.new) }
+        ensures handed_back { IfErr result (λ back. back ≡ key) }
+        ensures room { OnOk result (0 < self.new.room) }
+        ensures same { SameRows self.old self.new }
+        ensures may_hide { self.new.may_hide ≡ self.old.may_hide }
+    {
+        let Ok(lookup) = self.lookup(key.key(), hash) else {
+            return Err(key);
+        };
+        if self.waiting_len() < FLUSH_POINT {
+            match lookup.slot(key, alloc) {
+                Ok(slot) => Ok(WritePlan::Now(slot)),
+                Err(key) => Err(key),
+            }
+        } else {
+            match key.into_arc(alloc) {
+                Ok(key) => Ok(WritePlan::AfterFlush { lookup, key }),
+                Err(key) => Err(key),
+            }
+        }
+    }
+
+    // Returns whether a target is over a value that is live at `now`.
+    #[inline(always)]
+    fn is_over_live(&self, slot: &WriteSlot<K>, now: u64) -> bool
+        requires { HasSlot slot.now self.now }
+        ensures { result ≡ is_over_live slot.now now self.now }
+    {
+        match slot {
+            WriteSlot::Occupied { number, .. } => !self.row(*number).info().is_dead(now),
+            WriteSlot::Vacant { .. } => false,
+        }
+    }
+
+    /// Writes a value and its metadata to a target, and adds a notice of the value that it
+    /// replaces.
+    ///
+    /// It uses the room that was made and does not allocate. The value is not invalidated.
+    #[inline(always)]
+    pub fn put(&mut self, slot: WriteSlot<K>, hash: u64, value: V, info: EntryInfo)
+        requires stored { HasSlot slot self.old }
+        requires room { 0 < self.old.room }
+        requires shown { info.is_hidden ≡ false }
+        ensures puts { Puts slot hash value info self.old self.new }
+        ensures may_hide { self.new.may_hide ≡ self.old.may_hide }
+    {
+        match slot {
+            WriteSlot::Occupied { number, key } => self.overwrite(number, key, value, info),
+            WriteSlot::Vacant { key } => self.add(Row {
+                key,
+                hash,
+                value,
+                info: PackedEntryInfo::new(info),
+            }),
+        }
+    }
+}
+
+impl<K: Hash + Drop, V: Clone, R: RowStore<K, V>> Table<K, V, R> {
+    /// Returns the metadata, with the deadline, of a value that is written to a target at `now`.
+    /// Calls the expiry for the entry's own lifetime.
+    #[inline(always)]
+    pub fn info_of<C: CacheTypes<K, V>>(
+        &self,
+        slot: &WriteSlot<K>,
+        value: &V,
+        weight: u32,
+        now: u64,
+        behaviour: &Behaviour<K, V, C>,
+        lives: &ExpirationPolicy,
+    ) -> EntryInfo
+        requires { HasSlot slot.now self.now }
+        ensures info { IsInfoOf (⟦<C as BehaviourView<K, V>>⟧.behaviour behaviour.now)
+            slot.now value.now weight now self.now result }
+        ensures dated { IsDated lives.now result }
+    {
+        let own_life = match slot {
+            WriteSlot::Occupied { number, key } => {
+                let was = self.row(*number).info();
+                behaviour.life_over(key, value, was, !was.is_dead(now), now)
+            }
+            WriteSlot::Vacant { key } => behaviour.life_of_new(key, value, now),
+        };
+        let info = EntryInfo {
+            last_modified: now,
+            last_accessed: now,
+            own_life,
+            deadline: None,
+            policy_weight: weight,
+            is_hidden: false,
+        };
+        lives.with_deadline(info)
+    }
+
+    /// Writes a value to a target, and returns whether a live value was there. It uses the room
+    /// that was made and does not allocate.
+    #[inline(always)]
+    pub fn write<C: CacheTypes<K, V>>(
+        &mut self,
+        slot: WriteSlot<K>,
+        new: NewValue<V>,
+        behaviour: &Behaviour<K, V, C>,
+        lives: &ExpirationPolicy,
+    ) -> bool
+        requires stored { HasSlot slot self.old }
+        requires room { 0 < self.old.room }
+        ensures writes { Writes (⟦<C as BehaviourView<K, V>>⟧.behaviour behaviour.now) lives.now
+            slot new self.old self.new result }
+    {
+        let NewValue {
+            hash,
+            value,
+            weight,
+            now,
+        } = new;
+        let is_over_live = self.is_over_live(&slot, now);
+        let info = self.info_of(&slot, &value, weight, now, behaviour, lives);
+        self.put(slot, hash, value, info);
+        is_over_live
+    }
+}

@@ -1,3 +1,0 @@
-pub mod Behaviour
-pub mod Lives
-pub mod StateData

@@ -1,7 +1,0 @@
-//! The behaviour of a cache, and what the data that it keeps means to the specification.
-#![tactic(auto)]
-
-pub mod behaviour;
-pub mod live_value;
-pub mod lives;
-pub mod view;

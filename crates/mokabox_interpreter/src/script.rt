@@ -1,0 +1,144 @@
+//! Runs a script: reads its lines, and writes the results.
+ghost use Rattle.std.specs.Prelude.{◌≡◌, ◌≢◌, ℕ, List, map, IfOk, IfSome, OnOk};
+ghost use Rattle.std.specs.Io.Iter.{split_byte, split_known_bytes};
+ghost use Rattle.std.specs.Io.KnownBytes.{Appends};
+ghost use Rattle.mokabox_syntax.specs.Answer.{answer_text};
+ghost use Rattle.mokabox_interpreter.specs.Script.{CacheSettings, Course, FirstPrints, LinesPrint, ScriptPrints, lines_of, lines_text};
+ghost use Rattle.mokabox_interpreter.specs.Session.{DoesLine, IsAt};
+ghost use Rattle.mokabox_interpreter.specs.Status.{code_of};
+
+use crate::session::Session;
+use mokabox_syntax::answer::{Answer, write_answer};
+use mokabox_syntax::settings::Settings;
+use mokabox_syntax::{command, settings};
+use std::alloc::Global;
+use std::io;
+use std::io::{BufRead, Split, Write};
+
+/// How a run ended.
+#[derive(Clone, Copy, Debug, PartialEq, Eq)]
+pub enum Status {
+    /// Every line was done.
+    Done,
+    /// A line was bad, or the cache could not be built.
+    Bad,
+    /// Reading or writing failed, or an allocation for the program's own lines.
+    Failed,
+}
+
+impl Status {
+    /// Returns the exit status of the program.
+    pub fn code(self) -> u8
+        ensures { result ≡ code_of self }
+    {
+        match self {
+            Status::Done => 0,
+            Status::Failed => 1,
+            Status::Bad => 2,
+        }
+    }
+}
+
+/// Runs a script, and writes what it prints.
+///
+/// If it returns `Status::Failed`, the lines before may be written.
+pub fn run_script<R: BufRead + Drop, W: Write>(alloc: Global, reader: R, writer: &mut W) -> Status
+    ensures { result ≢ Status.Failed → IfSome (R.remaining reader) (λ input.
+        (printed : List (List ℕ)) × ScriptPrints (lines_of input) printed (code_of result)
+        × Appends (W.contents writer.old) (W.contents writer.new) (lines_text printed)) }
+{
+    match run(alloc, reader, writer) {
+        Ok(status) => status,
+        Err(_) => Status::Failed,
+    }
+}
+
+// Runs a script, and passes I/O errors on.
+fn run<R: BufRead + Drop, W: Write>(alloc: Global, reader: R, writer: &mut W) -> io::Result<Status>
+    ensures { IfOk result (λ status. IfSome (R.remaining reader) (λ input.
+        (printed : List (List ℕ)) × ScriptPrints (lines_of input) printed (code_of status)
+        × Appends (W.contents writer.old) (W.contents writer.new) (lines_text printed))) }
+{
+    let mut lines = reader.split(alloc, b'\n');
+    let Some(first) = lines.next() else {
+        writer.flush()?;
+        return Ok(Status::Done);
+    };
+    let status = begin(alloc, settings::parse(&first?), lines, writer)?;
+    writer.flush()?;
+    Ok(status)
+}
+
+// Runs the lines after the first, over the cache that the first line's settings build.
+fn begin<R: BufRead + Drop, W: Write>(
+    alloc: Global,
+    settings: Option<Settings>,
+    lines: Split<R>,
+    writer: &mut W,
+) -> io::Result<Status>
+    requires { split_byte lines ≡ 10 }
+    ensures { IfOk result (λ status. IfSome (split_known_bytes R.remaining lines) (λ input.
+        (printed : List (List ℕ)) × FirstPrints settings (lines_of input) printed (code_of status)
+        × Appends (W.contents writer.old) (W.contents writer.new) (lines_text printed))) }
+{
+    let Some(settings) = settings else {
+        write_answer(writer, &Answer::BadLine)?;
+        return Ok(Status::Bad);
+    };
+    match Session::new(alloc, settings) {
+        Ok(session) => {
+            write_answer(writer, &Answer::Done)?;
+            let is_bad = go_on(session, lines, writer)?;
+            Ok(if is_bad { Status::Bad } else { Status::Done })
+        }
+        Err(refusal) => {
+            write_answer(writer, &Answer::NotBuilt(refusal))?;
+            Ok(Status::Bad)
+        }
+    }
+}
+
+// Runs the lines after the first. Returns whether one of them is bad.
+fn go_on<R: BufRead + Drop, W: Write>(
+    mut session: Session,
+    lines: Split<R>,
+    writer: &mut W,
+) -> io::Result<bool>
+    requires { split_byte lines ≡ 10 }
+    ensures { IfOk result (λ bad. (settings : CacheSettings) (before : Course) →
+        IsAt session.cache session.moment settings before → IfSome (split_known_bytes R.remaining lines) (λ input.
+        (printed : List (List ℕ)) × LinesPrint settings before (lines_of input) printed bad
+        × Appends (W.contents writer.old) (W.contents writer.new) (lines_text printed))) }
+{
+    let mut is_bad = false;
+    for line in lines {
+        let is_bad_line = do_line(&mut session, &line?, writer)?;
+        is_bad = is_bad || is_bad_line;
+    }
+    Ok(is_bad)
+}
+
+// Does the command of a line. Returns whether the line is bad.
+fn do_line<W: Write>(session: &mut Session, line: &[u8], writer: &mut W) -> io::Result<bool>
+    ensures { IfOk result (λ bad. DoesLine session.old.cache session.old.moment line.now bad
+        session.new.cache session.new.moment (W.contents writer.old) (W.contents writer.new)) }
+{
+    let Some(command) = command::parse(line) else {
+        write_answer(writer, &Answer::BadLine)?;
+        return Ok(true);
+    };
+    let answers = session.execute(command)?;
+    write_answers(writer, &answers)?;
+    Ok(false)
+}
+
+// Writes each answer as a line of its own.
+fn write_answers<W: Write>(writer: &mut W, answers: &[Answer]) -> io::Result<()>
+    ensures { OnOk result (Appends (W.contents writer.old) (W.contents writer.new)
+        (lines_text (map answer_text answers.now))) }
+{
+    for answer in answers {
+        write_answer(writer, answer)?;
+    }
+    Ok(())
+}

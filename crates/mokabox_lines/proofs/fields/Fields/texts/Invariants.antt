@@ -1,7 +1,0 @@
-use Rattle.std.proofs.Common.{◌≡◌}
-use Rattle.mokabox_lines.specs.Fields.{none_empty}
-use Rattle.mokabox_lines.specs.FieldsLeft.{fields_left}
-use Rattle.mokabox_lines.proofs.fields.Fields.texts.Given as goal
-
-abbrev pub invariant-loop-part : goal.invariant-loop-part
-invariant-loop-part l = none_empty (fields_left l.part-iterator) ≡ none_empty (fields_left l.initial.part-iterator)

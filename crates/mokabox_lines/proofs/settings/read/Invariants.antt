@@ -1,7 +1,0 @@
-use Rattle.std.proofs.Common.{◌≡◌}
-use Rattle.mokabox_lines.specs.FieldsLeft.{fields_left}
-use Rattle.mokabox_lines.specs.Settings.{none_given, settings_from}
-use Rattle.mokabox_lines.proofs.settings.read.Given as goal
-
-abbrev pub invariant-loop-field : goal.invariant-loop-field
-invariant-loop-field l = settings_from l.settings (fields_left l.field-iterator) ≡ settings_from none_given (fields_left l.initial.field-iterator)

@@ -1,8 +1,0 @@
--- What contracts see of a reader of fields.
-use Rattle.std.specs.Prelude.{ℕ, List}
-use Rattle.mokabox_lines.specs.Fields.{fields_in}
-use Rattle.mokabox_lines.specs.declared.fields.Fields.{Fields}
-
--- The fields that are not read yet.
-abbrev pub fields_left : Fields → List (List ℕ)
-fields_left fields = fields_in fields.rest

@@ -1,8 +1,0 @@
--- Definitions that those of this crate use, exported to the crates above.
-pub use Rattle.mokabox_lines.specs.Answer
-pub use Rattle.mokabox_lines.specs.Command
-pub use Rattle.mokabox_lines.specs.Settings
-pub mod Program
-pub mod Script
-pub mod Session
-pub mod Status
