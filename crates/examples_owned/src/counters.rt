@@ -21,12 +21,12 @@ fn count(counts: &mut Counts, page: u64, now: u64) -> Result<u64, Refused>
     ensures { IfOk result (λ count. ⟦<Plain as StateView<u64, u64>>⟧.at_each_history counts.old
         (λ settings steps. count ≡ one_more_than (live_count settings steps page now))) }
 {
-    let entry = counts.entry(page, now).and_upsert_with(one_more)?;
+    let entry = counts.entry(page, now).and_upsert_with(next_count)?;
     Ok(entry.into_value())
 }
 
 // Returns the entry's count plus one, or 1 if there is no entry. The greatest `u64` stays.
-fn one_more(shown: Option<Entry<u64, u64>>) -> u64
+fn next_count(shown: Option<Entry<u64, u64>>) -> u64
     ensures { result ≡ one_more_than (count_of (option_map (λ entry. (entry_of entry).value) shown)) }
 {
     match shown {

@@ -14,7 +14,7 @@ type Names = CacheState<u64, String, Plain>;
 const SECOND: u64 = 1_000_000_000;
 
 // Creates a cache with a time to live of a minute. A flush evicts at most two entries.
-fn opened(alloc: Global) -> Result<Names> {
+fn build_cache(alloc: Global) -> Result<Names> {
     let builder = CacheBuilder::new(1_000)
         .time_to_live(Duration::from_secs(60))
         .flush_limit(2);
@@ -22,7 +22,7 @@ fn opened(alloc: Global) -> Result<Names> {
 }
 
 // Evicts what has expired, at most four names at a time, with time for other work in between.
-fn let_go_in_slices(rt: &HostRuntime, names: &mut Names, now: u64) -> Result<()> {
+fn evict_in_slices(rt: &HostRuntime, names: &mut Names, now: u64) -> Result<()> {
     for _ in 0..names.entry_count() {
         if !names.run_pending_tasks_up_to(4, now) {
             break;
@@ -36,12 +36,12 @@ fn run(rt: &HostRuntime, names: &mut Names) -> Result<()> {
     for number in 0..10 {
         names.insert(number, String::from_str(rt.alloc(), "Alice")?, 0)?;
     }
-    let_go_in_slices(rt, names, 60 * SECOND)?;
+    evict_in_slices(rt, names, 60 * SECOND)?;
     println!(rt; "{} in the end", names.entry_count())?;
     Ok(())
 }
 
 /// Runs the example.
 pub fn main(rt: HostRuntime) -> Result<()> {
-    run(&rt, &mut opened(rt.alloc())?)
+    run(&rt, &mut build_cache(rt.alloc())?)
 }

@@ -10,7 +10,7 @@ use std::alloc::Global;
 type Names = SegmentedState<u64, String, Plain>;
 
 // Room for 1000 names in 8 segments: for 125 in each.
-fn opened(alloc: Global) -> Result<Names> {
+fn build_cache(alloc: Global) -> Result<Names> {
     let builder = CacheBuilder::new(1_000).segments(8)?;
     Ok(builder.build_segmented_state(alloc, FoldState::default())?)
 }
@@ -35,5 +35,5 @@ fn run(rt: &HostRuntime, names: &mut Names) -> Result<()> {
 
 /// Runs the example.
 pub fn main(rt: HostRuntime) -> Result<()> {
-    run(&rt, &mut opened(rt.alloc())?)
+    run(&rt, &mut build_cache(rt.alloc())?)
 }

@@ -14,7 +14,7 @@ type Sessions = CacheState<u64, String, Plain>;
 // In nanoseconds.
 const MINUTE: u64 = 60_000_000_000;
 
-fn opened(alloc: Global) -> Result<Sessions> {
+fn build_cache(alloc: Global) -> Result<Sessions> {
     let builder = CacheBuilder::new(10_000)
         .time_to_live(Duration::from_secs(8 * 3_600))
         .time_to_idle(Duration::from_secs(30 * 60));
@@ -62,5 +62,5 @@ fn run(rt: &HostRuntime, sessions: &mut Sessions) -> Result<()> {
 
 /// Runs the example.
 pub fn main(rt: HostRuntime) -> Result<()> {
-    run(&rt, &mut opened(rt.alloc())?)
+    run(&rt, &mut build_cache(rt.alloc())?)
 }

@@ -12,7 +12,7 @@ use std::fs;
 /// File names by page number. No two files have the same name.
 type Pages = CacheState<u64, String, Plain>;
 
-fn opened(alloc: Global) -> Result<Pages> {
+fn build_cache(alloc: Global) -> Result<Pages> {
     let builder = CacheBuilder::new(2).eviction_policy(EvictionPolicy::lru());
     Ok(builder.build_state(alloc, FoldState::default())?)
 }
@@ -21,7 +21,7 @@ fn opened(alloc: Global) -> Result<Pages> {
 fn save(rt: &HostRuntime, pages: &mut Pages, number: u64, name: String) -> Result<()> {
     fs::write(rt, &name, "a page")?;
     match pages.insert(number, name, 0) {
-        Ok(()) => delete_those_that_left(rt, pages),
+        Ok(()) => delete_removed(rt, pages),
         Err(refused) => {
             fs::remove_file(rt, &refused.value)?;
             Err(refused.cause.into())
@@ -30,7 +30,7 @@ fn save(rt: &HostRuntime, pages: &mut Pages, number: u64, name: String) -> Resul
 }
 
 // Deletes the file of each entry that was removed, whatever the cause.
-fn delete_those_that_left(rt: &HostRuntime, pages: &mut Pages) -> Result<()> {
+fn delete_removed(rt: &HostRuntime, pages: &mut Pages) -> Result<()> {
     pages.run_pending_tasks(0);
     while let Some(notice) = pages.take_notice() {
         fs::remove_file(rt, &notice.value)?;
@@ -47,10 +47,10 @@ fn run(rt: &HostRuntime, pages: &mut Pages) -> Result<()> {
     for number in 1..4 {
         pages.invalidate(&number, 0);
     }
-    delete_those_that_left(rt, pages)
+    delete_removed(rt, pages)
 }
 
 /// Runs the example.
 pub fn main(rt: HostRuntime) -> Result<()> {
-    run(&rt, &mut opened(rt.alloc())?)
+    run(&rt, &mut build_cache(rt.alloc())?)
 }

@@ -13,7 +13,7 @@ use std::sync::Arc;
 
 type Names = CacheState<u64, String, Plain>;
 
-fn opened(alloc: Global) -> Result<Names> {
+fn build_cache(alloc: Global) -> Result<Names> {
     let mut names: Names = CacheBuilder::new(100).build_state(alloc, FoldState::default())?;
     for (number, name) in [(1, "Alice"), (2, "Bob"), (3, "Carol")] {
         names.insert(number, String::from_str(alloc, name)?, 0)?;
@@ -22,7 +22,7 @@ fn opened(alloc: Global) -> Result<Names> {
 }
 
 // Removes all names except those of `length` bytes, in one iteration.
-fn keep_those_of(names: &mut Names, length: usize, now: u64) -> Result<(), Refused> {
+fn retain_by_length(names: &mut Names, length: usize, now: u64) -> Result<(), Refused> {
     let mut cursor = WalkCursor::new();
     while let Some(pair) = cursor.next(slice::from_ref(&*names), now) {
         let (number, name) = pair?;
@@ -73,11 +73,11 @@ fn print_all(rt: &HostRuntime, names: &Names, now: u64) -> Result<()> {
 }
 
 fn run(rt: &HostRuntime, names: &mut Names) -> Result<()> {
-    keep_those_of(names, 5, 0)?;
+    retain_by_length(names, 5, 0)?;
     print_all(rt, names, 0)
 }
 
 /// Runs the example.
 pub fn main(rt: HostRuntime) -> Result<()> {
-    run(&rt, &mut opened(rt.alloc())?)
+    run(&rt, &mut build_cache(rt.alloc())?)
 }

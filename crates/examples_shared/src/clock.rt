@@ -13,7 +13,7 @@ use std::time::Duration;
 /// A shared cache of numbers by numbers, with a clock that runs.
 type Names<R> = Cache<u64, u64, Plain<RunningClock<R>>, R>;
 
-fn opened<R: Runtime + AllocGlobal + Wait + Copy>(rt: R, life: Duration) -> Result<Names<R>> {
+fn build_cache<R: Runtime + AllocGlobal + Wait + Copy>(rt: R, life: Duration) -> Result<Names<R>> {
     let clock = RunningClock::new(rt)?;
     let builder = CacheBuilder::new(100).time_to_live(life);
     Ok(builder.build_with_hasher(rt.alloc(), FoldState::default(), clock, rt)?)
@@ -21,7 +21,7 @@ fn opened<R: Runtime + AllocGlobal + Wait + Copy>(rt: R, life: Duration) -> Resu
 
 // Returns whether an entry with this time to live is found two milliseconds after its insert.
 fn is_found<R: Runtime + AllocGlobal + Wait + Copy>(rt: R, life: Duration) -> Result<bool> {
-    let names = opened(rt, life)?;
+    let names = build_cache(rt, life)?;
     names.insert(1, 7)?;
     thread::sleep(&rt, Duration::from_millis(2));
     Ok(names.contains_key(&1))

@@ -32,12 +32,12 @@ fn render(number: u64) -> u64 {
 
 // Counts a visit and returns the new count. No other compute of this page comes in between.
 fn visit<W: Wait + Drop>(cache: &Pages<W>, page: u64) -> Result<u64, Refused> {
-    let count = cache.entry(page).and_upsert_with(one_more)?;
+    let count = cache.entry(page).and_upsert_with(next_count)?;
     Ok(count.into_value())
 }
 
 // Returns the entry's count plus one, or 1 if there is no entry. The greatest `u64` stays.
-fn one_more(shown: Option<Entry<u64, u64>>) -> u64 {
+fn next_count(shown: Option<Entry<u64, u64>>) -> u64 {
     match shown {
         Some(entry) => entry.value().saturating_add(1),
         None => 1,
@@ -45,7 +45,7 @@ fn one_more(shown: Option<Entry<u64, u64>>) -> u64 {
 }
 
 // Returns the sum of the cached pages. Other threads may use the cache between two steps.
-fn cached<W: Wait + Drop>(cache: &Pages<W>) -> Result<u64> {
+fn sum_cached<W: Wait + Drop>(cache: &Pages<W>) -> Result<u64> {
     let mut sum = 0_u64;
     for pair in cache.iter() {
         let (_, page) = pair?;
@@ -66,7 +66,7 @@ fn run<R: Runtime + Wait + Threads + Copy + Send + Sync + 'static>(
     println!(rt; "{ours} and {others}")?;
     visit(cache, 100)?;
     println!(rt; "visits: {}", visit(cache, 100)?)?;
-    println!(rt; "cached: {}", cached(cache)?)?;
+    println!(rt; "cached: {}", sum_cached(cache)?)?;
     Ok(())
 }
 

@@ -109,7 +109,7 @@ where
 }
 
 // Creates a cache of names with a total weight of at most eight bytes.
-fn opened<W, E>(
+fn build_cache<W, E>(
     alloc: Global,
     weigher: W,
     expiry: E,
@@ -169,12 +169,12 @@ where
     requires weighs { W.weighs weigher length_of }
     requires gives { E.gives expiry a_minute }
 {
-    let mut names = opened(alloc, weigher, expiry)?;
+    let mut names = build_cache(alloc, weigher, expiry)?;
     weights_of(&mut names, alloc, name)
 }
 
 // Returns the same with closures as weigher and expiry.
-fn by_closures(alloc: Global, name: String) -> Result<(u64, u64)> {
+fn weights_by_closures(alloc: Global, name: String) -> Result<(u64, u64)> {
     weights(
         alloc,
         WeighBy::new(|_key: &u64, name: &String| u32::try_from(name.len()).unwrap_or(u32::MAX)),
@@ -194,6 +194,6 @@ pub fn main(rt: HostRuntime) -> Result<()> {
     let name = String::from_str(rt.alloc(), "Alice")?;
     println!(rt; "{:?}", weights(rt.alloc(), ByLength, OneMinute, name)?)?;
     let name = String::from_str(rt.alloc(), "Bob")?;
-    println!(rt; "{:?}", by_closures(rt.alloc(), name)?)?;
+    println!(rt; "{:?}", weights_by_closures(rt.alloc(), name)?)?;
     Ok(())
 }

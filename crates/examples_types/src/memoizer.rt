@@ -25,7 +25,7 @@ impl Keeps<u32, u64> for Triangles {
 }
 
 /// Returns the sum of the numbers from 1 to `n`, from the cache or computed and cached.
-fn memoized(cache: &mut CacheState<u32, u64, Keeping<Triangles>>, n: u32) -> Result<u64, Refused>
+fn get_sum(cache: &mut CacheState<u32, u64, Keeping<Triangles>>, n: u32) -> Result<u64, Refused>
     ensures { IfOk result (λ value. value ≡ triangle n) }
 {
     cache.get_with(n, || sum_to(n), 0)
@@ -61,7 +61,7 @@ fn run(
     cache: &mut CacheState<u32, u64, Keeping<Triangles>>,
 ) -> Result<(), Failed> {
     for n in [10, 4, 10] {
-        println!(rt; "{n}: {}", memoized(cache, n)?)?;
+        println!(rt; "{n}: {}", get_sum(cache, n)?)?;
     }
     Ok(())
 }

@@ -25,7 +25,7 @@ fn log_out<P: Predicate<(u64, u64), u64> + Drop, R: Runtime + AllocGlobal + Wait
     rt: R,
     theirs: Theirs<P>,
 ) -> Result<()>
-    requires { P.tests theirs.answers (of_tenant theirs.meaning.0) }
+    requires { P.tests theirs.closure (of_tenant theirs.meaning.0) }
 {
     let (alloc, hasher, clock) = (rt.alloc(), FoldState::default(), ManualClock::new(0));
     let builder = CacheBuilder::new(100).support_invalidation_closures();

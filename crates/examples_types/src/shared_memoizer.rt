@@ -18,7 +18,7 @@ use std::time::Duration;
 type Numbers<R> = Cache<u32, u64, Keeping<Triangles, FoldState, RunningClock<R>>, R>;
 
 /// Returns the sum of 1 to n: cached, or computed by this caller or by another one.
-fn memoized<R: Runtime + Wait>(numbers: &Numbers<R>, n: u32) -> Result<u64, Refused>
+fn get_sum<R: Runtime + Wait>(numbers: &Numbers<R>, n: u32) -> Result<u64, Refused>
     ensures { IfOk result (λ value. value ≡ triangle n) }
 {
     numbers.get_with(n, || sum_to(n))
@@ -30,6 +30,6 @@ pub fn main<R: Runtime + AllocGlobal + Wait + Copy>(rt: R) -> Result<()> {
     let builder = CacheBuilder::new(100).time_to_live(Duration::from_secs(60));
     let numbers = builder.build_with_hasher(alloc, hasher, clock, rt)?;
     let same = numbers.clone()?;
-    println!(rt; "{} and {}", memoized(&numbers, 10)?, memoized(&same, 10)?)?;
+    println!(rt; "{} and {}", get_sum(&numbers, 10)?, get_sum(&same, 10)?)?;
     Ok(())
 }

@@ -1,5 +1,6 @@
 pub use Rattle.moka_model.specs.Admission
 pub use Rattle.moka_model.specs.Calls
+pub use Rattle.moka_model.specs.Conserved
 pub use Rattle.moka_model.specs.Events
 pub use Rattle.moka_model.specs.Lives
 pub use Rattle.moka_model.specs.Maintenance
@@ -12,7 +13,6 @@ pub use Rattle.moka_model.specs.SizeLaws
 pub use Rattle.moka_model.specs.StandsFor
 pub use Rattle.moka_model.specs.Steps
 pub use Rattle.moka_model.specs.Turns
-pub use Rattle.moka_conserved.specs.Conserved
 pub use Rattle.moka_policy.specs.Building
 pub use Rattle.moka_policy.specs.Frequency
 pub use Rattle.moka_policy.specs.NumberHash
@@ -22,6 +22,7 @@ pub use Rattle.moka_laws.specs.AdmissionLaws
 pub use Rattle.moka_laws.specs.HidingLaws
 pub use Rattle.moka_laws.specs.Laws
 pub use Rattle.moka_laws.specs.OwnLifeLaws
+pub use Rattle.moka_laws.specs.TurnLaws
 pub use Rattle.moka_laws.specs.Worked
 pub use Rattle.moka_laws.specs.WorkedAdmission
 pub use Rattle.moka_laws.specs.WorkedCalls
@@ -29,5 +30,4 @@ pub use Rattle.moka_laws.specs.WorkedExpiry
 pub use Rattle.moka_laws.specs.WorkedMaintenance
 pub use Rattle.moka_laws.specs.WorkedOrder
 pub use Rattle.moka_laws.specs.WorkedSize
-pub use Rattle.moka_turn_laws.specs.TurnLaws
-pub use Rattle.moka_turn_laws.specs.WorkedTurns
+pub use Rattle.moka_laws.specs.WorkedTurns

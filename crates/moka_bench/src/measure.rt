@@ -1,7 +1,7 @@
 //! Measures one cache on one load.
 use crate::load::{Kind, Load};
 use crate::segments::InSegments;
-use crate::subject::{Fold, Made, NoFrequencies, Ours, Subject, Theirs, Unbounded};
+use crate::subject::{Create, Fold, NoFrequencies, Ours, Subject, Theirs, Unbounded};
 use moka::policy::{CountTable, EvictionPolicy, FrequencySketch};
 use std::alloc::{AllocError, Global};
 use std::hash::{BuildHasher, BuildHasherDefault, DefaultHasher};
@@ -48,7 +48,7 @@ pub(crate) struct Outcome {
 }
 
 /// Creates a cache and runs a load on it.
-pub(crate) fn measured<R: Wait + Clock + Copy>(
+pub(crate) fn measure_load<R: Wait + Clock + Copy>(
     rt: &R,
     alloc: Global,
     which: Which,
@@ -57,12 +57,14 @@ pub(crate) fn measured<R: Wait + Clock + Copy>(
     keys: &[u64],
 ) -> io::Result<Outcome> {
     match hashing {
-        Hashing::Sip => by::<BuildHasherDefault<DefaultHasher>, R>(rt, alloc, which, load, keys),
-        Hashing::Fold => by::<Fold, R>(rt, alloc, which, load, keys),
+        Hashing::Sip => measure_with_hasher::<BuildHasherDefault<DefaultHasher>, R>(
+            rt, alloc, which, load, keys,
+        ),
+        Hashing::Fold => measure_with_hasher::<Fold, R>(rt, alloc, which, load, keys),
     }
 }
 
-fn by<H: BuildHasher + Default + Drop, R: Wait + Clock + Copy>(
+fn measure_with_hasher<H: BuildHasher + Default + Drop, R: Wait + Clock + Copy>(
     rt: &R,
     alloc: Global,
     which: Which,
@@ -71,19 +73,19 @@ fn by<H: BuildHasher + Default + Drop, R: Wait + Clock + Copy>(
 ) -> io::Result<Outcome> {
     let (lru, tiny_lfu) = (EvictionPolicy::lru(), EvictionPolicy::tiny_lfu());
     match which {
-        Which::Theirs => timed::<Theirs<H, R>, R>(rt, alloc, lru, load, keys),
-        Which::Map => timed::<Unbounded<R>, R>(rt, alloc, lru, load, keys),
-        Which::Lru => timed::<Ours<H, NoFrequencies>, R>(rt, alloc, lru, load, keys),
-        Which::Slowest => slowest::<Ours<H, NoFrequencies>, R>(rt, alloc, lru, load, keys),
-        Which::Table => timed::<Ours<H, CountTable<20>>, R>(rt, alloc, tiny_lfu, load, keys),
-        Which::Sketch => sketched::<H, R>(rt, alloc, load, keys),
-        Which::Segment => timed::<InSegments<H, 1>, R>(rt, alloc, lru, load, keys),
-        Which::Segments => timed::<InSegments<H, 16>, R>(rt, alloc, lru, load, keys),
+        Which::Theirs => time_load::<Theirs<H, R>, R>(rt, alloc, lru, load, keys),
+        Which::Map => time_load::<Unbounded<R>, R>(rt, alloc, lru, load, keys),
+        Which::Lru => time_load::<Ours<H, NoFrequencies>, R>(rt, alloc, lru, load, keys),
+        Which::Slowest => time_slowest::<Ours<H, NoFrequencies>, R>(rt, alloc, lru, load, keys),
+        Which::Table => time_load::<Ours<H, CountTable<20>>, R>(rt, alloc, tiny_lfu, load, keys),
+        Which::Sketch => measure_sketch::<H, R>(rt, alloc, load, keys),
+        Which::Segment => time_load::<InSegments<H, 1>, R>(rt, alloc, lru, load, keys),
+        Which::Segments => time_load::<InSegments<H, 16>, R>(rt, alloc, lru, load, keys),
     }
 }
 
 /// Does so with a sketch of the size that suits the capacity.
-fn sketched<H: BuildHasher + Default + Drop, R: Wait + Clock + Copy>(
+fn measure_sketch<H: BuildHasher + Default + Drop, R: Wait + Clock + Copy>(
     rt: &R,
     alloc: Global,
     load: &Load,
@@ -91,27 +93,31 @@ fn sketched<H: BuildHasher + Default + Drop, R: Wait + Clock + Copy>(
 ) -> io::Result<Outcome> {
     let policy = EvictionPolicy::tiny_lfu();
     match load.capacity {
-        0..=1_000 => timed::<Ours<H, FrequencySketch<11>>, R>(rt, alloc, policy, load, keys),
-        1_001..=10_000 => timed::<Ours<H, FrequencySketch<14>>, R>(rt, alloc, policy, load, keys),
-        10_001..=100_000 => timed::<Ours<H, FrequencySketch<18>>, R>(rt, alloc, policy, load, keys),
-        _ => timed::<Ours<H, FrequencySketch<20>>, R>(rt, alloc, policy, load, keys),
+        0..=1_000 => time_load::<Ours<H, FrequencySketch<11>>, R>(rt, alloc, policy, load, keys),
+        1_001..=10_000 => time_load::<Ours<H, FrequencySketch<14>>, R>(
+            rt, alloc, policy, load, keys,
+        ),
+        10_001..=100_000 => time_load::<Ours<H, FrequencySketch<18>>, R>(
+            rt, alloc, policy, load, keys,
+        ),
+        _ => time_load::<Ours<H, FrequencySketch<20>>, R>(rt, alloc, policy, load, keys),
     }
 }
 
 /// Creates a cache, runs a load on it, and times the second half. The first half brings the cache
 /// to a steady state.
-pub(crate) fn timed<S: Made<R>, R: Clock + Copy>(
+pub(crate) fn time_load<S: Create<R>, R: Clock + Copy>(
     rt: &R,
     alloc: Global,
     policy: EvictionPolicy,
     load: &Load,
     keys: &[u64],
 ) -> io::Result<Outcome> {
-    let mut subject = S::made(alloc, load, policy, *rt)?;
-    timed_on(rt, &mut subject, load, keys)
+    let mut subject = S::create(alloc, load, policy, *rt)?;
+    time_load_on(rt, &mut subject, load, keys)
 }
 
-fn timed_on<S: Subject>(
+fn time_load_on<S: Subject>(
     rt: &impl Clock,
     subject: &mut S,
     load: &Load,
@@ -127,18 +133,18 @@ fn timed_on<S: Subject>(
 
 /// Does the same, but times the longest call of the second half. The clock is read before and after
 /// each call.
-fn slowest<S: Made<R>, R: Clock + Copy>(
+fn time_slowest<S: Create<R>, R: Clock + Copy>(
     rt: &R,
     alloc: Global,
     policy: EvictionPolicy,
     load: &Load,
     keys: &[u64],
 ) -> io::Result<Outcome> {
-    let mut subject = S::made(alloc, load, policy, *rt)?;
-    slowest_on(rt, &mut subject, load, keys)
+    let mut subject = S::create(alloc, load, policy, *rt)?;
+    time_slowest_on(rt, &mut subject, load, keys)
 }
 
-fn slowest_on<S: Subject>(
+fn time_slowest_on<S: Subject>(
     rt: &impl Clock,
     subject: &mut S,
     load: &Load,
@@ -149,14 +155,14 @@ fn slowest_on<S: Subject>(
     let (mut nanos, mut hits) = (0, 0_u64);
     for (place, key) in measured.iter().enumerate() {
         let now = before.len().wrapping_add(place);
-        let one = timed_call(rt, subject, load.kind, *key, now)?;
+        let one = time_call(rt, subject, load.kind, *key, now)?;
         hits = hits.wrapping_add(one.hits);
         nanos = one.nanos.max(nanos);
     }
     Ok(Outcome { nanos, hits })
 }
 
-fn timed_call<S: Subject>(
+fn time_call<S: Subject>(
     rt: &impl Clock,
     subject: &mut S,
     kind: Kind,
@@ -222,7 +228,7 @@ fn is_hit<S: Subject>(subject: &mut S, kind: Kind, key: u64, now: u64) -> Result
         subject.call(call, key, now)?;
         return Ok(false);
     }
-    if matches!(kind, Kind::Look | Kind::Hit | Kind::Miss) && subject.look(key, now)? {
+    if matches!(kind, Kind::Look | Kind::Hit | Kind::Miss) && subject.look_up(key, now)? {
         return Ok(true);
     }
     if kind != Kind::Hit {

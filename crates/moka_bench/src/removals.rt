@@ -1,7 +1,7 @@
 //! What removals cost: of single keys, and of all entries at once.
 use crate::load::{Kind, Life, Load, SMALL};
 use crate::measure::{nanos_since, prepare};
-use crate::subject::{Emptied, Everything, Fold, Made, NoFrequencies, Ours};
+use crate::subject::{Clearable, Create, Everything, Fold, NoFrequencies, Ours};
 use crate::table::{median, share};
 use moka::policy::EvictionPolicy;
 use std::alloc::{AllocError, Global};
@@ -81,7 +81,7 @@ fn time_of<R: Clock + Copy>(
 ) -> io::Result<u64> {
     let mut times = Vec::with_capacity(alloc, rounds)?;
     for _ in 0..rounds {
-        let nanos = timed::<Ours<Fold, NoFrequencies>, R>(rt, alloc, removal, rows)?;
+        let nanos = time_removal::<Ours<Fold, NoFrequencies>, R>(rt, alloc, removal, rows)?;
         times.push(share(nanos, 1, u64::from(rows)))?;
     }
     Ok(median(times))
@@ -89,7 +89,7 @@ fn time_of<R: Clock + Copy>(
 
 /// Creates a cache of so many resident entries with LRU, with nothing pending and no notice, and
 /// times a removal. Entries that are to expire have done so at moment 1.
-fn timed<S: Emptied + Made<R>, R: Clock + Copy>(
+fn time_removal<S: Clearable + Create<R>, R: Clock + Copy>(
     rt: &R,
     alloc: Global,
     removal: Removal,
@@ -105,11 +105,11 @@ fn timed<S: Emptied + Made<R>, R: Clock + Copy>(
         life,
         ..SMALL
     };
-    let mut filled = S::made(alloc, &load, EvictionPolicy::lru(), *rt)?;
-    timed_on(rt, alloc, &mut filled, removal, &load)
+    let mut filled = S::create(alloc, &load, EvictionPolicy::lru(), *rt)?;
+    time_removal_on(rt, alloc, &mut filled, removal, &load)
 }
 
-fn timed_on<S: Emptied>(
+fn time_removal_on<S: Clearable>(
     rt: &impl Clock,
     alloc: Global,
     filled: &mut S,
@@ -126,7 +126,7 @@ fn timed_on<S: Emptied>(
     nanos_since(rt, begun)
 }
 
-fn remove_all<S: Emptied>(
+fn remove_all<S: Clearable>(
     filled: &mut S,
     removal: Removal,
     rows: u32,
@@ -143,7 +143,7 @@ fn remove_all<S: Emptied>(
 }
 
 /// Runs the maintenance of moment 1 in slices, of which there are no more than entries.
-fn sweep_in_slices<S: Emptied>(filled: &mut S, rows: u32) {
+fn sweep_in_slices<S: Clearable>(filled: &mut S, rows: u32) {
     for _ in 0..rows {
         if !filled.settle_up_to(100, 1) {
             break;
@@ -152,7 +152,11 @@ fn sweep_in_slices<S: Emptied>(filled: &mut S, rows: u32) {
 }
 
 /// Removes each key, in a scattered order: the factor shares no divisor with a power of ten.
-fn remove_each<S: Emptied>(filled: &mut S, removal: Removal, rows: u64) -> Result<(), AllocError> {
+fn remove_each<S: Clearable>(
+    filled: &mut S,
+    removal: Removal,
+    rows: u64,
+) -> Result<(), AllocError> {
     for place in 0..rows {
         let key = place.wrapping_mul(7_368_787).checked_rem(rows).unwrap_or(0);
         if matches!(removal, Removal::Invalidate) {

@@ -1,6 +1,6 @@
 //! An owned cache with several segments.
 use crate::load::Load;
-use crate::subject::{Made, NoFrequencies, Subject, Types};
+use crate::subject::{Create, NoFrequencies, Subject, Types};
 use moka::policy::EvictionPolicy;
 use moka::state::{ExpiringRows, RowStore};
 use moka::sync::CacheBuilder;
@@ -17,8 +17,8 @@ pub(crate) struct SegmentsOf<H: BuildHasher + Drop, R: RowStore<u64, u64>, const
 /// The same over the store of a `SegmentedState`.
 pub(crate) type InSegments<H, const N: usize> = SegmentsOf<H, ExpiringRows<u64, u64>, N>;
 
-impl<H: BuildHasher + Default + Drop, const N: usize, W: Drop> Made<W> for InSegments<H, N> {
-    fn made(
+impl<H: BuildHasher + Default + Drop, const N: usize, W: Drop> Create<W> for InSegments<H, N> {
+    fn create(
         alloc: Global,
         load: &Load,
         policy: EvictionPolicy,
@@ -37,7 +37,7 @@ impl<H: BuildHasher + Default + Drop, const N: usize, W: Drop> Made<W> for InSeg
 
 impl<H: BuildHasher + Default + Drop, R: RowStore<u64, u64>, const N: usize> Subject
     for SegmentsOf<H, R, N> {
-    fn look(&mut self, key: u64, now: u64) -> Result<bool, AllocError> {
+    fn look_up(&mut self, key: u64, now: u64) -> Result<bool, AllocError> {
         match self.cache.get(&key, now) {
             Ok(found) => Ok(found.is_some()),
             Err(_) => Err(AllocError),

@@ -24,7 +24,7 @@ use std::time::Duration;
 /// A cache of numbers that is measured. Each call of a load has its own moment.
 pub(crate) trait Subject: Drop {
     /// Looks a key up. Returns whether it was found.
-    fn look(&mut self, key: u64, now: u64) -> Result<bool, AllocError>;
+    fn look_up(&mut self, key: u64, now: u64) -> Result<bool, AllocError>;
 
     /// Inserts a key.
     fn insert(&mut self, key: u64, now: u64) -> Result<(), AllocError>;
@@ -46,7 +46,7 @@ pub(crate) trait Subject: Drop {
     /// Makes this call about a key. A cache without such calls looks the key up, and inserts it if
     /// it is not found.
     fn call(&mut self, _call: Call, key: u64, now: u64) -> Result<(), AllocError> {
-        if !self.look(key, now)? {
+        if !self.look_up(key, now)? {
             self.insert(key, now)?;
         }
         Ok(())
@@ -54,10 +54,10 @@ pub(crate) trait Subject: Drop {
 }
 
 /// A cache that a measurement creates anew.
-pub(crate) trait Made<W>: Subject {
+pub(crate) trait Create<W>: Subject {
     /// Creates an empty cache with the capacity of a load, and with this policy if it has one.
     /// `waits` waits for its lock.
-    fn made(
+    fn create(
         alloc: Global,
         load: &Load,
         policy: EvictionPolicy,
@@ -66,7 +66,7 @@ pub(crate) trait Made<W>: Subject {
 }
 
 /// A cache that can be emptied.
-pub(crate) trait Emptied: Subject {
+pub(crate) trait Clearable: Subject {
     /// Removes a key by `invalidate`, and takes its notice.
     fn invalidate(&mut self, key: u64);
 
@@ -193,9 +193,9 @@ impl<H: BuildHasher + Drop, F: FrequencySource, R: RowStore<u64, u64>> OurRows<H
     }
 }
 
-impl<H: BuildHasher + Default + Drop, F: FrequencySource, R: RowStore<u64, u64>, W: Drop> Made<W>
+impl<H: BuildHasher + Default + Drop, F: FrequencySource, R: RowStore<u64, u64>, W: Drop> Create<W>
     for OurRows<H, F, R> {
-    fn made(
+    fn create(
         alloc: Global,
         load: &Load,
         eviction_policy: EvictionPolicy,
@@ -231,7 +231,7 @@ impl<H: BuildHasher + Default + Drop, F: FrequencySource, R: RowStore<u64, u64>,
 
 impl<H: BuildHasher + Default + Drop, F: FrequencySource, R: RowStore<u64, u64>> Subject
     for OurRows<H, F, R> {
-    fn look(&mut self, key: u64, now: u64) -> Result<bool, AllocError> {
+    fn look_up(&mut self, key: u64, now: u64) -> Result<bool, AllocError> {
         match self.cache.get(&key, now) {
             Ok(found) => Ok(found.is_some()),
             Err(_) => Err(AllocError),
@@ -285,7 +285,7 @@ impl<H: BuildHasher + Default + Drop, F: FrequencySource, R: RowStore<u64, u64>>
     }
 }
 
-impl<H: BuildHasher + Default + Drop, F: FrequencySource, R: RowStore<u64, u64>> Emptied
+impl<H: BuildHasher + Default + Drop, F: FrequencySource, R: RowStore<u64, u64>> Clearable
     for OurRows<H, F, R> {
     fn invalidate(&mut self, key: u64) {
         self.cache.invalidate(&key, 0);
@@ -323,8 +323,8 @@ pub(crate) struct Theirs<H: BuildHasher + Drop, W: Drop> {
     waits: W,
 }
 
-impl<H: BuildHasher + Default + Drop, W: Wait + Drop> Made<W> for Theirs<H, W> {
-    fn made(
+impl<H: BuildHasher + Default + Drop, W: Wait + Drop> Create<W> for Theirs<H, W> {
+    fn create(
         alloc: Global,
         load: &Load,
         _policy: EvictionPolicy,
@@ -340,7 +340,7 @@ impl<H: BuildHasher + Default + Drop, W: Wait + Drop> Made<W> for Theirs<H, W> {
 }
 
 impl<H: BuildHasher + Default + Drop, W: Wait + Drop> Subject for Theirs<H, W> {
-    fn look(&mut self, key: u64, _now: u64) -> Result<bool, AllocError> {
+    fn look_up(&mut self, key: u64, _now: u64) -> Result<bool, AllocError> {
         Ok(self.cache.lock(&self.waits).get(&key).is_some())
     }
 
@@ -360,8 +360,8 @@ pub(crate) struct Unbounded<W: Drop> {
     waits: W,
 }
 
-impl<W: Wait + Drop> Made<W> for Unbounded<W> {
-    fn made(
+impl<W: Wait + Drop> Create<W> for Unbounded<W> {
+    fn create(
         alloc: Global,
         _load: &Load,
         _policy: EvictionPolicy,
@@ -377,7 +377,7 @@ impl<W: Wait + Drop> Made<W> for Unbounded<W> {
 }
 
 impl<W: Wait + Drop> Subject for Unbounded<W> {
-    fn look(&mut self, key: u64, _now: u64) -> Result<bool, AllocError> {
+    fn look_up(&mut self, key: u64, _now: u64) -> Result<bool, AllocError> {
         Ok(self.map.lock(&self.waits).get(&key).is_some())
     }
 
@@ -399,7 +399,7 @@ impl<W: Wait + Drop> Subject for Unbounded<W> {
             .collect(self.alloc)?;
         let mut found = 0_u64;
         for key in keys {
-            if self.look(key, now)? {
+            if self.look_up(key, now)? {
                 found = found.wrapping_add(1);
             }
         }

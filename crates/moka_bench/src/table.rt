@@ -2,7 +2,7 @@
 use crate::load::{
     COMPUTES, FIRST, KNOWN, LIMITS, LOADS, Load, NEW, OR_INSERT, SIZES, SMALL, WALKS, with_lives,
 };
-use crate::measure::{Hashing, Outcome, Which, measured};
+use crate::measure::{Hashing, Outcome, Which, measure_load};
 use crate::removals;
 use crate::removals::{REMOVALS, SWEEPS};
 use std::alloc::{AllocError, Global};
@@ -93,7 +93,7 @@ fn print_usage(rt: &impl io::Print) -> io::Result<()> {
 fn print_hits<R: Runtime + Wait + Copy>(rt: &R, alloc: Global) -> io::Result<()> {
     let keys = SMALL.keys(alloc)?;
     for (which, hashing, name) in CACHES {
-        let outcome = measured(rt, alloc, which, hashing, &SMALL, keys.as_slice())?;
+        let outcome = measure_load(rt, alloc, which, hashing, &SMALL, keys.as_slice())?;
         println!(rt; "{name}: {} of {} looks found", outcome.hits, SMALL.calls)?;
     }
     Ok(())
@@ -150,7 +150,7 @@ fn round_of<R: Wait + Clock + Copy>(rt: &R, alloc: Global, loads: &[Load]) -> io
     let mut round = NO_ROUND;
     for (load, outcome) in loads.iter().zip(round.iter_mut()) {
         let keys = load.keys(alloc)?;
-        *outcome = measured(rt, alloc, Which::Lru, Hashing::Fold, load, &keys)?;
+        *outcome = measure_load(rt, alloc, Which::Lru, Hashing::Fold, load, &keys)?;
     }
     Ok(round)
 }
@@ -182,7 +182,7 @@ fn round<R: Wait + Clock + Copy>(
 ) -> io::Result<Round> {
     let mut round = NO_ROUND;
     for ((which, hashing, _), outcome) in caches.iter().zip(round.iter_mut()) {
-        *outcome = measured(rt, alloc, *which, *hashing, load, keys)?;
+        *outcome = measure_load(rt, alloc, *which, *hashing, load, keys)?;
     }
     Ok(round)
 }
@@ -319,7 +319,7 @@ fn print_memory<R: Runtime + Wait + Copy>(rt: &R, alloc: Global, number: usize) 
     let keys = load.keys(alloc)?;
     let name = match CACHES.get(number) {
         Some((which, hashing, name)) => {
-            measured(rt, alloc, *which, *hashing, &load, keys.as_slice())?;
+            measure_load(rt, alloc, *which, *hashing, &load, keys.as_slice())?;
             *name
         }
         None => "no cache",

@@ -171,7 +171,7 @@ type Shared<W> = Cache<u64, Arc<u64>, Plain<Clock>, W>;
 type State = CacheState<u64, Arc<u64>, Plain<Clock>>;
 
 // Creates a builder with all settings that allocate, at once or when it builds.
-fn told(alloc: Global) -> Result<Builder, BuildError> {
+fn create_builder(alloc: Global) -> Result<Builder, BuildError> {
     CacheBuilder::new(400)
         .initial_capacity(100)
         .weigher(NoWeigher)
@@ -180,16 +180,16 @@ fn told(alloc: Global) -> Result<Builder, BuildError> {
         .name(alloc, "tracked_sessions")
 }
 
-fn built_state(alloc: Global) -> Result<State, BuildError> {
-    told(alloc)?.build_state(alloc, hasher())
+fn build_state_once(alloc: Global) -> Result<State, BuildError> {
+    create_builder(alloc)?.build_state(alloc, hasher())
 }
 
-fn built(rt: HostRuntime, clock: Clock) -> Result<Shared<HostRuntime>, BuildError> {
-    told(rt.alloc())?.build_with_hasher(rt.alloc(), hasher(), clock, rt)
+fn build_shared(rt: HostRuntime, clock: Clock) -> Result<Shared<HostRuntime>, BuildError> {
+    create_builder(rt.alloc())?.build_with_hasher(rt.alloc(), hasher(), clock, rt)
 }
 
 // Wraps a value in an `Arc`. Retries once if the allocation fails.
-fn shared<T: Drop>(alloc: Global, value: T) -> Result<Arc<T>, AllocError> {
+fn share<T: Drop>(alloc: Global, value: T) -> Result<Arc<T>, AllocError> {
     match Arc::new(alloc, value) {
         Ok(value) => Ok(value),
         Err(failed) => Ok(Arc::new(alloc, failed.value)?),
@@ -200,15 +200,15 @@ fn shared<T: Drop>(alloc: Global, value: T) -> Result<Arc<T>, AllocError> {
 #[test]
 fn a_state_is_built_anew_where_memory_was_refused(rt: HostRuntime) -> Result<(), Fail> {
     let alloc = rt.alloc();
-    let value = shared(alloc, 7)?;
-    let mut state = match built_state(alloc) {
-        Err(BuildError::OutOfMemory) => built_state(alloc)?,
+    let value = share(alloc, 7)?;
+    let mut state = match build_state_once(alloc) {
+        Err(BuildError::OutOfMemory) => build_state_once(alloc)?,
         built => built?,
     };
-    is_as_told(&rt, &mut state, value)
+    has_its_settings(&rt, &mut state, value)
 }
 
-fn is_as_told(rt: &impl Abort, state: &mut State, value: Arc<u64>) -> Result<(), Fail> {
+fn has_its_settings(rt: &impl Abort, state: &mut State, value: Arc<u64>) -> Result<(), Fail> {
     assert_eq!(rt; state.name(), Some("tracked_sessions"));
     assert_eq!(rt; state.policy(), Policy::new(Some(400), 1, None, None));
     if state.insert(1, value.clone()?, 0).is_err() {
@@ -222,10 +222,10 @@ fn is_as_told(rt: &impl Abort, state: &mut State, value: Arc<u64>) -> Result<(),
 #[test]
 fn a_cache_is_built_anew_where_memory_was_refused(rt: HostRuntime) -> Result<(), Fail> {
     let alloc = rt.alloc();
-    let value = shared(alloc, 7)?;
-    let clock = shared(alloc, ManualClock::new(0))?;
-    let cache = match built(rt, clock.clone()?) {
-        Err(BuildError::OutOfMemory) => built(rt, clock)?,
+    let value = share(alloc, 7)?;
+    let clock = share(alloc, ManualClock::new(0))?;
+    let cache = match build_shared(rt, clock.clone()?) {
+        Err(BuildError::OutOfMemory) => build_shared(rt, clock)?,
         built => built?,
     };
     assert_eq!(rt; cache.name(), Some("tracked_sessions"));

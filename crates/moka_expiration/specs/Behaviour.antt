@@ -1,8 +1,8 @@
--- The behaviour of a cache, computed from the data that it keeps. The types of the cache say what that data means.
+-- The behaviour of a cache, computed from the data that it stores. The types of the cache say what that data means.
 use Rattle.std.specs.Prelude.{ℕ, Bool, List, Option, Some, None, fold}
 use Rattle.moka_model.specs.Lives.{Behaviour, Lifetimes, no_lifetimes}
 
--- What a cache keeps for its behaviour: its policy, its hasher, and the weigher and the expiry, if it was given any.
+-- What a cache stores for its behaviour: its policy, its hasher, and the weigher and the expiry, if it was given any.
 pub record BehaviourData (H W X : Type 0) : Type 0 where
   pub is_lru : Bool
   pub hasher : H
@@ -25,9 +25,9 @@ lifetimes_by lifetimes (Some expiry) = lifetimes expiry
 
 -- The behaviour that the data means, given what hashers, weighers and expiries compute.
 abbrev pub behaviour_by : {K V H W X : Type 0} → (H → K → ℕ) → (W → K → V → ℕ) → (X → Lifetimes K V) → BehaviourData H W X → Behaviour K V
-behaviour_by hash weight lifetimes kept = record {
-  is_lru = kept.is_lru;
-  hash = hash kept.hasher;
-  weight = weight_by weight kept.weigher;
-  lifetimes = lifetimes_by lifetimes kept.expiry;
+behaviour_by hash weight lifetimes stored = record {
+  is_lru = stored.is_lru;
+  hash = hash stored.hasher;
+  weight = weight_by weight stored.weigher;
+  lifetimes = lifetimes_by lifetimes stored.expiry;
 }

@@ -23,7 +23,7 @@ deadline_of lives info =
     earlier (earlier (ends_at (option_map as_nanos lives.time_to_live) info.last_modified)
     (ends_at (option_map as_nanos lives.time_to_idle) info.last_accessed)) (own_end (own_of info))
 
--- The deadline that is kept for a deadline: none if it is past the last moment, since it never comes.
+-- The deadline that is stored for a deadline: none if it is past the last moment, since it never comes.
 abbrev pub within_moments : Option ℕ → Option ℕ
 within_moments None = None
 within_moments (Some deadline) = if nat_le deadline (2 ^ 64 - 1) then Some deadline else None

@@ -1,11 +1,11 @@
--- What a state keeps, and what it means to the specification.
+-- What a state stores, and what it means to the specification.
 use Rattle.std.specs.Prelude.{ℕ, Bool, List, Option}
 use Rattle.moka_policy.specs.Frequency.{after_notes}
 use Rattle.moka_model.specs.Lives.{Behaviour, Settings}
 use Rattle.moka_model.specs.Turns.{Turn}
 use Rattle.moka_model.specs.Steps.{AcceptedStep}
-use Rattle.moka_model.specs.Calls.{Call, Answer}
-use Rattle.moka_model.specs.StandsFor.{Books, View, WholeView, StandsFor, AtEachHistory, Follows, Answers}
+use Rattle.moka_model.specs.Calls.{Call, Reply}
+use Rattle.moka_model.specs.StandsFor.{Books, View, WholeView, StandsFor, AtEachHistory, Follows, RepliesWith}
 use Rattle.moka_expiration.specs.Behaviour.{BehaviourData}
 
 -- The estimate of a source for a hash after it has noted these hashes too.
@@ -23,7 +23,7 @@ pub record SettingsData (H W X : Type 0) : Type 0 where
   pub flush_limit : Option ℕ
   pub behaviour : BehaviourData H W X
 
--- What a state keeps, as data: its settings, its books, its frequency source and its turns. Its view is what the types
+-- What a state stores, as data: its settings, its books, its frequency source and its turns. Its view is what the types
 -- of the cache mean by that. `initial_room` is for how many rows there was room from the start; it matters to no
 -- result.
 pub record StateData (K V H W X F E : Type 0) : Type 0 where
@@ -36,14 +36,14 @@ pub record StateData (K V H W X F E : Type 0) : Type 0 where
 module _ {K V H W X : Type 0} (behaviour_in : BehaviourData H W X → Behaviour K V) where
   -- The settings that the data means, given the behaviour that it means and the estimates of a new source.
   abbrev pub settings_by : (List ℕ → ℕ → ℕ) → SettingsData H W X → Settings K V
-  settings_by frequency kept = record {
-    time_to_live = kept.time_to_live;
-    time_to_idle = kept.time_to_idle;
-    max_capacity = kept.max_capacity;
-    first_number = kept.first_number;
-    supports_closures = kept.supports_closures;
-    flush_limit = kept.flush_limit;
-    behaviour = behaviour_in kept.behaviour;
+  settings_by frequency stored = record {
+    time_to_live = stored.time_to_live;
+    time_to_idle = stored.time_to_idle;
+    max_capacity = stored.max_capacity;
+    first_number = stored.first_number;
+    supports_closures = stored.supports_closures;
+    flush_limit = stored.flush_limit;
+    behaviour = behaviour_in stored.behaviour;
     frequency = frequency;
   }
 
@@ -73,5 +73,5 @@ module _ {K V E S : Type 0} (eq : K → K → Bool) (is_clone : V → V → Type
   FollowsBy old call new = Follows eq is_clone (view old) call (view new)
 
   -- This is a right result of the call, for every history of the state.
-  abbrev pub AnswersBy : S → Call K V E → Answer K V E → Type 0
-  AnswersBy state call answer = Answers eq is_clone (view state) call answer
+  abbrev pub RepliesWithBy : S → Call K V E → Reply K V E → Type 0
+  RepliesWithBy state call reply = RepliesWith eq is_clone (view state) call reply

@@ -122,7 +122,7 @@ impl<K: Hash + Drop, V: Clone, C: CacheTypes<K, V>> Behaviour<K, V, C> {
     /// `was` is the metadata of the old value, and `is_live` is whether that is live. Only a live
     /// value counts as updated; else the new one counts as created.
     #[inline(always)]
-    pub fn life_over(
+    pub fn life_of_overwrite(
         &self,
         key: &K,
         value: &V,

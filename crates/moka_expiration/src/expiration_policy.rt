@@ -58,7 +58,7 @@ impl ExpirationPolicy {
             own_life,
             deadline: None,
         };
-        let deadline = self.deadline(info.used_at(touch));
+        let deadline = self.deadline(info.with_access(touch));
         Access { deadline, ..touch }
     }
 }

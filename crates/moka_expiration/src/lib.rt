@@ -1,4 +1,4 @@
-//! The behaviour of a cache, and what the data that it keeps means to the specification.
+//! The behaviour of a cache, and what the data that it stores means to the specification.
 #![tactic(auto)]
 
 pub mod behaviour;

@@ -1,4 +1,4 @@
-//! What the data that a cache keeps means to the specification.
+//! What the data that a cache stores means to the specification.
 ghost use Rattle.std.specs.Prelude.{◌≡◌, None};
 ghost use Rattle.moka_model.specs.SizeLaws.{WeighsOnes};
 ghost use Rattle.moka_expiration.specs.StateData.{SettingsData};
@@ -37,7 +37,7 @@ pub trait StateView<K: Hash, V: Clone>: CacheTypes<K, V> {
     ghost use Rattle.std.specs.Prelude.{List};
     ghost use Rattle.moka_model.specs.Lives.{Settings};
     ghost use Rattle.moka_model.specs.Steps.{AcceptedStep};
-    ghost use Rattle.moka_model.specs.Calls.{Call, Answer};
+    ghost use Rattle.moka_model.specs.Calls.{Call, Reply};
     ghost use Rattle.moka_model.specs.StandsFor.{WholeView};
     ghost use Rattle.moka_expiration.specs.StateData.{SettingsData, StateData};
 
@@ -65,14 +65,14 @@ pub trait StateView<K: Hash, V: Clone>: CacheTypes<K, V> {
         → Type 0 };
 
     /// This is a right result of the call, for every history of the state.
-    ghost answers: { StateData K V Self.Hasher Self.Weigher Self.Expiry Self.Frequency Self.Error
+    ghost replies_with: { StateData K V Self.Hasher Self.Weigher Self.Expiry Self.Frequency Self.Error
         → Call K V Self.Error
-        → Answer K V Self.Error
+        → Reply K V Self.Error
         → Type 0 };
 }
 
 impl<K: Hash, V: Clone, C: CacheTypes<K, V>> StateView<K, V> for C {
-    ghost use Rattle.moka_expiration.specs.StateData.{settings_by, view_by, StandsForBy, AtEachHistoryBy, FollowsBy, AnswersBy};
+    ghost use Rattle.moka_expiration.specs.StateData.{settings_by, view_by, StandsForBy, AtEachHistoryBy, FollowsBy, RepliesWithBy};
 
     ghost settings = { settings_by
         ⟦<C as BehaviourView<K, V>>⟧.behaviour
@@ -98,7 +98,7 @@ impl<K: Hash, V: Clone, C: CacheTypes<K, V>> StateView<K, V> for C {
         ⟦<C as BehaviourView<K, V>>⟧.frequency
         C.Frequency.opened) };
 
-    ghost answers = { AnswersBy K.eq V.is_clone (view_by
+    ghost replies_with = { RepliesWithBy K.eq V.is_clone (view_by
         ⟦<C as BehaviourView<K, V>>⟧.behaviour
         ⟦<C as BehaviourView<K, V>>⟧.frequency
         C.Frequency.opened) };

@@ -71,7 +71,7 @@ module _ {K V : Type 0} (admitted waiting : List (ℕ × Row K V)) where
 
 -- the room for deadlines is not smaller than at the start; if that is enough for all rows, the order is whole so far
 pub record FitsIn {K V : Type 0} (admitted : List (ℕ × Row K V)) (start now : ExpiryIndex) (is_whole : Bool) : Type 0 where
-  pub kept : PreservesRoom start now
+  pub preserves : PreservesRoom start now
   pub whole : AllByRecursion (λ p. suc p.0 < known_of start) admitted → length admitted ≤ room_of start → is_whole ≡ true
 
 -- there are no more deadlines than rows, and none for a number without a row
@@ -104,8 +104,8 @@ module _ {K V : Type 0} (admitted waiting : List (ℕ × Row K V)) (n : ℕ) (is
       let order_is = lists.listed (fits.whole known room) in
       let place : suc n < known_of start = (all-back (λ p. suc p.0 < known_of start) passed ((n, begins.0) ∷ begins.1) (subst (AllByRecursion (λ p. suc p.0 < known_of start)) split known)).0 in
       let many : length admitted ≡ length passed + suc (length begins.1) = ap length split ∙ length-append passed ((n, begins.0) ∷ begins.1) in (
-        omega (arith, place, fits.kept.known),
-        rw order_is (omega (arith, length-listed passed, many, room, fits.kept.room)),
+        omega (arith, place, fits.preserves.known),
+        rw order_is (omega (arith, length-listed passed, many, room, fits.preserves.room)),
         rw order_is (absent-listed n passed (absent-before n begins.0 passed begins.1 apart_there)),
       )
 
@@ -113,6 +113,6 @@ module _ {K V : Type 0} (admitted waiting : List (ℕ × Row K V)) (n : ℕ) (is
   pub fits-on : (o : Option ℕ) (after : ExpiryIndex) (is_whole' : Bool) → PreservesRoom now after
       → (is_whole ≡ true → CanStand n o (known_of now) (room_of now) (order_of now) → is_whole' ≡ true) → FitsIn admitted start after is_whole'
   fits-on o after is_whole' kept put = record {
-    kept = record { known = omega (arith, fits.kept.known, kept.known); room = omega (arith, fits.kept.room, kept.room) };
+    preserves = record { known = omega (arith, fits.preserves.known, kept.known); room = omega (arith, fits.preserves.room, kept.room) };
     whole = λ known room. put (fits.whole known room) (fits-next o known room);
   }

@@ -1,4 +1,4 @@
-//! A row store that also keeps the deadlines of its resident rows, in access order.
+//! A row store that also stores the deadlines of its resident rows, in access order.
 ghost use Rattle.std.specs.Prelude.{◌≡◌, suc, true, false, ◌+◌, ◌<◌, ◌≤◌, ◌==◌, [], ◌∷◌, ◌++◌, length, filter, None, if◌then◌else◌};
 ghost use Rattle.std.specs.Prelude.{IsSome, IfSome, IfNone, OnSome, OnOk};
 ghost use Rattle.std.specs.List.{AllByRecursion};
@@ -15,7 +15,7 @@ use std::alloc::{AllocError, Global};
 
 /// A row store in a slab that finds the first expired row without a walk.
 ///
-/// The deadlines of the resident rows are kept in an order of their own, in access order. A row
+/// The deadlines of the resident rows are stored in an order of their own, in access order. A row
 /// without a deadline has no place there.
 ///
 /// `reserve` makes the room for the deadlines: for those of the first rows, and for those of all
@@ -53,7 +53,7 @@ fn enlist(deadlines: &mut ExpiryIndex, is_whole: bool, number: usize, deadline: 
     ensures whole { is_whole ≡ true
         → CanStand number deadline (known_of deadlines.old) (deadlines_room deadlines.old) (order_of deadlines.old)
         → result ≡ true }
-    ensures kept { PreservesRoom deadlines.old deadlines.new }
+    ensures preserves { PreservesRoom deadlines.old deadlines.new }
 {
     match (deadline, number.checked_add(1)) {
         (None, _) => is_whole,
@@ -68,7 +68,7 @@ fn delist(deadlines: &mut ExpiryIndex, is_whole: bool, number: usize, deadline: 
     ensures listed { result ≡ true → (is_whole ≡ true)
         × (order_of deadlines.new ≡ without_deadline number deadline (order_of deadlines.old)) }
     ensures whole { is_whole ≡ true → HasPlace number deadline (known_of deadlines.old) → result ≡ true }
-    ensures kept { PreservesRoom deadlines.old deadlines.new }
+    ensures preserves { PreservesRoom deadlines.old deadlines.new }
 {
     match (deadline, number.checked_add(1)) {
         (None, _) => is_whole,
@@ -97,7 +97,7 @@ fn relist(
         → CanStand number after (known_of deadlines.old) (deadlines_room deadlines.old)
         (without_deadline number before (order_of deadlines.old))
         → result ≡ true }
-    ensures kept { PreservesRoom deadlines.old deadlines.new }
+    ensures preserves { PreservesRoom deadlines.old deadlines.new }
 {
     let is_whole = delist(deadlines, is_whole, number, before);
     enlist(deadlines, is_whole, number, after)
@@ -109,7 +109,7 @@ fn list_all<K: Eq + Drop, V: Drop, R: RowStore<K, V>>(rows: &R, deadlines: &mut 
     ensures listed { result ≡ true → order_of deadlines.new ≡ deadlines_in (R.admitted rows.now) }
     ensures whole { AllByRecursion (λ p. suc p.0 < known_of deadlines.old) (R.admitted rows.now)
         → length (R.admitted rows.now) ≤ deadlines_room deadlines.old → result ≡ true }
-    ensures kept { PreservesRoom deadlines.old deadlines.new }
+    ensures preserves { PreservesRoom deadlines.old deadlines.new }
 {
     deadlines.clear();
     let mut is_whole = true;
@@ -126,7 +126,7 @@ fn list_all<K: Eq + Drop, V: Drop, R: RowStore<K, V>>(rows: &R, deadlines: &mut 
 
 /// Returns the deadline of a row if the row is resident, and else `None`.
 #[inline(always)]
-fn only_admitted(is_admitted: bool, deadline: Option<u64>) -> Option<u64>
+fn deadline_if_admitted(is_admitted: bool, deadline: Option<u64>) -> Option<u64>
     ensures { result ≡ (if is_admitted then deadline else None) }
 {
     if is_admitted { deadline } else { None }
@@ -258,8 +258,8 @@ impl<K: Eq + Drop, V: Drop> RowStore<K, V> for ExpiringRows<K, V> {
         let was = self.rows.row(number).info().deadline;
         let is_admitted = self.rows.is_admitted(number);
         self.rows.touch(number, touch);
-        let before = only_admitted(is_admitted, was);
-        let after = only_admitted(is_admitted, touch.deadline);
+        let before = deadline_if_admitted(is_admitted, was);
+        let after = deadline_if_admitted(is_admitted, touch.deadline);
         self.is_whole = relist(&mut self.deadlines, self.is_whole, number, before, after);
         self.has_deadlines |= touch.deadline.is_some();
     }
@@ -268,8 +268,8 @@ impl<K: Eq + Drop, V: Drop> RowStore<K, V> for ExpiringRows<K, V> {
     fn overwrite(&mut self, number: usize, value: V, info: EntryInfo) -> Previous<V> {
         let taken = self.rows.overwrite(number, value, info);
         let is_admitted = is_of_admitted(taken.order);
-        let before = only_admitted(is_admitted, taken.info.deadline);
-        let after = only_admitted(is_admitted, info.deadline);
+        let before = deadline_if_admitted(is_admitted, taken.info.deadline);
+        let after = deadline_if_admitted(is_admitted, info.deadline);
         self.is_whole = relist(&mut self.deadlines, self.is_whole, number, before, after);
         self.has_deadlines |= info.deadline.is_some();
         taken
@@ -329,7 +329,7 @@ impl<K: Eq + Drop, V: Drop> RowStore<K, V> for ExpiringRows<K, V> {
     #[inline(always)]
     fn remove(&mut self, number: usize) -> (Row<K, V>, Order) {
         let (row, order) = self.rows.remove(number);
-        let before = only_admitted(is_of_admitted(order), row.info().deadline);
+        let before = deadline_if_admitted(is_of_admitted(order), row.info().deadline);
         self.is_whole = delist(&mut self.deadlines, self.is_whole, number, before);
         (row, order)
     }

@@ -11,7 +11,7 @@ use std::alloc::{AllocError, Global};
 ///
 /// Each number has a slot, after the slots of all numbers that came before. A number that is
 /// removed leaves its slot empty. Once all slots are used up, the empty ones are closed. A tree of
-/// least deadlines is kept over the slots. Only `reserve` allocates.
+/// least deadlines is stored over the slots. Only `reserve` allocates.
 ///
 /// # Complexity
 ///
@@ -62,17 +62,17 @@ fn close_gaps(
     ensures placed { (i : ℕ) → i < result →
         slice_index places.new.items (slice_index numbers.new.items i) ≡ i }
 {
-    let mut kept = 0;
+    let mut retained = 0;
     for place in 0..numbers.len() {
         let number = numbers[place];
         if number != 0 {
-            numbers[kept] = number;
-            nodes[size + kept] = nodes[size + place];
-            places[number as usize] = kept as u32;
-            kept += 1;
+            numbers[retained] = number;
+            nodes[size + retained] = nodes[size + place];
+            places[number as usize] = retained as u32;
+            retained += 1;
         }
     }
-    kept
+    retained
 }
 
 /// Returns the first number in the slots whose deadline has come, found by a walk over the slots.
@@ -166,7 +166,7 @@ impl ExpiryIndex {
         ensures known { OnOk result (number < known_of self.new) }
         ensures room { OnOk result (count ≤ room_of self.new) }
         ensures order { order_of self.new ≡ order_of self.old }
-        ensures kept { PreservesRoom self.old self.new }
+        ensures preserves { PreservesRoom self.old self.new }
     {
         self.know(number)?;
         while self.size / 2 < count {
@@ -179,7 +179,7 @@ impl ExpiryIndex {
     fn know(&mut self, number: usize) -> Result<(), AllocError>
         ensures known { OnOk result (number < known_of self.new) }
         ensures order { order_of self.new ≡ order_of self.old }
-        ensures kept { PreservesRoom self.old self.new }
+        ensures preserves { PreservesRoom self.old self.new }
     {
         if number < self.places.len() {
             return Ok(());
@@ -194,7 +194,7 @@ impl ExpiryIndex {
     fn widen(&mut self) -> Result<(), AllocError>
         ensures wider { OnOk result (self.old.size < self.new.size) }
         ensures order { order_of self.new ≡ order_of self.old }
-        ensures kept { PreservesRoom self.old self.new }
+        ensures preserves { PreservesRoom self.old self.new }
     {
         if self.size > 1 << 31 {
             return Err(AllocError);
@@ -240,7 +240,7 @@ impl ExpiryIndex {
         ensures room { 0 < number → number < known_of self.old →
             row_under number (order_of self.old) ≡ None →
             length (order_of self.old) < room_of self.old → result ≡ true }
-        ensures kept { PreservesRoom self.old self.new }
+        ensures preserves { PreservesRoom self.old self.new }
     {
         if number == 0 || number >= self.places.len() {
             return false;
@@ -265,7 +265,7 @@ impl ExpiryIndex {
         requires absent { row_under number (order_of self.old) ≡ None }
         requires space { vec_len self.old.numbers < self.old.size }
         ensures order { order_of self.new ≡ order_of self.old ++ (number, deadline) ∷ [] }
-        ensures kept { PreservesRoom self.old self.new }
+        ensures preserves { PreservesRoom self.old self.new }
     {
         let place = self.numbers.len();
         self.numbers.push_reserved(number as u32);
@@ -276,7 +276,7 @@ impl ExpiryIndex {
     /// Removes a number, if it is in the order. Does not allocate.
     pub fn remove(&mut self, number: usize)
         ensures order { order_of self.new ≡ without_row number (order_of self.old) }
-        ensures kept { PreservesRoom self.old self.new }
+        ensures preserves { PreservesRoom self.old self.new }
     {
         if let Some(place) = self.slot(number) {
             self.numbers[place] = 0;
@@ -287,7 +287,7 @@ impl ExpiryIndex {
     /// Removes all numbers. Visits each slot, and does not allocate.
     pub fn clear(&mut self)
         ensures order { order_of self.new ≡ [] }
-        ensures kept { PreservesRoom self.old self.new }
+        ensures preserves { PreservesRoom self.old self.new }
     {
         self.numbers.clear();
         clear_from(&mut self.nodes, self.size, 0);
@@ -299,16 +299,16 @@ impl ExpiryIndex {
         ensures order { order_of self.new ≡ order_of self.old }
         ensures full { vec_len self.new.numbers ≡ length (order_of self.old) }
         ensures size { self.new.size ≡ self.old.size }
-        ensures kept { PreservesRoom self.old self.new }
+        ensures preserves { PreservesRoom self.old self.new }
     {
-        let kept = close_gaps(
+        let retained = close_gaps(
             &mut self.numbers,
             &mut self.nodes,
             self.size,
             &mut self.places,
         );
-        self.numbers.truncate(kept);
-        clear_from(&mut self.nodes, self.size, kept);
+        self.numbers.truncate(retained);
+        clear_from(&mut self.nodes, self.size, retained);
         rebuild(&mut self.nodes, self.size);
     }
 }

@@ -16,10 +16,10 @@ use Rattle.moka_model.specs.CompResults.{of_computed}
 use Rattle.moka_model.specs.Turns.{Turn, Name, End, found, has_ticket_as}
 use Rattle.moka_model.specs.Turns as turning
 use Rattle.moka_model.specs.Steps.{turns}
-use Rattle.moka_model.specs.Calls.{Call, Begin, Collect, Finish, accepted, answer_by, collected, IsAnswer}
+use Rattle.moka_model.specs.Calls.{Call, Begin, Collect, Finish, accepted, reply_by, collected, IsCopiedReply}
 use Rattle.moka_model.specs.Calls as calls
-use Rattle.moka_model.specs.StandsFor.{WholeView, AtEachHistory, Follows, IsAnswerOf}
-use Rattle.moka_value_invariant.specs.Keeps.{IsAlike, IsCopied, CallKeeps, AnswerKeeps, HasKeptHistory}
+use Rattle.moka_model.specs.StandsFor.{WholeView, AtEachHistory, Follows, IsReplyOf}
+use Rattle.moka_value_invariant.specs.Keeps.{IsAlike, IsCopied, CallKeeps, CallReplyKeeps, HasKeptHistory}
 use Rattle.moka_value_invariant.specs.Fits.{EndFits}
 use Rattle.moka_value_invariant.proofs.Callers.{kept-after, kept-told, ticket-fits}
 use Rattle.moka_policy.specs.declared.policy.Refused.{Refused}
@@ -48,13 +48,13 @@ module _ {K V E : Type 0} (keeps : K → V → Type 0) where
   outcome-owed name at (outcomes.Op ops.Nop) kept = tt
 
   -- what the finish of an initializer returns satisfies `keeps`
-  given-keeps : (name : Name K) (outcome : Outcome V E) (at : ℕ) (answer : Answer K V E) → AnswerKeeps keeps (Finish name outcome at) (of_answer answer) → GivenKeeps keeps name.key answer
+  given-keeps : (name : Name K) (outcome : Outcome V E) (at : ℕ) (answer : Answer K V E) → CallReplyKeeps keeps (Finish name outcome at) (of_answer answer) → GivenKeeps keeps name.key answer
   given-keeps name outcome at (answers.Entry entry) kept = kept
   given-keeps name outcome at answers.Nothing kept = tt
   given-keeps name outcome at (answers.Failed error) kept = tt
 
   -- so does what the finish of a compute returns
-  result-keeps : (name : Name K) (outcome : Outcome V E) (at : ℕ) (result : CompResult K V) → AnswerKeeps keeps (Finish name outcome at) (of_computed result) → ResultKeeps keeps name.key result
+  result-keeps : (name : Name K) (outcome : Outcome V E) (at : ℕ) (result : CompResult K V) → CallReplyKeeps keeps (Finish name outcome at) (of_computed result) → ResultKeeps keeps name.key result
   result-keeps name outcome at (results.StillNone key) kept = tt
   result-keeps name outcome at (results.Unchanged entry) kept = kept
   result-keeps name outcome at (results.Inserted entry) kept = kept
@@ -62,7 +62,7 @@ module _ {K V E : Type 0} (keeps : K → V → Type 0) where
   result-keeps name outcome at (results.Removed entry) kept = kept
 
   -- what a collect returns satisfies `keeps`
-  collected-keeps : (name : Name K) (told : Collected K V E) → AnswerKeeps keeps {E = E} (Collect name) (of_collected told) → CollectedKeeps keeps name.key told
+  collected-keeps : (name : Name K) (told : Collected K V E) → CallReplyKeeps keeps {E = E} (Collect name) (of_collected told) → CollectedKeeps keeps name.key told
   collected-keeps name (collects.Ready (answers.Entry entry)) kept = kept
   collected-keeps name (collects.Ready answers.Nothing) kept = tt
   collected-keeps name (collects.Ready (answers.Failed error)) kept = tt
@@ -72,7 +72,7 @@ module _ {K V E : Type 0} (keeps : K → V → Type 0) where
 
 module _ {K V E : Type 0} (is_clone : V → V → Type 0) where
   -- an end that fits a kind gives an answer that the kind may give
-  end-told : (name : Name K) (kind : Kind) (end : End V E) (told : Collected K V E) → IsAnswer is_clone (answer_by name end) (of_collected told) → EndFits kind end → CollectedFits kind told
+  end-told : (name : Name K) (kind : Kind) (end : End V E) (told : Collected K V E) → IsCopiedReply is_clone (reply_by name end) (of_collected told) → EndFits kind end → CollectedFits kind told
   end-told name kind end (collects.NotYet ticket) is fit = tt
   end-told name kind end collects.Abandoned is fit = tt
   end-told name kind end collects.Ended is fit = tt
@@ -102,7 +102,7 @@ module _ {K V E : Type 0} (is_clone : V → V → Type 0) where
   end-told name kind turning.Abandoned (collects.Ready (answers.Failed error)) is fit = cc
 
   -- a ticket of an open turn is given no answer
-  open-told : (name : Name K) (kind : Kind) (told : Collected K V E) → IsAnswer is_clone {K = K} {E = E} calls.NotYet (of_collected told) → CollectedFits kind told
+  open-told : (name : Name K) (kind : Kind) (told : Collected K V E) → IsCopiedReply is_clone {K = K} {E = E} calls.NotYet (of_collected told) → CollectedFits kind told
   open-told name kind (collects.Ready (answers.Entry entry)) is = cc
   open-told name kind (collects.Ready answers.Nothing) is = cc
   open-told name kind (collects.Ready (answers.Failed error)) is = cc
@@ -141,11 +141,11 @@ module _ {K V E S : Type 0} (keeps : K → V → Type 0) (eq : K → K → Bool)
     pub collect-fits : (old : S) (name : Name K) (result : Result (Collected K V E) (CollectRefused K)) → AtEachHistory eq is_clone (view old) (λ settings steps. Gives eq is_clone is_infallible settings steps (Collect name) (of_collect result)) → Kept old → IfOk result (CollectedFits name.kind)
     collect-fits old name (Ok told) gives kept = go (found (has_ticket_as eq name) (turns kept.steps)) refl (gives kept.settings kept.steps kept.stands).0
       where
-        go : (o : Option (Turn K V E)) → found (has_ticket_as eq name) (turns kept.steps) ≡ o → IsAnswerOf is_clone (option_map (λ t. collected name t.name.number t.end) o) (of_collected told) → CollectedFits name.kind told
+        go : (o : Option (Turn K V E)) → found (has_ticket_as eq name) (turns kept.steps) ≡ o → IsReplyOf is_clone (option_map (λ t. collected name t.name.number t.end) o) (of_collected told) → CollectedFits name.kind told
         go None is answer = absurd answer
         go (Some t) is answer = by t.end answer (ticket-fits eq kept.settings kept.steps kept.stands.legal name t is)
           where
-            by : (end : Option (End V E)) → IsAnswerOf is_clone (Some (collected name t.name.number end)) (of_collected told) → IfSome end (EndFits name.kind) → CollectedFits name.kind told
+            by : (end : Option (End V E)) → IsReplyOf is_clone (Some (collected name t.name.number end)) (of_collected told) → IfSome end (EndFits name.kind) → CollectedFits name.kind told
             by None answer fit = open-told is_clone name name.kind told answer
             by (Some end) answer fit = end-told is_clone name name.kind end told answer fit
     collect-fits old name (Err refused) gives kept = tt

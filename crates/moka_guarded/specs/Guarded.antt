@@ -8,5 +8,5 @@ pub record GuardedData (K V H W X F E T : Type 0) : Type 0 where
   pub clock : T
 
 -- There is a moment that the clock may give, for which this holds.
-abbrev pub AtToldMoment : (ℕ → Type 0) → (ℕ → Type 0) → Type 0
-AtToldMoment tells P = (now : ℕ) × tells now × P now
+abbrev pub AtClockMoment : (ℕ → Type 0) → (ℕ → Type 0) → Type 0
+AtClockMoment tells P = (now : ℕ) × tells now × P now

@@ -8,7 +8,7 @@ ghost use Rattle.moka_policy.specs.Policy.{is_lru};
 ghost use Rattle.moka_state.specs.State.{all_writes, settings_of};
 ghost use Rattle.moka_state.specs.Write.{WriteEnds};
 ghost use Rattle.moka_table.specs.Table.{removal_of};
-ghost use Rattle.moka_guarded.specs.Guarded.{GuardedData, AtToldMoment};
+ghost use Rattle.moka_guarded.specs.Guarded.{GuardedData, AtClockMoment};
 
 use moka_model::notification::Notice;
 use moka_policy::policy::{CacheTypes, Clock, Policy, Refused};
@@ -112,10 +112,10 @@ impl<K: Hash + Drop, V: Clone, C: CacheTypes<K, V>> GuardedState<K, V, C> {
     ///
     /// - `OutOfMemory`: cloning the value failed. Nothing has changed.
     pub fn get(&mut self, key: &K) -> Result<Option<V>, Refused>
-        ensures step { AtToldMoment (C.Clock.tells self.old.clock) (λ now.
+        ensures step { AtClockMoment (C.Clock.tells self.old.clock) (λ now.
             OnOk result (⟦<C as StateView<K, V>>⟧.follows self.old.state
             (Get key.now now) self.new.state)
-            × IfOk result (λ found. ⟦<C as StateView<K, V>>⟧.answers self.old.state
+            × IfOk result (λ found. ⟦<C as StateView<K, V>>⟧.replies_with self.old.state
             (Get key.now now) (Found found))) }
         ensures kept { IfOk result (λ found. IfSome found (C.keeps key.now)) }
         ensures refused { IfErr result (λ cause.
@@ -127,8 +127,8 @@ impl<K: Hash + Drop, V: Clone, C: CacheTypes<K, V>> GuardedState<K, V, C> {
 
     /// Returns whether `key` has a live value. Does not count as an access.
     pub fn contains_key(&self, key: &K) -> bool
-        ensures { AtToldMoment (C.Clock.tells self.now.clock) (λ now.
-            ⟦<C as StateView<K, V>>⟧.answers self.now.state
+        ensures { AtClockMoment (C.Clock.tells self.now.clock) (λ now.
+            ⟦<C as StateView<K, V>>⟧.replies_with self.now.state
             (ContainsKey key.now now) (Contains result)) }
     {
         let now = self.clock.now();
@@ -142,7 +142,7 @@ impl<K: Hash + Drop, V: Clone, C: CacheTypes<K, V>> GuardedState<K, V, C> {
     /// As the state's `insert`: hands back the key and the value, and changes nothing.
     pub fn insert(&mut self, key: K, value: V) -> Result<(), InsertRefused<K, V>>
         requires { C.keeps key value }
-        ensures { AtToldMoment (C.Clock.tells self.old.clock) (λ now. WriteEnds
+        ensures { AtClockMoment (C.Clock.tells self.old.clock) (λ now. WriteEnds
             (⟦<C as StateView<K, V>>⟧.follows self.old.state (Insert key value now) self.new.state)
             self.old.state self.new.state key value result) }
     {
@@ -152,7 +152,7 @@ impl<K: Hash + Drop, V: Clone, C: CacheTypes<K, V>> GuardedState<K, V, C> {
 
     /// Removes the entry of `key`, live or expired, if there is one.
     pub fn invalidate(&mut self, key: &K)
-        ensures { AtToldMoment (C.Clock.tells self.old.clock) (λ now.
+        ensures { AtClockMoment (C.Clock.tells self.old.clock) (λ now.
             ⟦<C as StateView<K, V>>⟧.follows self.old.state (Invalidate key.now now) self.new.state) }
     {
         let now = self.clock.now();
@@ -165,10 +165,10 @@ impl<K: Hash + Drop, V: Clone, C: CacheTypes<K, V>> GuardedState<K, V, C> {
     ///
     /// - `OutOfMemory`: cloning the value failed. Nothing has changed.
     pub fn remove(&mut self, key: &K) -> Result<Option<V>, Refused>
-        ensures step { AtToldMoment (C.Clock.tells self.old.clock) (λ now.
+        ensures step { AtClockMoment (C.Clock.tells self.old.clock) (λ now.
             OnOk result (⟦<C as StateView<K, V>>⟧.follows self.old.state
             (Remove key.now now) self.new.state)
-            × IfOk result (λ found. ⟦<C as StateView<K, V>>⟧.answers self.old.state
+            × IfOk result (λ found. ⟦<C as StateView<K, V>>⟧.replies_with self.old.state
             (Remove key.now now) (Found found))) }
         ensures kept { IfOk result (λ found. IfSome found (C.keeps key.now)) }
         ensures refused { IfErr result (λ cause.
@@ -238,7 +238,7 @@ impl<K: Hash + Drop, V: Clone, C: CacheTypes<K, V>> GuardedState<K, V, C> {
 
     /// Runs maintenance.
     pub fn run_pending_tasks(&mut self)
-        ensures { AtToldMoment (C.Clock.tells self.old.clock) (λ now.
+        ensures { AtClockMoment (C.Clock.tells self.old.clock) (λ now.
             ⟦<C as StateView<K, V>>⟧.follows self.old.state (RunPendingTasks now) self.new.state) }
     {
         let now = self.clock.now();
@@ -248,10 +248,10 @@ impl<K: Hash + Drop, V: Clone, C: CacheTypes<K, V>> GuardedState<K, V, C> {
     /// Runs maintenance, but evicts at most `limit` entries. Returns whether something is left to
     /// do.
     pub fn run_pending_tasks_up_to(&mut self, limit: u64) -> bool
-        ensures { AtToldMoment (C.Clock.tells self.old.clock) (λ now.
+        ensures { AtClockMoment (C.Clock.tells self.old.clock) (λ now.
             ⟦<C as StateView<K, V>>⟧.follows self.old.state
             (RunPendingTasksUpTo limit now) self.new.state
-            × ⟦<C as StateView<K, V>>⟧.answers self.old.state
+            × ⟦<C as StateView<K, V>>⟧.replies_with self.old.state
             (RunPendingTasksUpTo limit now) (Left result)) }
     {
         let now = self.clock.now();
@@ -260,21 +260,21 @@ impl<K: Hash + Drop, V: Clone, C: CacheTypes<K, V>> GuardedState<K, V, C> {
 
     /// Returns the number of stored entries.
     pub fn entry_count(&self) -> u64
-        ensures { ⟦<C as StateView<K, V>>⟧.answers self.now.state EntryCount (Counted result) }
+        ensures { ⟦<C as StateView<K, V>>⟧.replies_with self.now.state EntryCount (Counted result) }
     {
         self.state.entry_count()
     }
 
     /// Returns the total weight of the stored entries.
     pub fn weighted_size(&self) -> u64
-        ensures { ⟦<C as StateView<K, V>>⟧.answers self.now.state WeightedSize (Counted result) }
+        ensures { ⟦<C as StateView<K, V>>⟧.replies_with self.now.state WeightedSize (Counted result) }
     {
         self.state.weighted_size()
     }
 
     /// Takes the oldest notice, or returns `None` if none is queued.
     pub fn take_notice(&mut self) -> Option<Notice<K, V>>
-        ensures reply { ⟦<C as StateView<K, V>>⟧.answers self.old.state TakeNotice
+        ensures reply { ⟦<C as StateView<K, V>>⟧.replies_with self.old.state TakeNotice
             (Noticed (option_map removal_of result)) }
         ensures step { ⟦<C as StateView<K, V>>⟧.follows self.old.state TakeNotice self.new.state }
         ensures kept { IfSome result (λ notice. C.keeps (arc_value notice.key) notice.value) }
@@ -284,7 +284,7 @@ impl<K: Hash + Drop, V: Clone, C: CacheTypes<K, V>> GuardedState<K, V, C> {
 
     /// Takes the oldest notice, and counts those that stay queued.
     pub fn take_pending_notices(&mut self) -> PendingNotices<K, V>
-        ensures first { ⟦<C as StateView<K, V>>⟧.answers self.old.state TakeNotice
+        ensures first { ⟦<C as StateView<K, V>>⟧.replies_with self.old.state TakeNotice
             (Noticed (option_map removal_of result.first)) }
         ensures step { ⟦<C as StateView<K, V>>⟧.follows self.old.state TakeNotice self.new.state }
         ensures kept { IfSome result.first (λ notice. C.keeps (arc_value notice.key) notice.value) }
@@ -316,8 +316,8 @@ impl<K: Hash + Drop, V: Clone, C: CacheTypes<K, V>> GuardedState<K, V, C> {
     ///
     /// - `OutOfMemory`: cloning the value failed.
     pub fn scan_get(&self, key: &K) -> Result<Option<V>, Refused>
-        ensures step { AtToldMoment (C.Clock.tells self.now.clock) (λ now.
-            IfOk result (λ found. ⟦<C as StateView<K, V>>⟧.answers self.now.state
+        ensures step { AtClockMoment (C.Clock.tells self.now.clock) (λ now.
+            IfOk result (λ found. ⟦<C as StateView<K, V>>⟧.replies_with self.now.state
             (Get key.now now) (Found found))) }
         ensures kept { IfOk result (λ found. IfSome found (C.keeps key.now)) }
         ensures cause { IfErr result (λ cause. cause ≡ Refused.OutOfMemory) }

@@ -10,7 +10,7 @@ ghost use Rattle.moka_state.specs.Compute.{ComputeBegins, IsCompute, ShownKeepsF
 ghost use Rattle.moka_state.specs.Finish.{FinishEnds, Fits, OutcomeKeeps, outcome_of};
 ghost use Rattle.moka_state.specs.Given.{Gives, IfUnspent, of_collect, of_done};
 ghost use Rattle.moka_state.specs.OrInsert.{OrInsertEnds, of_or_default, of_or_insert};
-ghost use Rattle.moka_guarded.specs.Guarded.{AtToldMoment};
+ghost use Rattle.moka_guarded.specs.Guarded.{AtClockMoment};
 ghost use Rattle.moka_guarded.specs.Kept.{CollectedFits, CollectedKeeps, FinishedKeeps};
 
 use crate::guarded::GuardedState;
@@ -31,7 +31,7 @@ impl<K: Hash + Drop, V: Clone, C: CacheTypes<K, V>> GuardedState<K, V, C> {
     /// a clone of that value. A failed call hands back the value.
     pub fn or_insert(&mut self, key: &Arc<K>, value: V) -> Result<Entry<K, V>, OrInsertRefused<V>>
         requires { C.keeps (arc_value key.now) value }
-        ensures step { AtToldMoment (C.Clock.tells self.old.clock) (λ now. OrInsertEnds
+        ensures step { AtClockMoment (C.Clock.tells self.old.clock) (λ now. OrInsertEnds
             (⟦<C as StateView<K, V>>⟧.at_each_history self.old.state (λ settings steps.
             Gives K.eq V.is_clone V.is_infallible settings steps
             (OrInsert (arc_value key.now) value now) (of_or_insert result)))
@@ -53,7 +53,7 @@ impl<K: Hash + Drop, V: Clone, C: CacheTypes<K, V>> GuardedState<K, V, C> {
         replace_if: Option<F>,
     ) -> Result<Option<Entry<K, V>>, Refused>
         requires asks { IfSome replace_if (λ f. F.IsAlwaysCallable f) }
-        ensures step { AtToldMoment (C.Clock.tells self.old.clock) (λ now.
+        ensures step { AtClockMoment (C.Clock.tells self.old.clock) (λ now.
             (said : Option Bool) × LookEnds
             (λ given. ⟦<C as StateView<K, V>>⟧.at_each_history self.old.state (λ settings steps.
             IsSaidOf F.FnMut replace_if
@@ -79,7 +79,7 @@ impl<K: Hash + Drop, V: Clone, C: CacheTypes<K, V>> GuardedState<K, V, C> {
     ) -> Result<Begun<K, V>, Refused>
         requires initializer { kind ≢ Kind.Compute }
         requires asks { IfSome replace_if (λ f. F.IsAlwaysCallable f) }
-        ensures step { AtToldMoment (C.Clock.tells self.old.clock) (λ now.
+        ensures step { AtClockMoment (C.Clock.tells self.old.clock) (λ now.
             (said : Option Bool) × BeginEnds
             (λ given. ⟦<C as StateView<K, V>>⟧.at_each_history self.old.state (λ settings steps.
             IsSaidOf F.FnMut replace_if
@@ -100,7 +100,7 @@ impl<K: Hash + Drop, V: Clone, C: CacheTypes<K, V>> GuardedState<K, V, C> {
     /// Begins a compute of `key`: returns a turn, or a ticket if another compute of the key is
     /// open.
     pub fn begin_compute(&mut self, key: &Arc<K>, keep: bool) -> Result<BegunCompute<K, V>, Refused>
-        ensures step { AtToldMoment (C.Clock.tells self.old.clock) (λ now. ComputeBegins
+        ensures step { AtClockMoment (C.Clock.tells self.old.clock) (λ now. ComputeBegins
             (λ given. ⟦<C as StateView<K, V>>⟧.at_each_history self.old.state (λ settings steps.
             Gives K.eq V.is_clone V.is_infallible settings steps
             (BeginCompute (arc_value key.now) keep now) given))
@@ -122,7 +122,7 @@ impl<K: Hash + Drop, V: Clone, C: CacheTypes<K, V>> GuardedState<K, V, C> {
     ) -> Result<Finished<K, V, C::Error>, FinishRefused<K, V, C::Error>>
         requires fits { Fits C.Error turn.key.kind (outcome_of outcome) }
         requires kept { OutcomeKeeps (C.keeps (arc_value turn.key.key)) outcome }
-        ensures step { AtToldMoment (C.Clock.tells self.old.clock) (λ now. FinishEnds V.is_clone
+        ensures step { AtClockMoment (C.Clock.tells self.old.clock) (λ now. FinishEnds V.is_clone
             (λ given. ⟦<C as StateView<K, V>>⟧.at_each_history self.old.state (λ settings steps.
             Gives K.eq V.is_clone V.is_infallible settings steps
             (Finish (turn_name turn) (outcome_of outcome) now) given))
@@ -195,7 +195,7 @@ impl<K: Hash + Clone + Drop, V: Clone, C: CacheTypes<K, V>> GuardedState<K, V, C
         requires copies { (a b : K) → K.is_clone a b → K.eq a b ≡ true }
         requires initializer { kind ≢ Kind.Compute }
         requires asks { IfSome replace_if (λ f. F.IsAlwaysCallable f) }
-        ensures step { AtToldMoment (C.Clock.tells self.old.clock) (λ now.
+        ensures step { AtClockMoment (C.Clock.tells self.old.clock) (λ now.
             (asked : K) × IsAsked K.eq K.is_clone key.now asked × (said : Option Bool) × BeginEnds
             (λ given. ⟦<C as StateView<K, V>>⟧.at_each_history self.old.state (λ settings steps.
             IsSaidOf F.FnMut replace_if (live_at K.eq settings asked now (events_in steps)) said
@@ -217,7 +217,7 @@ impl<K: Hash + Drop, V: Clone + Default, C: CacheTypes<K, V>> GuardedState<K, V,
     /// Does what [`GuardedState::or_insert`] does, with the default value. A failed call drops the key.
     pub fn or_default(&mut self, key: K) -> Result<Entry<K, V>, Refused>
         requires { (value : V) → V.is_default value → C.keeps key value }
-        ensures step { AtToldMoment (C.Clock.tells self.old.clock) (λ now.
+        ensures step { AtClockMoment (C.Clock.tells self.old.clock) (λ now.
             (value : V) × V.is_default value × OrInsertEnds
             (⟦<C as StateView<K, V>>⟧.at_each_history self.old.state (λ settings steps.
             Gives K.eq V.is_clone V.is_infallible settings steps

@@ -24,8 +24,8 @@ use Rattle.moka_model.specs.Events.{Event, Hidden}
 use Rattle.moka_model.specs.Turns.{Turn, Name, End, found, is_open_for, is_open_as, has_ticket_as, fits, is_open, same_kind}
 use Rattle.moka_model.specs.Turns as turning
 use Rattle.moka_model.specs.Steps.{AcceptedStep, events_in, turns}
-use Rattle.moka_model.specs.Calls.{Call, Answer, Accepted, accepted, answer_of, IsAnswer, IsEntryOf, IsOutOfNumbers, IsRefusedAs, UnknownTurn, UnknownTicket, ClosuresUnsupported, refusal_due, IsLegal}
-use Rattle.moka_model.specs.Calls.{begun, begun_compute, or_inserted, acceptable, new_name, finished, finish_answer, put_by, removed_by, kept_by, collected, live_at, abandons, spends, without_move, WantsNumber}
+use Rattle.moka_model.specs.Calls.{Call, Accepted, accepted, reply_of, IsCopiedReply, IsEntryOf, IsOutOfNumbers, IsRefusedAs, UnknownTurn, UnknownTicket, ClosuresUnsupported, refusal_due, IsLegal}
+use Rattle.moka_model.specs.Calls.{begun, begun_compute, or_inserted, acceptable, new_name, finished, reply_of_finish, put_by, removed_by, kept_by, collected, live_at, abandons, spends, without_move, WantsNumber}
 use Rattle.moka_model.specs.Calls as calls
 use Rattle.moka_model.specs.Numbers.{next_number}
 use Rattle.moka_model.specs.StandsFor.{WholeView, StandsFor}
@@ -47,7 +47,7 @@ use Rattle.moka_state.specs.declared.step.Reply.TheVariants.{Found, Contains, Do
 use Rattle.moka_state.specs.declared.step.Reply.TheVariants.{Entered, Run, Wait, Nothing, Failed, Computed, NotYet, Abandoned, Ended}
 use Rattle.moka_state.proofs.Replied.{said}
 use Rattle.moka_history.specs.StepForm.{Sort, a_value, a_test, nothing_to_say, a_count, a_rest, a_notice, an_entry, a_turn, a_ticket, no_value, an_error, a_result, not_yet, was_abandoned, has_ended}
-use Rattle.moka_history.specs.StepForm.{IsSort, RefusedOr, IsTold, IsTurnOf, IsComputing, IsInitializing, IsBegun, sort_of_outcome, Never, OutOfNumbers, NoTurn, NoTicket, NoTurnOrNumbers, IsOfForm}
+use Rattle.moka_history.specs.StepForm.{IsSort, RefusedOr, IsCollected, IsTurnOf, IsComputing, IsInitializing, IsBegun, sort_of_outcome, Never, OutOfNumbers, NoTurn, NoTicket, NoTurnOrNumbers, IsOfForm}
 
 no-less : 0 < 0 → ⊥
 no-less less = absurd (omega (arith, less))
@@ -59,7 +59,7 @@ sort-of-outcome (outcomes.Failed e) = refl
 sort-of-outcome (outcomes.Op op) = refl
 
 module _ {K V E : Type 0} where
-  abbrev sort : Answer K V E → Sort
+  abbrev sort : calls.Reply K V E → Sort
   sort (calls.Found v) = a_value
   sort (calls.Contains b) = a_test
   sort calls.Done = nothing_to_say
@@ -80,17 +80,17 @@ module _ {K V E : Type 0} where
   sort calls.WasAbandoned = was_abandoned
   sort calls.HasEnded = has_ended
 
-  abbrev sort_in : Option (Answer K V E) → Sort
+  abbrev sort_in : Option (calls.Reply K V E) → Sort
   sort_in None = has_ended
   sort_in (Some a) = sort a
 
   -- the turn that is to be waited for
-  abbrev waited : Name K → Answer K V E → Name K
+  abbrev waited : Name K → calls.Reply K V E → Name K
   waited name (calls.Wait n) = n
   waited name a = name
 
   -- an answer that is handed out is of the answer's sort
-  alike : (is_clone : V → V → Type 0) (a b : Answer K V E) → IsAnswer is_clone a b → sort b ≡ sort a
+  alike : (is_clone : V → V → Type 0) (a b : calls.Reply K V E) → IsCopiedReply is_clone a b → sort b ≡ sort a
   alike is_clone (calls.Found v) (calls.Found w) is = refl
   alike is_clone (calls.Entered a) (calls.Entered b) is = refl
   alike is_clone (calls.Run name a) (calls.Run called b) is = refl
@@ -100,11 +100,11 @@ module _ {K V E : Type 0} where
   alike is_clone (calls.Removed a) (calls.Removed b) is = refl
   alike is_clone a b is = ap sort is
 
-  notice-sort : (is_clone : V → V → Type 0) (a : Answer K V E) (n : Option (Notice K V)) → IsNoticed is_clone a n → a_notice ≡ sort a
+  notice-sort : (is_clone : V → V → Type 0) (a : calls.Reply K V E) (n : Option (Notice K V)) → IsNoticed is_clone a n → a_notice ≡ sort a
   notice-sort is_clone (calls.Noticed r) n is = refl
   notice-sort is_clone a n is = absurd is
 
--- a turn that is told of is named
+-- a turn in a reply is of its name's kind and key
 named : {K : Type 0} (name : Name K) (called : TurnName K) → name_by called ≡ name → IsTurnOf name.kind name.key called
 named name called same = (ap (λ (n : Name _). n.kind) same, ap (λ (n : Name _). n.key) same)
 
@@ -120,7 +120,7 @@ module _ {K V C H W X P F L T E S : Type 0} where
   OfSort r s = IsSort s r
 
   -- a reply that says an answer is of its sort
-  sorted : (is_clone : V → V → Type 0) (a : Answer K V E) (r : Reply K V C H W X P F L T E S) → IsSaid is_clone a r → IsSort (sort a) r
+  sorted : (is_clone : V → V → Type 0) (a : calls.Reply K V E) (r : Reply K V C H W X P F L T E S) → IsSaid is_clone a r → IsSort (sort a) r
   sorted is_clone a (Found v) is = subst (OfSort (Found v)) (alike is_clone a (calls.Found v) is) tt
   sorted is_clone a (Contains b) is = subst (OfSort (Contains b)) (alike is_clone a (calls.Contains b) is) tt
   sorted is_clone a Done is = subst (OfSort Done) (alike is_clone a calls.Done is) tt
@@ -162,46 +162,46 @@ module _ {K V C H W X P F L T E S : Type 0} where
   wait-begins is_clone name kind key same keyed (Wait called) is s = let it = named name called (ap (waited name) is) in (it.0 ∙ same, it.1 ∙ keyed)
   wait-begins is_clone name kind key same keyed r is s = absurd s
 
-  -- what a ticket is told
-  not-yet : (kind : Kind) (r : Reply K V C H W X P F L T E S) → IsSort not_yet r → IsTold kind r
+  -- what a ticket collects
+  not-yet : (kind : Kind) (r : Reply K V C H W X P F L T E S) → IsSort not_yet r → IsCollected kind r
   not-yet With NotYet s = tt
   not-yet Optionally NotYet s = tt
   not-yet Try NotYet s = tt
   not-yet Compute NotYet s = tt
   not-yet kind r s = absurd s
 
-  abandoned : (kind : Kind) (r : Reply K V C H W X P F L T E S) → IsSort was_abandoned r → IsTold kind r
+  abandoned : (kind : Kind) (r : Reply K V C H W X P F L T E S) → IsSort was_abandoned r → IsCollected kind r
   abandoned With Abandoned s = tt
   abandoned Optionally Abandoned s = tt
   abandoned Try Abandoned s = tt
   abandoned Compute Abandoned s = tt
   abandoned kind r s = absurd s
 
-  with-entry : (r : Reply K V C H W X P F L T E S) → IsSort an_entry r → IsTold With r
+  with-entry : (r : Reply K V C H W X P F L T E S) → IsSort an_entry r → IsCollected With r
   with-entry (Entered e) s = tt
   with-entry r s = absurd s
 
-  optional-entry : (r : Reply K V C H W X P F L T E S) → IsSort an_entry r → IsTold Optionally r
+  optional-entry : (r : Reply K V C H W X P F L T E S) → IsSort an_entry r → IsCollected Optionally r
   optional-entry (Entered e) s = tt
   optional-entry r s = absurd s
 
-  tried-entry : (r : Reply K V C H W X P F L T E S) → IsSort an_entry r → IsTold Try r
+  tried-entry : (r : Reply K V C H W X P F L T E S) → IsSort an_entry r → IsCollected Try r
   tried-entry (Entered e) s = tt
   tried-entry r s = absurd s
 
-  no-entry : (r : Reply K V C H W X P F L T E S) → IsSort no_value r → IsTold Optionally r
+  no-entry : (r : Reply K V C H W X P F L T E S) → IsSort no_value r → IsCollected Optionally r
   no-entry Nothing s = tt
   no-entry r s = absurd s
 
-  tried-error : (r : Reply K V C H W X P F L T E S) → IsSort an_error r → IsTold Try r
+  tried-error : (r : Reply K V C H W X P F L T E S) → IsSort an_error r → IsCollected Try r
   tried-error (Failed e) s = tt
   tried-error r s = absurd s
 
-  computed : (r : Reply K V C H W X P F L T E S) → IsSort has_ended r → IsTold Compute r
+  computed : (r : Reply K V C H W X P F L T E S) → IsSort has_ended r → IsCollected Compute r
   computed Ended s = tt
   computed r s = absurd s
 
-  told : (name : Name K) (number : ℕ) (kind : Kind) (end : Option (End V E)) → IfSome end (EndFits kind) → (r : Reply K V C H W X P F L T E S) → IsSort (sort (collected name number end).answer) r → IsTold kind r
+  told : (name : Name K) (number : ℕ) (kind : Kind) (end : Option (End V E)) → IfSome end (EndFits kind) → (r : Reply K V C H W X P F L T E S) → IsSort (sort (collected name number end).reply) r → IsCollected kind r
   told name number kind None fit r s = not-yet kind r s
   told name number kind (Some turning.Abandoned) fit r s = abandoned kind r s
   told name number With (Some (turning.Value v m)) fit r s = with-entry r s
@@ -222,14 +222,14 @@ module _ {K V C H W X P F L T E S : Type 0} where
   told name number Compute (Some turning.Computed) fit r s = computed r s
 
 module _ {K V E : Type 0} (eq : K → K → Bool) (settings : Settings K V) (steps : List (AcceptedStep K V E)) where
-  abbrev Answers : Call K V E → Answer K V E → Type 0
-  Answers call a = answer_of (accepted eq settings steps call) ≡ Some a
+  abbrev RepliesWith : Call K V E → calls.Reply K V E → Type 0
+  RepliesWith call a = reply_of (accepted eq settings steps call) ≡ Some a
 
-  or-sort : (k : K) (v : V) (at : ℕ) (o : Option (Write K V)) → sort (or_inserted {E = E} eq settings (events_in steps) k v at o).answer ≡ an_entry
+  or-sort : (k : K) (v : V) (at : ℕ) (o : Option (Write K V)) → sort (or_inserted {E = E} eq settings (events_in steps) k v at o).reply ≡ an_entry
   or-sort k v at None = refl
   or-sort k v at (Some w) = refl
 
-  hide-sort : (test : K → V → Bool) (b : Bool) (a : Answer K V E) → answer_of (cond b (Some (without_move calls.Done (Hidden test ∷ []))) None) ≡ Some a → sort a ≡ nothing_to_say
+  hide-sort : (test : K → V → Bool) (b : Bool) (a : calls.Reply K V E) → reply_of (cond b (Some (without_move calls.Done (Hidden test ∷ []))) None) ≡ Some a → sort a ≡ nothing_to_say
   hide-sort test true a there = ap sort_in (sym there)
   hide-sort test false a there = cc
 
@@ -237,7 +237,7 @@ module _ {K V E : Type 0} (eq : K → K → Bool) (settings : Settings K V) (ste
   hide-numbers test true out = no-less out.0
   hide-numbers test false out = out
 
-  finish-sort : (name : Name K) (at : ℕ) (outcome : Outcome V E) (t : Turn K V E) → sort (finish_answer eq settings (events_in steps) t at outcome name) ≡ sort_of_outcome outcome
+  finish-sort : (name : Name K) (at : ℕ) (outcome : Outcome V E) (t : Turn K V E) → sort (reply_of_finish eq settings (events_in steps) t at outcome name) ≡ sort_of_outcome outcome
   finish-sort name at (outcomes.Value v) t = refl
   finish-sort name at outcomes.Nothing t = refl
   finish-sort name at (outcomes.Failed e) t = refl
@@ -257,12 +257,12 @@ module _ {K V E : Type 0} (eq : K → K → Bool) (settings : Settings K V) (ste
       by None = refl
       by (Some v) = refl
 
-  finish-sorts : (name : Name K) (at : ℕ) (outcome : Outcome V E) (b : Bool) (o : Option (Turn K V E)) (a : Answer K V E) → answer_of (cond b (option_map (finished eq settings (events_in steps) name outcome at) o) None) ≡ Some a → sort a ≡ sort_of_outcome outcome
+  finish-sorts : (name : Name K) (at : ℕ) (outcome : Outcome V E) (b : Bool) (o : Option (Turn K V E)) (a : calls.Reply K V E) → reply_of (cond b (option_map (finished eq settings (events_in steps) name outcome at) o) None) ≡ Some a → sort a ≡ sort_of_outcome outcome
   finish-sorts name at outcome true None a there = cc
   finish-sorts name at outcome true (Some t) a there = ap sort_in (sym there) ∙ finish-sort name at outcome t
   finish-sorts name at outcome false o a there = cc
 
-  abandon-sort : (o : Option (Turn K V E)) (a : Answer K V E) → answer_of (option_map (λ (t : Turn K V E). abandons t.name.number) o) ≡ Some a → sort a ≡ nothing_to_say
+  abandon-sort : (o : Option (Turn K V E)) (a : calls.Reply K V E) → reply_of (option_map (λ (t : Turn K V E). abandons t.name.number) o) ≡ Some a → sort a ≡ nothing_to_say
   abandon-sort None a there = cc
   abandon-sort (Some t) a there = ap sort_in (sym there)
 
@@ -270,7 +270,7 @@ module _ {K V E : Type 0} (eq : K → K → Bool) (settings : Settings K V) (ste
   abandon-numbers None out = out
   abandon-numbers (Some t) out = no-less out.0
 
-  leave-sort : (o : Option (Turn K V E)) (a : Answer K V E) → answer_of (option_map (λ (t : Turn K V E). spends t.name.number) o) ≡ Some a → sort a ≡ nothing_to_say
+  leave-sort : (o : Option (Turn K V E)) (a : calls.Reply K V E) → reply_of (option_map (λ (t : Turn K V E). spends t.name.number) o) ≡ Some a → sort a ≡ nothing_to_say
   leave-sort None a there = cc
   leave-sort (Some t) a there = ap sort_in (sym there)
 
@@ -295,7 +295,7 @@ module _ {K V E : Type 0} (eq : K → K → Bool) (settings : Settings K V) (ste
 module _ {K V C H W X P F L T E S : Type 0} (eq : K → K → Bool) (is_clone : V → V → Type 0) (is_infallible : V → Type 0) (settings : Settings K V) (steps : List (AcceptedStep K V E)) where
   -- a reply is refused for a cause that there may be, or it says the answer of the definitions
   given-form : (call : Call K V E) (May : policies.Refused → Type 0) (Q : Reply K V C H W X P F L T E S → Type 0) → (IsOutOfNumbers eq settings steps call → May causes.NumbersUsedUp) → (IsRefusedAs eq settings UnknownTurn steps call → May causes.UnknownTurn) → (IsRefusedAs eq settings UnknownTicket steps call → May causes.UnknownTicket) → (IsRefusedAs eq settings ClosuresUnsupported steps call → ⊥)
-      → ((r : Reply K V C H W X P F L T E S) (a : Answer K V E) → Answers eq settings steps call a → IsSaid is_clone a r → Q r) → (r : Reply K V C H W X P F L T E S) → IsReplyTo eq is_clone is_infallible settings steps call r → ¬ (WantsMemory r) → RefusedOr May Q r
+      → ((r : Reply K V C H W X P F L T E S) (a : calls.Reply K V E) → RepliesWith eq settings steps call a → IsSaid is_clone a r → Q r) → (r : Reply K V C H W X P F L T E S) → IsReplyTo eq is_clone is_infallible settings steps call r → ¬ (WantsMemory r) → RefusedOr May Q r
   given-form call May Q numbers turn ticket closures says (Refused causes.OutOfMemory) is given = absurd (given tt)
   given-form call May Q numbers turn ticket closures says (Refused causes.NumbersUsedUp) is given = numbers is
   given-form call May Q numbers turn ticket closures says (Refused causes.UnknownTurn) is given = turn is
@@ -306,36 +306,36 @@ module _ {K V C H W X P F L T E S : Type 0} (eq : K → K → Bool) (is_clone : 
   given-form call May Q numbers turn ticket closures says (PredicateRefused predicates.OutOfMemory) is given = absurd is
   given-form call May Q numbers turn ticket closures says r is given = go (said eq is_clone is_infallible settings steps call r is) (λ no. no)
     where
-      go : IsRefusal r ⊎ ((a : Answer K V E) × Answers eq settings steps call a × IsSaid is_clone a r) → (IsRefusal r → ⊥) → Q r
+      go : IsRefusal r ⊎ ((a : calls.Reply K V E) × RepliesWith eq settings steps call a × IsSaid is_clone a r) → (IsRefusal r → ⊥) → Q r
       go (inl refusal) other = absurd (other refusal)
       go (inr (a, there, says_it)) other = says r a there says_it
 
   -- the same where the answer is of one sort
-  sort-form : (call : Call K V E) (s : Sort) (May : policies.Refused → Type 0) → ((a : Answer K V E) → Answers eq settings steps call a → sort a ≡ s) → (IsOutOfNumbers eq settings steps call → May causes.NumbersUsedUp) → (IsRefusedAs eq settings UnknownTurn steps call → May causes.UnknownTurn) → (IsRefusedAs eq settings UnknownTicket steps call → May causes.UnknownTicket) → (IsRefusedAs eq settings ClosuresUnsupported steps call → ⊥)
+  sort-form : (call : Call K V E) (s : Sort) (May : policies.Refused → Type 0) → ((a : calls.Reply K V E) → RepliesWith eq settings steps call a → sort a ≡ s) → (IsOutOfNumbers eq settings steps call → May causes.NumbersUsedUp) → (IsRefusedAs eq settings UnknownTurn steps call → May causes.UnknownTurn) → (IsRefusedAs eq settings UnknownTicket steps call → May causes.UnknownTicket) → (IsRefusedAs eq settings ClosuresUnsupported steps call → ⊥)
       → (r : Reply K V C H W X P F L T E S) → IsReplyTo eq is_clone is_infallible settings steps call r → ¬ (WantsMemory r) → RefusedOr May (IsSort s) r
   sort-form call s May sorts numbers turn ticket closures = given-form call May (IsSort s) numbers turn ticket closures (λ r a there says. subst (λ s. IsSort s r) (sorts a there) (sorted is_clone a r says))
 
-  collect-told : (legal : IsLegal eq settings steps) (name : Name K) (r : Reply K V C H W X P F L T E S) (a : Answer K V E) → Answers eq settings steps (calls.Collect name) a → IsSaid is_clone a r → IsTold name.kind r
+  collect-told : (legal : IsLegal eq settings steps) (name : Name K) (r : Reply K V C H W X P F L T E S) (a : calls.Reply K V E) → RepliesWith eq settings steps (calls.Collect name) a → IsSaid is_clone a r → IsCollected name.kind r
   collect-told legal name r a there says = go (found (has_ticket_as eq name) (turns steps)) refl there
     where
-      go : (o : Option (Turn K V E)) → found (has_ticket_as eq name) (turns steps) ≡ o → answer_of (option_map (λ (t : Turn K V E). collected name t.name.number t.end) o) ≡ Some a → IsTold name.kind r
+      go : (o : Option (Turn K V E)) → found (has_ticket_as eq name) (turns steps) ≡ o → reply_of (option_map (λ (t : Turn K V E). collected name t.name.number t.end) o) ≡ Some a → IsCollected name.kind r
       go None is there = cc
       go (Some t) is there = told name t.name.number name.kind t.end (ticket-fits eq settings steps legal name t is) r (subst (λ s. IsSort s r) (ap sort_in (sym there)) (sorted is_clone a r says))
 
   -- the begin of a compute
-  compute-told : (k : K) (keep : Bool) (at : ℕ) (o : Option (Turn K V E)) → found (is_open_for eq Compute k) (turns steps) ≡ o → (r : Reply K V C H W X P F L T E S) (a : Answer K V E) → answer_of (Some (begun_compute eq settings (events_in steps) k keep at o)) ≡ Some a → IsSaid is_clone a r → IsComputing k r
+  compute-told : (k : K) (keep : Bool) (at : ℕ) (o : Option (Turn K V E)) → found (is_open_for eq Compute k) (turns steps) ≡ o → (r : Reply K V C H W X P F L T E S) (a : calls.Reply K V E) → reply_of (Some (begun_compute eq settings (events_in steps) k keep at o)) ≡ Some a → IsSaid is_clone a r → IsComputing k r
   compute-told k keep at None is r a there says =
       let none : Option (Turn K V E) = None in
       let it = begun_compute eq settings (events_in steps) k keep at none in
       let mine = subst (λ o. IfSome o (λ a. IsSaid is_clone a r)) (sym there) says in
-      run-computes is_clone (new_name eq settings (events_in steps) Compute k) (option_map calls.entry_of (live_at eq settings k at (events_in steps))) k refl refl r mine (sorted is_clone it.answer r mine)
+      run-computes is_clone (new_name eq settings (events_in steps) Compute k) (option_map calls.entry_of (live_at eq settings k at (events_in steps))) k refl refl r mine (sorted is_clone it.reply r mine)
   compute-told k keep at (Some t) is r a there says =
       let mine = subst (λ o. IfSome o (λ a. IsSaid is_clone a r)) (sym there) says in
       let name : Name K = record t.name { key = k } in
       wait-computes is_clone name k (kind-of eq settings steps Compute k t is) refl r mine (sorted is_clone (calls.Wait name) r mine)
 
   -- and that of an initializer
-  begin-told : (k : K) (kind : Kind) (replace : Option Bool) (at : ℕ) (w : Option (Write K V)) (o : Option (Turn K V E)) → found (is_open_for eq kind k) (turns steps) ≡ o → (r : Reply K V C H W X P F L T E S) (a : Answer K V E) → answer_of (Some (begun eq settings (events_in steps) k kind replace at w o)) ≡ Some a → IsSaid is_clone a r → IsInitializing kind k r
+  begin-told : (k : K) (kind : Kind) (replace : Option Bool) (at : ℕ) (w : Option (Write K V)) (o : Option (Turn K V E)) → found (is_open_for eq kind k) (turns steps) ≡ o → (r : Reply K V C H W X P F L T E S) (a : calls.Reply K V E) → reply_of (Some (begun eq settings (events_in steps) k kind replace at w o)) ≡ Some a → IsSaid is_clone a r → IsInitializing kind k r
   begin-told k kind replace at (Some w) o is r a there says =
       let mine = subst (λ o. IfSome o (λ a. IsSaid is_clone a r)) (sym there) says in
       entry-begins kind k r (sorted is_clone (calls.Entered (calls.entry_of w)) r mine)
@@ -359,13 +359,13 @@ module _ {K V C H W X P F L T E S : Type 0} (eq : K → K → Bool) (test : P �
   begin-form k Try replace at = given-form eq is_clone is_infallible settings steps (calls.Begin k Try replace at) OutOfNumbers (IsBegun Try k) (λ out. tt) (λ no. let off = no.1 in cc) (λ no. let off = no.1 in cc) (λ no. let off = no.1 in cc)
       (λ r a there says. begin-told eq is_clone is_infallible settings steps k Try replace at (acceptable replace (live_at eq settings k at (events_in steps))) (found (is_open_for eq Try k) (turns steps)) refl r a there says)
 
-  -- one that is answered by one sort, and never refused but for want of memory
-  never : (call : Call K V E) (s : Sort) → ((a : Answer K V E) → answer_of (accepted eq settings steps call) ≡ Some a → sort a ≡ s) → (IsOutOfNumbers eq settings steps call → ⊥) → refusal_due call ≡ None → (r : Reply K V C H W X P F L T E S) → IsReplyTo eq is_clone is_infallible settings steps call r → ¬ (WantsMemory r) → RefusedOr Never (IsSort s) r
+  -- one whose replies are of one sort, and that never fails but with `OutOfMemory`
+  never : (call : Call K V E) (s : Sort) → ((a : calls.Reply K V E) → reply_of (accepted eq settings steps call) ≡ Some a → sort a ≡ s) → (IsOutOfNumbers eq settings steps call → ⊥) → refusal_due call ≡ None → (r : Reply K V C H W X P F L T E S) → IsReplyTo eq is_clone is_infallible settings steps call r → ¬ (WantsMemory r) → RefusedOr Never (IsSort s) r
   never call s sorts numbers due = sort-form eq is_clone is_infallible settings steps call s Never sorts numbers
       (λ no. let off : None ≡ Some UnknownTurn = sym due ∙ no.1 in cc) (λ no. let off : None ≡ Some UnknownTicket = sym due ∙ no.1 in cc) (λ no. let off : None ≡ Some ClosuresUnsupported = sym due ∙ no.1 in cc)
 
-  -- one that is answered by one sort, and else refused for want of numbers alone
-  drawing : (call : Call K V E) (s : Sort) → ((a : Answer K V E) → answer_of (accepted eq settings steps call) ≡ Some a → sort a ≡ s) → refusal_due call ≡ None → (r : Reply K V C H W X P F L T E S) → IsReplyTo eq is_clone is_infallible settings steps call r → ¬ (WantsMemory r) → RefusedOr OutOfNumbers (IsSort s) r
+  -- one whose replies are of one sort, and that else fails with `NumbersUsedUp` alone
+  drawing : (call : Call K V E) (s : Sort) → ((a : calls.Reply K V E) → reply_of (accepted eq settings steps call) ≡ Some a → sort a ≡ s) → refusal_due call ≡ None → (r : Reply K V C H W X P F L T E S) → IsReplyTo eq is_clone is_infallible settings steps call r → ¬ (WantsMemory r) → RefusedOr OutOfNumbers (IsSort s) r
   drawing call s sorts due = sort-form eq is_clone is_infallible settings steps call s OutOfNumbers sorts (λ out. tt)
       (λ no. let off : None ≡ Some UnknownTurn = sym due ∙ no.1 in cc) (λ no. let off : None ≡ Some UnknownTicket = sym due ∙ no.1 in cc) (λ no. let off : None ≡ Some ClosuresUnsupported = sym due ∙ no.1 in cc)
 
@@ -380,7 +380,7 @@ module _ {K V C H W X P F L T E S : Type 0} (eq : K → K → Bool) (test : P �
   hide-form p (Refused causes.WaitsAbandoned) is given = absurd is
   hide-form p r is given = go (said eq is_clone is_infallible settings steps (calls.InvalidateIf (test (arc_value p))) r is) (λ no. no)
     where
-      go : IsRefusal r ⊎ ((a : Answer K V E) × (answer_of (accepted eq settings steps (calls.InvalidateIf (test (arc_value p)))) ≡ Some a) × IsSaid is_clone a r) → (IsRefusal r → ⊥) → IsSort nothing_to_say r
+      go : IsRefusal r ⊎ ((a : calls.Reply K V E) × (reply_of (accepted eq settings steps (calls.InvalidateIf (test (arc_value p)))) ≡ Some a) × IsSaid is_clone a r) → (IsRefusal r → ⊥) → IsSort nothing_to_say r
       go (inl refusal) other = absurd (other refusal)
       go (inr (a, there, says)) other = subst (λ s. IsSort s r) (hide-sort eq settings steps (test (arc_value p)) settings.supports_closures a there) (sorted is_clone a r says)
 
@@ -406,7 +406,7 @@ module _ {K V C H W X P F L T E S : Type 0} (eq : K → K → Bool) (test : P �
       (λ out. tt) (λ no. tt) (λ no. let off = no.1 in cc) (λ no. let off = no.1 in cc)
   form (Abandon name) = sort-form eq is_clone is_infallible settings steps (calls.Abandon (name_by name)) nothing_to_say NoTurn (abandon-sort eq settings steps (found (is_open_as eq (name_by name)) (turns steps)))
       (λ out. abandon-numbers eq settings steps (found (is_open_as eq (name_by name)) (turns steps)) out) (λ no. tt) (λ no. let off = no.1 in cc) (λ no. let off = no.1 in cc)
-  form (Collect name) = given-form eq is_clone is_infallible settings steps (calls.Collect (name_by name)) NoTicket (IsTold name.kind)
+  form (Collect name) = given-form eq is_clone is_infallible settings steps (calls.Collect (name_by name)) NoTicket (IsCollected name.kind)
       (λ out. collect-numbers eq settings steps (name_by name) (found (has_ticket_as eq (name_by name)) (turns steps)) out) (λ no. let off = no.1 in cc) (λ no. tt) (λ no. let off = no.1 in cc)
       (collect-told eq is_clone is_infallible settings steps legal (name_by name))
   form (Leave name) = sort-form eq is_clone is_infallible settings steps (calls.Leave (name_by name)) nothing_to_say NoTicket (leave-sort eq settings steps (found (has_ticket_as eq (name_by name)) (turns steps)))

@@ -62,16 +62,16 @@ module _ {K V C H W X P F L T E S : Type 0} where
   RefusedOr May Q reply = Q reply
 
   -- The reply to a collect of a ticket of this kind.
-  abbrev pub IsTold : Kind → Reply K V C H W X P F L T E S → Type 0
-  IsTold kind NotYet = ⊤
-  IsTold kind Abandoned = ⊤
-  IsTold With (Entered entry) = ⊤
-  IsTold Optionally (Entered entry) = ⊤
-  IsTold Optionally Nothing = ⊤
-  IsTold Try (Entered entry) = ⊤
-  IsTold Try (Failed error) = ⊤
-  IsTold Compute Ended = ⊤
-  IsTold kind reply = ⊥
+  abbrev pub IsCollected : Kind → Reply K V C H W X P F L T E S → Type 0
+  IsCollected kind NotYet = ⊤
+  IsCollected kind Abandoned = ⊤
+  IsCollected With (Entered entry) = ⊤
+  IsCollected Optionally (Entered entry) = ⊤
+  IsCollected Optionally Nothing = ⊤
+  IsCollected Try (Entered entry) = ⊤
+  IsCollected Try (Failed error) = ⊤
+  IsCollected Compute Ended = ⊤
+  IsCollected kind reply = ⊥
 
 -- The turn that is opened or waited for is of this kind, and of this very key.
 abbrev pub IsTurnOf : {K : Type 0} → Kind → K → TurnName K → Type 0
@@ -150,5 +150,5 @@ module _ {K V C H W X P F L T E S : Type 0} where
   IsOfForm (BeginCompute key keep now) reply = RefusedOr OutOfNumbers (IsComputing (arc_value key)) reply
   IsOfForm (Finish name outcome now) reply = RefusedOr NoTurnOrNumbers (IsSort (sort_of_outcome outcome)) reply
   IsOfForm (Abandon name) reply = RefusedOr NoTurn (IsSort nothing_to_say) reply
-  IsOfForm (Collect name) reply = RefusedOr NoTicket (IsTold name.kind) reply
+  IsOfForm (Collect name) reply = RefusedOr NoTicket (IsCollected name.kind) reply
   IsOfForm (Leave name) reply = RefusedOr NoTicket (IsSort nothing_to_say) reply

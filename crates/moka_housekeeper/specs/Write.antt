@@ -11,18 +11,18 @@ use Rattle.moka_table.specs.Table.{Contents, entries}
 use Rattle.moka_housekeeper.specs.Maintain.{IsMaintainedUpTo}
 
 module _ {K V : Type 0} where
-  -- The row of a place is stored, unless a flush comes first.
+  -- The row of a plan is stored, unless a flush comes first.
   abbrev pub HasPlan : WritePlan K → Contents K V → Type 0
   HasPlan (Now slot) c = HasSlot slot c
   HasPlan (AfterFlush lookup key) c = ⊤
 
-  -- A value is written to its place, after a flush if one comes first.
+  -- A value is written by its plan, after a flush if one comes first.
   abbrev pub WritesAt : (K → K → Bool) → Behaviour K V → ExpirationPolicy → (ℕ → ℕ) → Option ℕ → Option ℕ → WritePlan K →
       NewValue V → Contents K V → Contents K V → Bool → Type 0
   WritesAt eq behaviour lives frequency_of capacity limit (Now slot) it old new replaced =
       Writes behaviour lives slot it old new replaced
   WritesAt eq behaviour lives frequency_of capacity limit (AfterFlush lookup own) it old new replaced =
-      (kept : Contents K V) × (is_cut : Bool)
-      × IsMaintainedUpTo lives behaviour.is_lru frequency_of capacity it.now limit old kept is_cut
-      × (slot : WriteSlot K) × IsSlotNow eq it.hash lookup own (entries kept) slot
-      × Writes behaviour lives slot it kept new replaced
+      (left : Contents K V) × (is_cut : Bool)
+      × IsMaintainedUpTo lives behaviour.is_lru frequency_of capacity it.now limit old left is_cut
+      × (slot : WriteSlot K) × IsSlotNow eq it.hash lookup own (entries left) slot
+      × Writes behaviour lives slot it left new replaced

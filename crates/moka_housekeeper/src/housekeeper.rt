@@ -73,27 +73,27 @@ impl<F: FrequencySource> Housekeeper<F> {
         )
     }
 
-    /// Writes a value to its place, and returns whether a live value was there just before.
+    /// Writes a value by its plan, and returns whether a live value was there just before.
     ///
-    /// If the place says so, a flush within `flush_limit` comes first. The write uses the room that
+    /// If the plan says so, a flush within `flush_limit` comes first. The write uses the room that
     /// was made, and does not allocate.
     #[inline(always)]
     pub fn write<K: Hash + Drop, V: Clone, C: CacheTypes<K, V>, R: RowStore<K, V>>(
         &self,
         table: &mut Table<K, V, R>,
-        place: WritePlan<K>,
+        plan: WritePlan<K>,
         new: NewValue<V>,
         behaviour: &Behaviour<K, V, C>,
         flush_limit: Option<u64>,
     ) -> bool
-        requires place { HasPlan place table.old }
+        requires plan { HasPlan plan table.old }
         requires room { 0 < table.old.room }
         ensures { AreDated self.now.lives (entries table.old) → WritesAt K.eq
             (⟦<C as BehaviourView<K, V>>⟧.behaviour behaviour.now) self.now.lives
-            (F.count self.now.source) self.now.max_capacity flush_limit place new table.old table.new
+            (F.count self.now.source) self.now.max_capacity flush_limit plan new table.old table.new
             result }
     {
-        match place {
+        match plan {
             WritePlan::Now(slot) => table.write(slot, new, behaviour, &self.lives),
             WritePlan::AfterFlush { lookup, key } => {
                 self.maintain_up_to(table, behaviour.policy(), new.now, flush_limit);

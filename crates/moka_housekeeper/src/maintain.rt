@@ -61,7 +61,7 @@ pub fn maintain_up_to<K: Eq + Drop, V: Drop, R: RowStore<K, V>, F: FrequencySour
     if evict_dead_waiting(table, now, &mut limit, visits) {
         return true;
     }
-    table.hides_nothing();
+    table.clear_may_hide();
     if evict_over_capacity(table, capacity, &mut limit) {
         return true;
     }
@@ -150,12 +150,12 @@ fn evict_dead_by_walk<K: Eq + Drop, V: Drop, R: RowStore<K, V>>(
     while let Some(number) = cursor {
         // The next row is read while this one is still in the order.
         cursor = table.next(number, visits);
-        let kept = table.row(number).info();
-        if kept.is_dead(now) {
+        let metadata = table.row(number).info();
+        if metadata.is_dead(now) {
             if !take_budget(limit, 1) {
                 return true;
             }
-            table.evict(number, kept.cause(now, RemovalCause::Expired));
+            table.evict(number, metadata.cause(now, RemovalCause::Expired));
         }
     }
     false

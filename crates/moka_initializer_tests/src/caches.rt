@@ -98,7 +98,7 @@ fn settings(alloc: Global, rules: Rules) -> Result<Settings<u64, u64, Types>, Al
     })
 }
 
-fn built<R: RowStore<u64, u64>>(
+fn build_once<R: RowStore<u64, u64>>(
     alloc: Global,
     rules: Rules,
 ) -> Result<State<u64, u64, Types, R>, Refused> {
@@ -109,19 +109,23 @@ fn built<R: RowStore<u64, u64>>(
 }
 
 /// Creates a cache over a row store. Retries once if an allocation fails.
-pub(crate) fn opened_over<R: RowStore<u64, u64>>(
+pub(crate) fn open_over<R: RowStore<u64, u64>>(
     alloc: Global,
     rules: Rules,
 ) -> Result<State<u64, u64, Types, R>, Refused> {
-    match built(alloc, rules) {
+    match build_once(alloc, rules) {
         Ok(cache) => Ok(cache),
-        Err(_) => built(alloc, rules),
+        Err(_) => build_once(alloc, rules),
     }
 }
 
 /// Creates a cache with this first sequence number and this capacity.
-pub(crate) fn opened(alloc: Global, first_number: u64, capacity: u64) -> Result<Numbers, Refused> {
-    opened_over(
+pub(crate) fn open_cache(
+    alloc: Global,
+    first_number: u64,
+    capacity: u64,
+) -> Result<Numbers, Refused> {
+    open_over(
         alloc,
         Rules {
             max_capacity: Some(capacity),
@@ -170,7 +174,7 @@ fn take_notice(cache: &mut Numbers) -> Option<Notice<u64, u64>> {
 }
 
 /// Checks the value and the cause of the first notice, which is taken.
-pub(crate) fn left_by(rt: &impl Abort, cache: &mut Numbers, value: u64, cause: RemovalCause) {
+pub(crate) fn check_notice(rt: &impl Abort, cache: &mut Numbers, value: u64, cause: RemovalCause) {
     match take_notice(cache) {
         Some(notice) => assert_eq!(rt; (notice.value, notice.cause), (value, cause)),
         None => panic!(rt; "there is no notice"),
@@ -199,7 +203,7 @@ pub(crate) fn finish(
 }
 
 /// Collects a ticket.
-fn collect(cache: &mut Numbers, ticket: Ticket<u64>) -> Result<Told, CollectRefused<u64>> {
+fn collect(cache: &mut Numbers, ticket: Ticket<u64>) -> Result<Collects, CollectRefused<u64>> {
     cache.collect(ticket)
 }
 
@@ -223,10 +227,10 @@ pub(crate) fn insert(rt: &impl Abort, cache: &mut Numbers, key: u64, value: u64)
 }
 
 /// Drops a cache. In a body that drops it itself, the drop of all that it owns is proved again.
-pub(crate) fn let_go(_cache: Numbers) {}
+pub(crate) fn drop_cache(_cache: Numbers) {}
 
 /// Creates a key as the calls about turns take it. Retries once if the allocation fails.
-pub(crate) fn shared(alloc: Global, key: u64) -> Result<Arc<u64>, AllocError> {
+pub(crate) fn share_key(alloc: Global, key: u64) -> Result<Arc<u64>, AllocError> {
     match Arc::new(alloc, key) {
         Ok(key) => Ok(key),
         Err(_) => Ok(Arc::new(alloc, key)?),
@@ -259,7 +263,7 @@ pub(crate) fn begin_by_ref(cache: &mut Numbers, key: u64) -> Begins {
 }
 
 /// Consumes what a begin returned, and returns what it was.
-pub(crate) fn spent(cache: &mut Numbers, begun: Begins) -> &'static str {
+pub(crate) fn consume_begun(cache: &mut Numbers, begun: Begins) -> &'static str {
     match begun {
         Ok(Begun::Run(turn)) => {
             let _ = abandon(cache, turn);
@@ -275,18 +279,23 @@ pub(crate) fn spent(cache: &mut Numbers, begun: Begins) -> &'static str {
 }
 
 /// Returns the turn of a begin that runs.
-pub(crate) fn ran(rt: &impl Abort, cache: &mut Numbers, key: &Arc<u64>, kind: Kind) -> Turn<u64>
+pub(crate) fn begin_running(
+    rt: &impl Abort,
+    cache: &mut Numbers,
+    key: &Arc<u64>,
+    kind: Kind,
+) -> Turn<u64>
     requires { kind ≢ Kind.Compute }
     ensures { result.key.kind ≡ kind }
 {
     match begin(cache, key, kind) {
         Ok(Begun::Run(turn)) => turn,
-        begun => panic!(rt; "{}", spent(cache, begun)),
+        begun => panic!(rt; "{}", consume_begun(cache, begun)),
     }
 }
 
 /// Returns the ticket of a begin that waits.
-pub(crate) fn waited(
+pub(crate) fn begin_waiting(
     rt: &impl Abort,
     cache: &mut Numbers,
     key: &Arc<u64>,
@@ -296,12 +305,12 @@ pub(crate) fn waited(
 {
     match begin(cache, key, kind) {
         Ok(Begun::Wait(ticket)) => ticket,
-        begun => panic!(rt; "{}", spent(cache, begun)),
+        begun => panic!(rt; "{}", consume_begun(cache, begun)),
     }
 }
 
 /// Finishes a turn, and returns its result.
-pub(crate) fn finished(
+pub(crate) fn finish_turn(
     rt: &impl Abort,
     cache: &mut Numbers,
     turn: Turn<u64>,
@@ -320,7 +329,7 @@ pub(crate) fn finished(
 }
 
 /// Checks that a finish with a value fails for this cause and hands back both. Returns the turn.
-pub(crate) fn refused_to_finish(
+pub(crate) fn fail_to_finish(
     rt: &impl Abort,
     cache: &mut Numbers,
     turn: Turn<u64>,
@@ -345,21 +354,21 @@ pub(crate) fn refused_to_finish(
 }
 
 /// Abandons a turn that the cache knows.
-pub(crate) fn abandoned(rt: &impl Abort, cache: &mut Numbers, turn: Turn<u64>) {
+pub(crate) fn abandon_turn(rt: &impl Abort, cache: &mut Numbers, turn: Turn<u64>) {
     assert!(rt; abandon(cache, turn).is_ok(), "it is refused");
 }
 
 /// Leaves a ticket that the cache knows.
-pub(crate) fn left(rt: &impl Abort, cache: &mut Numbers, ticket: Ticket<u64>) {
+pub(crate) fn leave_ticket(rt: &impl Abort, cache: &mut Numbers, ticket: Ticket<u64>) {
     assert!(rt; leave(cache, ticket).is_ok(), "it is refused");
 }
 
-type Told = Collected<u64, u64, u64>;
+type Collects = Collected<u64, u64, u64>;
 
 /// Returns what a ticket collects.
-fn collected(rt: &impl Abort, cache: &mut Numbers, ticket: Ticket<u64>) -> Told {
+fn collect_ticket(rt: &impl Abort, cache: &mut Numbers, ticket: Ticket<u64>) -> Collects {
     match collect(cache, ticket) {
-        Ok(told) => told,
+        Ok(collected) => collected,
         Err(CollectRefused { ticket, .. }) => {
             let _ = leave(cache, ticket);
             panic!(rt; "it is refused")
@@ -368,8 +377,8 @@ fn collected(rt: &impl Abort, cache: &mut Numbers, ticket: Ticket<u64>) -> Told 
 }
 
 /// Consumes what a ticket collected, and returns what it was.
-fn spent_told(cache: &mut Numbers, told: Told) -> &'static str {
-    match told {
+fn consume_collected(cache: &mut Numbers, collected: Collects) -> &'static str {
+    match collected {
         Collected::Ready(_) => "it gave something",
         Collected::NotYet(ticket) => {
             let _ = leave(cache, ticket);
@@ -382,46 +391,54 @@ fn spent_told(cache: &mut Numbers, told: Told) -> &'static str {
 
 /// Checks that a ticket collects the end of a compute.
 pub(crate) fn has_ended(rt: &impl Abort, cache: &mut Numbers, ticket: Ticket<u64>) {
-    match collected(rt, cache, ticket) {
+    match collect_ticket(rt, cache, ticket) {
         Collected::Ended => {}
-        told => panic!(rt; "{}", spent_told(cache, told)),
+        collected => panic!(rt; "{}", consume_collected(cache, collected)),
     }
 }
 
 /// Returns the result that a ticket collects.
-pub(crate) fn ready(
+pub(crate) fn collect_ready(
     rt: &impl Abort,
     cache: &mut Numbers,
     ticket: Ticket<u64>,
 ) -> Answer<u64, u64, u64> {
-    match collected(rt, cache, ticket) {
+    match collect_ticket(rt, cache, ticket) {
         Collected::Ready(answer) => answer,
-        told => panic!(rt; "{}", spent_told(cache, told)),
+        collected => panic!(rt; "{}", consume_collected(cache, collected)),
     }
 }
 
 /// Returns the ticket again after it found its turn still open.
-pub(crate) fn not_yet(rt: &impl Abort, cache: &mut Numbers, ticket: Ticket<u64>) -> Ticket<u64> {
-    match collected(rt, cache, ticket) {
+pub(crate) fn collect_open(
+    rt: &impl Abort,
+    cache: &mut Numbers,
+    ticket: Ticket<u64>,
+) -> Ticket<u64> {
+    match collect_ticket(rt, cache, ticket) {
         Collected::NotYet(ticket) => ticket,
-        told => panic!(rt; "{}", spent_told(cache, told)),
+        collected => panic!(rt; "{}", consume_collected(cache, collected)),
     }
 }
 
 /// Checks that the turn of a ticket was abandoned.
-pub(crate) fn gave_nothing(rt: &impl Abort, cache: &mut Numbers, ticket: Ticket<u64>) {
-    let told = collected(rt, cache, ticket);
-    assert_eq!(rt; spent_told(cache, told), "it was abandoned");
+pub(crate) fn collect_nothing(rt: &impl Abort, cache: &mut Numbers, ticket: Ticket<u64>) {
+    let collected = collect_ticket(rt, cache, ticket);
+    assert_eq!(rt; consume_collected(cache, collected), "it was abandoned");
 }
 
 /// Checks that a cache does not know a ticket. Returns the ticket, which is handed back.
-pub(crate) fn unknown(rt: &impl Abort, cache: &mut Numbers, ticket: Ticket<u64>) -> Ticket<u64> {
+pub(crate) fn check_unknown(
+    rt: &impl Abort,
+    cache: &mut Numbers,
+    ticket: Ticket<u64>,
+) -> Ticket<u64> {
     match collect(cache, ticket) {
         Err(CollectRefused { ticket, cause }) => {
             assert_eq!(rt; cause, Refused::UnknownTicket);
             ticket
         }
-        Ok(told) => panic!(rt; "{}", spent_told(cache, told)),
+        Ok(collected) => panic!(rt; "{}", consume_collected(cache, collected)),
     }
 }
 
@@ -439,7 +456,7 @@ fn entry_of(rt: &impl Abort, answer: &Answer<u64, u64, u64>) -> (u64, u64, bool,
 }
 
 /// Checks that a result is the entry with these parts.
-pub(crate) fn gave(
+pub(crate) fn check_entry(
     rt: &impl Abort,
     answer: &Answer<u64, u64, u64>,
     expected: (u64, u64, bool, bool),

@@ -5,7 +5,7 @@ use std::sync::Arc;
 
 /// The result of a loader.
 #[derive(Clone, Copy, Debug, PartialEq)]
-pub(crate) enum Told {
+pub(crate) enum Returned {
     Value(u64),
     Nothing,
     Failed(u64),
@@ -13,28 +13,28 @@ pub(crate) enum Told {
 }
 
 /// How often a closure was called, and the result of its loader.
-pub(crate) type Asked = (u64, Told);
+pub(crate) type Asked = (u64, Returned);
 
-fn value_of(given: Result<u64, Refused>) -> Told {
+fn value_of(given: Result<u64, Refused>) -> Returned {
     match given {
-        Ok(value) => Told::Value(value),
-        Err(cause) => Told::Refused(cause),
+        Ok(value) => Returned::Value(value),
+        Err(cause) => Returned::Refused(cause),
     }
 }
 
-fn option_of(given: Result<Option<u64>, Refused>) -> Told {
+fn option_of(given: Result<Option<u64>, Refused>) -> Returned {
     match given {
-        Ok(Some(value)) => Told::Value(value),
-        Ok(None) => Told::Nothing,
-        Err(cause) => Told::Refused(cause),
+        Ok(Some(value)) => Returned::Value(value),
+        Ok(None) => Returned::Nothing,
+        Err(cause) => Returned::Refused(cause),
     }
 }
 
-fn result_of(given: Result<Result<u64, Arc<u64>>, Refused>) -> Told {
+fn result_of(given: Result<Result<u64, Arc<u64>>, Refused>) -> Returned {
     match given {
-        Ok(Ok(value)) => Told::Value(value),
-        Ok(Err(error)) => Told::Failed(*error),
-        Err(cause) => Told::Refused(cause),
+        Ok(Ok(value)) => Returned::Value(value),
+        Ok(Err(error)) => Returned::Failed(*error),
+        Err(cause) => Returned::Refused(cause),
     }
 }
 

@@ -5,7 +5,8 @@ ghost use Rattle.moka_model.specs.declared.turns.Kind.{Kind};
 ghost use Rattle.moka_state.specs.Compute.{IsCompute};
 
 use crate::caches::{
-    Numbers, abandon, finish, has_ended, insert, invalidate, leave, let_go, opened, shared,
+    Numbers, abandon, drop_cache, finish, has_ended, insert, invalidate, leave, open_cache,
+    share_key,
 };
 use moka_model::comp_result::CompResult;
 use moka_model::entry::Entry;
@@ -24,7 +25,7 @@ fn begin(cache: &mut Numbers, key: &Arc<u64>, keep: bool) -> Result<BegunCompute
 }
 
 /// Returns the turn of a compute that runs, and the live entry that came with it.
-pub(crate) fn ran(
+pub(crate) fn begin_running_compute(
     rt: &impl Abort,
     cache: &mut Numbers,
     key: &Arc<u64>,
@@ -43,7 +44,7 @@ pub(crate) fn ran(
 }
 
 /// Returns the ticket of a compute that waits.
-fn waited(rt: &impl Abort, cache: &mut Numbers, key: &Arc<u64>) -> Ticket<u64> {
+fn begin_waiting_compute(rt: &impl Abort, cache: &mut Numbers, key: &Arc<u64>) -> Ticket<u64> {
     match begin(cache, key, true) {
         Ok(BegunCompute::Wait(ticket)) => ticket,
         Ok(BegunCompute::Run(turn, _)) => {
@@ -55,7 +56,7 @@ fn waited(rt: &impl Abort, cache: &mut Numbers, key: &Arc<u64>) -> Ticket<u64> {
 }
 
 /// Finishes a compute, and returns its result.
-pub(crate) fn computed(
+pub(crate) fn finish_compute(
     rt: &impl Abort,
     cache: &mut Numbers,
     turn: Turn<u64>,
@@ -95,7 +96,7 @@ fn shows(rt: &impl Abort, shown: &Option<Entry<u64, u64>>, wanted: Option<u64>) 
 }
 
 /// Returns a result as a word and its entry.
-pub(crate) fn said(
+pub(crate) fn word_and_entry_of(
     computed: CompResult<u64, u64>,
 ) -> (&'static str, Option<(u64, u64, bool, bool)>) {
     match computed {
@@ -114,7 +115,7 @@ pub(crate) fn says(
     word: &str,
     wanted: Option<(u64, u64, bool, bool)>,
 ) {
-    let (given, entry) = said(computed);
+    let (given, entry) = word_and_entry_of(computed);
     assert_eq!(rt; given, word);
     assert_eq!(rt; entry, wanted);
 }
@@ -122,10 +123,10 @@ pub(crate) fn says(
 /// A compute puts a value under an absent key, and replaces a live one.
 #[test]
 fn a_value_is_put_and_replaced(rt: HostRuntime) -> Result<(), Fail> {
-    let key = shared(rt.alloc(), 5)?;
-    let mut cache = opened(rt.alloc(), 0, 100)?;
+    let key = share_key(rt.alloc(), 5)?;
+    let mut cache = open_cache(rt.alloc(), 0, 100)?;
     is_put_and_replaced(&rt, &mut cache, &key);
-    let_go(cache);
+    drop_cache(cache);
     Ok(())
 }
 
@@ -136,9 +137,9 @@ fn is_put_and_replaced(rt: &impl Abort, cache: &mut Numbers, key: &Arc<u64>) {
 
 /// Checks a put under an absent key. A ticket that waits for it collects that it has ended.
 fn is_put(rt: &impl Abort, cache: &mut Numbers, key: &Arc<u64>) {
-    let (turn, shown) = ran(rt, cache, key, false);
-    let ticket = waited(rt, cache, key);
-    let result = computed(rt, cache, turn, Op::Put(7));
+    let (turn, shown) = begin_running_compute(rt, cache, key, false);
+    let ticket = begin_waiting_compute(rt, cache, key);
+    let result = finish_compute(rt, cache, turn, Op::Put(7));
     has_ended(rt, cache, ticket);
     shows(rt, &shown, None);
     says(rt, result, "inserted", Some((5, 7, true, false)));
@@ -146,9 +147,9 @@ fn is_put(rt: &impl Abort, cache: &mut Numbers, key: &Arc<u64>) {
 
 /// Checks that a put replaces the entry that its begin returned, although that is removed since.
 fn is_replaced(rt: &impl Abort, cache: &mut Numbers, key: &Arc<u64>) {
-    let (turn, shown) = ran(rt, cache, key, false);
+    let (turn, shown) = begin_running_compute(rt, cache, key, false);
     invalidate(cache, 5);
-    let result = computed(rt, cache, turn, Op::Put(8));
+    let result = finish_compute(rt, cache, turn, Op::Put(8));
     shows(rt, &shown, Some(7));
     says(rt, result, "replaced", Some((5, 8, true, true)));
 }
@@ -156,10 +157,10 @@ fn is_replaced(rt: &impl Abort, cache: &mut Numbers, key: &Arc<u64>) {
 /// A compute leaves the entry as it is, or removes it.
 #[test]
 fn a_value_is_left_or_removed(rt: HostRuntime) -> Result<(), Fail> {
-    let key = shared(rt.alloc(), 5)?;
-    let mut cache = opened(rt.alloc(), 0, 100)?;
+    let key = share_key(rt.alloc(), 5)?;
+    let mut cache = open_cache(rt.alloc(), 0, 100)?;
     is_left_or_removed(&rt, &mut cache, &key);
-    let_go(cache);
+    drop_cache(cache);
     Ok(())
 }
 
@@ -172,24 +173,24 @@ fn is_left_or_removed(rt: &impl Abort, cache: &mut Numbers, key: &Arc<u64>) {
 /// Checks that `Op::Nop` returns the entry that was kept, whatever became of the key, or nothing if
 /// none was kept.
 fn is_left(rt: &impl Abort, cache: &mut Numbers, key: &Arc<u64>) {
-    let (turn, _) = ran(rt, cache, key, true);
+    let (turn, _) = begin_running_compute(rt, cache, key, true);
     insert(rt, cache, 5, 8);
-    let result = computed(rt, cache, turn, Op::Nop);
+    let result = finish_compute(rt, cache, turn, Op::Nop);
     says(rt, result, "unchanged", Some((5, 7, false, false)));
-    let (turn, _) = ran(rt, cache, key, false);
-    let result = computed(rt, cache, turn, Op::Nop);
+    let (turn, _) = begin_running_compute(rt, cache, key, false);
+    let result = finish_compute(rt, cache, turn, Op::Nop);
     says(rt, result, "still none", None);
 }
 
 /// Checks that `Op::Remove` returns the entry that is live at the removal, or nothing if none is.
 fn is_removed(rt: &impl Abort, cache: &mut Numbers, key: &Arc<u64>) {
-    let (turn, shown) = ran(rt, cache, key, true);
+    let (turn, shown) = begin_running_compute(rt, cache, key, true);
     insert(rt, cache, 5, 9);
-    let result = computed(rt, cache, turn, Op::Remove);
+    let result = finish_compute(rt, cache, turn, Op::Remove);
     shows(rt, &shown, Some(8));
     says(rt, result, "removed", Some((5, 9, false, false)));
-    let (turn, shown) = ran(rt, cache, key, true);
-    let result = computed(rt, cache, turn, Op::Remove);
+    let (turn, shown) = begin_running_compute(rt, cache, key, true);
+    let result = finish_compute(rt, cache, turn, Op::Remove);
     shows(rt, &shown, None);
     says(rt, result, "still none", None);
 }

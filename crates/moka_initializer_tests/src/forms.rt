@@ -1,11 +1,11 @@
 //! The loaders: begin, closure and finish at one moment.
 use crate::caches::{
-    Numbers, abandoned, begin_by_ref, counts, gave_nothing, insert, is_stored, let_go, look,
-    opened, ran, shared, spent, waited,
+    Numbers, abandon_turn, begin_by_ref, begin_running, begin_waiting, collect_nothing,
+    consume_begun, counts, drop_cache, insert, is_stored, look, open_cache, share_key,
 };
 use crate::closures::{
-    Asked, Told, get_with, get_with_by_ref, get_with_if, optionally_by_ref, optionally_get_with,
-    try_by_ref, try_get_with,
+    Asked, Returned, get_with, get_with_by_ref, get_with_if, optionally_by_ref,
+    optionally_get_with, try_by_ref, try_get_with,
 };
 use moka_model::turns::Kind;
 use moka_policy::policy::Refused;
@@ -17,57 +17,67 @@ use std::test::Fail;
 /// A loader returns a live value without a call of its closure.
 #[test]
 fn a_live_value_is_answered_unasked(rt: HostRuntime) -> Result<(), Fail> {
-    let mut cache = opened(rt.alloc(), 0, 100)?;
-    is_answered_unasked(&rt, &mut cache);
-    let_go(cache);
+    let mut cache = open_cache(rt.alloc(), 0, 100)?;
+    is_found_without_a_call(&rt, &mut cache);
+    drop_cache(cache);
     Ok(())
 }
 
 /// Checks the result of a loader, and how often its closure was called.
-fn says(rt: &impl Abort, found: Asked, asked: u64, expected: Told) {
+fn says(rt: &impl Abort, found: Asked, asked: u64, expected: Returned) {
     assert_eq!(rt; found, (asked, expected));
 }
 
-fn is_answered_unasked(rt: &impl Abort, cache: &mut Numbers) {
+fn is_found_without_a_call(rt: &impl Abort, cache: &mut Numbers) {
     insert(rt, cache, 5, 7);
-    says(rt, get_with(cache, 5, 8), 0, Told::Value(7));
-    says(rt, optionally_get_with(cache, 5, None), 0, Told::Value(7));
-    says(rt, try_get_with(cache, 5, Err(9)), 0, Told::Value(7));
-    says(rt, get_with_by_ref(cache, 5, 8), 0, Told::Value(7));
+    says(rt, get_with(cache, 5, 8), 0, Returned::Value(7));
+    says(
+        rt,
+        optionally_get_with(cache, 5, None),
+        0,
+        Returned::Value(7),
+    );
+    says(rt, try_get_with(cache, 5, Err(9)), 0, Returned::Value(7));
+    says(rt, get_with_by_ref(cache, 5, 8), 0, Returned::Value(7));
 }
 
 /// On a miss a loader calls its closure once, and stores the value if there is one.
 #[test]
 fn an_absent_one_is_asked_for_and_written(rt: HostRuntime) -> Result<(), Fail> {
-    let mut cache = opened(rt.alloc(), 0, 100)?;
+    let mut cache = open_cache(rt.alloc(), 0, 100)?;
     is_asked_for_and_written(&rt, &mut cache);
-    let_go(cache);
+    drop_cache(cache);
     Ok(())
 }
 
 fn is_asked_for_and_written(rt: &impl Abort, cache: &mut Numbers) {
-    says(rt, get_with(cache, 1, 10), 1, Told::Value(10));
+    says(rt, get_with(cache, 1, 10), 1, Returned::Value(10));
     is_written(rt, cache, 1, Some(10));
     is_written_if_any(rt, cache);
     is_written_if_none_fails(rt, cache);
 }
 
 fn is_written_if_any(rt: &impl Abort, cache: &mut Numbers) {
-    says(rt, optionally_get_with(cache, 2, None), 1, Told::Nothing);
+    says(
+        rt,
+        optionally_get_with(cache, 2, None),
+        1,
+        Returned::Nothing,
+    );
     is_written(rt, cache, 2, None);
     says(
         rt,
         optionally_get_with(cache, 2, Some(20)),
         1,
-        Told::Value(20),
+        Returned::Value(20),
     );
     is_written(rt, cache, 2, Some(20));
 }
 
 fn is_written_if_none_fails(rt: &impl Abort, cache: &mut Numbers) {
-    says(rt, try_get_with(cache, 3, Err(9)), 1, Told::Failed(9));
+    says(rt, try_get_with(cache, 3, Err(9)), 1, Returned::Failed(9));
     is_written(rt, cache, 3, None);
-    says(rt, try_get_with(cache, 3, Ok(30)), 1, Told::Value(30));
+    says(rt, try_get_with(cache, 3, Ok(30)), 1, Returned::Value(30));
     is_written(rt, cache, 3, Some(30));
 }
 
@@ -80,86 +90,86 @@ fn is_written(rt: &impl Abort, cache: &mut Numbers, key: u64, value: Option<u64>
 /// `get_with_if` replaces a live value if its predicate holds.
 #[test]
 fn a_value_that_is_turned_down_is_replaced(rt: HostRuntime) -> Result<(), Fail> {
-    let mut cache = opened(rt.alloc(), 0, 100)?;
+    let mut cache = open_cache(rt.alloc(), 0, 100)?;
     is_replaced(&rt, &mut cache);
-    let_go(cache);
+    drop_cache(cache);
     Ok(())
 }
 
 fn is_replaced(rt: &impl Abort, cache: &mut Numbers) {
     insert(rt, cache, 5, 30);
-    says(rt, get_with_if(cache, 5, 31, 40), 0, Told::Value(30));
-    says(rt, get_with_if(cache, 5, 31, 30), 1, Told::Value(31));
+    says(rt, get_with_if(cache, 5, 31, 40), 0, Returned::Value(30));
+    says(rt, get_with_if(cache, 5, 31, 30), 1, Returned::Value(31));
     is_written(rt, cache, 5, Some(31));
 }
 
 /// A loader fails with `TurnIsOpen` if a turn of its key and kind is open.
 #[test]
 fn an_open_turn_is_not_waited_for(rt: HostRuntime) -> Result<(), Fail> {
-    let key = shared(rt.alloc(), 5)?;
-    let another = shared(rt.alloc(), 6)?;
-    let mut cache = opened(rt.alloc(), 0, 100)?;
+    let key = share_key(rt.alloc(), 5)?;
+    let another = share_key(rt.alloc(), 6)?;
+    let mut cache = open_cache(rt.alloc(), 0, 100)?;
     is_not_waited_for(&rt, &mut cache, &key, &another);
-    let_go(cache);
+    drop_cache(cache);
     Ok(())
 }
 
-const IS_OPEN: Told = Told::Refused(Refused::TurnIsOpen);
+const IS_OPEN: Returned = Returned::Refused(Refused::TurnIsOpen);
 
 fn is_not_waited_for(rt: &impl Abort, cache: &mut Numbers, key: &Arc<u64>, another: &Arc<u64>) {
-    let turn = ran(rt, cache, key, Kind::With);
+    let turn = begin_running(rt, cache, key, Kind::With);
     says(rt, get_with(cache, 5, 8), 0, IS_OPEN);
     says(rt, get_with_by_ref(cache, 5, 8), 0, IS_OPEN);
-    says(rt, try_get_with(cache, 5, Ok(9)), 1, Told::Value(9));
-    let next = ran(rt, cache, another, Kind::With);
+    says(rt, try_get_with(cache, 5, Ok(9)), 1, Returned::Value(9));
+    let next = begin_running(rt, cache, another, Kind::With);
     assert_eq!(rt; next.number(), 3);
-    abandoned(rt, cache, next);
-    abandoned(rt, cache, turn);
+    abandon_turn(rt, cache, next);
+    abandon_turn(rt, cache, turn);
 }
 
 /// A loader whose finish fails abandons its turn.
 #[test]
 fn a_refused_finish_abandons_the_turn(rt: HostRuntime) -> Result<(), Fail> {
-    let key = shared(rt.alloc(), 5)?;
-    let mut cache = opened(rt.alloc(), u64::MAX - 2, 100)?;
+    let key = share_key(rt.alloc(), 5)?;
+    let mut cache = open_cache(rt.alloc(), u64::MAX - 2, 100)?;
     abandons_the_turn(&rt, &mut cache, &key);
-    let_go(cache);
+    drop_cache(cache);
     Ok(())
 }
 
 fn abandons_the_turn(rt: &impl Abort, cache: &mut Numbers, key: &Arc<u64>) {
-    let other = ran(rt, cache, key, Kind::Try);
-    let ticket = waited(rt, cache, key, Kind::Try);
-    let refused = Told::Refused(Refused::NumbersUsedUp);
+    let other = begin_running(rt, cache, key, Kind::Try);
+    let ticket = begin_waiting(rt, cache, key, Kind::Try);
+    let refused = Returned::Refused(Refused::NumbersUsedUp);
     says(rt, get_with(cache, 5, 7), 1, refused);
     is_written(rt, cache, 5, None);
     says(rt, get_with(cache, 5, 7), 0, refused);
-    abandoned(rt, cache, other);
-    gave_nothing(rt, cache, ticket);
+    abandon_turn(rt, cache, other);
+    collect_nothing(rt, cache, ticket);
 }
 
 /// Loaders take the key by reference, too.
 #[test]
 fn keys_may_be_lent(rt: HostRuntime) -> Result<(), Fail> {
-    let mut cache = opened(rt.alloc(), 0, 100)?;
+    let mut cache = open_cache(rt.alloc(), 0, 100)?;
     may_be_lent(&rt, &mut cache);
-    let_go(cache);
+    drop_cache(cache);
     Ok(())
 }
 
 fn may_be_lent(rt: &impl Abort, cache: &mut Numbers) {
-    says(rt, get_with_by_ref(cache, 1, 10), 1, Told::Value(10));
+    says(rt, get_with_by_ref(cache, 1, 10), 1, Returned::Value(10));
     says(
         rt,
         optionally_by_ref(cache, 2, Some(20)),
         1,
-        Told::Value(20),
+        Returned::Value(20),
     );
-    says(rt, try_by_ref(cache, 3, Err(9)), 1, Told::Failed(9));
+    says(rt, try_by_ref(cache, 3, Err(9)), 1, Returned::Failed(9));
     is_written(rt, cache, 1, Some(10));
     is_written(rt, cache, 2, Some(20));
     let begun = begin_by_ref(cache, 3);
-    assert!(rt; spent(cache, begun) == "it runs");
+    assert!(rt; consume_begun(cache, begun) == "it runs");
 }
 
 /// A loader, with what its closure returns.
@@ -176,24 +186,24 @@ enum Form {
 }
 
 /// Each loader under a key of its own, once for each result of its closure, and its own result.
-const FORMS: [(Form, Told); 11] = [
-    (Form::GetWith, Told::Value(7)),
-    (Form::GetWithIf, Told::Value(7)),
-    (Form::Optionally(Some(7)), Told::Value(7)),
-    (Form::Optionally(None), Told::Nothing),
-    (Form::Try(Ok(7)), Told::Value(7)),
-    (Form::Try(Err(9)), Told::Failed(9)),
-    (Form::GetWithByRef, Told::Value(7)),
-    (Form::OptionallyByRef(Some(7)), Told::Value(7)),
-    (Form::OptionallyByRef(None), Told::Nothing),
-    (Form::TryByRef(Ok(7)), Told::Value(7)),
-    (Form::TryByRef(Err(9)), Told::Failed(9)),
+const FORMS: [(Form, Returned); 11] = [
+    (Form::GetWith, Returned::Value(7)),
+    (Form::GetWithIf, Returned::Value(7)),
+    (Form::Optionally(Some(7)), Returned::Value(7)),
+    (Form::Optionally(None), Returned::Nothing),
+    (Form::Try(Ok(7)), Returned::Value(7)),
+    (Form::Try(Err(9)), Returned::Failed(9)),
+    (Form::GetWithByRef, Returned::Value(7)),
+    (Form::OptionallyByRef(Some(7)), Returned::Value(7)),
+    (Form::OptionallyByRef(None), Returned::Nothing),
+    (Form::TryByRef(Ok(7)), Returned::Value(7)),
+    (Form::TryByRef(Err(9)), Returned::Failed(9)),
 ];
 
 /// The value that is replaced.
 const UNWANTED: u64 = 30;
 
-fn asked(cache: &mut Numbers, form: Form, key: u64) -> Asked {
+fn call_form(cache: &mut Numbers, form: Form, key: u64) -> Asked {
     match form {
         Form::GetWith => get_with(cache, key, 7),
         Form::GetWithIf => get_with_if(cache, key, 7, UNWANTED),
@@ -209,23 +219,29 @@ fn asked(cache: &mut Numbers, form: Form, key: u64) -> Asked {
 /// called again.
 ///
 /// Returns whether its closure was called before the failure: then a turn was opened and abandoned.
-fn answers(rt: &impl Abort, cache: &mut Numbers, form: Form, key: u64, expected: Told) -> bool {
+fn check_reply(
+    rt: &impl Abort,
+    cache: &mut Numbers,
+    form: Form,
+    key: u64,
+    expected: Returned,
+) -> bool {
     let before = counts(cache, key);
-    let (times, told) = asked(cache, form, key);
-    if told == expected {
+    let (times, returned) = call_form(cache, form, key);
+    if returned == expected {
         return false;
     }
-    is_told(rt, told, Told::Refused(Refused::OutOfMemory), form);
+    is_returned(rt, returned, Returned::Refused(Refused::OutOfMemory), form);
     is_counted(rt, counts(cache, key), before, form);
-    let (again, told) = asked(cache, form, key);
-    is_told(rt, told, expected, form);
+    let (again, returned) = call_form(cache, form, key);
+    is_returned(rt, returned, expected, form);
     is_number(rt, again, 1, form);
     times > 0
 }
 
 // Each of these names the loader if its check fails.
-fn is_told(rt: &impl Abort, told: Told, expected: Told, form: Form) {
-    assert_eq!(rt; told, expected, "{form:?}");
+fn is_returned(rt: &impl Abort, returned: Returned, expected: Returned, form: Form) {
+    assert_eq!(rt; returned, expected, "{form:?}");
 }
 
 fn is_number(rt: &impl Abort, number: u64, expected: u64, form: Form) {
@@ -239,10 +255,10 @@ fn is_counted(rt: &impl Abort, counts: Counts, expected: Counts, form: Form) {
 }
 
 /// Returns the number of a new turn, which it abandons.
-fn drawn(rt: &impl Abort, cache: &mut Numbers, key: &Arc<u64>) -> u64 {
-    let turn = ran(rt, cache, key, Kind::With);
+fn draw_number(rt: &impl Abort, cache: &mut Numbers, key: &Arc<u64>) -> u64 {
+    let turn = begin_running(rt, cache, key, Kind::With);
     let number = turn.number();
-    abandoned(rt, cache, turn);
+    abandon_turn(rt, cache, turn);
     number
 }
 
@@ -255,50 +271,55 @@ fn insert_unwanted(rt: &impl Abort, cache: &mut Numbers, form: Form, key: u64) {
 
 /// Checks that two caches go on alike, in one of which an allocation may fail. The failed loader
 /// changed as much as no call, or as a begin and an abandon.
-fn answer_alike(
+fn check_alike(
     rt: &impl Abort,
     cache: &mut Numbers,
     twin: &mut Numbers,
     free: &Arc<u64>,
-    row: (u64, Form, Told),
+    row: (u64, Form, Returned),
 ) {
     let (key, form, expected) = row;
     insert_unwanted(rt, cache, form, key);
     insert_unwanted(rt, twin, form, key);
-    if answers(rt, cache, form, key, expected) {
-        let _ = drawn(rt, twin, free);
+    if check_reply(rt, cache, form, key, expected) {
+        let _ = draw_number(rt, twin, free);
     }
-    if answers(rt, twin, form, key, expected) {
-        let _ = drawn(rt, cache, free);
+    if check_reply(rt, twin, form, key, expected) {
+        let _ = draw_number(rt, cache, free);
     }
-    is_number(rt, drawn(rt, cache, free), drawn(rt, twin, free), form);
+    is_number(
+        rt,
+        draw_number(rt, cache, free),
+        draw_number(rt, twin, free),
+        form,
+    );
     is_counted(rt, counts(cache, key), counts(twin, key), form);
 }
 
 /// Loaders work, also if any one allocation fails: `scripts/refused_memory` tries each.
 #[test]
 fn forms_answer_where_a_request_is_refused(rt: HostRuntime) -> Result<(), Fail> {
-    let free = shared(rt.alloc(), 1000)?;
-    let mut cache = opened(rt.alloc(), 0, 100)?;
-    let passed = answer_as_a_twin(&rt, rt.alloc(), &mut cache, &free);
-    let_go(cache);
+    let free = share_key(rt.alloc(), 1000)?;
+    let mut cache = open_cache(rt.alloc(), 0, 100)?;
+    let passed = reply_as_a_twin(&rt, rt.alloc(), &mut cache, &free);
+    drop_cache(cache);
     passed
 }
 
-fn answer_as_a_twin(
+fn reply_as_a_twin(
     rt: &impl Abort,
     alloc: Global,
     cache: &mut Numbers,
     free: &Arc<u64>,
 ) -> Result<(), Fail> {
-    let mut twin = opened(alloc, 0, 100)?;
-    all_answer_alike(rt, cache, &mut twin, free);
-    let_go(twin);
+    let mut twin = open_cache(alloc, 0, 100)?;
+    all_reply_alike(rt, cache, &mut twin, free);
+    drop_cache(twin);
     Ok(())
 }
 
-fn all_answer_alike(rt: &impl Abort, cache: &mut Numbers, twin: &mut Numbers, free: &Arc<u64>) {
+fn all_reply_alike(rt: &impl Abort, cache: &mut Numbers, twin: &mut Numbers, free: &Arc<u64>) {
     for (key, (form, expected)) in (0..).zip(FORMS) {
-        answer_alike(rt, cache, twin, free, (key, form, expected));
+        check_alike(rt, cache, twin, free, (key, form, expected));
     }
 }

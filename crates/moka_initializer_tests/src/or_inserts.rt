@@ -1,6 +1,7 @@
 //! The calls that return a live value, or store one.
 use crate::caches::{
-    Numbers, entry_count, insert, left_by, let_go, look, notice_count, opened, shared,
+    Numbers, check_notice, drop_cache, entry_count, insert, look, notice_count, open_cache,
+    share_key,
 };
 use moka_model::notification::RemovalCause;
 use moka_policy::policy::Refused;
@@ -14,7 +15,7 @@ use std::test::Fail;
 type Parts = (u64, u64, bool, bool);
 
 /// Returns the result of an `or_insert`. A failed one hands back its value.
-fn or_inserted(
+fn call_or_insert(
     cache: &mut Numbers,
     key: &Arc<u64>,
     value: u64,
@@ -52,7 +53,7 @@ fn gives(
     value: u64,
     wanted: Result<Parts, (u64, Refused)>,
 ) {
-    assert_eq!(rt; or_inserted(cache, key, value, 0), wanted);
+    assert_eq!(rt; call_or_insert(cache, key, value, 0), wanted);
 }
 
 /// Checks the result of an `or_default`.
@@ -74,10 +75,10 @@ fn finds(rt: &impl Abort, cache: &mut Numbers, key: u64, wanted: u64) {
 /// A live value is returned, and nothing is stored.
 #[test]
 fn a_live_value_is_found(rt: HostRuntime) -> Result<(), Fail> {
-    let key = shared(rt.alloc(), 5)?;
-    let mut cache = opened(rt.alloc(), 0, 100)?;
+    let key = share_key(rt.alloc(), 5)?;
+    let mut cache = open_cache(rt.alloc(), 0, 100)?;
     is_found(&rt, &mut cache, &key);
-    let_go(cache);
+    drop_cache(cache);
     Ok(())
 }
 
@@ -91,10 +92,10 @@ fn is_found(rt: &impl Abort, cache: &mut Numbers, key: &Arc<u64>) {
 /// Under an absent key the value is stored, or the default value.
 #[test]
 fn an_absent_one_is_written(rt: HostRuntime) -> Result<(), Fail> {
-    let key = shared(rt.alloc(), 5)?;
-    let mut cache = opened(rt.alloc(), 0, 100)?;
+    let key = share_key(rt.alloc(), 5)?;
+    let mut cache = open_cache(rt.alloc(), 0, 100)?;
     are_written(&rt, &mut cache, &key);
-    let_go(cache);
+    drop_cache(cache);
     Ok(())
 }
 
@@ -117,10 +118,10 @@ fn a_default_is_written(rt: &impl Abort, cache: &mut Numbers) {
 /// An invalidated entry counts as absent: the new value replaces none.
 #[test]
 fn a_removed_one_is_written_anew(rt: HostRuntime) -> Result<(), Fail> {
-    let key = shared(rt.alloc(), 5)?;
-    let mut cache = opened(rt.alloc(), 0, 100)?;
+    let key = share_key(rt.alloc(), 5)?;
+    let mut cache = open_cache(rt.alloc(), 0, 100)?;
     is_written_anew(&rt, &mut cache, &key);
-    let_go(cache);
+    drop_cache(cache);
     Ok(())
 }
 
@@ -128,16 +129,16 @@ fn is_written_anew(rt: &impl Abort, cache: &mut Numbers, key: &Arc<u64>) {
     insert(rt, cache, 5, 7);
     cache.invalidate_all();
     gives(rt, cache, key, 8, Ok((5, 8, true, false)));
-    left_by(rt, cache, 7, RemovalCause::Explicit);
+    check_notice(rt, cache, 7, RemovalCause::Explicit);
 }
 
 /// At a capacity of 0 the value is returned and not stored.
 #[test]
 fn nothing_is_stored_at_a_capacity_of_0(rt: HostRuntime) -> Result<(), Fail> {
-    let key = shared(rt.alloc(), 5)?;
-    let mut cache = opened(rt.alloc(), u64::MAX, 0)?;
+    let key = share_key(rt.alloc(), 5)?;
+    let mut cache = open_cache(rt.alloc(), u64::MAX, 0)?;
     is_not_stored(&rt, &mut cache, &key);
-    let_go(cache);
+    drop_cache(cache);
     Ok(())
 }
 
@@ -150,11 +151,11 @@ fn is_not_stored(rt: &impl Abort, cache: &mut Numbers, key: &Arc<u64>) {
 /// Without a sequence number left, the call fails unless a value is live.
 #[test]
 fn numbers_are_used_up(rt: HostRuntime) -> Result<(), Fail> {
-    let key = shared(rt.alloc(), 5)?;
-    let other = shared(rt.alloc(), 6)?;
-    let mut cache = opened(rt.alloc(), u64::MAX - 1, 100)?;
+    let key = share_key(rt.alloc(), 5)?;
+    let other = share_key(rt.alloc(), 6)?;
+    let mut cache = open_cache(rt.alloc(), u64::MAX - 1, 100)?;
     are_used_up(&rt, &mut cache, &key, &other);
-    let_go(cache);
+    drop_cache(cache);
     Ok(())
 }
 
@@ -168,7 +169,12 @@ fn are_used_up(rt: &impl Abort, cache: &mut Numbers, key: &Arc<u64>, other: &Arc
 
 /// Returns the reply to a step: a value and whether it is fresh, or `None` if no sequence number is
 /// left.
-fn stepped(rt: &impl Abort, cache: &mut Numbers, key: Arc<u64>, value: u64) -> Option<(u64, bool)> {
+fn make_step(
+    rt: &impl Abort,
+    cache: &mut Numbers,
+    key: Arc<u64>,
+    value: u64,
+) -> Option<(u64, bool)> {
     match cache.step(Step::OrInsert { key, value, now: 0 }) {
         Reply::Entered(entry) => Some((*entry.value(), entry.is_fresh())),
         Reply::Refused(Refused::NumbersUsedUp) => None,
@@ -177,25 +183,25 @@ fn stepped(rt: &impl Abort, cache: &mut Numbers, key: Arc<u64>, value: u64) -> O
 }
 
 /// Checks the reply to a step.
-fn steps(
+fn check_step(
     rt: &impl Abort,
     cache: &mut Numbers,
     key: Arc<u64>,
     value: u64,
     wanted: Option<(u64, bool)>,
 ) {
-    assert_eq!(rt; stepped(rt, cache, key, value), wanted);
+    assert_eq!(rt; make_step(rt, cache, key, value), wanted);
 }
 
 /// A step replies what `or_insert` returns.
 #[test]
 fn a_step_is_the_call(rt: HostRuntime) -> Result<(), Fail> {
-    let key = shared(rt.alloc(), 5)?;
-    let same = shared(rt.alloc(), 5)?;
-    let other = shared(rt.alloc(), 6)?;
-    let mut cache = opened(rt.alloc(), u64::MAX - 1, 100)?;
+    let key = share_key(rt.alloc(), 5)?;
+    let same = share_key(rt.alloc(), 5)?;
+    let other = share_key(rt.alloc(), 6)?;
+    let mut cache = open_cache(rt.alloc(), u64::MAX - 1, 100)?;
     is_the_call(&rt, &mut cache, key, same, other);
-    let_go(cache);
+    drop_cache(cache);
     Ok(())
 }
 
@@ -206,7 +212,7 @@ fn is_the_call(
     same: Arc<u64>,
     other: Arc<u64>,
 ) {
-    steps(rt, cache, key, 7, Some((7, true)));
-    steps(rt, cache, same, 8, Some((7, false)));
-    steps(rt, cache, other, 9, None);
+    check_step(rt, cache, key, 7, Some((7, true)));
+    check_step(rt, cache, same, 8, Some((7, false)));
+    check_step(rt, cache, other, 9, None);
 }

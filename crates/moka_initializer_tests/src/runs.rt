@@ -4,7 +4,7 @@ ghost use Rattle.moka_model.specs.declared.turns.Kind.{Kind};
 ghost use Rattle.moka_state.specs.Finish.{OutcomeKeeps};
 ghost use Rattle.moka_state.specs.Step.{StepKeeps};
 
-use crate::caches::{Numbers, Odd, Rules, Types, let_go, notice_count, opened_over};
+use crate::caches::{Numbers, Odd, Rules, Types, drop_cache, notice_count, open_over};
 use moka_model::turns::{Kind, Outcome};
 use moka_policy::policy::{CacheTypes, Predicate};
 use moka_state::list_rows::ListRows;
@@ -170,7 +170,7 @@ fn number_in(reply: &Reply<u64, u64, Types>) -> Option<u64> {
 }
 
 /// Makes a step. Returns the number of the turn that the reply names, and the reply as a text.
-fn replied<R: RowStore<u64, u64>>(
+fn reply_to<R: RowStore<u64, u64>>(
     alloc: Global,
     cache: &mut State<u64, u64, Types, R>,
     drawn: Drawn,
@@ -191,15 +191,15 @@ fn is_entry(
     place: u64,
 ) -> Result<(), Fail> {
     let done = format!(in alloc; "{:?}", entry.0)?;
-    let told = text_of(alloc, &entry.1)?;
+    let text = text_of(alloc, &entry.1)?;
     is_text(rt, done.as_str(), step, place);
-    is_text(rt, told.as_str(), reply, place);
+    is_text(rt, text.as_str(), reply, place);
     Ok(())
 }
 
 /// Makes a recorded step, and returns the reply as a text. Checks both clones of the step and of
 /// the reply.
-fn recorded<R: RowStore<u64, u64>>(
+fn record_step<R: RowStore<u64, u64>>(
     rt: &impl Abort,
     alloc: Global,
     cache: &mut State<u64, u64, Types, R>,
@@ -223,11 +223,11 @@ fn recorded<R: RowStore<u64, u64>>(
 struct Source {
     generator: SplitMix64,
     /// The number of the turn that was named last, for each kind and key.
-    told: [u64; 9],
+    turn_numbers: [u64; 9],
     now: u64,
 }
 
-/// Returns the place of a kind and a key in `told`.
+/// Returns the index of a kind and a key in `turn_numbers`.
 fn place_of(drawn: Drawn) -> usize {
     drawn.kind.wrapping_mul(3).wrapping_add(drawn.key) as usize
 }
@@ -236,7 +236,7 @@ impl Source {
     fn new(seed: u64) -> Source {
         Source {
             generator: SplitMix64::seed_from_u64(seed),
-            told: [0; 9],
+            turn_numbers: [0; 9],
             now: 0,
         }
     }
@@ -258,7 +258,7 @@ impl Source {
             given: self.below(6),
             now: self.now,
         };
-        match self.told.get(place_of(drawn)) {
+        match self.turn_numbers.get(place_of(drawn)) {
             Some(number) if drawn.number > 2 => Drawn {
                 number: *number,
                 ..drawn
@@ -269,14 +269,14 @@ impl Source {
 
     /// Notes the number of the turn that was named.
     fn learn(&mut self, drawn: Drawn, number: Option<u64>) {
-        if let (Some(number), Some(told)) = (number, self.told.get_mut(place_of(drawn))) {
-            *told = number;
+        if let (Some(number), Some(slot)) = (number, self.turn_numbers.get_mut(place_of(drawn))) {
+            *slot = number;
         }
     }
 }
 
 /// Checks that both caches reply alike to so many steps, and have as many notices then.
-fn answer_alike(
+fn run_alike(
     rt: &impl Abort,
     alloc: Global,
     one: &mut Numbers,
@@ -302,8 +302,8 @@ fn reply_alike(
     drawn: Drawn,
     place: u64,
 ) -> Result<Option<u64>, Fail> {
-    let (number, text) = replied(alloc, one, drawn)?;
-    let expected = recorded(rt, alloc, other, drawn, place)?;
+    let (number, text) = reply_to(alloc, one, drawn)?;
+    let expected = record_step(rt, alloc, other, drawn, place)?;
     is_text(rt, text.as_str(), expected.as_str(), place);
     Ok(number)
 }
@@ -345,7 +345,7 @@ const ALL_RULES: [Rules; 5] = [
 fn both_stores_answer_random_lists_alike(rt: HostRuntime) -> Result<(), Fail> {
     for seed in 0..LISTS {
         for rules in ALL_RULES {
-            answers_alike(&rt, rt.alloc(), rules, seed)?;
+            stores_reply_alike(&rt, rt.alloc(), rules, seed)?;
         }
     }
     Ok(())
@@ -354,21 +354,21 @@ fn both_stores_answer_random_lists_alike(rt: HostRuntime) -> Result<(), Fail> {
 /// The number of lists that are tried with each of the rules.
 const LISTS: u64 = 4;
 
-fn answers_alike(rt: &impl Abort, alloc: Global, rules: Rules, seed: u64) -> Result<(), Fail> {
-    let mut one = opened_over(alloc, rules)?;
-    let passed = answers_as_lists(rt, alloc, rules, seed, &mut one);
-    let_go(one);
+fn stores_reply_alike(rt: &impl Abort, alloc: Global, rules: Rules, seed: u64) -> Result<(), Fail> {
+    let mut one = open_over(alloc, rules)?;
+    let passed = replies_as_lists(rt, alloc, rules, seed, &mut one);
+    drop_cache(one);
     passed
 }
 
 /// Checks that a new cache over plain lists replies as this one, which is new, too.
-fn answers_as_lists(
+fn replies_as_lists(
     rt: &impl Abort,
     alloc: Global,
     rules: Rules,
     seed: u64,
     one: &mut Numbers,
 ) -> Result<(), Fail> {
-    let mut other = opened_over(alloc, rules)?;
-    answer_alike(rt, alloc, one, &mut other, &mut Source::new(seed))
+    let mut other = open_over(alloc, rules)?;
+    run_alike(rt, alloc, one, &mut other, &mut Source::new(seed))
 }

@@ -1,8 +1,9 @@
 //! The calls of a selector whose closure may fail, or returns an operation.
 use crate::caches::{
-    Numbers, Selector, counts, entry, entry_by_ref, insert, let_go, look, opened, or_insert, shared,
+    Numbers, Selector, counts, drop_cache, entry, entry_by_ref, insert, look, open_cache,
+    or_insert, share_key,
 };
-use crate::computes::{computed, parts, ran, said, says};
+use crate::computes::{begin_running_compute, finish_compute, parts, says, word_and_entry_of};
 use moka_model::comp_result::CompResult;
 use moka_model::entry::Entry;
 use moka_model::turns::Op;
@@ -19,7 +20,7 @@ type Parts = (u64, u64, bool, bool);
 
 /// The result of a call.
 #[derive(Clone, Copy, Debug, PartialEq)]
-enum Told {
+enum Returned {
     /// A word for the result of a compute, and its entry.
     Became(&'static str, Option<Parts>),
     Entry(Parts),
@@ -27,40 +28,40 @@ enum Told {
     Refused(Refused),
 }
 
-const IS_OPEN: Told = Told::Refused(Refused::TurnIsOpen);
+const IS_OPEN: Returned = Returned::Refused(Refused::TurnIsOpen);
 
-fn entry_of(given: Result<Entry<u64, u64>, Refused>) -> Told {
+fn entry_of(given: Result<Entry<u64, u64>, Refused>) -> Returned {
     match given {
-        Ok(entry) => Told::Entry(parts(&entry)),
-        Err(cause) => Told::Refused(cause),
+        Ok(entry) => Returned::Entry(parts(&entry)),
+        Err(cause) => Returned::Refused(cause),
     }
 }
 
-fn tried_of(given: Result<Result<Entry<u64, u64>, Arc<u64>>, Refused>) -> Told {
+fn tried_of(given: Result<Result<Entry<u64, u64>, Arc<u64>>, Refused>) -> Returned {
     match given {
-        Ok(Ok(entry)) => Told::Entry(parts(&entry)),
-        Ok(Err(error)) => Told::Failed(*error),
-        Err(cause) => Told::Refused(cause),
+        Ok(Ok(entry)) => Returned::Entry(parts(&entry)),
+        Ok(Err(error)) => Returned::Failed(*error),
+        Err(cause) => Returned::Refused(cause),
     }
 }
 
-fn became(computed: CompResult<u64, u64>) -> Told {
-    let (word, entry) = said(computed);
-    Told::Became(word, entry)
+fn became_of(computed: CompResult<u64, u64>) -> Returned {
+    let (word, entry) = word_and_entry_of(computed);
+    Returned::Became(word, entry)
 }
 
-fn computed_of(given: Result<CompResult<u64, u64>, Refused>) -> Told {
+fn computed_of(given: Result<CompResult<u64, u64>, Refused>) -> Returned {
     match given {
-        Ok(computed) => became(computed),
-        Err(cause) => Told::Refused(cause),
+        Ok(computed) => became_of(computed),
+        Err(cause) => Returned::Refused(cause),
     }
 }
 
-fn tried_compute_of(given: Result<Result<CompResult<u64, u64>, u64>, Refused>) -> Told {
+fn tried_compute_of(given: Result<Result<CompResult<u64, u64>, u64>, Refused>) -> Returned {
     match given {
-        Ok(Ok(computed)) => became(computed),
-        Ok(Err(error)) => Told::Failed(error),
-        Err(cause) => Told::Refused(cause),
+        Ok(Ok(computed)) => became_of(computed),
+        Ok(Err(error)) => Returned::Failed(error),
+        Err(cause) => Returned::Refused(cause),
     }
 }
 
@@ -94,7 +95,7 @@ impl Asked {
 }
 
 /// Creates a count of 0. Retries once if the allocation fails.
-fn unasked(alloc: Global) -> Result<Rc<Asked>, AllocError> {
+fn new_count(alloc: Global) -> Result<Rc<Asked>, AllocError> {
     match Rc::new(alloc, Asked::new()) {
         Ok(asked) => Ok(asked),
         Err(_) => Ok(Rc::new(alloc, Asked::new())?),
@@ -102,7 +103,7 @@ fn unasked(alloc: Global) -> Result<Rc<Asked>, AllocError> {
 }
 
 /// Returns the value of an entry that a closure got.
-fn live(shown: Option<Entry<u64, u64>>) -> Option<u64> {
+fn live_value(shown: Option<Entry<u64, u64>>) -> Option<u64> {
     match shown {
         Some(entry) => Some(*entry.value()),
         None => None,
@@ -117,7 +118,7 @@ fn next(live: Option<u64>) -> u64 {
     }
 }
 
-fn inserted(cache: &mut Numbers, asked: Rc<Asked>, given: Result<u64, u64>) -> Told {
+fn or_insert_with(cache: &mut Numbers, asked: Rc<Asked>, given: Result<u64, u64>) -> Returned {
     let selector = entry(cache, 5);
     tried_of(selector.or_try_insert_with(move || {
         asked.note(None);
@@ -125,41 +126,41 @@ fn inserted(cache: &mut Numbers, asked: Rc<Asked>, given: Result<u64, u64>) -> T
     }))
 }
 
-fn compute(cache: &mut Numbers, asked: Rc<Asked>, op: Op<u64>) -> Told {
+fn compute(cache: &mut Numbers, asked: Rc<Asked>, op: Op<u64>) -> Returned {
     let selector = entry(cache, 5);
     computed_of(selector.and_compute_with(move |shown| {
-        asked.note(live(shown));
+        asked.note(live_value(shown));
         op
     }))
 }
 
-fn upsert(selector: Selector<'_>, asked: Rc<Asked>) -> Told {
+fn upsert(selector: Selector<'_>, asked: Rc<Asked>) -> Returned {
     entry_of(selector.and_upsert_with(move |shown| {
-        let live = live(shown);
+        let live = live_value(shown);
         asked.note(live);
         next(live)
     }))
 }
 
-fn try_compute(cache: &mut Numbers, asked: Rc<Asked>, given: Result<Op<u64>, u64>) -> Told {
+fn try_compute(cache: &mut Numbers, asked: Rc<Asked>, given: Result<Op<u64>, u64>) -> Returned {
     let selector = entry(cache, 5);
     tried_compute_of(selector.and_try_compute_with(move |shown| {
-        asked.note(live(shown));
+        asked.note(live_value(shown));
         given
     }))
 }
 
-fn insert_by_ref(cache: &mut Numbers, key: &u64, value: u64) -> Told {
+fn insert_by_ref(cache: &mut Numbers, key: &u64, value: u64) -> Returned {
     match entry_by_ref(cache, key) {
         Ok(selector) => entry_of(or_insert(selector, value)),
-        Err(cause) => Told::Refused(cause),
+        Err(cause) => Returned::Refused(cause),
     }
 }
 
-fn upsert_by_ref(cache: &mut Numbers, asked: Rc<Asked>, key: &u64) -> Told {
+fn upsert_by_ref(cache: &mut Numbers, asked: Rc<Asked>, key: &u64) -> Returned {
     match entry_by_ref(cache, key) {
         Ok(selector) => upsert(selector, asked),
-        Err(cause) => Told::Refused(cause),
+        Err(cause) => Returned::Refused(cause),
     }
 }
 
@@ -178,9 +179,9 @@ enum Call {
     UpsertByRef,
 }
 
-fn answer_by(cache: &mut Numbers, asked: Rc<Asked>, call: Call) -> Told {
+fn reply_by(cache: &mut Numbers, asked: Rc<Asked>, call: Call) -> Returned {
     match call {
-        Call::TryInsert(given) => inserted(cache, asked, given),
+        Call::TryInsert(given) => or_insert_with(cache, asked, given),
         Call::Nop => compute(cache, asked, Op::Nop),
         Call::Put(value) => compute(cache, asked, Op::Put(value)),
         Call::Remove => compute(cache, asked, Op::Remove),
@@ -193,10 +194,10 @@ fn answer_by(cache: &mut Numbers, asked: Rc<Asked>, call: Call) -> Told {
 }
 
 /// Returns the result of a call, whose closure counts its calls.
-fn answer_of(cache: &mut Numbers, asked: &Rc<Asked>, call: Call) -> Told {
+fn reply_of(cache: &mut Numbers, asked: &Rc<Asked>, call: Call) -> Returned {
     match asked.clone() {
-        Ok(asked) => answer_by(cache, asked, call),
-        Err(_) => Told::Refused(Refused::OutOfMemory),
+        Ok(asked) => reply_by(cache, asked, call),
+        Err(_) => Returned::Refused(Refused::OutOfMemory),
     }
 }
 
@@ -212,22 +213,28 @@ fn asks(
     asked: &Rc<Asked>,
     call: Call,
     shown: Option<u64>,
-    wanted: Told,
+    wanted: Returned,
 ) {
     asked.forget();
-    is_said(rt, answer_of(cache, asked, call), wanted);
+    check_returned(rt, reply_of(cache, asked, call), wanted);
     was_asked(rt, asked, 1, shown);
 }
 
 /// Checks the result of a call that does not call its closure.
-fn asks_nothing(rt: &impl Abort, cache: &mut Numbers, asked: &Rc<Asked>, call: Call, wanted: Told) {
+fn asks_nothing(
+    rt: &impl Abort,
+    cache: &mut Numbers,
+    asked: &Rc<Asked>,
+    call: Call,
+    wanted: Returned,
+) {
     asked.forget();
-    is_said(rt, answer_of(cache, asked, call), wanted);
+    check_returned(rt, reply_of(cache, asked, call), wanted);
     was_asked(rt, asked, 0, None);
 }
 
-fn is_said(rt: &impl Abort, told: Told, wanted: Told) {
-    assert_eq!(rt; told, wanted);
+fn check_returned(rt: &impl Abort, returned: Returned, wanted: Returned) {
+    assert_eq!(rt; returned, wanted);
 }
 
 /// Checks what a lookup of the key finds.
@@ -235,27 +242,27 @@ fn finds(rt: &impl Abort, cache: &mut Numbers, wanted: Option<u64>) {
     assert_eq!(rt; look(cache, 5), Ok(wanted));
 }
 
-const STILL_NONE: Told = Told::Became("still none", None);
+const STILL_NONE: Returned = Returned::Became("still none", None);
 
-const INSERTED: Told = Told::Became("inserted", Some((5, 1, true, false)));
+const INSERTED: Returned = Returned::Became("inserted", Some((5, 1, true, false)));
 
-const REPLACED: Told = Told::Became("replaced", Some((5, 2, true, true)));
+const REPLACED: Returned = Returned::Became("replaced", Some((5, 2, true, true)));
 
-const UNCHANGED: Told = Told::Became("unchanged", Some((5, 2, false, false)));
+const UNCHANGED: Returned = Returned::Became("unchanged", Some((5, 2, false, false)));
 
-const FRESH_3: Told = Told::Entry((5, 3, true, false));
+const FRESH_3: Returned = Returned::Entry((5, 3, true, false));
 
-const FOUND_3: Told = Told::Entry((5, 3, false, false));
+const FOUND_3: Returned = Returned::Entry((5, 3, false, false));
 
-const REMOVED: Told = Told::Became("removed", Some((5, 2, false, false)));
+const REMOVED: Returned = Returned::Became("removed", Some((5, 2, false, false)));
 
 /// A compute inserts, replaces, leaves or removes a value, and returns which.
 #[test]
 fn a_value_is_computed(rt: HostRuntime) -> Result<(), Fail> {
-    let asked = unasked(rt.alloc())?;
-    let mut cache = opened(rt.alloc(), 0, 100)?;
+    let asked = new_count(rt.alloc())?;
+    let mut cache = open_cache(rt.alloc(), 0, 100)?;
     is_computed(&rt, &mut cache, &asked);
-    let_go(cache);
+    drop_cache(cache);
     Ok(())
 }
 
@@ -277,17 +284,17 @@ fn is_left_and_removed(rt: &impl Abort, cache: &mut Numbers, asked: &Rc<Asked>) 
 /// An upsert gets the live value, and returns the new one.
 #[test]
 fn a_count_goes_up(rt: HostRuntime) -> Result<(), Fail> {
-    let asked = unasked(rt.alloc())?;
-    let mut cache = opened(rt.alloc(), 0, 100)?;
+    let asked = new_count(rt.alloc())?;
+    let mut cache = open_cache(rt.alloc(), 0, 100)?;
     goes_up(&rt, &mut cache, &asked);
-    let_go(cache);
+    drop_cache(cache);
     Ok(())
 }
 
 fn goes_up(rt: &impl Abort, cache: &mut Numbers, asked: &Rc<Asked>) {
-    let first = Told::Entry((5, 1, true, false));
-    let second = Told::Entry((5, 2, true, true));
-    let third = Told::Entry((5, 3, true, true));
+    let first = Returned::Entry((5, 1, true, false));
+    let second = Returned::Entry((5, 2, true, true));
+    let third = Returned::Entry((5, 3, true, true));
     asks(rt, cache, asked, Call::Upsert, None, first);
     asks(rt, cache, asked, Call::Upsert, Some(1), second);
     asks(rt, cache, asked, Call::Upsert, Some(2), third);
@@ -297,10 +304,10 @@ fn goes_up(rt: &impl Abort, cache: &mut Numbers, asked: &Rc<Asked>) {
 /// The error of a closure is returned, and nothing is stored.
 #[test]
 fn a_closure_may_fail(rt: HostRuntime) -> Result<(), Fail> {
-    let asked = unasked(rt.alloc())?;
-    let mut cache = opened(rt.alloc(), 0, 100)?;
+    let asked = new_count(rt.alloc())?;
+    let mut cache = open_cache(rt.alloc(), 0, 100)?;
     may_fail(&rt, &mut cache, &asked);
-    let_go(cache);
+    drop_cache(cache);
     Ok(())
 }
 
@@ -310,7 +317,7 @@ fn may_fail(rt: &impl Abort, cache: &mut Numbers, asked: &Rc<Asked>) {
 }
 
 fn an_initializer_may_fail(rt: &impl Abort, cache: &mut Numbers, asked: &Rc<Asked>) {
-    let failed = Told::Failed(9);
+    let failed = Returned::Failed(9);
     asks(rt, cache, asked, Call::TryInsert(Err(9)), None, failed);
     finds(rt, cache, None);
     asks(rt, cache, asked, Call::TryInsert(Ok(3)), None, FRESH_3);
@@ -319,8 +326,8 @@ fn an_initializer_may_fail(rt: &impl Abort, cache: &mut Numbers, asked: &Rc<Aske
 
 /// Checks that nothing is stored if the closure fails, and that the next compute opens a turn.
 fn a_compute_may_fail(rt: &impl Abort, cache: &mut Numbers, asked: &Rc<Asked>) {
-    let failed = Told::Failed(9);
-    let replaced = Told::Became("replaced", Some((5, 4, true, true)));
+    let failed = Returned::Failed(9);
+    let replaced = Returned::Became("replaced", Some((5, 4, true, true)));
     asks(rt, cache, asked, Call::TryFail(9), Some(3), failed);
     finds(rt, cache, Some(3));
     asks(rt, cache, asked, Call::TryPut(4), Some(3), replaced);
@@ -330,15 +337,15 @@ fn a_compute_may_fail(rt: &impl Abort, cache: &mut Numbers, asked: &Rc<Asked>) {
 /// A selector takes the key by reference, too.
 #[test]
 fn a_key_may_be_lent(rt: HostRuntime) -> Result<(), Fail> {
-    let asked = unasked(rt.alloc())?;
-    let mut cache = opened(rt.alloc(), 0, 100)?;
+    let asked = new_count(rt.alloc())?;
+    let mut cache = open_cache(rt.alloc(), 0, 100)?;
     may_be_lent(&rt, &mut cache, &asked);
-    let_go(cache);
+    drop_cache(cache);
     Ok(())
 }
 
 fn may_be_lent(rt: &impl Abort, cache: &mut Numbers, asked: &Rc<Asked>) {
-    let replaced = Told::Entry((5, 4, true, true));
+    let replaced = Returned::Entry((5, 4, true, true));
     asks_nothing(rt, cache, asked, Call::InsertByRef(3), FRESH_3);
     asks_nothing(rt, cache, asked, Call::InsertByRef(6), FOUND_3);
     asks(rt, cache, asked, Call::UpsertByRef, Some(3), replaced);
@@ -347,19 +354,19 @@ fn may_be_lent(rt: &impl Abort, cache: &mut Numbers, asked: &Rc<Asked>) {
 /// Computes fail with `TurnIsOpen` while a compute of their key is open.
 #[test]
 fn an_open_compute_refuses(rt: HostRuntime) -> Result<(), Fail> {
-    let key = shared(rt.alloc(), 5)?;
-    let asked = unasked(rt.alloc())?;
-    let mut cache = opened(rt.alloc(), 0, 100)?;
+    let key = share_key(rt.alloc(), 5)?;
+    let asked = new_count(rt.alloc())?;
+    let mut cache = open_cache(rt.alloc(), 0, 100)?;
     refuses(&rt, &mut cache, &asked, &key);
-    let_go(cache);
+    drop_cache(cache);
     Ok(())
 }
 
 fn refuses(rt: &impl Abort, cache: &mut Numbers, asked: &Rc<Asked>, key: &Arc<u64>) {
     insert(rt, cache, 5, 7);
-    let (turn, _) = ran(rt, cache, key, true);
+    let (turn, _) = begin_running_compute(rt, cache, key, true);
     all_are_refused(rt, cache, asked);
-    let result = computed(rt, cache, turn, Op::Put(8));
+    let result = finish_compute(rt, cache, turn, Op::Put(8));
     says(rt, result, "replaced", Some((5, 8, true, true)));
     finds(rt, cache, Some(8));
 }
@@ -378,45 +385,45 @@ fn counts_so(rt: &impl Abort, cache: &Numbers, wanted: (u64, usize, bool)) {
 }
 
 /// Calls about one key, one after another, and their results.
-const CALLS: [(Call, Told); 10] = [
-    (Call::TryInsert(Err(9)), Told::Failed(9)),
+const CALLS: [(Call, Returned); 10] = [
+    (Call::TryInsert(Err(9)), Returned::Failed(9)),
     (Call::Nop, STILL_NONE),
     (Call::Put(1), INSERTED),
     (Call::Put(2), REPLACED),
     (Call::Nop, UNCHANGED),
-    (Call::TryFail(9), Told::Failed(9)),
+    (Call::TryFail(9), Returned::Failed(9)),
     (Call::Remove, REMOVED),
-    (Call::UpsertByRef, Told::Entry((5, 1, true, false))),
+    (Call::UpsertByRef, Returned::Entry((5, 1, true, false))),
     (Call::TryPut(2), REPLACED),
-    (Call::Upsert, Told::Entry((5, 3, true, true))),
+    (Call::Upsert, Returned::Entry((5, 3, true, true))),
 ];
 
 /// Checks the result of a call. If an allocation fails, it says so, nothing has changed, and it is
 /// called again.
-fn answers_again(rt: &impl Abort, cache: &mut Numbers, asked: &Rc<Asked>, row: (Call, Told)) {
+fn replies_again(rt: &impl Abort, cache: &mut Numbers, asked: &Rc<Asked>, row: (Call, Returned)) {
     let (call, wanted) = row;
     let before = counts(cache, 5);
-    let first = answer_of(cache, asked, call);
+    let first = reply_of(cache, asked, call);
     if first == wanted {
         return;
     }
-    is_said(rt, first, Told::Refused(Refused::OutOfMemory));
+    check_returned(rt, first, Returned::Refused(Refused::OutOfMemory));
     counts_so(rt, cache, before);
-    is_said(rt, answer_of(cache, asked, call), wanted);
+    check_returned(rt, reply_of(cache, asked, call), wanted);
 }
 
 /// Computes work, also if any one allocation fails: `scripts/refused_memory` tries each.
 #[test]
 fn computes_answer_where_a_request_is_refused(rt: HostRuntime) -> Result<(), Fail> {
-    let asked = unasked(rt.alloc())?;
-    let mut cache = opened(rt.alloc(), 0, 100)?;
-    all_answer(&rt, &mut cache, &asked);
-    let_go(cache);
+    let asked = new_count(rt.alloc())?;
+    let mut cache = open_cache(rt.alloc(), 0, 100)?;
+    all_reply(&rt, &mut cache, &asked);
+    drop_cache(cache);
     Ok(())
 }
 
-fn all_answer(rt: &impl Abort, cache: &mut Numbers, asked: &Rc<Asked>) {
+fn all_reply(rt: &impl Abort, cache: &mut Numbers, asked: &Rc<Asked>) {
     for (call, wanted) in CALLS {
-        answers_again(rt, cache, asked, (call, wanted));
+        replies_again(rt, cache, asked, (call, wanted));
     }
 }

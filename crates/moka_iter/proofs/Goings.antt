@@ -4,7 +4,7 @@ use Rattle.std.specs.List.{AllByRecursion}
 use Rattle.std.specs.List.Sorted.{IsPermutation}
 use Rattle.std.proofs.lemmas.List.{map-append, append-nil, length-map}
 use Rattle.std.proofs.lemmas.List.Sorted.{IsPermutation-refl, length_permutation}
-use Rattle.moka_iter.specs.Walks.{Cursor, at_segment, in_segment, pending_in, taken_from, dealt_with, calls_left, Yielded, KeyRefused, SegmentRefused, Finished, Ending, Advance, answered, ended_at, AllStand, IsEnding, Advances}
+use Rattle.moka_iter.specs.Walks.{Cursor, at_segment, in_segment, pending_in, taken_from, keys_dealt_with, calls_left, Yielded, KeyRefused, SegmentRefused, Finished, Ending, Advance, reply_of, key_at_end, AllStand, IsEnding, Advances}
 use Rattle.moka_iter.specs.Cursors.{Stops}
 
 -- what holds of two lists holds of both together
@@ -45,8 +45,8 @@ module _ {K V E : Type 0} (count : ℕ) (stands : ℕ → Result (List K) E → 
   IsOnItsWay old here = (taken : List (List K)) × (passed : List (ℕ × K)) × Goes old here taken passed
 
   -- this may be returned, and leads to that cursor
-  abbrev pub MayAnswer : Cursor K → Option (Result (K × V) E) → Cursor K → Type 0
-  MayAnswer old result new = (it : Advance K V E) × Advances count stands finds old it new × (result ≡ answered it.ending)
+  abbrev pub MayReply : Cursor K → Option (Result (K × V) E) → Cursor K → Type 0
+  MayReply old result new = (it : Advance K V E) × Advances count stands finds old it new × (result ≡ reply_of it.ending)
 
   pub goes-first : (old : Cursor K) → IsOnItsWay old old
   goes-first old = (
@@ -107,7 +107,7 @@ module _ {K V E : Type 0} (count : ℕ) (stands : ℕ → Result (List K) E → 
       was.2.same ∙ ap (λ l. was.1 ++ l) split ∙ sym (append_assoc was.1 (in_segment i passed) ((i, k) ∷ in_segment i new.pending)) ∙ ap (λ l. (was.1 ++ in_segment i passed) ++ (i, k) ∷ l) position in
       subst (IsPermutation (pending_in old ++ taken_from old.reached was.0)) (it ∙ sym (append_assoc (was.1 ++ in_segment i passed) ((i, k) ∷ []) (pending_in new))) (IsPermutation-refl (pending_in old ++ taken_from old.reached was.0))
 
-  pub ends-within : (old here new : Cursor K) (r : Result (K × V) E) → IsOnItsWay old here → new.reached ≡ here.reached → Stops (finds (here.reached - 1)) here.pending (Some r) new.pending → MayAnswer old (Some r) new
+  pub ends-within : (old here new : Cursor K) (r : Result (K × V) E) → IsOnItsWay old here → new.reached ≡ here.reached → Stops (finds (here.reached - 1)) here.pending (Some r) new.pending → MayReply old (Some r) new
   ends-within old here new (Ok pair) was same_place stops =
       let i = here.reached - 1 in
       let all = all-append (λ (p : ℕ × K). finds p.0 p.1 (Ok None)) was.1 (in_segment i stops.0) was.2.dead (all-in_segment (λ i k. finds i k (Ok None)) i stops.0 stops.3) in (
@@ -141,7 +141,7 @@ module _ {K V E : Type 0} (count : ℕ) (stands : ℕ → Result (List K) E → 
       let it = was.2.same ∙ ap (λ l. was.1 ++ in_segment (here.reached - 1) l) none in
       subst (IsPermutation (pending_in old ++ taken_from old.reached was.0)) (it ∙ ap (λ l. was.1 ++ l) (sym empty) ∙ ap (λ l. l ++ rest) (sym (append-nil was.1))) (IsPermutation-refl (pending_in old ++ taken_from old.reached was.0))
 
-  pub ends-refused : (old here new : Cursor K) (e : E) → IsOnItsWay old here → here.pending ≡ [] → here.reached < count → new.reached ≡ here.reached + 1 → new.pending ≡ [] → stands here.reached (Err e) → MayAnswer old (Some (Err e)) new
+  pub ends-refused : (old here new : Cursor K) (e : E) → IsOnItsWay old here → here.pending ≡ [] → here.reached < count → new.reached ≡ here.reached + 1 → new.pending ≡ [] → stands here.reached (Err e) → MayReply old (Some (Err e)) new
   ends-refused old here new e was none more one_further left refused =
       let at : here.reached ≡ old.reached + length was.0 = was.2.reached in (
         record { taken = was.0; passed = was.1; ending = SegmentRefused e },
@@ -155,7 +155,7 @@ module _ {K V E : Type 0} (count : ℕ) (stands : ℕ → Result (List K) E → 
         refl,
       )
 
-  pub ends-finished : (old here : Cursor K) → IsOnItsWay old here → here.pending ≡ [] → count ≤ here.reached → MayAnswer old None here
+  pub ends-finished : (old here : Cursor K) → IsOnItsWay old here → here.pending ≡ [] → count ≤ here.reached → MayReply old None here
   ends-finished old here was none all =
       let at : here.reached ≡ old.reached + length was.0 = was.2.reached in (
         record { taken = was.0; passed = was.1; ending = Finished },
@@ -181,16 +181,16 @@ module _ {K V E : Type 0} (count : ℕ) (stands : ℕ → Result (List K) E → 
 
   -- so is each call that returns something
   module _ (old new : Cursor K) (it : Advance K V E) (advances : Advances count stands finds old it new) where
-    long : length (pending_in old) + length (taken_from old.reached it.taken) ≡ length (dealt_with it) + length (pending_in new)
-    long = sym (length-append (pending_in old) (taken_from old.reached it.taken)) ∙ sym (length_permutation (pending_in old ++ taken_from old.reached it.taken) (dealt_with it ++ pending_in new) advances.once) ∙ length-append (dealt_with it) (pending_in new)
+    long : length (pending_in old) + length (taken_from old.reached it.taken) ≡ length (keys_dealt_with it) + length (pending_in new)
+    long = sym (length-append (pending_in old) (taken_from old.reached it.taken)) ∙ sym (length_permutation (pending_in old ++ taken_from old.reached it.taken) (keys_dealt_with it ++ pending_in new) advances.once) ∙ length-append (keys_dealt_with it) (pending_in new)
 
-    at-key : length (dealt_with it) ≡ length it.passed + 1 → new.reached ≡ old.reached + length it.taken → length new.pending < 2 ^ 64 → calls_left count new < calls_left count old
+    at-key : length (keys_dealt_with it) ≡ length it.passed + 1 → new.reached ≡ old.reached + length it.taken → length new.pending < 2 ^ 64 → calls_left count new < calls_left count old
     at-key one position fits = go it.taken refl
       where
         go : (taken : List (List K)) → it.taken ≡ taken → calls_left count new < calls_left count old
         go [] none =
             let same : new.reached ≡ old.reached = position ∙ ap (λ (ts : List (List K)). old.reached + length ts) none ∙ (let e : old.reached + 0 ≡ old.reached = omega arith in e) in
-            let all : length (pending_in old) + 0 ≡ length (dealt_with it) + length (pending_in new) = ap (λ (ts : List (List K)). length (pending_in old) + length (taken_from old.reached ts)) (sym none) ∙ long in
+            let all : length (pending_in old) + 0 ≡ length (keys_dealt_with it) + length (pending_in new) = ap (λ (ts : List (List K)). length (pending_in old) + length (taken_from old.reached ts)) (sym none) ∙ long in
             let here = length-map {B = ℕ × K} old.pending (λ k. (old.reached - 1, k)) in
             let there = length-map {B = ℕ × K} new.pending (λ k. (new.reached - 1, k)) in
             closer old new same (omega (arith, all, one, here, there))
@@ -198,12 +198,12 @@ module _ {K V E : Type 0} (count : ℕ) (stands : ℕ → Result (List K) E → 
             let at : new.reached ≡ old.reached + length (keys ∷ more) = position ∙ ap (λ (ts : List (List K)). old.reached + length ts) some in
             further old new (omega (arith, at)) (subst (λ n. n ≤ max old.reached count) (sym position) advances.within) fits
 
-  pub nearer : (old new : Cursor K) (r : Result (K × V) E) → MayAnswer old (Some r) new → length new.pending < 2 ^ 64 → calls_left count new < calls_left count old
+  pub nearer : (old new : Cursor K) (r : Result (K × V) E) → MayReply old (Some r) new → length new.pending < 2 ^ 64 → calls_left count new < calls_left count old
   nearer old new r may fits = go may.0.ending refl may.1.ends may.2
     where
-      go : (ending : Ending K V E) → may.0.ending ≡ ending → IsEnding count stands finds (old.reached + length may.0.taken) ending new → Some r ≡ answered ending → calls_left count new < calls_left count old
-      go (Yielded i k v) is ends same = at-key old new may.0 may.1 (ap (λ e. length (may.0.passed ++ ended_at e)) is ∙ length-append may.0.passed ((i, k) ∷ [])) ends.1 fits
-      go (KeyRefused i k e) is ends same = at-key old new may.0 may.1 (ap (λ e. length (may.0.passed ++ ended_at e)) is ∙ length-append may.0.passed ((i, k) ∷ [])) ends.1 fits
+      go : (ending : Ending K V E) → may.0.ending ≡ ending → IsEnding count stands finds (old.reached + length may.0.taken) ending new → Some r ≡ reply_of ending → calls_left count new < calls_left count old
+      go (Yielded i k v) is ends same = at-key old new may.0 may.1 (ap (λ e. length (may.0.passed ++ key_at_end e)) is ∙ length-append may.0.passed ((i, k) ∷ [])) ends.1 fits
+      go (KeyRefused i k e) is ends same = at-key old new may.0 may.1 (ap (λ e. length (may.0.passed ++ key_at_end e)) is ∙ length-append may.0.passed ((i, k) ∷ [])) ends.1 fits
       go (SegmentRefused e) is ends same =
           let position : new.reached ≡ old.reached + length may.0.taken + 1 = ap (λ (c : Cursor K). c.reached) ends.2 in
           further old new (omega (arith, position)) (omega (arith, position, ends.1)) fits

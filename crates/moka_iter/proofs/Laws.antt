@@ -10,9 +10,9 @@ use Rattle.std.proofs.lemmas.Option.{slice_get_past}
 use Rattle.moka_model.specs.MaintenanceLaws.{count}
 use Rattle.moka_model.specs.Calls.{IsCopyOf}
 use Rattle.moka_policy.specs.declared.policy.Refused.{Refused}
-use Rattle.moka_iter.specs.Walks.{Cursor, at_segment, start, in_segment, pending_in, taken_from, Ending, Yielded, KeyRefused, SegmentRefused, Finished, Advance, answered, ended_at, dealt_with, AllStand, IsEnding}
-use Rattle.moka_iter.specs.Histories.{History, keys_of, standing_in, live_in, StandsIn, FindsIn, WalksOn, AnswersNext}
-use Rattle.moka_iter.specs.WalkLaws.{WalkCall, pair_of, pairs_of, answers_in, all_keys, keys_taken, HaveAtMost, HasOneHome, AreAtHome, AreOfOneCache, StayOfOneCache, IsWalk, YieldsJust}
+use Rattle.moka_iter.specs.Walks.{Cursor, at_segment, start, in_segment, pending_in, taken_from, Ending, Yielded, KeyRefused, SegmentRefused, Finished, Advance, reply_of, key_at_end, keys_dealt_with, AllStand, IsEnding}
+use Rattle.moka_iter.specs.Histories.{History, keys_of, standing_in, live_in, StandsIn, FindsIn, WalksOn, RepliesNext}
+use Rattle.moka_iter.specs.WalkLaws.{WalkCall, pair_of, pairs_of, replies_in, all_keys, keys_taken, HaveAtMost, HasOneHome, AreAtHome, AreOfOneCache, StayOfOneCache, IsWalk, YieldsJust}
 use Rattle.moka_iter.proofs.Counts.{count-permutation, count-append, count-one, count-none, unreached}
 use Rattle.moka_iter.proofs.Goings.{same-cursor}
 use Rattle.moka_iter.proofs.KeyCounts.{none-copied, no-value, segment-once, segment-has, is_at, live-within, live-congr}
@@ -22,7 +22,7 @@ length-taken i [] = refl
 length-taken {K} i (keys ∷ more) = length-append (in_segment i keys) (taken_from (i + 1) more) ∙ ap (λ n. n + length (taken_from (i + 1) more)) (length-map {B = ℕ × K} keys (λ k. (i, k))) ∙ ap (λ n. length keys + n) (length-taken (i + 1) more)
 
 -- a call yields the key at which it ends
-pair-once : {K V E : Type 0} (eq : K → K → Bool) (k : K) (ending : Ending K V E) → count (λ (pair : K × V). eq pair.0 k) (pair_of ending) ≤ count (λ (p : ℕ × K). eq p.1 k) (ended_at ending)
+pair-once : {K V E : Type 0} (eq : K → K → Bool) (k : K) (ending : Ending K V E) → count (λ (pair : K × V). eq pair.0 k) (pair_of ending) ≤ count (λ (p : ℕ × K). eq p.1 k) (key_at_end ending)
 pair-once {K} {V} eq k (Yielded i q v) = let a = count-one (λ (pair : K × V). eq pair.0 k) (q, v) [] in let b = count-one (λ (p : ℕ × K). eq p.1 k) (i, q) [] in omega (arith, a, b)
 pair-once eq k (KeyRefused i q e) = omega arith
 pair-once eq k (SegmentRefused e) = omega arith
@@ -58,16 +58,16 @@ module _ {K V E : Type 0} (eq : K → K → Bool) (laws : IsEquivalence eq) (is_
         go Finished ends = let at = ap (λ (c : Cursor K). c.reached) ends.1 in let w = walks.within in omega (arith, at, w)
 
     -- what it has dealt with was to come, or was taken
-    counted : (p : ℕ × K → Bool) → count p (pending_in old) + count p (taken_from old.reached it.taken) ≡ count p it.passed + count p (ended_at it.ending) + count p (pending_in new)
-    counted p = sym (count-append p (pending_in old) (taken_from old.reached it.taken)) ∙ count-permutation p (pending_in old ++ taken_from old.reached it.taken) (dealt_with it ++ pending_in new) walks.once
-        ∙ count-append p (dealt_with it) (pending_in new) ∙ ap (λ n. n + count p (pending_in new)) (count-append p it.passed (ended_at it.ending))
+    counted : (p : ℕ × K → Bool) → count p (pending_in old) + count p (taken_from old.reached it.taken) ≡ count p it.passed + count p (key_at_end it.ending) + count p (pending_in new)
+    counted p = sym (count-append p (pending_in old) (taken_from old.reached it.taken)) ∙ count-permutation p (pending_in old ++ taken_from old.reached it.taken) (keys_dealt_with it ++ pending_in new) walks.once
+        ∙ count-append p (keys_dealt_with it) (pending_in new) ∙ ap (λ n. n + count p (pending_in new)) (count-append p it.passed (key_at_end it.ending))
 
-    lengths : length old.pending + all_keys it.taken ≡ length it.passed + length (ended_at it.ending) + length new.pending
+    lengths : length old.pending + all_keys it.taken ≡ length it.passed + length (key_at_end it.ending) + length new.pending
     lengths =
-        let all = length_permutation (pending_in old ++ taken_from old.reached it.taken) (dealt_with it ++ pending_in new) walks.once in
+        let all = length_permutation (pending_in old ++ taken_from old.reached it.taken) (keys_dealt_with it ++ pending_in new) walks.once in
         let left = length-append (pending_in old) (taken_from old.reached it.taken) in
-        let right = length-append (dealt_with it) (pending_in new) in
-        let dealt = length-append it.passed (ended_at it.ending) in
+        let right = length-append (keys_dealt_with it) (pending_in new) in
+        let dealt = length-append it.passed (key_at_end it.ending) in
         let taken = length-taken old.reached it.taken in
         let was = length-map {B = ℕ × K} old.pending (λ k. (old.reached - 1, k)) in
         let is = length-map {B = ℕ × K} new.pending (λ k. (new.reached - 1, k)) in
@@ -87,7 +87,7 @@ module _ {K V E : Type 0} (eq : K → K → Bool) (laws : IsEquivalence eq) (is_
   -- A call yields a key no more often than it may still come.
   call-once : (home : K → ℕ) → HasOneHome eq home → (histories : List (History K V E)) → AreAtHome eq home histories → (now : ℕ) (k : K) (old : Cursor K) (it : Advance K V Refused) (new : Cursor K)
       → WalksOn eq is_clone is_infallible histories now old it new
-      → count (λ (p : ℕ × K). eq p.1 k) (ended_at it.ending) + (count (λ (p : ℕ × K). eq p.1 k) (pending_in new) + unreached new.reached (home k)) ≤ count (λ (p : ℕ × K). eq p.1 k) (pending_in old) + unreached old.reached (home k)
+      → count (λ (p : ℕ × K). eq p.1 k) (key_at_end it.ending) + (count (λ (p : ℕ × K). eq p.1 k) (pending_in new) + unreached new.reached (home k)) ≤ count (λ (p : ℕ × K). eq p.1 k) (pending_in old) + unreached old.reached (home k)
   call-once home homes histories at_home now k old it new walks =
       let taken = taken-once home homes histories at_home now k old.reached it.taken walks.stood in
       let all = counted histories now old it new walks (λ (p : ℕ × K). eq p.1 k) in
@@ -126,26 +126,26 @@ module _ {K V E : Type 0} (eq : K → K → Bool) (laws : IsEquivalence eq) (is_
   pub alone : (history : History K V E) → AreOfOneCache eq (λ k. 0) (history ∷ [])
   alone history = ((λ a b same. refl), at-home-alone (history ∷ []) (omega arith))
 
-  -- a call that answers something deals with a key or reaches a further segment
+  -- a call that returns something deals with a key or reaches a further segment
   call-counts : (histories : List (History K V E)) (now : ℕ) (old : Cursor K) (it : Advance K V Refused) (new : Cursor K) → WalksOn eq is_clone is_infallible histories now old it new
-      → cond (is_some (answered it.ending)) 1 0 + length new.pending + old.reached ≤ length old.pending + all_keys it.taken + new.reached
+      → cond (is_some (reply_of it.ending)) 1 0 + length new.pending + old.reached ≤ length old.pending + all_keys it.taken + new.reached
   call-counts histories now old it new walks = go it.ending refl walks.ends
     where
       go : (ending : Ending K V Refused) → it.ending ≡ ending → IsEnding (length histories) (StandsIn eq is_clone is_infallible histories now) (FindsIn eq is_clone is_infallible histories now) (old.reached + length it.taken) ending new
-          → cond (is_some (answered ending)) 1 0 + length new.pending + old.reached ≤ length old.pending + all_keys it.taken + new.reached
-      go (Yielded i k v) is ends = let all = lengths histories now old it new walks in let one = ap (λ e. length (ended_at e)) is in omega (arith, all, one, ends.1)
-      go (KeyRefused i k e) is ends = let all = lengths histories now old it new walks in let one = ap (λ e. length (ended_at e)) is in omega (arith, all, one, ends.1)
+          → cond (is_some (reply_of ending)) 1 0 + length new.pending + old.reached ≤ length old.pending + all_keys it.taken + new.reached
+      go (Yielded i k v) is ends = let all = lengths histories now old it new walks in let one = ap (λ e. length (key_at_end e)) is in omega (arith, all, one, ends.1)
+      go (KeyRefused i k e) is ends = let all = lengths histories now old it new walks in let one = ap (λ e. length (key_at_end e)) is in omega (arith, all, one, ends.1)
       go (SegmentRefused e) is ends = let all = lengths histories now old it new walks in let at = ap (λ (c : Cursor K). c.reached) ends.2 in omega (arith, all, at)
       go Finished is ends = let all = lengths histories now old it new walks in let at = ap (λ (c : Cursor K). c.reached) ends.1 in omega (arith, all, at)
 
-  walk-counts : (calls : List (WalkCall K V E)) (old new : Cursor K) → IsWalk eq is_clone is_infallible old calls new → answers_in calls + length new.pending + old.reached ≤ length old.pending + keys_taken calls + new.reached
+  walk-counts : (calls : List (WalkCall K V E)) (old new : Cursor K) → IsWalk eq is_clone is_infallible old calls new → replies_in calls + length new.pending + old.reached ≤ length old.pending + keys_taken calls + new.reached
   walk-counts [] old new same = let a = ap (λ (c : Cursor K). length c.pending) same in let b = ap (λ (c : Cursor K). c.reached) same in omega (arith, a, b)
   walk-counts (call ∷ calls) old new walk =
       let first = call-counts call.histories call.now old call.does walk.0 walk.1 in
       let rest = walk-counts calls walk.0 new walk.2 in
       omega (arith, first, rest)
 
-  pub each-walk-ends : (calls : List (WalkCall K V E)) (new : Cursor K) → IsWalk eq is_clone is_infallible start calls new → answers_in calls ≤ keys_taken calls + new.reached
+  pub each-walk-ends : (calls : List (WalkCall K V E)) (new : Cursor K) → IsWalk eq is_clone is_infallible start calls new → replies_in calls ≤ keys_taken calls + new.reached
   each-walk-ends calls new walk = let it = walk-counts calls start new walk in omega (arith, it)
 
   walk-within : (most : ℕ) (calls : List (WalkCall K V E)) (old new : Cursor K) → HaveAtMost most calls → IsWalk eq is_clone is_infallible old calls new → new.reached ≤ max old.reached most
@@ -159,7 +159,7 @@ module _ {K V E : Type 0} (eq : K → K → Bool) (laws : IsEquivalence eq) (is_
   pub within-most : (most : ℕ) (calls : List (WalkCall K V E)) (new : Cursor K) → HaveAtMost most calls → IsWalk eq is_clone is_infallible start calls new → new.reached ≤ most
   within-most most calls new few walk = let it = walk-within most calls start new few walk in omega (arith, it)
 
-  pub stays : (histories : List (History K V E)) (now : ℕ) (old new : Cursor K) (it : Advance K V Refused) → WalksOn eq is_clone is_infallible histories now old it new → old.pending ≡ [] → length histories ≤ old.reached → (answered it.ending ≡ None) × (new ≡ old)
+  pub stays : (histories : List (History K V E)) (now : ℕ) (old new : Cursor K) (it : Advance K V Refused) → WalksOn eq is_clone is_infallible histories now old it new → old.pending ≡ [] → length histories ≤ old.reached → (reply_of it.ending ≡ None) × (new ≡ old)
   stays histories now old new it walks none all = go it.ending refl walks.ends
     where
       no_more : length it.taken ≡ 0
@@ -172,11 +172,11 @@ module _ {K V E : Type 0} (eq : K → K → Bool) (laws : IsEquivalence eq) (is_
           empty [] e = refl
           empty (keys ∷ more) e = omega (arith, e)
 
-      go : (ending : Ending K V Refused) → it.ending ≡ ending → IsEnding (length histories) (StandsIn eq is_clone is_infallible histories now) (FindsIn eq is_clone is_infallible histories now) (old.reached + length it.taken) ending new → (answered it.ending ≡ None) × (new ≡ old)
-      go (Yielded i k v) is ends = let l = lengths histories now old it new walks in let one = ap (λ e. length (ended_at e)) is in let empty = ap (λ (l : List K). length l) none in absurd (let no : ◌≡◌ {A = ℕ} 1 0 = omega (arith, l, one, empty, nothing) in cc)
-      go (KeyRefused i k e) is ends = let l = lengths histories now old it new walks in let one = ap (λ e. length (ended_at e)) is in let empty = ap (λ (l : List K). length l) none in absurd (let no : ◌≡◌ {A = ℕ} 1 0 = omega (arith, l, one, empty, nothing) in cc)
+      go : (ending : Ending K V Refused) → it.ending ≡ ending → IsEnding (length histories) (StandsIn eq is_clone is_infallible histories now) (FindsIn eq is_clone is_infallible histories now) (old.reached + length it.taken) ending new → (reply_of it.ending ≡ None) × (new ≡ old)
+      go (Yielded i k v) is ends = let l = lengths histories now old it new walks in let one = ap (λ e. length (key_at_end e)) is in let empty = ap (λ (l : List K). length l) none in absurd (let no : ◌≡◌ {A = ℕ} 1 0 = omega (arith, l, one, empty, nothing) in cc)
+      go (KeyRefused i k e) is ends = let l = lengths histories now old it new walks in let one = ap (λ e. length (key_at_end e)) is in let empty = ap (λ (l : List K). length l) none in absurd (let no : ◌≡◌ {A = ℕ} 1 0 = omega (arith, l, one, empty, nothing) in cc)
       go (SegmentRefused e) is ends = let more = ends.1 in absurd (let no : ◌≡◌ {A = ℕ} 1 0 = omega (arith, more, all) in cc)
-      go Finished is ends = (ap answered is, ends.1 ∙ same-cursor (at_segment (old.reached + length it.taken) []) old (omega (arith, no_more)) (sym none))
+      go Finished is ends = (ap reply_of is, ends.1 ∙ same-cursor (at_segment (old.reached + length it.taken) []) old (omega (arith, no_more)) (sym none))
 
   -- A key that is live is not passed over,
   passed-none : (histories : List (History K V E)) (now i : ℕ) (k : K) → IsSome (live_in eq histories now i k) → (passed : List (ℕ × K)) → AllByRecursion (λ p. FindsIn eq is_clone is_infallible histories now p.0 p.1 (Ok None)) passed
@@ -205,7 +205,7 @@ module _ {K V E : Type 0} (eq : K → K → Bool) (laws : IsEquivalence eq) (is_
 
   -- So, where it is not refused, it comes.
   call-has : (histories : List (History K V E)) (now i : ℕ) (k : K) → IsSome (live_in eq histories now i k) → (old : Cursor K) (it : Advance K V Refused) (new : Cursor K) → WalksOn eq is_clone is_infallible histories now old it new → new.reached ≡ old.reached + length it.taken
-      → count (is_at eq i k) (pending_in old) + unreached old.reached i ≤ count (is_at eq i k) (ended_at it.ending) + (count (is_at eq i k) (pending_in new) + unreached new.reached i)
+      → count (is_at eq i k) (pending_in old) + unreached old.reached i ≤ count (is_at eq i k) (key_at_end it.ending) + (count (is_at eq i k) (pending_in new) + unreached new.reached i)
   call-has histories now i k live old it new walks at =
       let taken = taken-has histories now i k live old.reached it.taken walks.stood in
       let all = counted histories now old it new walks (is_at eq i k) in
@@ -221,10 +221,10 @@ module _ {K V E : Type 0} (eq : K → K → Bool) (laws : IsEquivalence eq) (is_
     pub found : IsCopyOf is_clone (live_in eq histories now segment pair.0) (Some pair.1)
     pub at : new.reached ≡ old.reached + length it.taken
 
-  yields : (histories : List (History K V E)) (now : ℕ) (old : Cursor K) (pair : K × V) (new : Cursor K) → AnswersNext eq is_clone is_infallible histories now old (Some (Ok pair)) new → Yields histories now old pair new
+  yields : (histories : List (History K V E)) (now : ℕ) (old : Cursor K) (pair : K × V) (new : Cursor K) → RepliesNext eq is_clone is_infallible histories now old (Some (Ok pair)) new → Yields histories now old pair new
   yields histories now old pair new may = go may.0.ending refl may.1.ends may.2
     where
-      go : (ending : Ending K V Refused) → may.0.ending ≡ ending → IsEnding (length histories) (StandsIn eq is_clone is_infallible histories now) (FindsIn eq is_clone is_infallible histories now) (old.reached + length may.0.taken) ending new → Some (Ok pair) ≡ answered ending → Yields histories now old pair new
+      go : (ending : Ending K V Refused) → may.0.ending ≡ ending → IsEnding (length histories) (StandsIn eq is_clone is_infallible histories now) (FindsIn eq is_clone is_infallible histories now) (old.reached + length may.0.taken) ending new → Some (Ok pair) ≡ reply_of ending → Yields histories now old pair new
       go (Yielded i k v) is ends same =
           let both : pair ≡ (k, v) = cc in
           record {
@@ -246,17 +246,17 @@ module _ {K V E : Type 0} (eq : K → K → Bool) (laws : IsEquivalence eq) (is_
   each-live histories now old (pair ∷ pairs) walk = let one = yields histories now old pair walk.0 walk.1 in ((one.segment, one.found), each-live histories now walk.0 pairs walk.2)
 
   -- the last call leaves nothing to come
-  ends-all : (histories : List (History K V E)) (now i : ℕ) (k : K) → IsSome (live_in eq histories now i k) → (old new : Cursor K) → AnswersNext eq is_clone is_infallible histories now old None new → count (is_at eq i k) (pending_in old) + unreached old.reached i ≤ 0
+  ends-all : (histories : List (History K V E)) (now i : ℕ) (k : K) → IsSome (live_in eq histories now i k) → (old new : Cursor K) → RepliesNext eq is_clone is_infallible histories now old None new → count (is_at eq i k) (pending_in old) + unreached old.reached i ≤ 0
   ends-all histories now i k live old new may = go may.0.ending refl may.1.ends may.2
     where
-      go : (ending : Ending K V Refused) → may.0.ending ≡ ending → IsEnding (length histories) (StandsIn eq is_clone is_infallible histories now) (FindsIn eq is_clone is_infallible histories now) (old.reached + length may.0.taken) ending new → None ≡ answered ending → count (is_at eq i k) (pending_in old) + unreached old.reached i ≤ 0
+      go : (ending : Ending K V Refused) → may.0.ending ≡ ending → IsEnding (length histories) (StandsIn eq is_clone is_infallible histories now) (FindsIn eq is_clone is_infallible histories now) (old.reached + length may.0.taken) ending new → None ≡ reply_of ending → count (is_at eq i k) (pending_in old) + unreached old.reached i ≤ 0
       go (Yielded i k v) is ends same = cc
       go (KeyRefused i k e) is ends same = cc
       go (SegmentRefused e) is ends same = cc
       go Finished is ends same =
           let at = ap (λ (c : Cursor K). c.reached) ends.1 in
           let has = call-has histories now i k live old may.0 new may.1 at in
-          let none = ap (λ e. count (is_at eq i k) (ended_at e)) is in
+          let none = ap (λ e. count (is_at eq i k) (key_at_end e)) is in
           let left = ap (λ (c : Cursor K). count (is_at eq i k) (pending_in c)) ends.1 in
           let there = live-within eq laws histories now i k live in
           let past = ends.0 in
@@ -268,7 +268,7 @@ module _ {K V E : Type 0} (eq : K → K → Bool) (laws : IsEquivalence eq) (is_
   comes histories now i k live old (pair ∷ pairs) walk =
       let one = yields histories now old pair walk.0 walk.1 in
       let has = call-has histories now i k live old one.it walk.0 one.walks one.at in
-      let here = ap (λ e. count (is_at eq i k) (ended_at e)) one.is in
+      let here = ap (λ e. count (is_at eq i k) (key_at_end e)) one.is in
       let key = at-position eq i one.segment k pair.0 pair.1 in
       let rest = comes histories now i k live walk.0 pairs walk.2 in
       let both = count-append (λ (p : K × V). eq p.0 k) (pair ∷ []) pairs in
@@ -281,7 +281,7 @@ module _ {K V E : Type 0} (eq : K → K → Bool) (laws : IsEquivalence eq) (is_
   just-once home histories one_cache now k old (pair ∷ pairs) walk =
       let one = yields histories now old pair walk.0 walk.1 in
       let first = call-once home one_cache.0 histories one_cache.1 now k old one.it walk.0 one.walks in
-      let here = ap (λ e. count (λ (p : ℕ × K). eq p.1 k) (ended_at e)) one.is in
+      let here = ap (λ e. count (λ (p : ℕ × K). eq p.1 k) (key_at_end e)) one.is in
       let key = pair-once eq k (let ending : Ending K V Refused = Yielded one.segment pair.0 pair.1 in ending) in
       let rest = just-once home histories one_cache now k walk.0 pairs walk.2 in
       let both = count-append (λ (p : K × V). eq p.0 k) (pair ∷ []) pairs in

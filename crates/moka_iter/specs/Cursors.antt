@@ -27,5 +27,5 @@ module _ {K V E : Type 0} (finds : K → Result (Option V) E → Type 0) where
   -- A walk over these keys skips those that are not live, and stops at the first other one, or it skips all.
   abbrev pub Stops : List K → Option (Result (K × V) E) → List K → Type 0
   Stops pending None rest = AllByRecursion (λ k. finds k (Ok None)) pending × (rest ≡ [])
-  Stops pending (Some answer) rest =
-      (passed : List K) × (k : K) × (pending ≡ passed ++ k ∷ rest) × AllByRecursion (λ q. finds q (Ok None)) passed × StopsAt k answer
+  Stops pending (Some reply) rest =
+      (passed : List K) × (k : K) × (pending ≡ passed ++ k ∷ rest) × AllByRecursion (λ q. finds q (Ok None)) passed × StopsAt k reply

@@ -8,7 +8,7 @@ use Rattle.moka_model.specs.Steps.{AcceptedStep, events_in}
 use Rattle.moka_model.specs.Calls.{live_at, IsCopyOf}
 use Rattle.moka_policy.specs.declared.policy.Refused.{Refused}
 use Rattle.moka_policy.specs.declared.policy.Refused.TheVariants.{OutOfMemory}
-use Rattle.moka_iter.specs.Walks.{Cursor, Advance, Advances, answered}
+use Rattle.moka_iter.specs.Walks.{Cursor, Advance, Advances, reply_of}
 
 -- The settings of a cache, and its accepted steps.
 pub record History (K V E : Type 0) : Type 0 where
@@ -59,5 +59,5 @@ module _ {K V E : Type 0} (eq : K → K → Bool) (is_clone : V → V → Type 0
   WalksOn old it new = Advances (length histories) StandsIn FindsIn old it new
 
   -- A call of a walk that returns this.
-  abbrev pub AnswersNext : Cursor K → Option (Result (K × V) Refused) → Cursor K → Type 0
-  AnswersNext old result new = (it : Advance K V Refused) × WalksOn old it new × (result ≡ answered it.ending)
+  abbrev pub RepliesNext : Cursor K → Option (Result (K × V) Refused) → Cursor K → Type 0
+  RepliesNext old result new = (it : Advance K V Refused) × WalksOn old it new × (result ≡ reply_of it.ending)

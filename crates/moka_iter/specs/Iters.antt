@@ -1,6 +1,6 @@
 -- Iteration over caches that say by themselves what they hold.
 use Rattle.std.specs.Prelude.{◌≡◌, ℕ, Option, Some, None, IsSomeAnd, MatchOption, Result, Ok, List, [], length, slice_get}
-use Rattle.moka_iter.specs.Walks.{Cursor, Advance, Advances, answered}
+use Rattle.moka_iter.specs.Walks.{Cursor, Advance, Advances, reply_of}
 
 -- The caches that an iterator goes over, and where it is.
 pub record IterData (K G : Type 0) : Type 0 where
@@ -22,7 +22,7 @@ module _ {K V E G : Type 0} (stands : G → Result (List K) E → Type 0) (finds
   abbrev pub FindsAt : List G → ℕ → K → Result (Option V) E → Type 0
   FindsAt caches i k result = MatchOption (slice_get caches i) (result ≡ Ok None) (λ cache. finds cache k result)
 
-  -- A call leads from one place to another, and returns this.
+  -- A call leads from one position to another, and returns this.
   abbrev pub IteratesTo : IterData K G → Option (Result (K × V) E) → IterData K G → Type 0
   IteratesTo old result new = (new.caches ≡ old.caches) × ((it : Advance K V E)
-      × Advances (length old.caches) (StandsAt old.caches) (FindsAt old.caches) old.cursor it new.cursor × (result ≡ answered it.ending))
+      × Advances (length old.caches) (StandsAt old.caches) (FindsAt old.caches) old.cursor it new.cursor × (result ≡ reply_of it.ending))

@@ -2,8 +2,8 @@
 use Rattle.std.specs.Prelude.{◌≡◌, ℕ, ◌+◌, ◌≤◌, Bool, true, Some, None, is_some, Ok, List, [], ◌∷◌, ◌++◌, length, if◌then◌else◌}
 use Rattle.std.specs.List.{AllByRecursion}
 use Rattle.moka_policy.specs.declared.policy.Refused.{Refused}
-use Rattle.moka_iter.specs.Walks.{Cursor, Ending, Yielded, Advance, answered}
-use Rattle.moka_iter.specs.Histories.{History, standing_in, WalksOn, AnswersNext}
+use Rattle.moka_iter.specs.Walks.{Cursor, Ending, Yielded, Advance, reply_of}
+use Rattle.moka_iter.specs.Histories.{History, standing_in, WalksOn, RepliesNext}
 
 -- One call of a walk: the histories of the segments, the moment, and what the call does.
 pub record WalkCall (K V E : Type 0) : Type 0 where
@@ -28,9 +28,9 @@ module _ {K V E : Type 0} where
   pairs_of (call ∷ calls) = pair_of call.does.ending ++ pairs_of calls
 
   -- How many calls return something.
-  abbrev pub answers_in : List (WalkCall K V E) → ℕ
-  answers_in [] = 0
-  answers_in (call ∷ calls) = (if is_some (answered call.does.ending) then 1 else 0) + answers_in calls
+  abbrev pub replies_in : List (WalkCall K V E) → ℕ
+  replies_in [] = 0
+  replies_in (call ∷ calls) = (if is_some (reply_of call.does.ending) then 1 else 0) + replies_in calls
 
   -- How many keys the calls took of the segments that they reached.
   abbrev pub keys_taken : List (WalkCall K V E) → ℕ
@@ -68,6 +68,6 @@ module _ {K V E : Type 0} (eq : K → K → Bool) (is_clone : V → V → Type 0
   -- At one moment, with no step of a cache in between, the walk yields these pairs one after another, then none, and no
   -- error.
   abbrev pub YieldsJust : List (History K V E) → ℕ → Cursor K → List (K × V) → Type 0
-  YieldsJust histories now old [] = (new : Cursor K) × AnswersNext eq is_clone is_infallible histories now old None new
+  YieldsJust histories now old [] = (new : Cursor K) × RepliesNext eq is_clone is_infallible histories now old None new
   YieldsJust histories now old (pair ∷ pairs) =
-      (new : Cursor K) × AnswersNext eq is_clone is_infallible histories now old (Some (Ok pair)) new × YieldsJust histories now new pairs
+      (new : Cursor K) × RepliesNext eq is_clone is_infallible histories now old (Some (Ok pair)) new × YieldsJust histories now new pairs

@@ -43,22 +43,22 @@ pub record Advance (K V E : Type 0) : Type 0 where
 
 module _ {K V E : Type 0} where
   -- What the call returns.
-  abbrev pub answered : Ending K V E → Option (Result (K × V) E)
-  answered (Yielded i k v) = Some (Ok (k, v))
-  answered (KeyRefused i k e) = Some (Err e)
-  answered (SegmentRefused e) = Some (Err e)
-  answered Finished = None
+  abbrev pub reply_of : Ending K V E → Option (Result (K × V) E)
+  reply_of (Yielded i k v) = Some (Ok (k, v))
+  reply_of (KeyRefused i k e) = Some (Err e)
+  reply_of (SegmentRefused e) = Some (Err e)
+  reply_of Finished = None
 
   -- The key at which the call ends, if it ends at one.
-  abbrev pub ended_at : Ending K V E → List (ℕ × K)
-  ended_at (Yielded i k v) = (i, k) ∷ []
-  ended_at (KeyRefused i k e) = (i, k) ∷ []
-  ended_at (SegmentRefused e) = []
-  ended_at Finished = []
+  abbrev pub key_at_end : Ending K V E → List (ℕ × K)
+  key_at_end (Yielded i k v) = (i, k) ∷ []
+  key_at_end (KeyRefused i k e) = (i, k) ∷ []
+  key_at_end (SegmentRefused e) = []
+  key_at_end Finished = []
 
   -- The keys that the call has dealt with.
-  abbrev pub dealt_with : Advance K V E → List (ℕ × K)
-  dealt_with it = it.passed ++ ended_at it.ending
+  abbrev pub keys_dealt_with : Advance K V E → List (ℕ × K)
+  keys_dealt_with it = it.passed ++ key_at_end it.ending
 
 -- There are `count` segments. `stands` says what a segment may return when it is asked for its keys, and `finds` when
 -- it is asked for a key's live value.
@@ -83,7 +83,7 @@ pub record Advances {K V E : Type 0} (count : ℕ) (stands : ℕ → Result (Lis
   pub within : old.reached + length it.taken ≤ max old.reached count
   pub dead : AllByRecursion (λ p. finds p.0 p.1 (Ok None)) it.passed
   pub ends : IsEnding count stands finds (old.reached + length it.taken) it.ending new
-  pub once : IsPermutation (pending_in old ++ taken_from old.reached it.taken) (dealt_with it ++ pending_in new)
+  pub once : IsPermutation (pending_in old ++ taken_from old.reached it.taken) (keys_dealt_with it ++ pending_in new)
 
 -- A bound on the calls that still return something, if there are so many segments. Each such call lowers it.
 abbrev pub calls_left : {K : Type 0} → ℕ → Cursor K → ℕ

@@ -2,7 +2,7 @@
 ghost use Rattle.std.specs.Prelude.{◌≡◌, ◌+◌, ◌-◌, ◌<◌, ◌^◌, [], Ok, Err, length, map, option_map, IfOk, IfErr, IfSome};
 ghost use Rattle.std.specs.Arc.{arc_value};
 ghost use Rattle.moka_policy.specs.declared.policy.Refused.{Refused};
-ghost use Rattle.moka_iter.specs.Walks.{start, Advance, Advances, answered, calls_left};
+ghost use Rattle.moka_iter.specs.Walks.{start, Advance, Advances, reply_of, calls_left};
 ghost use Rattle.moka_iter.specs.Cursors.{key_list, with_key, Stops};
 
 use moka_policy::policy::Refused;
@@ -68,7 +68,7 @@ impl<K> Model for IterPosition<K> {
 }
 
 impl<K: Drop> IterPosition<K> {
-    /// Creates the place before the first segment.
+    /// Creates the position before the first segment.
     pub fn new() -> Self
         ensures { result ≡ start }
     {
@@ -89,7 +89,7 @@ impl<K: Drop> IterPosition<K> {
         ensures step { (it : Advance K V Refused)
             × Advances (S.count segments.now) (S.stands segments.now) (S.finds segments.now)
             self.old it self.new
-            × (option_map (with_key arc_value) result ≡ answered it.ending) }
+            × (option_map (with_key arc_value) result ≡ reply_of it.ending) }
         ensures nearer { IfSome result (λ _. calls_left (S.count segments.now) self.new
             < calls_left (S.count segments.now) self.old) }
     {

@@ -3,9 +3,9 @@ ghost use Rattle.std.specs.Prelude.{◌≡◌, ℕ, ◌+◌, ◌≤◌, IsSome, 
 ghost use Rattle.std.specs.List.{AllByRecursion};
 ghost use Rattle.moka_model.specs.MaintenanceLaws.{count};
 ghost use Rattle.moka_model.specs.Calls.{IsCopyOf};
-ghost use Rattle.moka_iter.specs.Walks.{Cursor, start, answered};
+ghost use Rattle.moka_iter.specs.Walks.{Cursor, start, reply_of};
 ghost use Rattle.moka_iter.specs.Histories.{History, live_in, WalksOn};
-ghost use Rattle.moka_iter.specs.WalkLaws.{WalkCall, pairs_of, answers_in, keys_taken, HaveAtMost, AreOfOneCache, StayOfOneCache, IsWalk, YieldsJust};
+ghost use Rattle.moka_iter.specs.WalkLaws.{WalkCall, pairs_of, replies_in, keys_taken, HaveAtMost, AreOfOneCache, StayOfOneCache, IsWalk, YieldsJust};
 ghost use Rattle.moka_iter.specs.Walks.{Advance};
 ghost use Rattle.moka_policy.specs.declared.policy.Refused.{Refused};
 
@@ -45,10 +45,10 @@ pub fn no_key_comes_twice<K: Eq, V: Clone, E>()
 /// end it returns none, and stays there (`stays`).
 pub fn every_walk_ends<K: Eq, V: Clone, E>()
     ensures calls { (calls : List (WalkCall K V E)) (new : Cursor K) → IsWalk K.eq V.is_clone V.is_infallible start calls new
-        → answers_in calls ≤ keys_taken calls + new.reached }
+        → replies_in calls ≤ keys_taken calls + new.reached }
     ensures segments { (most : ℕ) (calls : List (WalkCall K V E)) (new : Cursor K) → HaveAtMost most calls → IsWalk K.eq V.is_clone V.is_infallible start calls new
         → new.reached ≤ most }
     ensures stays { (histories : List (History K V E)) (now : ℕ) (old new : Cursor K) (it : Advance K V Refused)
         → WalksOn K.eq V.is_clone V.is_infallible histories now old it new → old.pending ≡ [] → length histories ≤ old.reached
-        → (answered it.ending ≡ None) × (new ≡ old) }
+        → (reply_of it.ending ≡ None) × (new ≡ old) }
 {}

@@ -78,15 +78,15 @@ fn is_passed_over(
     pairs: usize,
 ) -> Result<(), Fail> {
     let requests = Cell::new(0);
-    let caches = sharing(alloc, states, &requests, refused)?;
-    let (came, errors) = walked(rt, alloc, &caches)?;
+    let caches = share_requests(alloc, states, &requests, refused)?;
+    let (came, errors) = walk_all(rt, alloc, &caches)?;
     assert_eq!(rt; came, pairs, "request {refused}");
     assert_eq!(rt; errors, if refused < 6 { 1 } else { 0 });
     Ok(())
 }
 
 /// Returns these caches, with one count of requests.
-fn sharing<'s>(
+fn share_requests<'s>(
     alloc: Global,
     states: &'s [State],
     requests: &'s Cell<u64>,
@@ -105,7 +105,7 @@ fn sharing<'s>(
 
 /// Iterates over all. Returns how many pairs and how many errors came; checks that no key comes
 /// twice.
-fn walked(rt: &impl Abort, alloc: Global, caches: &[Scarce]) -> Result<(usize, usize), Fail> {
+fn walk_all(rt: &impl Abort, alloc: Global, caches: &[Scarce]) -> Result<(usize, usize), Fail> {
     let mut came = Vec::new(alloc);
     let mut errors: usize = 0;
     for pair in Iter::new(caches) {

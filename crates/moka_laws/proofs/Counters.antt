@@ -5,7 +5,7 @@ use Rattle.std.proofs.lemmas.Bool.{cases_eq, eq-eqb, ne_eqb, eqb-true, eqb-false
 use Rattle.std.proofs.lemmas.List.{length-map, length-replicate, get_or-map, get_or-set_other, get_or-set_same, get_or-replicate, reverse-append, reverse-reverse}
 use Rattle.std.proofs.lemmas.List.Sums.{fold-append}
 use Rattle.std.proofs.lemmas.Nat.{pow_pos}
-use Rattle.moka_policy.specs.Frequency.{Counts, counter_count, counter_of, counted, halved, noted, none_noted, estimated, estimate_after, count_with, kept}
+use Rattle.moka_policy.specs.Frequency.{Counts, counter_count, counter_of, counted, halved, noted, none_noted, estimated, estimate_after, count_with, count_after}
 
 -- there is a counter
 pub counter_count_pos : (bits : ℕ) → 0 < counter_count bits
@@ -33,7 +33,7 @@ due_together n m since positive is = elim (cases_eq (since + 1) m) [
 record Keeps (bits : ℕ) (notes : List ℕ) (counts : Counts) : Type 0 where
   as_many : length counts.counters ≡ counter_count bits
   since : counts.notes ≡ length notes % (10 * counter_count bits)
-  counts_are : (hash : ℕ) → estimated bits counts hash ≡ kept bits hash notes
+  counts_are : (hash : ℕ) → estimated bits counts hash ≡ count_after bits hash notes
 
 -- each hash uses one of the counters
 counter_of-lt : (bits hash : ℕ) → counter_of bits hash < counter_count bits
@@ -73,11 +73,11 @@ estimated-aged bits hash counts false as_many = refl
 
 -- one more note is kept, where the halving comes when it is due
 module _ (bits note : ℕ) (notes : List ℕ) (counts : Counts) (keeps : Keeps bits notes counts) where
-  estimated-noted : (hash : ℕ) → estimated bits (noted bits counts note) hash ≡ kept bits hash (note ∷ notes)
+  estimated-noted : (hash : ℕ) → estimated bits (noted bits counts note) hash ≡ count_after bits hash (note ∷ notes)
   estimated-noted hash =
       let positive : 0 < 10 * counter_count bits = (let some = counter_count_pos bits in omega arith) in
       let is_due = nat_eq (counts.notes + 1) (10 * counter_count bits) in
-      let count = count_with bits hash note (kept bits hash notes) in
+      let count = count_with bits hash note (count_after bits hash notes) in
       let as_many = length-set counts.counters (counter_of bits note) _ ∙ keeps.as_many in
       estimated-aged bits hash (counted bits counts note) is_due as_many
       ∙ ap (λ c. cond is_due (c / 2) c) (estimated-counted bits note hash counts keeps.as_many ∙ ap (count_with bits hash note) (keeps.counts_are hash))
@@ -108,14 +108,14 @@ keeps_all bits (note ∷ notes) =
     rw last (keeps_noted bits note notes _ (keeps_all bits notes))
 
 -- the estimate after some notes is what its counter keeps of them
-pub estimate_after-kept : (bits hash : ℕ) (notes : List ℕ) → estimate_after bits (reverse notes) hash ≡ kept bits hash notes
+pub estimate_after-kept : (bits hash : ℕ) (notes : List ℕ) → estimate_after bits (reverse notes) hash ≡ count_after bits hash notes
 estimate_after-kept bits hash notes = (keeps_all bits notes).counts_are hash
 
 -- a counter keeps at most 15
-kept-le : (bits hash : ℕ) (notes : List ℕ) → kept bits hash notes ≤ 15
+kept-le : (bits hash : ℕ) (notes : List ℕ) → count_after bits hash notes ≤ 15
 kept-le bits hash [] = omega arith
 kept-le bits hash (note ∷ notes) =
-    let more : count_with bits hash note (kept bits hash notes) ≤ 15 =
+    let more : count_with bits hash note (count_after bits hash notes) ≤ 15 =
     cond_both (nat_eq (counter_of bits note) (counter_of bits hash)) _ _ (λ count. count ≤ 15) (λ _. omega arith) (λ _. kept-le bits hash notes) in
     cond_both (nat_eq (suc (length notes) % (10 * counter_count bits)) 0) _ _ (λ count. count ≤ 15) (λ _. omega arith) (λ _. more)
 
@@ -133,7 +133,7 @@ module _ (bits hash note : ℕ) (notes : List ℕ) where
 
 -- before the first halving a counter keeps how many notes used it
 pub kept-counts : (bits hash : ℕ) (notes : List ℕ) → length notes < 10 * counter_count bits
-    → kept bits hash notes ≡ min (length (filter (λ note. nat_eq (counter_of bits note) (counter_of bits hash)) notes)) 15
+    → count_after bits hash notes ≡ min (length (filter (λ note. nat_eq (counter_of bits note) (counter_of bits hash)) notes)) 15
 kept-counts bits hash [] few = omega arith
 kept-counts bits hash (note ∷ notes) few =
     let uses = nat_eq (counter_of bits note) (counter_of bits hash) in

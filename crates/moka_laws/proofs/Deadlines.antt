@@ -9,7 +9,7 @@ use Rattle.moka_model.specs.Numbers.{drawn, next_number}
 use Rattle.moka_model.specs.Steps.{AcceptedStep, events_in}
 use Rattle.moka_model.specs.Calls.{Get, ContainsKey, Found, Contains, live_at, after}
 use Rattle.moka_model.proofs.Callers.{events_in-append}
-use Rattle.moka_laws.specs.Laws.{answer, writes, IsUnwritten, IsUntouched, hidden_since, HasEnded, OwnHasEnded, draws}
+use Rattle.moka_laws.specs.Laws.{reply, writes, IsUnwritten, IsUntouched, hidden_since, HasEnded, OwnHasEnded, draws}
 
 -- the latest moment never falls
 pub latest-more : {K V : Type 0} (later h : List (Event K V)) → latest h ≤ latest (later ++ h)
@@ -237,8 +237,8 @@ module _ {K V : Type 0} (eq : K → K → Bool) (settings : Settings K V) (k : K
       (unseen_from later (Looked k at ∷ h) u (IsUnseen-look (eq k k) (standing eq settings k h) (latest (Looked k at ∷ h)) (unseen_by (standing eq settings k h) (latest (Looked k at ∷ h)) nothing))))
 
   -- so no look finds anything
-  pub looks-missed : {E : Type 0} (later steps : List (AcceptedStep K V E)) (at now : ℕ) → answer eq settings (Get k at) steps ≡ Some (Found None) → IsUnwritten eq k (events_in later)
-      → (answer eq settings (Get k now) (later ++ after eq settings (Get k at) steps) ≡ Some (Found None)) × (answer eq settings (ContainsKey k now) (later ++ after eq settings (Get k at) steps) ≡ Some (Contains false))
+  pub looks-missed : {E : Type 0} (later steps : List (AcceptedStep K V E)) (at now : ℕ) → reply eq settings (Get k at) steps ≡ Some (Found None) → IsUnwritten eq k (events_in later)
+      → (reply eq settings (Get k now) (later ++ after eq settings (Get k at) steps) ≡ Some (Found None)) × (reply eq settings (ContainsKey k now) (later ++ after eq settings (Get k at) steps) ≡ Some (Contains false))
   looks-missed later steps at now missed u =
       let h : List (Event K V) = events_in steps in
       let nothing : option_map (λ (w : Write K V). w.value) (live_one settings (latest (Looked k at ∷ h)) (standing eq settings k h)) ≡ None = cc in

@@ -1,19 +1,19 @@
 -- The worked flush: of 64 keys that wait at a capacity of ten the first 54 leave. A list of 64 events computes slowly
 -- as a maintenance, so the laws of the size take that step.
-use Rattle.std.proofs.Common.{◌≡◌, ℕ, zero, suc, ◌-◌, nat_eq, min, max, option_map, Bool, Some, None, List, [], ◌∷◌, ◌++◌, length, take, drop, map, refl, ap, ◌∙◌}
+use Rattle.std.proofs.Common.{◌≡◌, ℕ, zero, suc, ◌-◌, nat_eq, min, max, option_map, Bool, Some, None, List, [], ◌∷◌, ◌++◌, length, take, drop, map, refl, ap, ◌∙◌, true, if◌then◌else◌}
 use Rattle.std.proofs.lemmas.Bool.{cond_both}
 use Rattle.moka_model.specs.declared.notification.RemovalCause.TheVariants.{Replaced, Size}
 use Rattle.moka_model.specs.Maintenance.{Queues}
 use Rattle.moka_model.specs.MaintenanceLaws.{the_dead, the_living}
 use Rattle.moka_model.specs.Lives.{Settings, Write, is_live, live_one, after_write}
-use Rattle.moka_model.specs.Events.{Event, Written, Maintained, latest}
+use Rattle.moka_model.specs.Events.{Event, Written, Maintained, latest, Passed}
 use Rattle.moka_model.specs.Admission.{frequency}
 use Rattle.moka_model.specs.Orders.{written_in, orders, is_evicted, standing}
 use Rattle.moka_model.specs.Removals.{removals_of, removals_at, removals}
-use Rattle.moka_model.specs.Numbers.{greatest_number, entry_count}
+use Rattle.moka_model.specs.Numbers.{greatest_number, entry_count, drawn_in, stores_nothing}
 use Rattle.moka_model.specs.Steps.{AcceptedStep, events_in}
-use Rattle.moka_model.specs.Calls.{Insert, live_at, after}
-use Rattle.moka_laws.specs.Worked.{answers, found, is_done, counted}
+use Rattle.moka_model.specs.Calls.{Insert, live_at, after, RunPendingTasksUpTo, flush, write_events}
+use Rattle.moka_laws.specs.Worked.{replies, found, is_done, counted}
 use Rattle.moka_laws.specs.WorkedCalls.{behind_64}
 use Rattle.moka_model.specs.SizeLaws.{removal_as, dead_removal}
 use Rattle.moka_laws.specs.WorkedSize.{at_capacity, all_left}
@@ -84,7 +84,11 @@ module _ (steps : List (AcceptedStep ℕ ℕ ℕ)) (waiting : orders nat_eq at_t
   abbrev then_events : List (Event ℕ ℕ)
   then_events = events_in (after nat_eq at_ten (Insert 65 65 1) steps)
 
-  pub session-65 : answers nat_eq at_ten behind_64 steps ≡ is_done ∷ counted 11 ∷ found (Some 65) ∷ []
+  pub session-65 : replies nat_eq at_ten behind_64 steps ≡ is_done ∷ counted 11 ∷ found (Some 65) ∷ []
   session-65 =
       ap (λ n. is_done ∷ counted (min n greatest_number) ∷ found (option_map (λ (w : Write ℕ ℕ). w.value) (live_at nat_eq at_ten 65 1 then_events)) ∷ []) (entry_count-65 (events_in steps) waiting now absent kept then_events next)
       ∙ ap (λ o. is_done ∷ counted 11 ∷ found (option_map (λ (w : Write ℕ ℕ). w.value) o) ∷ []) (live-65 (events_in steps) waiting now absent kept then_events next)
+
+-- With a capacity of 0 no write draws a number.
+pub drawn-empty : {K V : Type 0} (eq : K → K → Bool) (settings : Settings K V) → stores_nothing settings.max_capacity ≡ true → (k : K) (v : V) (at : ℕ) (h : List (Event K V)) → drawn_in (write_events eq settings k v at h) ≡ 0
+drawn-empty eq settings none k v at h = ap (λ t. drawn_in (if t then Passed at ∷ [] else Written k v at ∷ flush eq settings at h)) none

@@ -1,5 +1,5 @@
 -- What a caller finds of a value that it has just inserted, in a cache without an expiry.
-use Rattle.std.proofs.Common.{◌≡◌, ℕ, max, Bool, true, false, not, ◌&&◌, cond, if◌then◌else◌, Option, Some, None, List, [], ◌∷◌, ◌++◌, refl, sym, ap, ◌∙◌, subst}
+use Rattle.std.proofs.Common.{◌≡◌, ℕ, max, Bool, true, false, not, ◌&&◌, cond, if◌then◌else◌, Option, Some, None, List, [], ◌∷◌, ◌++◌, refl, sym, ap, ◌∙◌, subst, ◌+◌, nat_le, arith}
 use Rattle.std.specs.Option.{option_map}
 use Rattle.std.specs.Cmp.{IsEquivalence}
 use Rattle.std.proofs.lemmas.Bool.{cond-true}
@@ -9,7 +9,7 @@ use Rattle.moka_model.specs.Orders.{is_evicted, standing}
 use Rattle.moka_model.specs.Numbers.{stores_nothing}
 use Rattle.moka_model.specs.Steps.{AcceptedStep, events_in}
 use Rattle.moka_model.specs.Calls.{Get, Insert, Found, live_at, flush, after, IsCopyOf}
-use Rattle.moka_model.specs.StandsFor.{WholeView, StandsFor, Follows, Answers}
+use Rattle.moka_model.specs.StandsFor.{WholeView, StandsFor, Follows, RepliesWith}
 use Rattle.moka_laws.proofs.Written.{is_expired-after_write, after_write-shown, after_write-value}
 
 module _ {K V : Type 0} (eq : K → K → Bool) (settings : Settings K V) where
@@ -113,10 +113,10 @@ module _ {K V E : Type 0} (eq : K → K → Bool) (is_clone : V → V → Type 0
       ∙ found_then eq settings plain k v (latest (Written k v at ∷ behind)) now_then (standing eq settings q behind) (stands-none eq settings plain q behind) b come_then
 
   module _ (before after_it : WholeView K V E) (steps : List (AcceptedStep K V E)) (k q : K) (v : V) (at now : ℕ) (found : Option V)
-      (stands : StandsFor eq is_clone settings before steps) (follows : Follows eq is_clone before (Insert k v at) after_it) (answers : Answers eq is_clone after_it (Get q now) (Found found))
+      (stands : StandsFor eq is_clone settings before steps) (follows : Follows eq is_clone before (Insert k v at) after_it) (replies : RepliesWith eq is_clone after_it (Get q now) (Found found))
       (same : eq k q ≡ true) (plain : settings.behaviour.lifetimes ≡ no_lifetimes) (stores : stores_nothing settings.max_capacity ≡ false) where
     by_answer : IsCopyOf is_clone (option_map (λ (w : Write K V). w.value) (live_at eq settings q now (events_in (after eq settings (Insert k v at) steps)))) found
-    by_answer = answers settings (after eq settings (Insert k v at) steps) (follows settings steps stands)
+    by_answer = replies settings (after eq settings (Insert k v at) steps) (follows settings steps stands)
 
     -- A value that was just inserted is found, as a clone, until its deadline comes,
     pub found-after_insert : has_come (end_of_lives eq settings plain (moment_of_write k v at steps)) (max (moment_of_write k v at steps) now) ≡ false → IsCopyOf is_clone (Some v) found
@@ -129,3 +129,30 @@ module _ {K V E : Type 0} (eq : K → K → Bool) (is_clone : V → V → Type 0
         nothing : (o : Option V) → IsCopyOf is_clone None o → o ≡ None
         nothing None copy = refl
         nothing (Some w) copy = absurd copy
+
+-- What a caller finds of the first inserted value, in a cache that has only a TTL.
+module _ {K V E : Type 0} (eq : K → K → Bool) (is_clone : V → V → Type 0) (laws : IsEquivalence eq) (settings : Settings K V) (plain : settings.behaviour.lifetimes ≡ no_lifetimes)
+    (life : ℕ) (live : settings.time_to_live ≡ Some life) (idle : settings.time_to_idle ≡ None) (stores : stores_nothing settings.max_capacity ≡ false)
+    (before after_it : WholeView K V E) (k q : K) (v : V) (now : ℕ) (found : Option V) (stands : StandsFor eq is_clone settings before []) (follows : Follows eq is_clone before (Insert k v 0) after_it)
+    (replies : RepliesWith eq is_clone after_it (Get q now) (Found found)) (same : eq k q ≡ true) where
+  abbrev moment : ℕ
+  moment = moment_of_write {E = E} eq is_clone laws settings k v 0 []
+
+  -- the same, by whether the cache stores anything
+  abbrev moment_if : Bool → ℕ
+  moment_if t = latest ((if t then Passed 0 ∷ [] else Written k v 0 ∷ flush eq settings 0 []) ++ [])
+
+  -- an entry written at moment 0 has reached its deadline once the TTL has passed
+  come : has_come (end_of_lives eq settings plain moment) (max moment now) ≡ nat_le life now
+  come =
+      ap (λ t. has_come (end_of_lives eq settings plain (moment_if t)) (max (moment_if t) now)) stores
+      ∙ ap (λ (l : Option ℕ). has_come (earlier (ends_at l 0) (ends_at settings.time_to_idle 0)) (max 0 now)) live
+      ∙ ap (λ (i : Option ℕ). has_come (earlier (Some (0 + life)) (ends_at i 0)) (max 0 now)) idle
+      ∙ ap (λ (end : ℕ). nat_le end (max 0 now)) (omega (arith))
+      ∙ ap (λ (at : ℕ). nat_le life at) (omega (arith))
+
+  -- The first inserted value, at moment 0, is found, as a clone, until the TTL has passed, and not from then on.
+  pub found-in_time : (b : Bool) → nat_le life now ≡ b → IsCopyOf is_clone (if b then None else Some v) found
+  found-in_time false early = found-after_insert eq is_clone laws settings before after_it [] k q v 0 now found stands follows replies same plain stores (come ∙ early)
+  found-in_time true late =
+      subst (λ o. IsCopyOf is_clone None o) (sym (none-after_insert eq is_clone laws settings before after_it [] k q v 0 now found stands follows replies same plain stores (come ∙ late))) tt

@@ -1,15 +1,16 @@
 pub mod Admissions
 pub mod Arrivals
+pub mod Begins
 pub mod Callers
 pub mod CallSteps
 pub mod Conserved
 pub mod Counters
 pub mod Deadlines
 pub mod Departures
+pub mod Ends
 pub mod Flushes
 pub mod FoundAgain
-pub mod FoundInTime
-pub mod HeldOnes
+pub mod HeldTurns
 pub mod Hiding
 pub mod InOrder
 pub mod MaintenanceFirst
@@ -24,6 +25,7 @@ pub mod Names
 pub mod Noted
 pub mod Notices
 pub mod OrInserts
+pub mod Outcomes
 pub mod OwnLives
 pub mod Places
 pub mod Positions
@@ -32,6 +34,6 @@ pub mod Removals
 pub mod RestOnes
 pub mod Rests
 pub mod Sketches
-pub mod Undrawn
+pub mod Tickets
 pub mod Uses
 pub mod Written

@@ -7,9 +7,9 @@ use Rattle.moka_model.specs.Events.{Event}
 use Rattle.moka_model.specs.Removals.{Removal, removals, taken, notices_left}
 use Rattle.moka_model.specs.Steps.{AcceptedStep, events_in}
 use Rattle.moka_model.specs.Calls.{TakeNotice, Noticed, after}
-use Rattle.moka_conserved.specs.Conserved.{given_out}
-use Rattle.moka_conserved.proofs.Callers.{given_out_is, length-given_out}
-use Rattle.moka_laws.specs.Laws.{answer}
+use Rattle.moka_model.specs.Conserved.{given_out}
+use Rattle.moka_model.proofs.Callers.{given_out_is, length-given_out}
+use Rattle.moka_laws.specs.Laws.{reply}
 
 module _ {K V : Type 0} where
   -- the first of the rest is the element at the place
@@ -35,27 +35,27 @@ module _ {K V : Type 0} (eq : K → K → Bool) (settings : Settings K V) where
     h = events_in steps
 
     -- the next notice is the removal after those
-    pub next_notice : answer eq settings TakeNotice steps ≡ Some (Noticed (slice_get (removals eq settings h) (taken eq settings h)))
+    pub next_notice : reply eq settings TakeNotice steps ≡ Some (Noticed (slice_get (removals eq settings h) (taken eq settings h)))
     next_notice = ap (λ o. Some (Noticed o)) (slice_get-drop (taken eq settings h) (removals eq settings h))
 
     -- what it is answered is what it gives out
-    pub notice_gives : (o : Option (Removal K V)) → answer eq settings TakeNotice steps ≡ Some (Noticed o) → given_out eq settings (events_in (after eq settings TakeNotice steps)) ≡ given_out eq settings h ++ option_to_list o
+    pub notice_gives : (o : Option (Removal K V)) → reply eq settings TakeNotice steps ≡ Some (Noticed o) → given_out eq settings (events_in (after eq settings TakeNotice steps)) ≡ given_out eq settings h ++ option_to_list o
     notice_gives o is = let same : slice_get (notices_left eq settings h) 0 ≡ o = cc in ap (λ l. given_out eq settings h ++ option_to_list l) same
 
     -- there is none exactly where all were given out
-    pub no_notice : (answer eq settings TakeNotice steps ≡ Some (Noticed None)) ↔ (given_out eq settings h ≡ removals eq settings h)
+    pub no_notice : (reply eq settings TakeNotice steps ≡ Some (Noticed None)) ↔ (given_out eq settings h ≡ removals eq settings h)
     no_notice = (to, from)
       where
-        past : answer eq settings TakeNotice steps ≡ Some (Noticed None) → length (removals eq settings h) ≤ taken eq settings h
+        past : reply eq settings TakeNotice steps ≡ Some (Noticed None) → length (removals eq settings h) ≤ taken eq settings h
         past none =
             let same : slice_get (notices_left eq settings h) 0 ≡ None = cc in
             none_past (taken eq settings h) (removals eq settings h) (sym (slice_get-drop (taken eq settings h) (removals eq settings h)) ∙ same)
 
-        to : answer eq settings TakeNotice steps ≡ Some (Noticed None) → given_out eq settings h ≡ removals eq settings h
+        to : reply eq settings TakeNotice steps ≡ Some (Noticed None) → given_out eq settings h ≡ removals eq settings h
         to none = given_out_is eq settings h ∙ take_all (taken eq settings h) (removals eq settings h) (past none)
 
         reached : given_out eq settings h ≡ removals eq settings h → length (removals eq settings h) ≤ taken eq settings h
         reached all = let long = ap length all in let counted = length-given_out eq settings h in omega arith
 
-        from : given_out eq settings h ≡ removals eq settings h → answer eq settings TakeNotice steps ≡ Some (Noticed None)
+        from : given_out eq settings h ≡ removals eq settings h → reply eq settings TakeNotice steps ≡ Some (Noticed None)
         from all = next_notice ∙ ap (λ o. Some (Noticed o)) (none_from_past (taken eq settings h) (removals eq settings h) (reached all))

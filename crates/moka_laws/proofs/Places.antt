@@ -6,8 +6,8 @@ use Rattle.moka_model.specs.Lives.{Settings, Write, is_live, live_one, hit, afte
 use Rattle.moka_model.specs.Events.{Event, Looked, TurnedDown, Written, Invalidated, Hidden, Maintained, Passed, Drawn, Taken, latest}
 use Rattle.moka_model.specs.Orders.{is_evicted, standing}
 use Rattle.moka_model.specs.Steps.{AcceptedStep, events_in}
-use Rattle.moka_model.specs.Calls.{Answer, Get, ContainsKey, Found, Contains}
-use Rattle.moka_laws.specs.Laws.{answer, writes, ends, removes, IsUnwritten, IsUnremoved, IsUntouched, LastWrite, FirstEnd, LastRemoval, NothingStands, FirstWrite, up_to_write, hits, hides, greatest, IsAsWritten}
+use Rattle.moka_model.specs.Calls.{Reply, Get, ContainsKey, Found, Contains}
+use Rattle.moka_laws.specs.Laws.{reply, writes, ends, removes, IsUnwritten, IsUnremoved, IsUntouched, LastWrite, FirstEnd, LastRemoval, NothingStands, FirstWrite, up_to_write, hits, hides, greatest, IsAsWritten}
 
 module _ {K V : Type 0} (eq : K → K → Bool) (settings : Settings K V) (k : K) where
   -- one more event that does not write or remove the key
@@ -308,22 +308,22 @@ module _ {K V : Type 0} (eq : K → K → Bool) (settings : Settings K V) (k : K
           (first, ap (λ (x : Write K V). x.key) (sym same) ∙ under)
 
   module _ {E : Type 0} (steps : List (AcceptedStep K V E)) (at : ℕ) where
-    -- a look answers the value of the last write until it is dead
+    -- a lookup returns the value of the last write until it is dead
     pub answer_last_write : (last : LastWrite eq settings k (events_in steps)) → (w : Write K V) × IsAsWritten last w
-        × (answer eq settings (Get k at) steps ≡ Some (Found (if is_live settings w (max (latest (events_in steps)) at) then Some last.value else None)))
-        × (answer eq settings (ContainsKey k at) steps ≡ Some (Contains (is_live settings w (max (latest (events_in steps)) at))))
+        × (reply eq settings (Get k at) steps ≡ Some (Found (if is_live settings w (max (latest (events_in steps)) at) then Some last.value else None)))
+        × (reply eq settings (ContainsKey k at) steps ≡ Some (Contains (is_live settings w (max (latest (events_in steps)) at))))
     answer_last_write last =
         let (w, stands, as_written) = last_write_stands (events_in steps) last in
         (w, as_written, rw stands (found (is_live settings w (max (latest (events_in steps)) at)) w as_written.value), rw stands (contained (is_live settings w (max (latest (events_in steps)) at)) w))
       where
-        found : (t : Bool) (w : Write K V) → w.value ≡ last.value → ◌≡◌ {A = Option (Answer K V E)} (Some (Found (option_map (λ (u : Write K V). u.value) (if t then Some w else None)))) (Some (Found (if t then Some last.value else None)))
+        found : (t : Bool) (w : Write K V) → w.value ≡ last.value → ◌≡◌ {A = Option (Reply K V E)} (Some (Found (option_map (λ (u : Write K V). u.value) (if t then Some w else None)))) (Some (Found (if t then Some last.value else None)))
         found true w value = ap (λ v. Some (Found (Some v))) value
         found false w value = refl
 
-        contained : (t : Bool) (w : Write K V) → ◌≡◌ {A = Option (Answer K V E)} (Some (Contains (is_some (if t then Some w else None)))) (Some (Contains t))
+        contained : (t : Bool) (w : Write K V) → ◌≡◌ {A = Option (Reply K V E)} (Some (Contains (is_some (if t then Some w else None)))) (Some (Contains t))
         contained true w = refl
         contained false w = refl
 
-    -- where nothing stands a look answers none
-    pub answer-nothing : NothingStands eq settings k (events_in steps) → (answer eq settings (Get k at) steps ≡ Some (Found None)) × (answer eq settings (ContainsKey k at) steps ≡ Some (Contains false))
-    answer-nothing none = (rw (standing-nothing (events_in steps) none), rw (standing-nothing (events_in steps) none))
+    -- where nothing stands a lookup returns none
+    pub reply-nothing : NothingStands eq settings k (events_in steps) → (reply eq settings (Get k at) steps ≡ Some (Found None)) × (reply eq settings (ContainsKey k at) steps ≡ Some (Contains false))
+    reply-nothing none = (rw (standing-nothing (events_in steps) none), rw (standing-nothing (events_in steps) none))

@@ -5,10 +5,10 @@ use Rattle.moka_model.specs.Removals.{notices_left}
 use Rattle.moka_model.specs.Numbers.{entry_count, weighted_size, greatest_number}
 use Rattle.moka_model.specs.Steps.{AcceptedStep, events_in, turns}
 use Rattle.moka_model.specs.Orders.{is_left_at}
-use Rattle.moka_model.specs.Calls.{Call, Get, ContainsKey, Insert, Invalidate, Remove, InvalidateAll, InvalidateIf, RunPendingTasks, RunPendingTasksUpTo, Left, EntryCount, WeightedSize, TakeNotice, OrInsert, Begin, BeginCompute, Finish, Abandon, Collect, Leave, accepted_beside, answer_of, after}
+use Rattle.moka_model.specs.Calls.{Call, Get, ContainsKey, Insert, Invalidate, Remove, InvalidateAll, InvalidateIf, RunPendingTasks, RunPendingTasksUpTo, Left, EntryCount, WeightedSize, TakeNotice, OrInsert, Begin, BeginCompute, Finish, Abandon, Collect, Leave, accepted_beside, reply_of, after}
 use Rattle.moka_model.specs.Turns.{moved_by}
 use Rattle.moka_model.proofs.Callers.{events_in-append}
-use Rattle.moka_laws.specs.Laws.{answer, and_then, IsQuestion}
+use Rattle.moka_laws.specs.Laws.{reply, and_then, IsQuestion}
 
 -- nor does it move a turn
 pub same-turns : {K V E : Type 0} (later steps : List (AcceptedStep K V E)) → turns (later ++ and_then [] steps) ≡ turns (later ++ steps)
@@ -43,6 +43,6 @@ module _ {K V E : Type 0} (eq : K → K → Bool) (settings : Settings K V) wher
   question-step steps (Leave name) asks = absurd asks
 
   -- after the same events, and beside the same turns, each call is answered the same
-  pub answer-events : (a b : List (AcceptedStep K V E)) → events_in a ≡ events_in b → turns a ≡ turns b → (call : Call K V E) → answer eq settings call a ≡ answer eq settings call b
-  answer-events a b same beside call =
-      ap (λ h. answer_of (accepted_beside eq settings h (turns a) call)) same ∙ ap (λ ts. answer_of (accepted_beside eq settings (events_in b) ts call)) beside
+  pub reply-events : (a b : List (AcceptedStep K V E)) → events_in a ≡ events_in b → turns a ≡ turns b → (call : Call K V E) → reply eq settings call a ≡ reply eq settings call b
+  reply-events a b same beside call =
+      ap (λ h. reply_of (accepted_beside eq settings h (turns a) call)) same ∙ ap (λ ts. reply_of (accepted_beside eq settings (events_in b) ts call)) beside

@@ -1,14 +1,18 @@
 -- What is left of a list in which each key has one write at most is what of it passes the test of being there.
-use Rattle.std.proofs.Common.{◌≡◌, inl, inr, ⊎_elim, Bool, false, cond, ◌||◌, Option, Some, None, List, [], ◌∷◌, refl, sym, ap, ◌∙◌}
+use Rattle.std.proofs.Common.{◌≡◌, inl, inr, ⊎_elim, Bool, false, cond, ◌||◌, Option, Some, None, List, [], ◌∷◌, refl, sym, ap, ◌∙◌, ◌⊎◌, ◌++◌}
 use Rattle.std.specs.Option.{option_to_list}
 use Rattle.std.specs.List.{All, filter, list_any}
 use Rattle.std.specs.Cmp.{IsEquivalence}
 use Rattle.std.proofs.lemmas.Bool.{cases_Bool}
 use Rattle.std.proofs.lemmas.List.Elements.{All-nil, All-cons, All-head, All-tail, All-weaker}
 use Rattle.std.proofs.lemmas.List.Folds.{list_any_none}
-use Rattle.moka_model.specs.Lives.{Write}
+use Rattle.moka_model.specs.Lives.{Write, Settings}
 use Rattle.moka_model.specs.OrderLaws.{writes_of}
 use Rattle.moka_laws.proofs.Rests.{IsRestOf, All-rest}
+use Rattle.moka_model.specs.Events.{Event}
+use Rattle.moka_model.specs.Orders.{standing, orders}
+use Rattle.moka_model.proofs.Callers.{one_side, held-append, held-orders}
+use Rattle.moka_laws.proofs.Moves.{held-alone}
 
 -- none passes where a filter keeps none
 none_pass : {A : Type 0} (p : A → Bool) (xs : List A) → filter p xs ≡ [] → All (λ x. p x ≡ false) xs
@@ -73,3 +77,23 @@ module _ {K V : Type 0} (eq : K → K → Bool) where
         let apart : (u : Write K V) → Type 0 = λ u. eq u.key w.key ≡ false in
         let not_in : is_in (r ∷ rest) w ≡ false = list_any_none (λ y. eq y.key w.key) (r ∷ rest) (All-rest apart (r ∷ rest) ws is_rest (HasOne-head w ws one)) in
         ap (λ s. cond s (w ∷ filter (is_in (r ∷ rest)) ws) (filter (is_in (r ∷ rest)) ws)) not_in ∙ filter-is_in (r ∷ rest) ws is_rest (HasOne-tail w ws one)
+
+-- Each write that is held stands, and is held in one order alone.
+-- an option that is a list of one
+option_to_list-one : {A : Type 0} (o : Option A) (x : A) → option_to_list o ≡ x ∷ [] → o ≡ Some x
+option_to_list-one None x e = cc
+option_to_list-one (Some y) x e = cc
+
+module _ {K V : Type 0} (eq : K → K → Bool) (settings : Settings K V) (laws : IsEquivalence eq) (h : List (Event K V)) where
+  pub each_stands : (before after : List (Write K V)) (w : Write K V) → (orders eq settings h).admitted ++ (orders eq settings h).waiting ≡ before ++ w ∷ after → standing eq settings w.key h ≡ Some w
+  each_stands before after w is =
+      option_to_list-one (standing eq settings w.key h) w (sym (held-orders eq settings laws w.key h) ∙ held-alone eq settings w.key (orders eq settings h) (λ k. (standing eq settings k h, held-orders eq settings laws k h)) before after w (laws.refl w.key) before after is)
+
+  pub in_one_order : (k : K) (w : Write K V) → standing eq settings k h ≡ Some w
+      → ((writes_of eq k (orders eq settings h).admitted ≡ w ∷ []) × (writes_of eq k (orders eq settings h).waiting ≡ []))
+      ⊎ ((writes_of eq k (orders eq settings h).admitted ≡ []) × (writes_of eq k (orders eq settings h).waiting ≡ w ∷ []))
+  in_one_order k w stands =
+      ⊎_elim
+      (λ (s : (writes_of eq k (orders eq settings h).admitted ≡ []) × (writes_of eq k (orders eq settings h).waiting ≡ option_to_list (Some w))). inr s)
+      (λ (s : (writes_of eq k (orders eq settings h).admitted ≡ option_to_list (Some w)) × (writes_of eq k (orders eq settings h).waiting ≡ [])). inl s)
+      (one_side (writes_of eq k (orders eq settings h).admitted) (writes_of eq k (orders eq settings h).waiting) (Some w) (sym (held-append eq settings k (orders eq settings h)) ∙ held-orders eq settings laws k h ∙ ap option_to_list stands))

@@ -6,7 +6,7 @@ use Rattle.std.proofs.lemmas.List.{length-map, length-replicate, get_or-map, get
 use Rattle.std.proofs.lemmas.List.Elements.{filter-append}
 use Rattle.std.proofs.lemmas.List.Sums.{fold-append}
 use Rattle.moka_policy.specs.Frequency.{Counts, counter_count, halved}
-use Rattle.moka_sketch.specs.Sketch.{place, least, none_noted, count_in, counted_at, counted_in_each_row, counted, noted, estimate_after, count_with, kept}
+use Rattle.moka_sketch.specs.Sketch.{place, least, none_noted, count_in, counted_at, counted_in_each_row, counted, noted, estimate_after, count_with, count_after}
 use Rattle.moka_sketch.proofs.Callers.{place-lt}
 use Rattle.moka_laws.proofs.Counters.{counter_count_pos, counted_up, next_remainder, full_remainder, due_together, one_more}
 
@@ -69,7 +69,7 @@ module _ (bits note hash : ℕ) (counters : List ℕ) (as_many : length counters
 record Keeps (bits : ℕ) (notes : List ℕ) (counts : Counts) : Type 0 where
   as_many : length counts.counters ≡ 4 * counter_count bits
   since : counts.notes ≡ length notes % (10 * counter_count bits)
-  counts_are : (hash row : ℕ) → row < 4 → count_in bits counts.counters hash row ≡ kept bits hash notes row
+  counts_are : (hash row : ℕ) → row < 4 → count_in bits counts.counters hash row ≡ count_after bits hash notes row
 
 -- a sketch at first keeps nothing
 keeps_none : (bits : ℕ) → Keeps bits [] (none_noted bits)
@@ -92,11 +92,11 @@ module _ (bits note : ℕ) (notes : List ℕ) (counts : Counts) (keeps : Keeps b
   length-counted : length (counted bits counts note).counters ≡ 4 * counter_count bits
   length-counted = four-length bits note note counts.counters keeps.as_many
 
-  counts_are-noted : (hash row : ℕ) → row < 4 → count_in bits (noted bits counts note).counters hash row ≡ kept bits hash (note ∷ notes) row
+  counts_are-noted : (hash row : ℕ) → row < 4 → count_in bits (noted bits counts note).counters hash row ≡ count_after bits hash (note ∷ notes) row
   counts_are-noted hash row in_rows =
       let positive : 0 < 10 * counter_count bits = (let some = counter_count_pos bits in omega (arith, some)) in
       let is_due = nat_eq (counts.notes + 1) (10 * counter_count bits) in
-      let count = count_with bits hash row note (kept bits hash notes row) in
+      let count = count_with bits hash row note (count_after bits hash notes row) in
       count_in-aged bits hash row (counted bits counts note) is_due in_rows length-counted
       ∙ ap (λ c. cond is_due (c / 2) c) (counted_in bits note hash counts.counters keeps.as_many row in_rows ∙ ap (count_with bits hash row note) (keeps.counts_are hash row in_rows))
       ∙ ap (λ b. cond b (count / 2) count) (sym (due_together (length notes) (10 * counter_count bits) counts.notes positive keeps.since))
@@ -135,21 +135,21 @@ least-same f g same =
     omega (arith, first, second, third, fourth)
 
 -- the estimate after some notes is the least of what its counters keep of them
-pub estimate_after-kept : (bits hash : ℕ) (notes : List ℕ) → estimate_after bits (reverse notes) hash ≡ least (kept bits hash notes)
+pub estimate_after-kept : (bits hash : ℕ) (notes : List ℕ) → estimate_after bits (reverse notes) hash ≡ least (count_after bits hash notes)
 estimate_after-kept bits hash notes = least-same _ _ ((keeps_all bits notes).counts_are hash)
 
 -- and so in order
-estimate_after-least : (bits hash : ℕ) (notes : List ℕ) → estimate_after bits notes hash ≡ least (kept bits hash (reverse notes))
+estimate_after-least : (bits hash : ℕ) (notes : List ℕ) → estimate_after bits notes hash ≡ least (count_after bits hash (reverse notes))
 estimate_after-least bits hash notes = ap (λ ns. estimate_after bits ns hash) (sym (reverse-reverse notes)) ∙ estimate_after-kept bits hash (reverse notes)
 
-estimate_after-next : (bits hash note : ℕ) (notes : List ℕ) → estimate_after bits (notes ++ note ∷ []) hash ≡ least (kept bits hash (note ∷ reverse notes))
-estimate_after-next bits hash note notes = estimate_after-least bits hash (notes ++ note ∷ []) ∙ ap (λ ns. least (kept bits hash ns)) (reverse-append notes (note ∷ []))
+estimate_after-next : (bits hash note : ℕ) (notes : List ℕ) → estimate_after bits (notes ++ note ∷ []) hash ≡ least (count_after bits hash (note ∷ reverse notes))
+estimate_after-next bits hash note notes = estimate_after-least bits hash (notes ++ note ∷ []) ∙ ap (λ ns. least (count_after bits hash ns)) (reverse-append notes (note ∷ []))
 
 -- a counter keeps at most 15
-kept-le : (bits hash row : ℕ) (notes : List ℕ) → kept bits hash notes row ≤ 15
+kept-le : (bits hash row : ℕ) (notes : List ℕ) → count_after bits hash notes row ≤ 15
 kept-le bits hash row [] = omega arith
 kept-le bits hash row (note ∷ notes) =
-    let more : count_with bits hash row note (kept bits hash notes row) ≤ 15 =
+    let more : count_with bits hash row note (count_after bits hash notes row) ≤ 15 =
     cond_both (nat_eq (place bits row note) (place bits row hash)) _ _ (λ count. count ≤ 15) (λ _. omega arith) (λ _. kept-le bits hash row notes) in
     cond_both (nat_eq (suc (length notes) % (10 * counter_count bits)) 0) _ _ (λ count. count ≤ 15) (λ _. omega arith) (λ _. more)
 
@@ -173,18 +173,18 @@ module _ (bits hash : ℕ) (notes : List ℕ) where
   uses_its_own : (row count : ℕ) → count_with bits hash row hash count ≡ min (count + 1) 15
   uses_its_own row count = cond-true _ _ _ (eq-eqb (place bits row hash) (place bits row hash) refl)
 
-  raised : nat_eq (suc (length notes) % (10 * counter_count bits)) 0 ≡ false → least (kept bits hash (hash ∷ notes)) ≡ min (least (kept bits hash notes) + 1) 15
+  raised : nat_eq (suc (length notes) % (10 * counter_count bits)) 0 ≡ false → least (count_after bits hash (hash ∷ notes)) ≡ min (least (count_after bits hash notes) + 1) 15
   raised not_due =
-      let before = kept bits hash notes in
-      least-same (kept bits hash (hash ∷ notes)) (λ row. min (before row + 1) 15) (λ row _.
+      let before = count_after bits hash notes in
+      least-same (count_after bits hash (hash ∷ notes)) (λ row. min (before row + 1) 15) (λ row _.
       let count = count_with bits hash row hash (before row) in
       cond-false _ (count / 2) count not_due ∙ uses_its_own row (before row))
       ∙ least-raised before
 
-  raised_and_halved : nat_eq (suc (length notes) % (10 * counter_count bits)) 0 ≡ true → least (kept bits hash (hash ∷ notes)) ≡ min (least (kept bits hash notes) + 1) 15 / 2
+  raised_and_halved : nat_eq (suc (length notes) % (10 * counter_count bits)) 0 ≡ true → least (count_after bits hash (hash ∷ notes)) ≡ min (least (count_after bits hash notes) + 1) 15 / 2
   raised_and_halved due =
-      let before = kept bits hash notes in
-      least-same (kept bits hash (hash ∷ notes)) (λ row. min (before row + 1) 15 / 2) (λ row _.
+      let before = count_after bits hash notes in
+      least-same (count_after bits hash (hash ∷ notes)) (λ row. min (before row + 1) 15 / 2) (λ row _.
       let count = count_with bits hash row hash (before row) in
       cond-true _ (count / 2) count due ∙ ap (λ count. count / 2) (uses_its_own row (before row)))
       ∙ least-halved (λ row. min (before row + 1) 15) ∙ ap (λ count. count / 2) (least-raised before)
@@ -201,11 +201,11 @@ least-le f g le =
 count_with-le : (bits hash row note count : ℕ) → count ≤ 15 → count ≤ count_with bits hash row note count
 count_with-le bits hash row note count few = cond_both (nat_eq (place bits row note) (place bits row hash)) _ _ (λ more. count ≤ more) (λ _. omega (arith, few)) (λ _. omega arith)
 
-not_lowered : (bits hash note : ℕ) (notes : List ℕ) → nat_eq (suc (length notes) % (10 * counter_count bits)) 0 ≡ false → least (kept bits hash notes) ≤ least (kept bits hash (note ∷ notes))
-not_lowered bits hash note notes not_due = least-le (kept bits hash notes) (kept bits hash (note ∷ notes)) (λ row.
-    let count = kept bits hash notes row in
+not_lowered : (bits hash note : ℕ) (notes : List ℕ) → nat_eq (suc (length notes) % (10 * counter_count bits)) 0 ≡ false → least (count_after bits hash notes) ≤ least (count_after bits hash (note ∷ notes))
+not_lowered bits hash note notes not_due = least-le (count_after bits hash notes) (count_after bits hash (note ∷ notes)) (λ row.
+    let count = count_after bits hash notes row in
     let more = count_with bits hash row note count in
-    let is : kept bits hash (note ∷ notes) row ≡ more = cond-false _ (more / 2) more not_due in
+    let is : count_after bits hash (note ∷ notes) row ≡ more = cond-false _ (more / 2) more not_due in
     rw is (count_with-le bits hash row note count (kept-le bits hash row notes)))
 
 -- whether a halving is due, in the words of the laws
@@ -260,13 +260,13 @@ counts_it bits hash row note count found false _ few enough = le_trans enough (c
 
 -- a counter keeps at least how often the hash was noted since the last halving, the newest first
 kept-at_least : (bits hash row : ℕ) (since earlier : List ℕ) → length earlier % (10 * counter_count bits) ≡ 0 → length since < 10 * counter_count bits
-    → min (length (filter (λ note. nat_eq note hash) since)) 15 ≤ kept bits hash (since ++ earlier) row
+    → min (length (filter (λ note. nat_eq note hash) since)) 15 ≤ count_after bits hash (since ++ earlier) row
 kept-at_least bits hash row [] earlier whole few = omega arith
 kept-at_least bits hash row (note ∷ since) earlier whole few =
-    let count = kept bits hash (since ++ earlier) row in
+    let count = count_after bits hash (since ++ earlier) row in
     let more = count_with bits hash row note count in
     let not_due : nat_eq (suc (length (since ++ earlier)) % (10 * counter_count bits)) 0 ≡ false = rw (length-append since earlier) (not_due_since (10 * counter_count bits) (length since) (length earlier) whole few) in
-    let is : kept bits hash (note ∷ (since ++ earlier)) row ≡ more = cond-false _ (more / 2) more not_due in
+    let is : count_after bits hash (note ∷ (since ++ earlier)) row ≡ more = cond-false _ (more / 2) more not_due in
     let enough = kept-at_least bits hash row since earlier whole (omega (arith, few)) in
     rw is (counts_it bits hash row note count (filter (λ n. nat_eq n hash) since) (nat_eq note hash) refl (kept-le bits hash row (since ++ earlier)) enough)
 
@@ -284,27 +284,27 @@ pub estimate_after-at_least : (bits hash : ℕ) (earlier since : List ℕ) → l
 estimate_after-at_least bits hash earlier since whole few =
     let whole_back : length (reverse earlier) % (10 * counter_count bits) ≡ 0 = rw (length-reverse earlier) whole in
     let few_back : length (reverse since) < 10 * counter_count bits = rw (length-reverse since) few in
-    let each : (row : ℕ) → min (length (filter (λ note. nat_eq note hash) since)) 15 ≤ kept bits hash (reverse since ++ reverse earlier) row = λ row.
+    let each : (row : ℕ) → min (length (filter (λ note. nat_eq note hash) since)) 15 ≤ count_after bits hash (reverse since ++ reverse earlier) row = λ row.
     rw (← count-reverse (λ note. nat_eq note hash) since) (kept-at_least bits hash row (reverse since) (reverse earlier) whole_back few_back) in
-    rw (estimate_after-least bits hash (earlier ++ since), reverse-append earlier since) (least-ge _ (kept bits hash (reverse since ++ reverse earlier)) each)
+    rw (estimate_after-least bits hash (earlier ++ since), reverse-append earlier since) (least-ge _ (count_after bits hash (reverse since ++ reverse earlier)) each)
 
 -- before the first halving a counter keeps how many notes used it, up to 15
 kept-counts : (bits hash row : ℕ) (notes : List ℕ) → length notes < 10 * counter_count bits
-    → kept bits hash notes row ≡ min (length (filter (λ note. nat_eq (place bits row note) (place bits row hash)) notes)) 15
+    → count_after bits hash notes row ≡ min (length (filter (λ note. nat_eq (place bits row note) (place bits row hash)) notes)) 15
 kept-counts bits hash row [] few = omega arith
 kept-counts bits hash row (note ∷ notes) few =
     let uses = nat_eq (place bits row note) (place bits row hash) in
-    let count = count_with bits hash row note (kept bits hash notes row) in
+    let count = count_with bits hash row note (count_after bits hash notes row) in
     let not_due : nat_eq (suc (length notes) % (10 * counter_count bits)) 0 ≡ false = rw (mod-eq_of_lt few) (ne_eqb (suc (length notes)) 0 (λ none. absurd (omega (arith, none)))) in
     cond-false _ (count / 2) count not_due
-    ∙ one_more bits hash note (filter (λ n. nat_eq (place bits row n) (place bits row hash)) notes) uses (kept bits hash notes row) (kept-counts bits hash row notes (omega (arith, few)))
+    ∙ one_more bits hash note (filter (λ n. nat_eq (place bits row n) (place bits row hash)) notes) uses (count_after bits hash notes row) (kept-counts bits hash row notes (omega (arith, few)))
 
 pub estimate_after-counts : (bits hash : ℕ) (notes : List ℕ) → length notes < 10 * counter_count bits
     → estimate_after bits notes hash ≡ least (λ row. min (length (filter (λ note. nat_eq (place bits row note) (place bits row hash)) notes)) 15)
 estimate_after-counts bits hash notes few =
     let few_back : length (reverse notes) < 10 * counter_count bits = rw (length-reverse notes) few in
     estimate_after-least bits hash notes
-    ∙ least-same (kept bits hash (reverse notes)) (λ row. min (length (filter (λ note. nat_eq (place bits row note) (place bits row hash)) notes)) 15) (λ row _.
+    ∙ least-same (count_after bits hash (reverse notes)) (λ row. min (length (filter (λ note. nat_eq (place bits row note) (place bits row hash)) notes)) 15) (λ row _.
     kept-counts bits hash row (reverse notes) few_back ∙ ap (λ n. min n 15) (count-reverse (λ note. nat_eq (place bits row note) (place bits row hash)) notes))
 
 -- where one hash is noted alone, all use its counters

@@ -14,10 +14,9 @@ use Rattle.moka_model.specs.Admission.{frequency, wins}
 use Rattle.moka_model.specs.Orders.{moved_last, is_of, is_hit, used_where, orders, standing}
 use Rattle.moka_model.specs.OrderLaws.{writes_of, keys, held, HasOneEach, lasts, admitted_in, uses, is_admitted, LastUse}
 use Rattle.moka_model.proofs.Callers.{filter-both, list_any-map, filter-narrower, alone, moved_last-none, map-filter, list_any-filtered, IsStoredUnder, stored_key, overwrite, overwritten, held-append, held-orders, one_side, after_look-key}
-use Rattle.moka_laws.proofs.HeldOnes.{in_one_order}
 use Rattle.moka_laws.proofs.Moves.{none_held, look-none, hidden-keys, written_in-anew, written_in-over, used-admitted, removed-admitted}
 use Rattle.moka_laws.proofs.Rests.{IsRestOf, rest-after}
-use Rattle.moka_laws.proofs.RestOnes.{HasOne, filter-is_in}
+use Rattle.moka_laws.proofs.RestOnes.{HasOne, filter-is_in, in_one_order}
 use Rattle.moka_laws.proofs.InOrder.{Each, InOrder, Each-from, Each-filter, InOrder-filter, InOrder-same, InOrder-at, Each-at}
 use Rattle.moka_laws.proofs.Arrivals.{or_false, lasts-push, is_among, KeepsArrival, is_among-congr, KeepsArrival-push, KeepsArrival-filter, KeepsArrival-test}
 

@@ -12,7 +12,7 @@ use Rattle.moka_model.specs.Numbers.{stores_nothing}
 use Rattle.moka_model.specs.Turns.{Name, Turn, fits, found, is_open_as}
 use Rattle.moka_model.specs.Steps.{AcceptedStep, events_in, turns}
 use Rattle.moka_model.specs.Calls.{Get, Insert, OrInsert, Finish, Found, Entered, accepted, entry_of, fresh_entry, finished, or_inserted, with_step, live_at, flush, after, IsLegal}
-use Rattle.moka_laws.specs.Laws.{answer, and_then, life_by_write}
+use Rattle.moka_laws.specs.Laws.{reply, and_then, life_by_write}
 use Rattle.moka_laws.proofs.Deadlines.{has_come-earlier}
 use Rattle.moka_model.proofs.Callers.{standing_congr, standing-empty, IsLegal-after}
 
@@ -105,16 +105,16 @@ module _ {K V : Type 0} (eq : K → K → Bool) (settings : Settings K V) (laws 
         (⊎_elim (λ e. inl e) (λ more. ⊎_elim (λ e. inr (inl e)) (λ e. inr (inr (life-after ∙ e))) more) some))
 
   module _ {E : Type 0} (steps : List (AcceptedStep K V E)) where
-    pub get-written : now ≤ at → settings.time_to_live ≢ Some 0 → settings.time_to_idle ≢ Some 0 → life_by_write eq settings k v at (events_in steps) ≢ Some 0 → answer eq settings (Get q now) (and_then (Written k v at ∷ []) steps) ≡ Some (Found (Some v))
+    pub get-written : now ≤ at → settings.time_to_live ≢ Some 0 → settings.time_to_idle ≢ Some 0 → life_by_write eq settings k v at (events_in steps) ≢ Some 0 → reply eq settings (Get q now) (and_then (Written k v at ∷ []) steps) ≡ Some (Found (Some v))
     get-written le live idle own = ap (λ o. Some (Found o)) (found-written (events_in steps) le live idle own)
 
-    pub get-ended : (settings.time_to_live ≡ Some 0) ⊎ (settings.time_to_idle ≡ Some 0) ⊎ (life_by_write eq settings k v at (events_in steps) ≡ Some 0) → answer eq settings (Get q now) (and_then (Written k v at ∷ []) steps) ≡ Some (Found None)
+    pub get-ended : (settings.time_to_live ≡ Some 0) ⊎ (settings.time_to_idle ≡ Some 0) ⊎ (life_by_write eq settings k v at (events_in steps) ≡ Some 0) → reply eq settings (Get q now) (and_then (Written k v at ∷ []) steps) ≡ Some (Found None)
     get-ended some = ap (λ o. Some (Found o)) (found-ended (events_in steps) some)
 
     -- an accepted write comes behind a maintenance or not
     pub get-accepted : now ≤ at → stores_nothing settings.max_capacity ≡ false → settings.time_to_live ≢ Some 0 → settings.time_to_idle ≢ Some 0
         → life_by_write eq settings k v at (flush eq settings at (events_in steps) ++ events_in steps) ≢ Some 0
-        → answer eq settings (Get q now) (after eq settings (Insert k v at) steps) ≡ Some (Found (Some v))
+        → reply eq settings (Get q now) (after eq settings (Insert k v at) steps) ≡ Some (Found (Some v))
     get-accepted le stores live idle own =
         let h : List (Event K V) = events_in steps in
         let behind : List (Event K V) = flush eq settings at h in
@@ -125,27 +125,27 @@ module _ {K V : Type 0} (eq : K → K → Bool) (settings : Settings K V) (laws 
 module _ {K V E : Type 0} (eq : K → K → Bool) (settings : Settings K V) (k : K) (v : V) (at : ℕ) (steps : List (AcceptedStep K V E)) where
   -- is a hit where a value is live,
   pub or_inserted-hit : (w : Write K V) → live_at eq settings k at (events_in steps) ≡ Some w
-      → (answer eq settings (OrInsert k v at) steps ≡ Some (Entered (entry_of w))) × (answer eq settings (Get k at) steps ≡ Some (Found (Some w.value))) × (after eq settings (OrInsert k v at) steps ≡ after eq settings (Get k at) steps)
+      → (reply eq settings (OrInsert k v at) steps ≡ Some (Entered (entry_of w))) × (reply eq settings (Get k at) steps ≡ Some (Found (Some w.value))) × (after eq settings (OrInsert k v at) steps ≡ after eq settings (Get k at) steps)
   or_inserted-hit w live = (
-    ap (λ o. Some ((or_inserted {E = E} eq settings (events_in steps) k v at o).answer)) live,
+    ap (λ o. Some ((or_inserted {E = E} eq settings (events_in steps) k v at o).reply)) live,
     ap (λ o. Some (Found (option_map (λ (w : Write K V). w.value) o))) live,
     ap (λ o. with_step (Some (or_inserted {E = E} eq settings (events_in steps) k v at o)) steps) live,
   )
 
   -- and fresh where none is
-  pub or_inserted-fresh : live_at eq settings k at (events_in steps) ≡ None → answer eq settings (OrInsert k v at) steps ≡ Some (Entered (fresh_entry k v false))
-  or_inserted-fresh none = ap (λ o. Some ((or_inserted {E = E} eq settings (events_in steps) k v at o).answer)) none
+  pub or_inserted-fresh : live_at eq settings k at (events_in steps) ≡ None → reply eq settings (OrInsert k v at) steps ≡ Some (Entered (fresh_entry k v false))
+  or_inserted-fresh none = ap (λ o. Some ((or_inserted {E = E} eq settings (events_in steps) k v at o).reply)) none
 
   -- Then it is a look, and a write behind it.
   module _ (laws : IsEquivalence eq) (q : K) (now : ℕ) (same : eq k q ≡ true) where
     pub get-or_inserted : now ≤ at → stores_nothing settings.max_capacity ≡ false → settings.time_to_live ≢ Some 0 → settings.time_to_idle ≢ Some 0
         → life_by_write eq settings k v at (flush eq settings at (Looked k at ∷ events_in steps) ++ Looked k at ∷ events_in steps) ≢ Some 0
         → live_at eq settings k at (events_in steps) ≡ None
-        → answer eq settings (Get q now) (after eq settings (OrInsert k v at) steps) ≡ Some (Found (Some v))
+        → reply eq settings (Get q now) (after eq settings (OrInsert k v at) steps) ≡ Some (Found (Some v))
     get-or_inserted le stores live idle own none =
         let looked : List (Event K V) = Looked k at ∷ events_in steps in
         let behind : List (Event K V) = flush eq settings at looked in
-        ap (λ o. answer eq settings (Get q now) (with_step (Some (or_inserted {E = E} eq settings (events_in steps) k v at o)) steps)) none
+        ap (λ o. reply eq settings (Get q now) (with_step (Some (or_inserted {E = E} eq settings (events_in steps) k v at o)) steps)) none
         ∙ ap (λ t. Some (Found (option_map (λ (w : Write K V). w.value) (live_at eq settings q now (((if t then Passed at ∷ [] else Written k v at ∷ behind) ++ Looked k at ∷ []) ++ events_in steps))))) stores
         ∙ ap (λ l. Some (Found (option_map (λ (w : Write K V). w.value) (live_at eq settings q now (Written k v at ∷ l))))) (append_assoc behind (Looked k at ∷ []) (events_in steps))
         ∙ ap (λ o. Some (Found o)) (found-written eq settings laws k q v at now same (behind ++ looked) le live idle own)
@@ -156,20 +156,20 @@ module _ {K V E : Type 0} (eq : K → K → Bool) (settings : Settings K V) (law
   pub get-finished : now ≤ at → stores_nothing settings.max_capacity ≡ false → settings.time_to_live ≢ Some 0 → settings.time_to_idle ≢ Some 0
       → life_by_write eq settings name.key v at (flush eq settings at (events_in steps) ++ events_in steps) ≢ Some 0
       → IsSome (accepted eq settings steps (Finish name (outcomes.Value v) at))
-      → answer eq settings (Get q now) (after eq settings (Finish name (outcomes.Value v) at) steps) ≡ Some (Found (Some v))
+      → reply eq settings (Get q now) (after eq settings (Finish name (outcomes.Value v) at) steps) ≡ Some (Found (Some v))
   get-finished le stores live idle own some =
       by (fits name.kind (outcomes.Value v)) (found (is_open_as eq name) (turns steps)) some
     where
       by : (b : Bool) (o : Option (Turn K V E))
           → IsSome (if b then option_map (finished eq settings (events_in steps) name (outcomes.Value v) at) o else None)
-          → answer eq settings (Get q now) (with_step (if b then option_map (finished eq settings (events_in steps) name (outcomes.Value v) at) o else None) steps) ≡ Some (Found (Some v))
+          → reply eq settings (Get q now) (with_step (if b then option_map (finished eq settings (events_in steps) name (outcomes.Value v) at) o else None) steps) ≡ Some (Found (Some v))
       by true (Some t) some = get-accepted eq settings laws name.key q v at now same steps le stores live idle own
       by true None some = let never = some in cc
       by false o some = let never = some in cc
 
 -- with a capacity of 0 no look finds anything after a write
 pub get-not_stored : {K V E : Type 0} (eq : K → K → Bool) (settings : Settings K V) (steps : List (AcceptedStep K V E)) (k q : K) (v : V) (at now : ℕ) → stores_nothing settings.max_capacity ≡ true → IsLegal eq settings steps
-    → answer eq settings (Get q now) (after eq settings (Insert k v at) steps) ≡ Some (Found None)
+    → reply eq settings (Get q now) (after eq settings (Insert k v at) steps) ≡ Some (Found None)
 get-not_stored eq settings steps k q v at now none legal =
     let h : List (Event _ _) = events_in (after eq settings (Insert k v at) steps) in
     ap (λ o. Some (Found (option_map (λ w. w.value) (live_one settings (max (latest h) now) o)))) (standing-empty eq settings none q (after eq settings (Insert k v at) steps) (IsLegal-after eq settings (Insert k v at) steps legal))

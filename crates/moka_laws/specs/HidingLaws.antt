@@ -5,7 +5,7 @@ use Rattle.moka_model.specs.Events.{Event, Hidden}
 use Rattle.moka_model.specs.Steps.{AcceptedStep}
 use Rattle.moka_model.specs.Calls.{Call, Get, ContainsKey, Invalidate, Remove, InvalidateAll, InvalidateIf, Found, Contains}
 use Rattle.moka_model.specs.Calls.{Finish, Abandon, Collect, Leave}
-use Rattle.moka_laws.specs.Laws.{answer}
+use Rattle.moka_laws.specs.Laws.{reply}
 
 -- An event among these that invalidates a value under a stored key, at its place.
 pub record HidingEvent {K V : Type 0} (k : K) (v : V) (those : List (Event K V)) : Type 0 where
@@ -18,9 +18,9 @@ pub record HidingEvent {K V : Type 0} (k : K) (v : V) (those : List (Event K V))
 -- No lookup or removal finds anything under the key, at any moment.
 abbrev pub IsNotFound : {K V E : Type 0} → (K → K → Bool) → Settings K V → K → List (AcceptedStep K V E) → Type 0
 IsNotFound eq settings k steps =
-    (at : ℕ) → (answer eq settings (Get k at) steps ≡ Some (Found None))
-    × (answer eq settings (ContainsKey k at) steps ≡ Some (Contains false))
-    × (answer eq settings (Remove k at) steps ≡ Some (Found None))
+    (at : ℕ) → (reply eq settings (Get k at) steps ≡ Some (Found None))
+    × (reply eq settings (ContainsKey k at) steps ≡ Some (Contains false))
+    × (reply eq settings (Remove k at) steps ≡ Some (Found None))
 
 -- The call removes or invalidates one key or many.
 abbrev pub IsInvalidation : {K V E : Type 0} → Call K V E → Type 0

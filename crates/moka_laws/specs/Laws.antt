@@ -10,11 +10,11 @@ use Rattle.moka_model.specs.Removals.{Removal}
 use Rattle.moka_model.specs.Steps.{AcceptedStep}
 use Rattle.moka_model.specs.Calls.{Call, Get, ContainsKey, Insert, Invalidate, Remove, EntryCount, WeightedSize, OrInsert, Begin}
 use Rattle.moka_model.specs.Calls.{BeginCompute, Finish, RunPendingTasks, RunPendingTasksUpTo}
-use Rattle.moka_model.specs.Calls.{Answer, accepted, answer_of}
+use Rattle.moka_model.specs.Calls.{Reply, accepted, reply_of}
 
 -- What a call returns after some accepted steps; none if it is rejected.
-abbrev pub answer : {K V E : Type 0} → (K → K → Bool) → Settings K V → Call K V E → List (AcceptedStep K V E) → Option (Answer K V E)
-answer eq settings call steps = answer_of (accepted eq settings steps call)
+abbrev pub reply : {K V E : Type 0} → (K → K → Bool) → Settings K V → Call K V E → List (AcceptedStep K V E) → Option (Reply K V E)
+reply eq settings call steps = reply_of (accepted eq settings steps call)
 
 -- Some accepted steps, and these events as one step more.
 abbrev pub and_then : {K V E : Type 0} → List (Event K V) → List (AcceptedStep K V E) → List (AcceptedStep K V E)

@@ -2,6 +2,7 @@ pub mod AdmissionLaws
 pub mod HidingLaws
 pub mod Laws
 pub mod OwnLifeLaws
+pub mod TurnLaws
 pub mod Worked
 pub mod WorkedAdmission
 pub mod WorkedCalls
@@ -9,8 +10,10 @@ pub mod WorkedExpiry
 pub mod WorkedMaintenance
 pub mod WorkedOrder
 pub mod WorkedSize
+pub mod WorkedTurns
 pub use Rattle.moka_model.specs.Admission
 pub use Rattle.moka_model.specs.Calls
+pub use Rattle.moka_model.specs.Conserved
 pub use Rattle.moka_model.specs.Events
 pub use Rattle.moka_model.specs.Lives
 pub use Rattle.moka_model.specs.Maintenance
@@ -22,7 +25,6 @@ pub use Rattle.moka_model.specs.Removals
 pub use Rattle.moka_model.specs.SizeLaws
 pub use Rattle.moka_model.specs.StandsFor
 pub use Rattle.moka_model.specs.Steps
-pub use Rattle.moka_conserved.specs.Conserved
 pub use Rattle.moka_policy.specs.Frequency
 pub use Rattle.moka_policy.specs.NumberHash
 pub use Rattle.moka_policy.specs.Policy

@@ -5,8 +5,8 @@ use Rattle.moka_model.specs.Lives.{Settings, Behaviour, no_lifetimes}
 use Rattle.moka_model.specs.Events.{Event, Written}
 use Rattle.moka_model.specs.Removals.{Removal}
 use Rattle.moka_model.specs.Steps.{AcceptedStep}
-use Rattle.moka_model.specs.Calls.{Call, Answer, Done, Found, Contains, Counted, Noticed, after}
-use Rattle.moka_laws.specs.Laws.{answer, and_then}
+use Rattle.moka_model.specs.Calls.{Call, Reply, Done, Found, Contains, Counted, Noticed, after}
+use Rattle.moka_laws.specs.Laws.{reply, and_then}
 use Rattle.moka_policy.specs.Frequency.{estimate_after}
 
 -- `n` seconds, in nanoseconds.
@@ -60,32 +60,32 @@ abbrev pub stepped : List (Event ℕ ℕ) → List (AcceptedStep ℕ ℕ ℕ)
 stepped h = and_then h []
 
 -- What a call returns after some events.
-abbrev pub answer_after : (ℕ → ℕ → Bool) → Settings ℕ ℕ → Call ℕ ℕ ℕ → List (Event ℕ ℕ) → Option (Answer ℕ ℕ ℕ)
-answer_after eq settings call h = answer eq settings call (stepped h)
+abbrev pub reply_after : (ℕ → ℕ → Bool) → Settings ℕ ℕ → Call ℕ ℕ ℕ → List (Event ℕ ℕ) → Option (Reply ℕ ℕ ℕ)
+reply_after eq settings call h = reply eq settings call (stepped h)
 
 -- What calls return, in order, after some accepted steps.
-abbrev pub answers : (ℕ → ℕ → Bool) → Settings ℕ ℕ → List (Call ℕ ℕ ℕ) → List (AcceptedStep ℕ ℕ ℕ) → List (Option (Answer ℕ ℕ ℕ))
-answers eq settings [] steps = []
-answers eq settings (call ∷ calls) steps = answer eq settings call steps ∷ answers eq settings calls (after eq settings call steps)
+abbrev pub replies : (ℕ → ℕ → Bool) → Settings ℕ ℕ → List (Call ℕ ℕ ℕ) → List (AcceptedStep ℕ ℕ ℕ) → List (Option (Reply ℕ ℕ ℕ))
+replies eq settings [] steps = []
+replies eq settings (call ∷ calls) steps = reply eq settings call steps ∷ replies eq settings calls (after eq settings call steps)
 
 -- The result of an accepted lookup.
-abbrev pub found : Option ℕ → Option (Answer ℕ ℕ ℕ)
+abbrev pub found : Option ℕ → Option (Reply ℕ ℕ ℕ)
 found value = Some (Found value)
 
 -- The result of an accepted `contains_key`.
-abbrev pub contains : Bool → Option (Answer ℕ ℕ ℕ)
+abbrev pub contains : Bool → Option (Reply ℕ ℕ ℕ)
 contains is_there = Some (Contains is_there)
 
 -- The result of an accepted call that returns nothing.
-abbrev pub is_done : Option (Answer ℕ ℕ ℕ)
+abbrev pub is_done : Option (Reply ℕ ℕ ℕ)
 is_done = Some Done
 
 -- The result of an accepted count.
-abbrev pub counted : ℕ → Option (Answer ℕ ℕ ℕ)
+abbrev pub counted : ℕ → Option (Reply ℕ ℕ ℕ)
 counted n = Some (Counted n)
 
 -- The result of an accepted call that takes a notice.
-abbrev pub noticed : Option (Removal ℕ ℕ) → Option (Answer ℕ ℕ ℕ)
+abbrev pub noticed : Option (Removal ℕ ℕ) → Option (Reply ℕ ℕ ℕ)
 noticed removal = Some (Noticed removal)
 
 -- The removal of a value under a key.

@@ -8,7 +8,7 @@ ghost use Rattle.moka_model.specs.Lives.{Settings};
 ghost use Rattle.moka_model.specs.Events.{recorded, latest};
 ghost use Rattle.moka_model.specs.Numbers.{next_number, greatest_number, stores_nothing};
 ghost use Rattle.moka_model.specs.Steps.{AcceptedStep, events_in};
-ghost use Rattle.moka_model.specs.Calls.{Call, Insert, OrInsert, Accepted, accepted, after, live_at, IsLegal, IfAnswered, IsOutOfNumbers, AnswerMayFail, MayTakeMemory};
+ghost use Rattle.moka_model.specs.Calls.{Call, Insert, OrInsert, Accepted, accepted, after, live_at, IsLegal, IfReplied, IsOutOfNumbers, ReplyMayFail, MayTakeMemory};
 ghost use Rattle.moka_laws.specs.Laws.{moment_of, IsWrite};
 
 /// The empty history is legal, and each call leaves a legal history legal.
@@ -57,5 +57,5 @@ pub fn writes_and_copies_alone_take_memory<K: Eq, V: Clone, E>()
     ensures write { (settings : Settings K V) (steps : List (AcceptedStep K V E)) (k : K) (v : V) (at : ℕ)
         → MayTakeMemory K.eq V.is_infallible settings steps (Insert k v at) ↔ (settings.max_capacity ≢ Some 0) }
     ensures others { (settings : Settings K V) (steps : List (AcceptedStep K V E)) (call : Call K V E) → ¬ (IsWrite call)
-        → MayTakeMemory K.eq V.is_infallible settings steps call ↔ IfAnswered (AnswerMayFail V.is_infallible) (accepted K.eq settings steps call) }
+        → MayTakeMemory K.eq V.is_infallible settings steps call ↔ IfReplied (ReplyMayFail V.is_infallible) (accepted K.eq settings steps call) }
 {}

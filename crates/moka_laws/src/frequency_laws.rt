@@ -2,7 +2,7 @@
 //!
 //! Each is the contract of a function without code.
 ghost use Rattle.std.specs.Prelude.{◌≡◌, ℕ, ◌*◌, ◌<◌, ◌≤◌, List, [], ◌∷◌, ◌++◌, length, filter, reverse, min, nat_eq};
-ghost use Rattle.moka_policy.specs.Frequency.{Counts, after_notes, counter_count, counter_of, estimated, estimate_after, kept};
+ghost use Rattle.moka_policy.specs.Frequency.{Counts, after_notes, counter_count, counter_of, estimated, estimate_after, count_after};
 
 use moka_policy::frequency::{CountTable, FrequencySource};
 
@@ -19,9 +19,9 @@ pub fn notes_come_in_order<F: FrequencySource>()
 /// each counter of the table. Before the first halving it is the number of those notes, up to 15.
 pub fn a_table_keeps_its_notes<const BITS: u32>()
     ensures kept { (notes : List ℕ) (hash : ℕ)
-        → ⟦<CountTable<BITS> as FrequencySource>⟧.count (after_notes ⟦<CountTable<BITS> as FrequencySource>⟧.opened ⟦<CountTable<BITS> as FrequencySource>⟧.noted (reverse notes)) hash ≡ kept BITS hash notes }
+        → ⟦<CountTable<BITS> as FrequencySource>⟧.count (after_notes ⟦<CountTable<BITS> as FrequencySource>⟧.opened ⟦<CountTable<BITS> as FrequencySource>⟧.noted (reverse notes)) hash ≡ count_after BITS hash notes }
     ensures counted { (notes : List ℕ) (hash : ℕ) → length notes < 10 * counter_count BITS
-        → kept BITS hash notes ≡ min (length (filter (λ note. nat_eq (counter_of BITS note) (counter_of BITS hash)) notes)) 15 }
+        → count_after BITS hash notes ≡ min (length (filter (λ note. nat_eq (counter_of BITS note) (counter_of BITS hash)) notes)) 15 }
     ensures at_most_15 { (notes : List ℕ) (hash : ℕ) → estimate_after BITS notes hash ≤ 15 }
     ensures shared { (counts : Counts) (a b : ℕ) → counter_of BITS a ≡ counter_of BITS b → estimated BITS counts a ≡ estimated BITS counts b }
 {}

@@ -10,7 +10,7 @@ ghost use Rattle.moka_model.specs.Numbers.{entry_count};
 ghost use Rattle.moka_model.specs.Removals.{removals, removals_at, removal_of, notices_left};
 ghost use Rattle.moka_model.specs.Steps.{AcceptedStep, events_in};
 ghost use Rattle.moka_model.specs.Calls.{Call, InvalidateAll, InvalidateIf, accepted, after};
-ghost use Rattle.moka_conserved.specs.Conserved.{SeesKeysAlike, count_written, count_standing, count_left, given_out};
+ghost use Rattle.moka_model.specs.Conserved.{SeesKeysAlike, count_written, count_standing, count_left, given_out};
 ghost use Rattle.moka_laws.specs.Laws.{IsUnwritten, LastWrite};
 ghost use Rattle.moka_laws.specs.HidingLaws.{HidingEvent, IsNotFound, IsInvalidation, IsByName};
 

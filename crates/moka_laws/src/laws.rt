@@ -14,8 +14,8 @@ ghost use Rattle.moka_model.specs.Numbers.{next_number, stores_nothing, is_flush
 ghost use Rattle.moka_model.specs.Turns.{Name};
 ghost use Rattle.moka_model.specs.Steps.{AcceptedStep, events_in};
 ghost use Rattle.moka_model.specs.Calls.{Call, Get, ContainsKey, Insert, OrInsert, Finish, TakeNotice, Found, Contains, Entered, Noticed, accepted, entry_of, fresh_entry, live_at, flush, after, IsLegal};
-ghost use Rattle.moka_laws.specs.Laws.{answer, and_then, IsQuestion, ends, IsUnwritten, IsUntouched, LastWrite, FirstWrite, FirstEnd, NothingStands, up_to_write, IsAsWritten, hidden_since, IsRemovalOf, HasEnded, OwnHasEnded, draws, life_by_write, values_written, values_left, removals_under, value_standing};
-ghost use Rattle.moka_conserved.specs.Conserved.{given_out};
+ghost use Rattle.moka_laws.specs.Laws.{reply, and_then, IsQuestion, ends, IsUnwritten, IsUntouched, LastWrite, FirstWrite, FirstEnd, NothingStands, up_to_write, IsAsWritten, hidden_since, IsRemovalOf, HasEnded, OwnHasEnded, draws, life_by_write, values_written, values_left, removals_under, value_standing};
+ghost use Rattle.moka_model.specs.Conserved.{given_out};
 ghost use Rattle.moka_policy.specs.NumberHash.{number_hash};
 ghost use Rattle.std.specs.Hash.{u64 as number_writes};
 
@@ -27,17 +27,17 @@ ghost use Rattle.std.specs.Hash.{u64 as number_writes};
 pub fn get_after_insert<K: Eq, V, E>()
     ensures found { (settings : Settings K V) (steps : List (AcceptedStep K V E)) (k q : K) (v : V) (at now : ℕ) → K.eq k q ≡ true → now ≤ at
         → settings.time_to_live ≢ Some 0 → settings.time_to_idle ≢ Some 0 → life_by_write K.eq settings k v at (events_in steps) ≢ Some 0
-        → answer K.eq settings (Get q now) (and_then (Written k v at ∷ []) steps) ≡ Some (Found (Some v)) }
+        → reply K.eq settings (Get q now) (and_then (Written k v at ∷ []) steps) ≡ Some (Found (Some v)) }
     ensures expired { (settings : Settings K V) (steps : List (AcceptedStep K V E)) (k q : K) (v : V) (at now : ℕ) → K.eq k q ≡ true
         → (settings.time_to_live ≡ Some 0) ⊎ (settings.time_to_idle ≡ Some 0) ⊎ (life_by_write K.eq settings k v at (events_in steps) ≡ Some 0)
-        → answer K.eq settings (Get q now) (and_then (Written k v at ∷ []) steps) ≡ Some (Found None) }
+        → reply K.eq settings (Get q now) (and_then (Written k v at ∷ []) steps) ≡ Some (Found None) }
     ensures accepted { (settings : Settings K V) (steps : List (AcceptedStep K V E)) (k q : K) (v : V) (at now : ℕ) → K.eq k q ≡ true → now ≤ at
         → stores_nothing settings.max_capacity ≡ false → settings.time_to_live ≢ Some 0 → settings.time_to_idle ≢ Some 0
         → life_by_write K.eq settings k v at (flush K.eq settings at (events_in steps) ++ events_in steps) ≢ Some 0
-        → answer K.eq settings (Get q now) (after K.eq settings (Insert k v at) steps) ≡ Some (Found (Some v)) }
+        → reply K.eq settings (Get q now) (after K.eq settings (Insert k v at) steps) ≡ Some (Found (Some v)) }
     ensures not_stored { (settings : Settings K V) (steps : List (AcceptedStep K V E)) (k q : K) (v : V) (at now : ℕ)
         → stores_nothing settings.max_capacity ≡ true → IsLegal K.eq settings steps
-        → answer K.eq settings (Get q now) (after K.eq settings (Insert k v at) steps) ≡ Some (Found None) }
+        → reply K.eq settings (Get q now) (after K.eq settings (Insert k v at) steps) ≡ Some (Found None) }
 {}
 
 /// After a turn is finished with a value, a lookup at the same moment or an earlier one finds it.
@@ -49,7 +49,7 @@ pub fn get_after_finish<K: Eq, V, E>()
         → stores_nothing settings.max_capacity ≡ false → settings.time_to_live ≢ Some 0 → settings.time_to_idle ≢ Some 0
         → life_by_write K.eq settings name.key v at (flush K.eq settings at (events_in steps) ++ events_in steps) ≢ Some 0
         → IsSome (accepted K.eq settings steps (Finish name (Outcome.Value v) at))
-        → answer K.eq settings (Get q now) (after K.eq settings (Finish name (Outcome.Value v) at) steps) ≡ Some (Found (Some v)) }
+        → reply K.eq settings (Get q now) (after K.eq settings (Finish name (Outcome.Value v) at) steps) ≡ Some (Found (Some v)) }
 {}
 
 /// An `or_insert` on a live value is a hit, as by `get`: it returns that value, neither fresh nor
@@ -61,17 +61,17 @@ pub fn get_after_finish<K: Eq, V, E>()
 pub fn get_after_or_insert<K: Eq, V, E>()
     ensures hit { (settings : Settings K V) (steps : List (AcceptedStep K V E)) (k : K) (v : V) (at : ℕ) (w : Write K V)
         → live_at K.eq settings k at (events_in steps) ≡ Some w
-        → (answer K.eq settings (OrInsert k v at) steps ≡ Some (Entered (entry_of w)))
-        × (answer K.eq settings (Get k at) steps ≡ Some (Found (Some w.value)))
+        → (reply K.eq settings (OrInsert k v at) steps ≡ Some (Entered (entry_of w)))
+        × (reply K.eq settings (Get k at) steps ≡ Some (Found (Some w.value)))
         × (after K.eq settings (OrInsert k v at) steps ≡ after K.eq settings (Get k at) steps) }
     ensures fresh { (settings : Settings K V) (steps : List (AcceptedStep K V E)) (k : K) (v : V) (at : ℕ)
         → live_at K.eq settings k at (events_in steps) ≡ None
-        → answer K.eq settings (OrInsert k v at) steps ≡ Some (Entered (fresh_entry k v false)) }
+        → reply K.eq settings (OrInsert k v at) steps ≡ Some (Entered (fresh_entry k v false)) }
     ensures found { (settings : Settings K V) (steps : List (AcceptedStep K V E)) (k q : K) (v : V) (at now : ℕ) → K.eq k q ≡ true → now ≤ at
         → stores_nothing settings.max_capacity ≡ false → settings.time_to_live ≢ Some 0 → settings.time_to_idle ≢ Some 0
         → life_by_write K.eq settings k v at (flush K.eq settings at (Looked k at ∷ events_in steps) ++ Looked k at ∷ events_in steps) ≢ Some 0
         → live_at K.eq settings k at (events_in steps) ≡ None
-        → answer K.eq settings (Get q now) (after K.eq settings (OrInsert k v at) steps) ≡ Some (Found (Some v)) }
+        → reply K.eq settings (Get q now) (after K.eq settings (OrInsert k v at) steps) ≡ Some (Found (Some v)) }
 {}
 
 /// A call that only reads is a step without events and without a move.
@@ -82,8 +82,8 @@ pub fn get_after_or_insert<K: Eq, V, E>()
 pub fn a_question_changes_nothing<K: Eq, V, E>()
     ensures step { (settings : Settings K V) (steps : List (AcceptedStep K V E)) (call : Call K V E) → IsQuestion call
         → after K.eq settings call steps ≡ and_then [] steps }
-    ensures answer { (settings : Settings K V) (later steps : List (AcceptedStep K V E)) (call : Call K V E)
-        → answer K.eq settings call (later ++ and_then [] steps) ≡ answer K.eq settings call (later ++ steps) }
+    ensures reply { (settings : Settings K V) (later steps : List (AcceptedStep K V E)) (call : Call K V E)
+        → reply K.eq settings call (later ++ and_then [] steps) ≡ reply K.eq settings call (later ++ steps) }
     ensures standing { (settings : Settings K V) (later steps : List (AcceptedStep K V E)) (k : K)
         → standing K.eq settings k (events_in (later ++ and_then [] steps)) ≡ standing K.eq settings k (events_in (later ++ steps)) }
     ensures orders { (settings : Settings K V) (later steps : List (AcceptedStep K V E))
@@ -117,12 +117,12 @@ pub fn each_removal_is_noticed_once<K: Eq, V, E>()
     ensures counted { (settings : Settings K V) (h : List (Event K V))
         → (length (given_out K.eq settings h) ≡ taken K.eq settings h) × (taken K.eq settings h ≤ length (removals K.eq settings h)) }
     ensures next { (settings : Settings K V) (steps : List (AcceptedStep K V E))
-        → answer K.eq settings TakeNotice steps ≡ Some (Noticed (slice_get (removals K.eq settings (events_in steps)) (taken K.eq settings (events_in steps)))) }
+        → reply K.eq settings TakeNotice steps ≡ Some (Noticed (slice_get (removals K.eq settings (events_in steps)) (taken K.eq settings (events_in steps)))) }
     ensures gives { (settings : Settings K V) (steps : List (AcceptedStep K V E)) (o : Option (Removal K V))
-        → answer K.eq settings TakeNotice steps ≡ Some (Noticed o)
+        → reply K.eq settings TakeNotice steps ≡ Some (Noticed o)
         → given_out K.eq settings (events_in (after K.eq settings TakeNotice steps)) ≡ given_out K.eq settings (events_in steps) ++ option_to_list o }
     ensures none { (settings : Settings K V) (steps : List (AcceptedStep K V E))
-        → (answer K.eq settings TakeNotice steps ≡ Some (Noticed None)) ↔ (given_out K.eq settings (events_in steps) ≡ removals K.eq settings (events_in steps)) }
+        → (reply K.eq settings TakeNotice steps ≡ Some (Noticed None)) ↔ (given_out K.eq settings (events_in steps) ≡ removals K.eq settings (events_in steps)) }
 {}
 
 /// The entry stored for a key is its last write, if nothing later writes or removes the key.
@@ -153,12 +153,12 @@ pub fn standing_is_the_last_write<K: Eq, V>()
 pub fn looks_answer_the_last_write<K: Eq, V, E>()
     ensures found { (settings : Settings K V) (steps : List (AcceptedStep K V E)) (k : K) (at : ℕ) (last : LastWrite K.eq settings k (events_in steps))
         → (w : Write K V) × IsAsWritten last w
-        × (answer K.eq settings (Get k at) steps ≡ Some (Found (if is_live settings w (max (latest (events_in steps)) at) then Some last.value else None)))
-        × (answer K.eq settings (ContainsKey k at) steps ≡ Some (Contains (is_live settings w (max (latest (events_in steps)) at)))) }
+        × (reply K.eq settings (Get k at) steps ≡ Some (Found (if is_live settings w (max (latest (events_in steps)) at) then Some last.value else None)))
+        × (reply K.eq settings (ContainsKey k at) steps ≡ Some (Contains (is_live settings w (max (latest (events_in steps)) at)))) }
     ensures live { (settings : Settings K V) (w : Write K V) (at : ℕ)
         → (is_live settings w at ≡ true) ↔ ((w.is_hidden ≡ false) × (is_expired settings w at ≡ false)) }
     ensures nothing { (settings : Settings K V) (steps : List (AcceptedStep K V E)) (k : K) (at : ℕ) → NothingStands K.eq settings k (events_in steps)
-        → (answer K.eq settings (Get k at) steps ≡ Some (Found None)) × (answer K.eq settings (ContainsKey k at) steps ≡ Some (Contains false)) }
+        → (reply K.eq settings (Get k at) steps ≡ Some (Found None)) × (reply K.eq settings (ContainsKey k at) steps ≡ Some (Contains false)) }
 {}
 
 /// An entry is expired exactly if one of three times has passed.
@@ -175,8 +175,8 @@ pub fn equal_keys_are_one_key<K: Eq, V, E>()
     ensures standing { (settings : Settings K V) (h : List (Event K V)) (k q : K) → K.eq k q ≡ true
         → standing K.eq settings k h ≡ standing K.eq settings q h }
     ensures looks { (settings : Settings K V) (steps : List (AcceptedStep K V E)) (k q : K) (at : ℕ) → K.eq k q ≡ true
-        → (answer K.eq settings (Get k at) steps ≡ answer K.eq settings (Get q at) steps)
-        × (answer K.eq settings (ContainsKey k at) steps ≡ answer K.eq settings (ContainsKey q at) steps) }
+        → (reply K.eq settings (Get k at) steps ≡ reply K.eq settings (Get q at) steps)
+        × (reply K.eq settings (ContainsKey k at) steps ≡ reply K.eq settings (ContainsKey q at) steps) }
 {}
 
 /// Each written value is removed at most once, and nothing else is ever removed.
@@ -220,9 +220,9 @@ pub fn expiry_is_final<K: Eq, V, E>()
         → standing K.eq settings k h ≡ Some w → is_live settings w (latest h) ≡ false → IsUntouched K.eq settings k later h
         → standing K.eq settings k (later ++ h) ≡ Some (hidden_since later w) }
     ensures missed { (settings : Settings K V) (later steps : List (AcceptedStep K V E)) (k : K) (at now : ℕ)
-        → answer K.eq settings (Get k at) steps ≡ Some (Found None) → IsUnwritten K.eq k (events_in later)
-        → (answer K.eq settings (Get k now) (later ++ after K.eq settings (Get k at) steps) ≡ Some (Found None))
-        × (answer K.eq settings (ContainsKey k now) (later ++ after K.eq settings (Get k at) steps) ≡ Some (Contains false)) }
+        → reply K.eq settings (Get k at) steps ≡ Some (Found None) → IsUnwritten K.eq k (events_in later)
+        → (reply K.eq settings (Get k now) (later ++ after K.eq settings (Get k at) steps) ≡ Some (Found None))
+        × (reply K.eq settings (ContainsKey k now) (later ++ after K.eq settings (Get k at) steps) ≡ Some (Contains false)) }
 {}
 
 /// No sequence number is drawn twice.

@@ -12,7 +12,7 @@ ghost use Rattle.moka_model.specs.Calls.{Get, ContainsKey, Found, Contains, IsLe
 ghost use Rattle.moka_model.specs.MaintenanceLaws.{AreAmong};
 ghost use Rattle.moka_model.specs.SizeLaws.{WeighsOnes, LimitsSome, lives, dead, living, gone, gone_behind, excess, overweight, removal_as, dead_removal};
 ghost use Rattle.moka_model.specs.Maintenance.{total};
-ghost use Rattle.moka_laws.specs.Laws.{answer};
+ghost use Rattle.moka_laws.specs.Laws.{reply};
 
 use moka_policy::policy::CacheTypes;
 
@@ -89,7 +89,7 @@ pub fn a_capacity_of_0_stores_nothing<K: Eq, V, E>()
     ensures standing { (settings : Settings K V) (steps : List (AcceptedStep K V E)) (k : K) → stores_nothing settings.max_capacity ≡ true → IsLegal K.eq settings steps
         → standing K.eq settings k (events_in steps) ≡ None }
     ensures looks { (settings : Settings K V) (steps : List (AcceptedStep K V E)) (k : K) (at : ℕ) → stores_nothing settings.max_capacity ≡ true → IsLegal K.eq settings steps
-        → (answer K.eq settings (Get k at) steps ≡ Some (Found None)) × (answer K.eq settings (ContainsKey k at) steps ≡ Some (Contains false)) }
+        → (reply K.eq settings (Get k at) steps ≡ Some (Found None)) × (reply K.eq settings (ContainsKey k at) steps ≡ Some (Contains false)) }
     ensures removals { (settings : Settings K V) (steps : List (AcceptedStep K V E)) → stores_nothing settings.max_capacity ≡ true → IsLegal K.eq settings steps
         → removals K.eq settings (events_in steps) ≡ [] }
     ensures drawn { (settings : Settings K V) (k : K) (v : V) (at : ℕ) (h : List (Event K V)) → stores_nothing settings.max_capacity ≡ true

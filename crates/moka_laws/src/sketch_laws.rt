@@ -3,7 +3,7 @@
 //! Each is the contract of a function without code.
 ghost use Rattle.std.specs.Prelude.{◌≡◌, ◌≢◌, ℕ, ◌+◌, ◌*◌, ◌/◌, ◌%◌, ◌<◌, ◌≤◌, List, [], ◌∷◌, ◌++◌, length, filter, replicate, reverse, min, nat_eq};
 ghost use Rattle.moka_policy.specs.Frequency.{Counts, after_notes, counter_count, halved};
-ghost use Rattle.moka_sketch.specs.Sketch.{place, least, estimated, estimate_after, kept};
+ghost use Rattle.moka_sketch.specs.Sketch.{place, least, estimated, estimate_after, count_after};
 
 use moka_policy::frequency::FrequencySource;
 use moka_sketch::frequency_sketch::FrequencySketch;
@@ -15,7 +15,7 @@ use moka_sketch::frequency_sketch::FrequencySketch;
 /// all four counters have the same estimate.
 pub fn a_sketch_takes_the_least_of_four<const BITS: u32>()
     ensures kept { (notes : List ℕ) (hash : ℕ)
-        → ⟦<FrequencySketch<BITS> as FrequencySource>⟧.count (after_notes ⟦<FrequencySketch<BITS> as FrequencySource>⟧.opened ⟦<FrequencySketch<BITS> as FrequencySource>⟧.noted (reverse notes)) hash ≡ least (kept BITS hash notes) }
+        → ⟦<FrequencySketch<BITS> as FrequencySource>⟧.count (after_notes ⟦<FrequencySketch<BITS> as FrequencySource>⟧.opened ⟦<FrequencySketch<BITS> as FrequencySource>⟧.noted (reverse notes)) hash ≡ least (count_after BITS hash notes) }
     ensures at_most_15 { (notes : List ℕ) (hash : ℕ) → estimate_after BITS notes hash ≤ 15 }
     ensures nothing { (hash : ℕ) → estimate_after BITS [] hash ≡ 0 }
     ensures shared { (counts : Counts) (a b : ℕ) → ((row : ℕ) → row < 4 → place BITS row a ≡ place BITS row b) → estimated BITS counts a ≡ estimated BITS counts b }

@@ -6,41 +6,41 @@ ghost use Rattle.moka_model.specs.Events.{Looked, Written, Invalidated, Taken};
 ghost use Rattle.moka_model.specs.Removals.{removals_at, removals};
 ghost use Rattle.moka_model.specs.Numbers.{next_number, greatest_number};
 ghost use Rattle.moka_model.specs.Calls.{Get, ContainsKey, Insert, TakeNotice, IsOutOfNumbers};
-ghost use Rattle.moka_laws.specs.Worked.{seconds, without_lives, ten_to_live, five_to_idle, both_lives, at_the_last_number, written, same_last_digit, left_as, stepped, answer_after, answers, found, contains, noticed};
+ghost use Rattle.moka_laws.specs.Worked.{seconds, without_lives, ten_to_live, five_to_idle, both_lives, at_the_last_number, written, same_last_digit, left_as, stepped, reply_after, replies, found, contains, noticed};
 
 /// A TTL of 10 s: the last nanosecond still finds the value, the deadline does not. A moment before
 /// the latest one counts as the latest.
 pub fn time_to_live()
-    ensures before { answer_after nat_eq ten_to_live (Get 1 9_999_999_999) written ≡ found (Some 7) }
-    ensures at_end { answer_after nat_eq ten_to_live (Get 1 10_000_000_000) (Looked 1 9_999_999_999 ∷ written) ≡ found None }
-    ensures back { answer_after nat_eq ten_to_live (Get 1 (seconds 9)) (Looked 1 (seconds 10) ∷ Looked 1 9_999_999_999 ∷ written) ≡ found None }
-    ensures back_again { answer_after nat_eq ten_to_live (Get 1 (seconds 9)) (Looked 1 (seconds 9) ∷ Looked 1 (seconds 10) ∷ written) ≡ found None }
-    ensures back_alone { answer_after nat_eq ten_to_live (Get 1 (seconds 9)) (Looked 1 9_999_999_999 ∷ written) ≡ found (Some 7) }
-    ensures anew { answer_after nat_eq ten_to_live (Get 1 (seconds 19)) (Written 1 8 (seconds 10) ∷ written) ≡ found (Some 8) }
+    ensures before { reply_after nat_eq ten_to_live (Get 1 9_999_999_999) written ≡ found (Some 7) }
+    ensures at_end { reply_after nat_eq ten_to_live (Get 1 10_000_000_000) (Looked 1 9_999_999_999 ∷ written) ≡ found None }
+    ensures back { reply_after nat_eq ten_to_live (Get 1 (seconds 9)) (Looked 1 (seconds 10) ∷ Looked 1 9_999_999_999 ∷ written) ≡ found None }
+    ensures back_again { reply_after nat_eq ten_to_live (Get 1 (seconds 9)) (Looked 1 (seconds 9) ∷ Looked 1 (seconds 10) ∷ written) ≡ found None }
+    ensures back_alone { reply_after nat_eq ten_to_live (Get 1 (seconds 9)) (Looked 1 9_999_999_999 ∷ written) ≡ found (Some 7) }
+    ensures anew { reply_after nat_eq ten_to_live (Get 1 (seconds 19)) (Written 1 8 (seconds 10) ∷ written) ≡ found (Some 8) }
 {}
 
 /// A TTI of 5 s: a `get` that finds the value extends it, a `contains_key` does not.
 pub fn time_to_idle()
-    ensures contained { answer_after nat_eq five_to_idle (ContainsKey 1 (seconds 4)) written ≡ contains true }
-    ensures not_extended { answers nat_eq five_to_idle (ContainsKey 1 (seconds 4) ∷ Get 1 (seconds 5) ∷ []) (stepped written) ≡ contains true ∷ found None ∷ [] }
-    ensures found { answer_after nat_eq five_to_idle (Get 1 (seconds 4)) written ≡ found (Some 7) }
-    ensures extended { answer_after nat_eq five_to_idle (Get 1 (seconds 8)) (Looked 1 (seconds 4) ∷ written) ≡ found (Some 7) }
-    ensures ended { answer_after nat_eq five_to_idle (Get 1 (seconds 13)) (Looked 1 (seconds 8) ∷ Looked 1 (seconds 4) ∷ written) ≡ found None }
-    ensures anew { answer_after nat_eq five_to_idle (Get 1 (seconds 8)) (Written 1 8 (seconds 4) ∷ written) ≡ found (Some 8) }
-    ensures not_by_a_miss { answer_after nat_eq five_to_idle (Get 1 (seconds 6)) (Looked 1 (seconds 5) ∷ written) ≡ found None }
+    ensures contained { reply_after nat_eq five_to_idle (ContainsKey 1 (seconds 4)) written ≡ contains true }
+    ensures not_extended { replies nat_eq five_to_idle (ContainsKey 1 (seconds 4) ∷ Get 1 (seconds 5) ∷ []) (stepped written) ≡ contains true ∷ found None ∷ [] }
+    ensures found { reply_after nat_eq five_to_idle (Get 1 (seconds 4)) written ≡ found (Some 7) }
+    ensures extended { reply_after nat_eq five_to_idle (Get 1 (seconds 8)) (Looked 1 (seconds 4) ∷ written) ≡ found (Some 7) }
+    ensures ended { reply_after nat_eq five_to_idle (Get 1 (seconds 13)) (Looked 1 (seconds 8) ∷ Looked 1 (seconds 4) ∷ written) ≡ found None }
+    ensures anew { reply_after nat_eq five_to_idle (Get 1 (seconds 8)) (Written 1 8 (seconds 4) ∷ written) ≡ found (Some 8) }
+    ensures not_by_a_miss { reply_after nat_eq five_to_idle (Get 1 (seconds 6)) (Looked 1 (seconds 5) ∷ written) ≡ found None }
 {}
 
 /// With a TTL and a TTI the earlier deadline counts: hits extend the TTI, never the TTL.
 pub fn both_lives_end()
-    ensures idle { answer_after nat_eq both_lives (Get 1 (seconds 5)) written ≡ found None }
-    ensures live { answer_after nat_eq both_lives (Get 1 (seconds 9)) (Looked 1 (seconds 8) ∷ Looked 1 (seconds 4) ∷ written) ≡ found (Some 7) }
-    ensures ended { answer_after nat_eq both_lives (Get 1 (seconds 10)) (Looked 1 (seconds 8) ∷ Looked 1 (seconds 4) ∷ written) ≡ found None }
+    ensures idle { reply_after nat_eq both_lives (Get 1 (seconds 5)) written ≡ found None }
+    ensures live { reply_after nat_eq both_lives (Get 1 (seconds 9)) (Looked 1 (seconds 8) ∷ Looked 1 (seconds 4) ∷ written) ≡ found (Some 7) }
+    ensures ended { reply_after nat_eq both_lives (Get 1 (seconds 10)) (Looked 1 (seconds 8) ∷ Looked 1 (seconds 4) ∷ written) ≡ found None }
 {}
 
 /// `contains_key` records no moment: a later lookup at an earlier moment still finds the value.
 pub fn looks_record_nothing()
-    ensures gone { answer_after nat_eq ten_to_live (ContainsKey 1 (seconds 10)) written ≡ contains false }
-    ensures still { answers nat_eq ten_to_live (ContainsKey 1 (seconds 10) ∷ Get 1 (seconds 9) ∷ []) (stepped written) ≡ contains false ∷ found (Some 7) ∷ [] }
+    ensures gone { reply_after nat_eq ten_to_live (ContainsKey 1 (seconds 10)) written ≡ contains false }
+    ensures still { replies nat_eq ten_to_live (ContainsKey 1 (seconds 10) ∷ Get 1 (seconds 9) ∷ []) (stepped written) ≡ contains false ∷ found (Some 7) ∷ [] }
 {}
 
 /// The causes of removals by a write and by an invalidation, before and at the deadline.
@@ -62,10 +62,10 @@ pub fn stored_key()
 
 /// Notices are taken once each, in the order of the removals, and then there is none.
 pub fn notices()
-    ensures first { answer_after nat_eq without_lives TakeNotice (Invalidated 1 2 ∷ Written 1 8 1 ∷ written) ≡ noticed (Some (left_as 1 7 Replaced)) }
-    ensures second { answer_after nat_eq without_lives TakeNotice (Taken ∷ Invalidated 1 2 ∷ Written 1 8 1 ∷ written) ≡ noticed (Some (left_as 1 8 Explicit)) }
-    ensures then_none { answer_after nat_eq without_lives TakeNotice (Taken ∷ Taken ∷ Invalidated 1 2 ∷ Written 1 8 1 ∷ written) ≡ noticed None }
-    ensures none_counts { answer_after nat_eq without_lives TakeNotice (Invalidated 1 1 ∷ Taken ∷ written) ≡ noticed (Some (left_as 1 7 Explicit)) }
+    ensures first { reply_after nat_eq without_lives TakeNotice (Invalidated 1 2 ∷ Written 1 8 1 ∷ written) ≡ noticed (Some (left_as 1 7 Replaced)) }
+    ensures second { reply_after nat_eq without_lives TakeNotice (Taken ∷ Invalidated 1 2 ∷ Written 1 8 1 ∷ written) ≡ noticed (Some (left_as 1 8 Explicit)) }
+    ensures then_none { reply_after nat_eq without_lives TakeNotice (Taken ∷ Taken ∷ Invalidated 1 2 ∷ Written 1 8 1 ∷ written) ≡ noticed None }
+    ensures none_counts { reply_after nat_eq without_lives TakeNotice (Invalidated 1 1 ∷ Taken ∷ written) ≡ noticed (Some (left_as 1 7 Explicit)) }
 {}
 
 /// Each write draws a sequence number, also an overwrite. Once the greatest is next, no number can

@@ -8,7 +8,7 @@ ghost use Rattle.moka_model.specs.Removals.{removals_at, removals};
 ghost use Rattle.moka_model.specs.Numbers.{entry_count, next_number, is_flush_due, stores_nothing};
 ghost use Rattle.moka_model.specs.OrderLaws.{keys, lasts, uses};
 ghost use Rattle.moka_model.specs.Calls.{Get, EntryCount, write_events};
-ghost use Rattle.moka_laws.specs.Worked.{seconds, written, left_as, answer_after, found, counted};
+ghost use Rattle.moka_laws.specs.Worked.{seconds, written, left_as, reply_after, found, counted};
 ghost use Rattle.moka_laws.specs.WorkedSize.{at_capacity, ten_to_live_at_ten, third_comes, three_used, fourth_comes, skipped, all_come, after_65, all_left};
 
 /// At a capacity of 2 a third key evicts the second, since the first was hit.
@@ -16,8 +16,8 @@ pub fn a_hit_keeps_a_key()
     ensures leaving { removals_at nat_eq (at_capacity 2) (Maintained None 5) third_comes ≡ left_as 2 20 Size ∷ [] }
     ensures admitted { keys (orders nat_eq (at_capacity 2) (Maintained None 5 ∷ third_comes)).admitted ≡ 1 ∷ 3 ∷ [] }
     ensures before { removals nat_eq (at_capacity 2) third_comes ≡ [] }
-    ensures found { answer_after nat_eq (at_capacity 2) (Get 1 6) (Maintained None 5 ∷ third_comes) ≡ found (Some 10) }
-    ensures gone { answer_after nat_eq (at_capacity 2) (Get 2 6) (Maintained None 5 ∷ third_comes) ≡ found None }
+    ensures found { reply_after nat_eq (at_capacity 2) (Get 1 6) (Maintained None 5 ∷ third_comes) ≡ found (Some 10) }
+    ensures gone { reply_after nat_eq (at_capacity 2) (Get 2 6) (Maintained None 5 ∷ third_comes) ≡ found None }
 {}
 
 /// Three keys in access order: the third, the first, the second. So a fourth evicts the third.
@@ -27,8 +27,8 @@ pub fn three_keys_in_use()
     ensures order { keys (orders nat_eq (at_capacity 3) three_used).admitted ≡ 3 ∷ 1 ∷ 2 ∷ [] }
     ensures leaving { removals_at nat_eq (at_capacity 3) (Maintained None 12) fourth_comes ≡ left_as 3 30 Size ∷ [] }
     ensures order_then { keys (orders nat_eq (at_capacity 3) (Maintained None 12 ∷ fourth_comes)).admitted ≡ 1 ∷ 2 ∷ 4 ∷ [] }
-    ensures found { answer_after nat_eq (at_capacity 3) (Get 4 13) (Maintained None 12 ∷ fourth_comes) ≡ found (Some 40) }
-    ensures counted { answer_after nat_eq (at_capacity 3) EntryCount (Maintained None 12 ∷ fourth_comes) ≡ counted 3 }
+    ensures found { reply_after nat_eq (at_capacity 3) (Get 4 13) (Maintained None 12 ∷ fourth_comes) ≡ found (Some 40) }
+    ensures counted { reply_after nat_eq (at_capacity 3) EntryCount (Maintained None 12 ∷ fourth_comes) ≡ counted 3 }
 {}
 
 /// A TTL of 10 s at a capacity of 10: a maintenance at the deadline evicts the value as `Expired`,
@@ -43,8 +43,8 @@ pub fn a_dead_value_leaves_as_expired()
 /// At a capacity of 0 an accepted write stores nothing, and draws no sequence number.
 pub fn a_capacity_of_0()
     ensures skips { skipped ≡ Passed 0 ∷ [] }
-    ensures not_found { answer_after nat_eq (at_capacity 0) (Get 1 0) skipped ≡ found None }
-    ensures counted { answer_after nat_eq (at_capacity 0) EntryCount skipped ≡ counted 0 }
+    ensures not_found { reply_after nat_eq (at_capacity 0) (Get 1 0) skipped ≡ found None }
+    ensures counted { reply_after nat_eq (at_capacity 0) EntryCount skipped ≡ counted 0 }
     ensures none_drawn { next_number (at_capacity 0) skipped ≡ 0 }
 {}
 
@@ -54,8 +54,8 @@ pub fn a_capacity_of_1()
     ensures stores { stores_nothing (Some 1) ≡ false }
     ensures unbounded { stores_nothing None ≡ false }
     ensures writes { write_events nat_eq (at_capacity 1) 1 7 0 [] ≡ written }
-    ensures found { answer_after nat_eq (at_capacity 1) (Get 1 0) written ≡ found (Some 7) }
-    ensures counted { answer_after nat_eq (at_capacity 1) EntryCount (Maintained None 1 ∷ written) ≡ counted 1 }
+    ensures found { reply_after nat_eq (at_capacity 1) (Get 1 0) written ≡ found (Some 7) }
+    ensures counted { reply_after nat_eq (at_capacity 1) EntryCount (Maintained None 1 ∷ written) ≡ counted 1 }
     ensures left { removals_at nat_eq (at_capacity 1) (Maintained None 2) (Written 2 8 1 ∷ written) ≡ left_as 1 7 Size ∷ [] }
     ensures stays { keys (orders nat_eq (at_capacity 1) (Maintained None 2 ∷ Written 2 8 1 ∷ written)).admitted ≡ 2 ∷ [] }
 {}
@@ -70,6 +70,6 @@ pub fn the_flush_point()
     ensures left { removals nat_eq (at_capacity 10) after_65 ≡ all_left 54 }
     ensures admitted { keys (orders nat_eq (at_capacity 10) after_65).admitted ≡ 55 ∷ 56 ∷ 57 ∷ 58 ∷ 59 ∷ 60 ∷ 61 ∷ 62 ∷ 63 ∷ 64 ∷ [] }
     ensures waiting { keys (orders nat_eq (at_capacity 10) after_65).waiting ≡ 65 ∷ [] }
-    ensures counted { answer_after nat_eq (at_capacity 10) EntryCount after_65 ≡ counted 11 }
-    ensures found { answer_after nat_eq (at_capacity 10) (Get 65 1) after_65 ≡ found (Some 65) }
+    ensures counted { reply_after nat_eq (at_capacity 10) EntryCount after_65 ≡ counted 11 }
+    ensures found { reply_after nat_eq (at_capacity 10) (Get 65 1) after_65 ≡ found (Some 65) }
 {}

@@ -1,6 +1,7 @@
 -- The lemmas that the crates above use.
 pub use Rattle.moka_model.proofs.Books.{taken-le, books_after, books_of-event, IsViewOf, frequency_after, view_after, frequency-now, view-event, unmoved, whole, view-of, stands-for, held-stands, stands-moved, cut-stands, stands-after, stands-question}
 pub use Rattle.moka_model.proofs.EachWrite.{standing-holds}
+pub use Rattle.moka_model.proofs.GivenOut.{given_out_is, given_out-append-notices_left, length-given_out, count-left, is_conserved, noticed_by, given-by_reply}
 pub use Rattle.moka_model.proofs.Legal.{events_in-append, IsNoWrite, IsLegal-after, legal-by_calls, legal-by_events}
 pub use Rattle.moka_model.proofs.ListLemmas.{filter-both, and_comm, list_any-map, one_side, rest-all, changed_where-none, moved_last-none, rest-one, moved_last-one, changed_where-one, filter-narrower, alone, empty_parts, map-changed_where, map-filter, list_any-filtered}
 pub use Rattle.moka_model.proofs.LimitedParts.{left-exactly, done-all, done-behind, done-cut, left-behind}
@@ -16,6 +17,7 @@ pub use Rattle.moka_model.proofs.MaintenanceOrder.{judge-room, evicted-room, adm
 pub use Rattle.moka_model.proofs.MaintenanceWins.{parts-same}
 pub use Rattle.moka_model.proofs.OpenTurns.{same_kind-is, is_open_for-congr, one_is_open}
 pub use Rattle.moka_model.proofs.OrdersHold.{opening, overwrite, overwritten, held-append, after_look-key, maintained-none_waits, held-maintained, held-orders}
+pub use Rattle.moka_model.proofs.Pairs.{pairs_conserved}
 pub use Rattle.moka_model.proofs.Sizes.{all-pass, maintained-weighted_size-le, maintained-live, each_one, waiting-le, maintained-entry_count-le, admitted-le, entry_count-le, orders-empty, standing-empty, removals-empty}
 pub use Rattle.moka_model.proofs.Standing.{eq_congr_right, IsStoredUnder, stored_key, standing_congr}
 pub use Rattle.moka_model.proofs.TurnLists.{OnSome, in_append, in_place, in_map, in_filter, filter-wider}

@@ -2,6 +2,7 @@ pub mod Books
 pub mod Callers
 pub mod EachWrite
 pub mod FewLeave
+pub mod GivenOut
 pub mod Legal
 pub mod ListLemmas
 pub mod LimitedParts
@@ -17,6 +18,7 @@ pub mod MaintenanceOrder
 pub mod MaintenanceWins
 pub mod OpenTurns
 pub mod OrdersHold
+pub mod Pairs
 pub mod Sizes
 pub mod Standing
 pub mod TurnLists

@@ -47,26 +47,26 @@ pub record Entry (K V : Type 0) : Type 0 where
   pub replaced : Bool
 
 -- A result, with the stored values themselves. A call returns clones of them.
-pub data Answer (K V E : Type 0) : Type 0 where
-  Found : Option V → Answer K V E
-  Contains : Bool → Answer K V E
-  Done : Answer K V E
-  Counted : ℕ → Answer K V E
-  Left : Bool → Answer K V E
-  Noticed : Option (Removal K V) → Answer K V E
-  Entered : Entry K V → Answer K V E
-  Run : Name K → Option (Entry K V) → Answer K V E  -- a turn was opened; with the live entry that a compute is shown
-  Wait : Name K → Answer K V E
-  GaveNothing : Answer K V E
-  GaveError : E → Answer K V E
-  StillNone : K → Answer K V E
-  Unchanged : Entry K V → Answer K V E
-  Inserted : Entry K V → Answer K V E
-  ReplacedWith : Entry K V → Answer K V E
-  Removed : Entry K V → Answer K V E
-  NotYet : Answer K V E
-  WasAbandoned : Answer K V E
-  HasEnded : Answer K V E
+pub data Reply (K V E : Type 0) : Type 0 where
+  Found : Option V → Reply K V E
+  Contains : Bool → Reply K V E
+  Done : Reply K V E
+  Counted : ℕ → Reply K V E
+  Left : Bool → Reply K V E
+  Noticed : Option (Removal K V) → Reply K V E
+  Entered : Entry K V → Reply K V E
+  Run : Name K → Option (Entry K V) → Reply K V E  -- a turn was opened; with the live entry that a compute is shown
+  Wait : Name K → Reply K V E
+  GaveNothing : Reply K V E
+  GaveError : E → Reply K V E
+  StillNone : K → Reply K V E
+  Unchanged : Entry K V → Reply K V E
+  Inserted : Entry K V → Reply K V E
+  ReplacedWith : Entry K V → Reply K V E
+  Removed : Entry K V → Reply K V E
+  NotYet : Reply K V E
+  WasAbandoned : Reply K V E
+  HasEnded : Reply K V E
 
 pub data Refusal : Type 0 where  -- Why a call is rejected: it fails whatever memory there is, and is no step.
   UnknownTurn : Refusal
@@ -83,22 +83,22 @@ refusal_due (Leave name) = Some UnknownTicket
 refusal_due call = None
 
 -- The result says that another caller's turn is open, which the caller has to wait for.
-abbrev pub IsWait : {K V E : Type 0} → Answer K V E → Type 0
+abbrev pub IsWait : {K V E : Type 0} → Reply K V E → Type 0
 IsWait (Wait name) = ⊤
-IsWait answer = ⊥
+IsWait reply = ⊥
 
 -- What an accepted call returns, and the step that it adds to the history.
 pub record Accepted (K V E : Type 0) : Type 0 where
-  pub answer : Answer K V E
+  pub reply : Reply K V E
   pub step : AcceptedStep K V E
 
 -- An accepted call with this result and these events that does nothing to turns.
-abbrev pub without_move : {K V E : Type 0} → Answer K V E → List (Event K V) → Accepted K V E
-without_move answer events = record { answer = answer; step = record { events = events; move = None } }
+abbrev pub without_move : {K V E : Type 0} → Reply K V E → List (Event K V) → Accepted K V E
+without_move reply events = record { reply = reply; step = record { events = events; move = None } }
 
 -- An accepted call with this result and these events that makes this move of a turn.
-abbrev pub with_move : {K V E : Type 0} → Answer K V E → List (Event K V) → Move K V E → Accepted K V E
-with_move answer events move = record { answer = answer; step = record { events = events; move = Some move } }
+abbrev pub with_move : {K V E : Type 0} → Reply K V E → List (Event K V) → Move K V E → Accepted K V E
+with_move reply events move = record { reply = reply; step = record { events = events; move = Some move } }
 
 module _ {K V : Type 0} where
   -- The entry that a call returns for a stored one.
@@ -139,12 +139,12 @@ module _ {K V : Type 0} (eq : K → K → Bool) (settings : Settings K V) where
 
 module _ {K V E : Type 0} where
   -- What the ticket of a turn gets, by how the turn ended. The entry has the ticket's key.
-  abbrev pub answer_by : Name K → End V E → Answer K V E
-  answer_by name (turning.Value v replaced) = Entered (record { key = name.key; value = v; fresh = false; replaced = replaced })
-  answer_by name turning.Nothing = GaveNothing
-  answer_by name (turning.Failed e) = GaveError e
-  answer_by name turning.Computed = HasEnded
-  answer_by name turning.Abandoned = WasAbandoned
+  abbrev pub reply_by : Name K → End V E → Reply K V E
+  reply_by name (turning.Value v replaced) = Entered (record { key = name.key; value = v; fresh = false; replaced = replaced })
+  reply_by name turning.Nothing = GaveNothing
+  reply_by name (turning.Failed e) = GaveError e
+  reply_by name turning.Computed = HasEnded
+  reply_by name turning.Abandoned = WasAbandoned
 
   -- The call has to wait for this turn. Its ticket has the key that the call was given.
   abbrev pub waits_for : Turn K V E → K → List (Event K V) → Accepted K V E
@@ -154,7 +154,7 @@ module _ {K V E : Type 0} where
   -- spent.
   abbrev pub collected : Name K → ℕ → Option (End V E) → Accepted K V E
   collected name number None = without_move NotYet []
-  collected name number (Some end) = with_move (answer_by name end) [] (Spent number)
+  collected name number (Some end) = with_move (reply_by name end) [] (Spent number)
 
   -- A ticket of the turn with this number is spent, without a result.
   abbrev pub spends : ℕ → Accepted K V E
@@ -165,16 +165,16 @@ module _ {K V E : Type 0} where
   abandons number = with_move Done [] (Ended number turning.Abandoned)
 
   -- What a compute that puts a value returns. `shown` says whether its begin found a live value.
-  abbrev pub put_by : Name K → V → Bool → Answer K V E
+  abbrev pub put_by : Name K → V → Bool → Reply K V E
   put_by name v shown = if shown then ReplacedWith (fresh_entry name.key v true) else Inserted (fresh_entry name.key v false)
 
   -- What a compute that removes returns, by the live entry at its finish.
-  abbrev pub removed_by : Name K → Option (Write K V) → Answer K V E
+  abbrev pub removed_by : Name K → Option (Write K V) → Reply K V E
   removed_by name None = StillNone name.key
   removed_by name (Some w) = Removed (entry_under name.key w.value)
 
   -- What a compute that does nothing returns, by the value that was kept at its begin.
-  abbrev pub kept_by : Name K → Option V → Answer K V E
+  abbrev pub kept_by : Name K → Option V → Reply K V E
   kept_by name None = StillNone name.key
   kept_by name (Some v) = Unchanged (entry_under name.key v)
 
@@ -218,13 +218,13 @@ module _ {K V E : Type 0} (eq : K → K → Bool) (settings : Settings K V) (h :
       without_move (Entered (fresh_entry k v false)) (write_events eq settings k v at (Looked k at ∷ h) ++ Looked k at ∷ [])
 
   -- What the finish of a turn returns, by the outcome.
-  abbrev pub finish_answer : Turn K V E → ℕ → Outcome V E → Name K → Answer K V E
-  finish_answer t at (outcomes.Value v) name = Entered (fresh_entry name.key v (is_replacing eq settings h name.key at))
-  finish_answer t at outcomes.Nothing name = GaveNothing
-  finish_answer t at (outcomes.Failed e) name = GaveError e
-  finish_answer t at (outcomes.Op (ops.Put v)) name = put_by name v t.shown
-  finish_answer t at (outcomes.Op ops.Remove) name = removed_by name (live_at eq settings name.key at h)
-  finish_answer t at (outcomes.Op ops.Nop) name = kept_by name t.kept
+  abbrev pub reply_of_finish : Turn K V E → ℕ → Outcome V E → Name K → Reply K V E
+  reply_of_finish t at (outcomes.Value v) name = Entered (fresh_entry name.key v (is_replacing eq settings h name.key at))
+  reply_of_finish t at outcomes.Nothing name = GaveNothing
+  reply_of_finish t at (outcomes.Failed e) name = GaveError e
+  reply_of_finish t at (outcomes.Op (ops.Put v)) name = put_by name v t.shown
+  reply_of_finish t at (outcomes.Op ops.Remove) name = removed_by name (live_at eq settings name.key at h)
+  reply_of_finish t at (outcomes.Op ops.Nop) name = kept_by name t.kept
 
   -- The events of the finish of a turn, by the outcome.
   abbrev pub finish_events : K → ℕ → Outcome V E → List (Event K V)
@@ -236,7 +236,7 @@ module _ {K V E : Type 0} (eq : K → K → Bool) (settings : Settings K V) (h :
   -- The finish of an open turn.
   abbrev pub finished : Name K → Outcome V E → ℕ → Turn K V E → Accepted K V E
   finished name outcome at t =
-      with_move (finish_answer t at outcome name) (finish_events name.key at outcome)
+      with_move (reply_of_finish t at outcome name) (finish_events name.key at outcome)
       (Ended t.name.number (end_by outcome (is_replacing eq settings h name.key at)))
 
 module _ {K V E : Type 0} (eq : K → K → Bool) (settings : Settings K V) (h : List (Event K V)) (ts : List (Turn K V E)) where
@@ -286,13 +286,13 @@ module _ {K V E : Type 0} where
   drawn_by None = 0
   drawn_by (Some it) = drawn_in it.step.events
 
-  abbrev pub answer_of : Option (Accepted K V E) → Option (Answer K V E)  -- What a call returns, if it is accepted.
-  answer_of it = option_map (λ a. a.answer) it
+  abbrev pub reply_of : Option (Accepted K V E) → Option (Reply K V E)  -- What a call returns, if it is accepted.
+  reply_of it = option_map (λ a. a.reply) it
 
   -- The call is accepted, and `P` holds of its result.
-  abbrev pub IfAnswered : (Answer K V E → Type 0) → Option (Accepted K V E) → Type 0
-  IfAnswered P None = ⊥
-  IfAnswered P (Some it) = P it.answer
+  abbrev pub IfReplied : (Reply K V E → Type 0) → Option (Accepted K V E) → Type 0
+  IfReplied P None = ⊥
+  IfReplied P (Some it) = P it.reply
 
   -- The step needs a number that does not exist. Either it draws one and the greatest is next, or the turn that it
   -- waits for has as many unspent tickets as a `u64` can count.
@@ -328,11 +328,11 @@ module _ {K V E : Type 0} (eq : K → K → Bool) (settings : Settings K V) wher
 
 -- The type of the values says of which values clones never fail (`is_infallible`).
 -- Returning this result needs a clone that can fail.
-abbrev pub AnswerMayFail : {K V E : Type 0} → (V → Type 0) → Answer K V E → Type 0
-AnswerMayFail is_infallible (Found (Some v)) = ¬ (is_infallible v)
-AnswerMayFail is_infallible (Entered e) = ⊤  -- the turn keeps a clone, which is cloned again
-AnswerMayFail is_infallible (GaveError e) = ⊤
-AnswerMayFail is_infallible answer = ⊥
+abbrev pub ReplyMayFail : {K V E : Type 0} → (V → Type 0) → Reply K V E → Type 0
+ReplyMayFail is_infallible (Found (Some v)) = ¬ (is_infallible v)
+ReplyMayFail is_infallible (Entered e) = ⊤  -- the turn keeps a clone, which is cloned again
+ReplyMayFail is_infallible (GaveError e) = ⊤
+ReplyMayFail is_infallible reply = ⊥
 
 module _ {K V E : Type 0} (eq : K → K → Bool) (is_infallible : V → Type 0) (settings : Settings K V)
     (steps : List (AcceptedStep K V E)) where
@@ -363,7 +363,7 @@ module _ {K V E : Type 0} (eq : K → K → Bool) (is_infallible : V → Type 0)
   MayTakeMemory (Begin k kind replace at) = ⊤
   MayTakeMemory (BeginCompute k keep at) = ⊤
   MayTakeMemory (Finish name outcome at) = IsSome (accepted eq settings steps (Finish name outcome at)) × FinishMayFail name at outcome
-  MayTakeMemory (Collect name) = IfAnswered (AnswerMayFail is_infallible) (accepted eq settings steps (Collect name))
+  MayTakeMemory (Collect name) = IfReplied (ReplyMayFail is_infallible) (accepted eq settings steps (Collect name))
   MayTakeMemory call = ⊥
 
 module _ {V : Type 0} (is_clone : V → V → Type 0) where
@@ -384,15 +384,15 @@ module _ {V : Type 0} (is_clone : V → V → Type 0) where
 
   -- What a call really returns (the second) for a result of the definitions: its values are clones, all else is the
   -- same.
-  abbrev pub IsAnswer : {K E : Type 0} → Answer K V E → Answer K V E → Type 0
-  IsAnswer (Found v) (Found w) = IsCopyOf v w
-  IsAnswer (Entered a) (Entered b) = IsCopiedEntry a b
-  IsAnswer (Run name a) (Run called b) = (called ≡ name) × IsEntryOf a b
-  IsAnswer (Unchanged a) (Unchanged b) = IsCopiedEntry a b
-  IsAnswer (Inserted a) (Inserted b) = IsCopiedEntry a b
-  IsAnswer (ReplacedWith a) (ReplacedWith b) = IsCopiedEntry a b
-  IsAnswer (Removed a) (Removed b) = IsCopiedEntry a b
-  IsAnswer a b = b ≡ a
+  abbrev pub IsCopiedReply : {K E : Type 0} → Reply K V E → Reply K V E → Type 0
+  IsCopiedReply (Found v) (Found w) = IsCopyOf v w
+  IsCopiedReply (Entered a) (Entered b) = IsCopiedEntry a b
+  IsCopiedReply (Run name a) (Run called b) = (called ≡ name) × IsEntryOf a b
+  IsCopiedReply (Unchanged a) (Unchanged b) = IsCopiedEntry a b
+  IsCopiedReply (Inserted a) (Inserted b) = IsCopiedEntry a b
+  IsCopiedReply (ReplacedWith a) (ReplacedWith b) = IsCopiedEntry a b
+  IsCopiedReply (Removed a) (Removed b) = IsCopiedEntry a b
+  IsCopiedReply a b = b ≡ a
 
   -- The second end is the first, with a clone of its value.
   abbrev pub IsCopiedEnd : {E : Type 0} → Option (End V E) → Option (End V E) → Type 0

@@ -16,7 +16,7 @@ entry_in (results.ReplacedWith entry) = Some entry
 entry_in (results.Removed entry) = Some entry
 
 -- The result as a result of the definitions.
-abbrev pub of_computed : {K V E : Type 0} → CompResult K V → calls.Answer K V E
+abbrev pub of_computed : {K V E : Type 0} → CompResult K V → calls.Reply K V E
 of_computed (results.StillNone key) = calls.StillNone (arc_value key)
 of_computed (results.Unchanged entry) = calls.Unchanged (entry_of entry)
 of_computed (results.Inserted entry) = calls.Inserted (entry_of entry)

@@ -1,6 +1,7 @@
 pub mod Admission
 pub mod Calls
 pub mod CompResults
+pub mod Conserved
 pub mod Entries
 pub mod Events
 pub mod Lives

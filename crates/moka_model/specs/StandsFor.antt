@@ -9,7 +9,7 @@ use Rattle.moka_model.specs.Removals.{Removal, notices_left}
 use Rattle.moka_model.specs.Numbers.{next_number}
 use Rattle.moka_model.specs.Turns.{Turn}
 use Rattle.moka_model.specs.Steps.{AcceptedStep, events_in, turns}
-use Rattle.moka_model.specs.Calls.{Call, Answer, Accepted, accepted, after, IsLegal, IsAnswer, Holds}
+use Rattle.moka_model.specs.Calls.{Call, Reply, Accepted, accepted, after, IsLegal, IsCopiedReply, Holds}
 
 -- What changes with each event: the stored entries, the queued notices, the latest moment, and the next sequence
 -- number.
@@ -58,11 +58,11 @@ module _ {K V E : Type 0} (eq : K → K → Bool) (is_clone : V → V → Type 0
   Follows old call new = AtEachHistory old (λ settings steps. StandsFor eq is_clone settings new (after eq settings call steps))
 
 module _ {K V E : Type 0} (is_clone : V → V → Type 0) where
-  abbrev pub IsAnswerOf : Option (Accepted K V E) → Answer K V E → Type 0  -- A result that an accepted call may return.
-  IsAnswerOf None answer = ⊥
-  IsAnswerOf (Some it) answer = IsAnswer is_clone it.answer answer
+  abbrev pub IsReplyOf : Option (Accepted K V E) → Reply K V E → Type 0  -- A result that an accepted call may return.
+  IsReplyOf None reply = ⊥
+  IsReplyOf (Some it) reply = IsCopiedReply is_clone it.reply reply
 
 -- The result is that of the call, after each history that the state stands for.
-abbrev pub Answers : {K V E : Type 0} → (K → K → Bool) → (V → V → Type 0) → WholeView K V E → Call K V E → Answer K V E → Type 0
-Answers eq is_clone view call answer =
-    AtEachHistory eq is_clone view (λ settings steps. IsAnswerOf is_clone (accepted eq settings steps call) answer)
+abbrev pub RepliesWith : {K V E : Type 0} → (K → K → Bool) → (V → V → Type 0) → WholeView K V E → Call K V E → Reply K V E → Type 0
+RepliesWith eq is_clone view call reply =
+    AtEachHistory eq is_clone view (λ settings steps. IsReplyOf is_clone (accepted eq settings steps call) reply)

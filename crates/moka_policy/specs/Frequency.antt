@@ -60,8 +60,8 @@ count_with bits hash note count = if nat_eq (counter_of bits note) (counter_of b
 
 -- The count that a hash's counter has after these notes, the newest first. Each note that uses it adds 1, up to 15.
 -- Every ten notes per counter halve it.
-abbrev pub kept : ℕ → ℕ → List ℕ → ℕ
-kept bits hash [] = 0
-kept bits hash (newest ∷ earlier) =
-    let count = count_with bits hash newest (kept bits hash earlier) in
+abbrev pub count_after : ℕ → ℕ → List ℕ → ℕ
+count_after bits hash [] = 0
+count_after bits hash (newest ∷ earlier) =
+    let count = count_with bits hash newest (count_after bits hash earlier) in
     if nat_eq (length (newest ∷ earlier) % (10 * counter_count bits)) 0 then count / 2 else count

@@ -51,24 +51,24 @@ pub trait Lives<K, V> {
 #[derive(Clone, Copy, Debug)]
 pub struct Meant<M, A> {
     meaning: M,
-    answers: A,
+    closure: A,
 }
 
 impl<M, A> Meant<M, A> {
     /// Creates one from its meaning and from what computes that.
-    pub fn new(meaning: M, answers: A) -> Self
+    pub fn new(meaning: M, closure: A) -> Self
         ensures meaning { result.meaning ≡ meaning }
-        ensures answers { result.answers ≡ answers }
+        ensures closure { result.closure ≡ closure }
     {
-        Meant { meaning, answers }
+        Meant { meaning, closure }
     }
 }
 
 impl<K, V, M, A: Weigher<K, V>> Weigher<K, V> for Meant<M, A> {
-    ghost weighs = { λ meant. A.weighs meant.answers };
+    ghost weighs = { λ meant. A.weighs meant.closure };
 
     fn weigh(&self, key: &K, value: &V) -> u32 {
-        self.answers.weigh(key, value)
+        self.closure.weigh(key, value)
     }
 }
 
@@ -79,10 +79,10 @@ impl<K: Eq, V, M: Weighs<K, V>, A: Weigher<K, V>> SteadyWeigher<K, V> for Meant<
 }
 
 impl<K, V, M, A: Predicate<K, V>> Predicate<K, V> for Meant<M, A> {
-    ghost tests = { λ meant. A.tests meant.answers };
+    ghost tests = { λ meant. A.tests meant.closure };
 
     fn holds(&self, key: &K, value: &V) -> bool {
-        self.answers.holds(key, value)
+        self.closure.holds(key, value)
     }
 }
 
@@ -91,10 +91,10 @@ impl<K, V, M: Tests<K, V>, A: Predicate<K, V>> SteadyPredicate<K, V> for Meant<M
 }
 
 impl<K, V, M, A: Expiry<K, V>> Expiry<K, V> for Meant<M, A> {
-    ghost gives = { λ meant. A.gives meant.answers };
+    ghost gives = { λ meant. A.gives meant.closure };
 
     fn expire_after_create(&self, key: &K, value: &V, created_at: u64) -> Option<Duration> {
-        self.answers.expire_after_create(key, value, created_at)
+        self.closure.expire_after_create(key, value, created_at)
     }
 
     fn expire_after_read(
@@ -105,7 +105,7 @@ impl<K, V, M, A: Expiry<K, V>> Expiry<K, V> for Meant<M, A> {
         rest: Option<Duration>,
         written_at: u64,
     ) -> Option<Duration> {
-        self.answers
+        self.closure
             .expire_after_read(key, value, read_at, rest, written_at)
     }
 
@@ -116,7 +116,7 @@ impl<K, V, M, A: Expiry<K, V>> Expiry<K, V> for Meant<M, A> {
         updated_at: u64,
         rest: Option<Duration>,
     ) -> Option<Duration> {
-        self.answers
+        self.closure
             .expire_after_update(key, value, updated_at, rest)
     }
 }

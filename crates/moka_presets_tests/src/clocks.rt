@@ -13,11 +13,11 @@ const NOTHING: u64 = u64::MAX;
 
 /// A runtime's clock that reads so many seconds.
 #[derive(Drop)]
-struct Told {
+struct FakeClock {
     seconds: Arc<AtomicU64>,
 }
 
-impl time::Clock for Told {
+impl time::Clock for FakeClock {
     fn monotonic(&self) -> io::Result<Duration> {
         match self.seconds.load(Ordering::SeqCst) {
             NOTHING => Err(io::Error::other("the clock is not there")),
@@ -46,17 +46,17 @@ const READINGS: [(u64, u64); 7] = [
 #[test]
 fn its_moments_never_go_back(rt: HostRuntime) -> Result<(), Fail> {
     let seconds = Arc::new(rt.alloc(), AtomicU64::new(100))?;
-    let clock = RunningClock::new(Told {
+    let clock = RunningClock::new(FakeClock {
         seconds: seconds.clone()?,
     })?;
-    tells_all(&rt, &clock, &seconds);
+    check_readings(&rt, &clock, &seconds);
     Ok(())
 }
 
-fn tells_all(rt: &impl Abort, clock: &RunningClock<Told>, seconds: &AtomicU64) {
-    for (read, told) in READINGS {
+fn check_readings(rt: &impl Abort, clock: &RunningClock<FakeClock>, seconds: &AtomicU64) {
+    for (read, moment) in READINGS {
         seconds.store(read, Ordering::SeqCst);
-        assert_eq!(rt; clock.now(), told, "at {read}");
+        assert_eq!(rt; clock.now(), moment, "at {read}");
     }
 }
 
@@ -64,6 +64,6 @@ fn tells_all(rt: &impl Abort, clock: &RunningClock<Told>, seconds: &AtomicU64) {
 #[test]
 fn it_is_not_made_where_nothing_is_read(rt: HostRuntime) -> Result<(), Fail> {
     let seconds = Arc::new(rt.alloc(), AtomicU64::new(NOTHING))?;
-    assert!(rt; RunningClock::new(Told { seconds }).is_err());
+    assert!(rt; RunningClock::new(FakeClock { seconds }).is_err());
     Ok(())
 }

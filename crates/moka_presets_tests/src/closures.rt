@@ -95,7 +95,7 @@ fn closures_give_lifetimes(rt: HostRuntime) -> Result<(), Fail> {
     Ok(())
 }
 
-fn tell<L: Listener<u64, u64>>(listener: &L, key: Arc<u64>, value: u64, cause: RemovalCause)
+fn notify<L: Listener<u64, u64>>(listener: &L, key: Arc<u64>, value: u64, cause: RemovalCause)
     requires { L.hears listener.now (arc_value key) value }
 {
     listener.removed(key, value, cause);
@@ -110,7 +110,7 @@ fn a_closure_listens(rt: HostRuntime) -> Result<(), Fail> {
         sum.fetch_add(key.wrapping_add(value), Ordering::SeqCst);
     });
     let key: Arc<u64> = Arc::new(rt.alloc(), 5)?;
-    tell(&listener, key, 7, RemovalCause::Explicit);
+    notify(&listener, key, 7, RemovalCause::Explicit);
     assert_eq!(rt; heard.load(Ordering::SeqCst), 12);
     Ok(())
 }

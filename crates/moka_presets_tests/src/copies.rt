@@ -50,7 +50,7 @@ impl<T: CopiesCompose> CopiesCompose for Form<T> {
 }
 
 // Returns a clone of a clone.
-fn copied_twice<T: CopiesCompose>(value: &T) -> Result<T, AllocError> {
+fn copy_twice<T: CopiesCompose>(value: &T) -> Result<T, AllocError> {
     let copy = value.clone()?;
     copy.clone()
 }
@@ -67,7 +67,7 @@ fn a_struct_is_copied_on(rt: HostRuntime) -> Result<(), Fail> {
         marks: [1, 2, 3],
         pairs: Vec::new(rt.alloc()),
     };
-    assert!(rt; copied_twice(&page)? == page);
+    assert!(rt; copy_twice(&page)? == page);
     Ok(())
 }
 
@@ -78,9 +78,9 @@ fn an_enum_is_copied_on(rt: HostRuntime) -> Result<(), Fail> {
         name: String::from_str(rt.alloc(), "A")?,
         parts: vec![in rt.alloc(); 1_u64, 2]?,
     };
-    assert!(rt; copied_twice(&form)? == form);
-    assert!(rt; copied_twice(&Form::Circle(1, 2_u8))? == Form::Circle(1, 2_u8));
-    assert!(rt; copied_twice(&Form::<u8>::Point)? == Form::Point);
+    assert!(rt; copy_twice(&form)? == form);
+    assert!(rt; copy_twice(&Form::Circle(1, 2_u8))? == Form::Circle(1, 2_u8));
+    assert!(rt; copy_twice(&Form::<u8>::Point)? == Form::Point);
     Ok(())
 }
 

@@ -1,4 +1,4 @@
--- The end of a turn with a value answers a copy of it.
+-- The end of a turn with a value returns a clone of it.
 use Rattle.std.proofs.Common.{ℕ, Bool, true, false, List, Option, Some, None, option_map}
 use Rattle.std.specs.Prelude.{if◌then◌else◌}
 use Rattle.moka_model.specs.declared.turns.Outcome.TheVariants.{Value}
@@ -7,7 +7,7 @@ use Rattle.moka_model.specs.Steps.{AcceptedStep, events_in, turns}
 use Rattle.moka_model.specs.Turns.{Name, Turn, fits, found, is_open_as}
 use Rattle.moka_model.specs.Calls.{Entry, finished}
 use Rattle.moka_model.specs.Calls as calls
-use Rattle.moka_model.specs.StandsFor.{IsAnswerOf}
+use Rattle.moka_model.specs.StandsFor.{IsReplyOf}
 use Rattle.moka_turns.specs.Handles.{name_by}
 use Rattle.moka_state.specs.declared.step.Step.{Step}
 use Rattle.moka_state.specs.declared.step.Step.TheVariants.{Finish}
@@ -18,7 +18,7 @@ use Rattle.moka_recorded.specs.GivesBack.{GivesBack}
 
 module _ {K V E : Type 0} (eq : K → K → Bool) (is_clone : V → V → Type 0) (settings : Settings K V) (steps : List (AcceptedStep K V E)) where
   by_turn : (name : Name K) (v : V) (now : ℕ) (entry : Entry K V) (it_fits : Bool) (turn : Option (Turn K V E))
-      → IsAnswerOf is_clone (if it_fits then option_map (finished eq settings (events_in steps) name (Value v) now) turn else None) (calls.Entered entry)
+      → IsReplyOf is_clone (if it_fits then option_map (finished eq settings (events_in steps) name (Value v) now) turn else None) (calls.Entered entry)
       → is_clone v entry.value
   by_turn name v now entry true (Some t) is = is.1
   by_turn name v now entry true None is = absurd is

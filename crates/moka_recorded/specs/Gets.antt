@@ -18,9 +18,9 @@ use Rattle.moka_history.specs.StepForm.{IsTurnOf}
 use Rattle.moka_single_flight.specs.declared.replies.Begun.{Begun}
 use Rattle.moka_single_flight.specs.declared.replies.Begun.TheVariants.{Found, Run, Wait}
 use Rattle.moka_single_flight.specs.declared.replies.Collected.{Collected}
-use Rattle.moka_single_flight.specs.declared.replies.Collected.TheVariants.{Ready, NotYet, Again}
+use Rattle.moka_single_flight.specs.declared.replies.Collected.TheVariants.{Ready, NotYet, Retry}
 use Rattle.moka_single_flight.specs.Rounds.{Rounds, Waits, IsRefused}
-use Rattle.moka_recording.specs.declared.receipt.Kept.{Kept}
+use Rattle.moka_recording.specs.declared.receipt.StoredReceipt.{StoredReceipt}
 use Rattle.moka_recording.specs.declared.receipt.Receipt.{Receipt}
 use Rattle.moka_recording.specs.Receipts.{AddsReceipt}
 use Rattle.moka_recorded.specs.declared.named.Named.{Named}
@@ -59,21 +59,21 @@ module _ {K V C H W X P F L T E S : Type 0} where
   IsEntered v reply = ⊥
 
   -- The reply to a begin is what `begun` says: a live value, or a turn of this key that is opened or waited for.
-  abbrev pub BeginTells : K → Begun V (Named K) (Named K) → Reply K V C H W X P F L T E S → Type 0
-  BeginTells key (Found v) reply = IsEntered v reply
-  BeginTells key (Run turn) (replies.Run name shown) = (name ≡ turn.name) × IsTurnOf With key name × (shown ≡ None)
-  BeginTells key (Wait ticket) (replies.Wait name) = (name ≡ ticket.name) × IsTurnOf With key name
-  BeginTells key begun reply = ⊥
+  abbrev pub IsBeginReply : K → Begun V (Named K) (Named K) → Reply K V C H W X P F L T E S → Type 0
+  IsBeginReply key (Found v) reply = IsEntered v reply
+  IsBeginReply key (Run turn) (replies.Run name shown) = (name ≡ turn.name) × IsTurnOf With key name × (shown ≡ None)
+  IsBeginReply key (Wait ticket) (replies.Wait name) = (name ≡ ticket.name) × IsTurnOf With key name
+  IsBeginReply key begun reply = ⊥
 
   -- The reply to a collect is what `Collected` says: a value, not yet, or that the turn was abandoned.
-  abbrev pub CollectTells : Named K → Collected V (Named K) → Reply K V C H W X P F L T E S → Type 0
-  CollectTells ticket (Ready v) reply = IsEntered v reply
-  CollectTells ticket (NotYet back) reply = (name_by back.name ≡ name_by ticket.name) × (reply ≡ replies.NotYet)
-  CollectTells ticket Again reply = reply ≡ replies.Abandoned
+  abbrev pub IsCollectReply : Named K → Collected V (Named K) → Reply K V C H W X P F L T E S → Type 0
+  IsCollectReply ticket (Ready v) reply = IsEntered v reply
+  IsCollectReply ticket (NotYet back) reply = (name_by back.name ≡ name_by ticket.name) × (reply ≡ replies.NotYet)
+  IsCollectReply ticket Retry reply = reply ≡ replies.Abandoned
 
 -- What contracts see of a pass: its number, and its receipts.
 abbrev pub Trail : Type 0 → Type 0 → Type 0
-Trail S R = ℕ × List (Kept S R)
+Trail S R = ℕ × List (StoredReceipt S R)
 
 module _ {K V C H W X P F L T E S : Type 0} (is_clone : V → V → Type 0) where
   -- The pass gets one more receipt, of such a step with such a reply.
@@ -101,10 +101,10 @@ module _ {K V C H W X P F L T E S : Type 0} (is_clone : V → V → Type 0) wher
       ⊎ ((refused.cause ≡ UnknownTurn) × (refused.held ≡ None)
       × Does (IsFinish name made now) (λ reply. reply ≡ replies.Refused UnknownTurn) old new))
 
-  -- A collect of the ticket returns `told`.
+  -- A collect of the ticket returns `result`.
   abbrev pub Collects : Trail (Step K V C H W X P F L T E S) (Reply K V C H W X P F L T E S) → Named K → Collected V (Named K) →
       Trail (Step K V C H W X P F L T E S) (Reply K V C H W X P F L T E S) → Type 0
-  Collects old ticket told new = Does (IsCollect (name_by ticket.name)) (CollectTells ticket told) old new
+  Collects old ticket result new = Does (IsCollect (name_by ticket.name)) (IsCollectReply ticket result) old new
 
   -- A collect fails: with `OutOfMemory`, without a receipt, and the ticket is held; or another caller has spent it by
   -- its name.
@@ -120,7 +120,7 @@ module _ {K V C H W X P F L T E S : Type 0} (is_clone : V → V → Type 0) wher
     -- A begin returns `begun`.
     abbrev pub Begins : Trail (Step K V C H W X P F L T E S) (Reply K V C H W X P F L T E S) → Begun V (Named K) (Named K) →
         Trail (Step K V C H W X P F L T E S) (Reply K V C H W X P F L T E S) → Type 0
-    Begins old begun new = Does (IsBegin key now) (BeginTells key begun) old new
+    Begins old begun new = Does (IsBegin key now) (IsBeginReply key begun) old new
 
     -- A begin fails: with `OutOfMemory`, without a receipt, or with `NumbersUsedUp`; nothing is held.
     abbrev pub BeginRefused : Trail (Step K V C H W X P F L T E S) (Reply K V C H W X P F L T E S) →

@@ -1,7 +1,7 @@
 //! The begin and collect steps of a `get_with` that waits for other callers' turns.
 ghost use Rattle.std.specs.Prelude.{◌≡◌};
 
-use crate::named::{Named, copied};
+use crate::named::{Named, copy_name};
 use crate::recorded_state::RecordedState;
 use crate::refused::GetWithRefused;
 use moka_model::turns::Kind;
@@ -33,9 +33,9 @@ pub(crate) type PassOf<K, V, C, R, L> = Pass<
     L,
 >;
 
-// A `get_with` call: the cache, the key, and the moment in nanoseconds.
+// A call of `get_with`: the cache, the key, and the moment in nanoseconds.
 #[derive(Drop)]
-pub(crate) struct Place<
+pub(crate) struct GetWithCall<
     'a,
     K: Hash + Drop,
     V: Clone,
@@ -57,7 +57,7 @@ impl<
     R: RowStore<K, V>,
     L: Naming,
     W: Wait + Drop,
-> Participant<Place<'a, K, V, C, R, L, W>, V> for PassOf<K, V, C, R, L> {
+> Participant<GetWithCall<'a, K, V, C, R, L, W>, V> for PassOf<K, V, C, R, L> {
     ghost use Rattle.std.specs.Arc.{arc_value};
     ghost use Rattle.moka_recorded.specs.Gets.{Begins, Collects, BeginRefused, CollectRefused};
 
@@ -77,7 +77,7 @@ impl<
 
     fn begin(
         &mut self,
-        at: &Place<'a, K, V, C, R, L, W>,
+        at: &GetWithCall<'a, K, V, C, R, L, W>,
     ) -> Result<Begun<V, Named<K>, Named<K>>, GetWithRefused<K, V, C>> {
         let Ok(key) = at.key.clone() else {
             return Err(GetWithRefused {
@@ -108,11 +108,11 @@ impl<
 
     fn collect(
         &mut self,
-        at: &Place<'a, K, V, C, R, L, W>,
+        at: &GetWithCall<'a, K, V, C, R, L, W>,
         ticket: Named<K>,
     ) -> Result<Collected<V, Named<K>>, GetWithRefused<K, V, C>> {
         let Named { name } = ticket;
-        let Ok(called) = copied(&name) else {
+        let Ok(called) = copy_name(&name) else {
             return Err(GetWithRefused {
                 cause: Refused::OutOfMemory,
                 held: Some(Step::Leave { name }),
@@ -127,7 +127,7 @@ impl<
         match receipt.reply {
             Reply::Entered(entry) => Ok(Collected::Ready(entry.into_value())),
             Reply::NotYet => Ok(Collected::NotYet(Named { name })),
-            Reply::Abandoned => Ok(Collected::Again),
+            Reply::Abandoned => Ok(Collected::Retry),
             Reply::Refused(cause) => Err(GetWithRefused { cause, held: None }),
             _ => unreachable!(),
         }

@@ -4,8 +4,8 @@ ghost use Rattle.std.specs.Arc.{arc_value};
 ghost use Rattle.moka_turns.specs.Handles.{name_by};
 ghost use Rattle.moka_recorded.specs.Gets.{Finishes, FinishRefused, Gets, GetsRefused};
 
-use crate::ask::{PassOf, Place, Shared};
-use crate::named::{Named, copied};
+use crate::ask::{GetWithCall, PassOf, Shared};
+use crate::named::{Named, copy_name};
 use crate::refused::GetWithRefused;
 use moka_model::turns::Outcome;
 use moka_policy::policy::{CacheTypes, Refused};
@@ -40,7 +40,7 @@ where
     ensures refused { IfErr result (λ refused. GetsRefused V.is_clone (arc_value key) now
         (F.post init) pass.old refused pass.new) }
 {
-    let at = Place { cache, key, now };
+    let at = GetWithCall { cache, key, now };
     match wait_for(cache.waits(), pass, &at, Some(MAX_RETRIES)) {
         Ok(Joined::Value(value)) => Ok(value),
         Ok(Joined::Turn(turn)) => {
@@ -77,7 +77,7 @@ where
         now refused pass.old pass.new) }
 {
     let Named { name } = turn;
-    let Ok(called) = copied(&name) else {
+    let Ok(called) = copy_name(&name) else {
         return Err(GetWithRefused {
             cause: Refused::OutOfMemory,
             held: Some(Step::Abandon { name }),

@@ -1,4 +1,4 @@
--- Each step keeps the one history.
+-- Each step preserves the one history.
 use Rattle.std.proofs.Common.{◌≡◌, ◌≢◌, ℕ, zero, suc, ◌<◌, List, [], ◌∷◌, ◌++◌, length, set, Some, true, false, true≢false, refl, sym, ap, ◌∙◌, subst, ⊎_elim}
 use Rattle.std.specs.Prelude.{slice_get}
 use mathlib.Core.Option.{some, none, some-ne-none, some-injective}
@@ -7,7 +7,7 @@ use Rattle.atomic_table.specs.Table.{step, opening, Allows, Splits, Joins, keeps
 use Rattle.atomic_table.proofs.Lists.{at_set, at_snoc}
 use Rattle.moka_recording.specs.declared.law.Claim.{Claim}
 use Rattle.moka_recording.specs.declared.law.View.{View}
-use Rattle.moka_recording.specs.History.{claim, keeper, nobody, with_claims, without_claims, claims_of, Stands, Fits, IsKept, Added, Compared}
+use Rattle.moka_recording.specs.History.{claim, recorder, nobody, with_claims, without_claims, claims_of, Stands, Fits, HasOneHistory, Added, Compared}
 use Rattle.moka_recording.proofs.Places.{get_front, get_last, get_below, each_nil, each_snoc, each_more}
 
 off : false ≡ true → ⊥
@@ -21,20 +21,20 @@ module _ {S R : Type 0} where
       (λ (x : (j ≢ by) × (get_elem? views j ≡ some u)). others j u x.0 x.1)
       (at_set views by j w u e)
 
-  pub begins : (words : List ℕ) (xs : List (ℕ × S × R)) → IsKept (opening words xs (keeper {S = S} {R = R} [] []))
+  pub begins : (words : List ℕ) (xs : List (ℕ × S × R)) → HasOneHistory (opening words xs (recorder {S = S} {R = R} [] []))
   begins words xs = (0, [], one)
     where
-      one : (by : ℕ) (v : View S R) → get_elem? (keeper {S = S} {R = R} [] [] ∷ []) by ≡ some v → Fits 0 [] by v
+      one : (by : ℕ) (v : View S R) → get_elem? (recorder {S = S} {R = R} [] [] ∷ []) by ≡ some v → Fits 0 [] by v
       one zero v e = subst (Fits 0 [] 0) (some-injective _ _ e) ((λ _. (refl, refl)), each_nil _)
       one (suc by) v e = absurd (some-ne-none v (sym e))
 
-  pub adds : (slots by word a b : ℕ) (v : View S R) (held : List (ℕ × (ℕ × S × R))) (f : ℕ → ℕ) (e : ℕ × S × R) → v.keeps ≡ true
-      → Allows IsKept slots by (v, held) word f (Added (step slots word a b (some e)) (v, held))
+  pub adds : (slots by word a b : ℕ) (v : View S R) (held : List (ℕ × (ℕ × S × R))) (f : ℕ → ℕ) (e : ℕ × S × R) → v.is_recorder ≡ true
+      → Allows HasOneHistory slots by (v, held) word f (Added (step slots word a b (some e)) (v, held))
   adds slots by word a b v held f e whole s h size at fits =
       let mine = h.2 by v at in
       let known = mine.0 whole in
       let log = h.1 ++ e ∷ [] in
-      let w : View S R = record { keeps = v.keeps; all = v.all ++ e ∷ []; claims = v.claims ++ claim (length v.all) e ∷ [] } in
+      let w : View S R = record { is_recorder = v.is_recorder; all = v.all ++ e ∷ []; claims = v.claims ++ claim (length v.all) e ∷ [] } in
       let last : slice_get log (length v.all) ≡ Some e = subst (λ l. slice_get (h.1 ++ e ∷ []) (length l) ≡ Some e) (sym known.1) (get_last h.1 e) in
       let older : (c : Claim S R) → slice_get h.1 c.place ≡ Some c.entry → slice_get log c.place ≡ Some c.entry = λ c d. get_front h.1 (e ∷ []) c.place c.entry d in (
         w,
@@ -50,8 +50,8 @@ module _ {S R : Type 0} where
         ((refl, λ k c d. subst (λ l. c.place < length l) (sym known.1) (get_below h.1 c.place c.entry (mine.1 k c d))), refl),
       )
 
-  pub compares : (slots by word : ℕ) (v : View S R) (held : List (ℕ × (ℕ × S × R))) → v.keeps ≡ true
-      → Allows IsKept slots by (v, held) word (λ n. n) (Compared (step slots word 0 0 none) (v, held))
+  pub compares : (slots by word : ℕ) (v : View S R) (held : List (ℕ × (ℕ × S × R))) → v.is_recorder ≡ true
+      → Allows HasOneHistory slots by (v, held) word (λ n. n) (Compared (step slots word 0 0 none) (v, held))
   compares slots by word v held whole s h size at fits =
       let mine = h.2 by v at in
       let known = mine.0 whole in (
@@ -62,7 +62,7 @@ module _ {S R : Type 0} where
         (refl, subst (λ l. Stands l v.claims) (sym known.1) mine.1),
       )
 
-  pub gives : (by : ℕ) (v : View S R) → Splits IsKept by v (without_claims v) (claims_of v)
+  pub gives : (by : ℕ) (v : View S R) → Splits HasOneHistory by v (without_claims v) (claims_of v)
   gives by v s h at =
       let mine = h.2 by v at in (
         h.0,
@@ -73,7 +73,7 @@ module _ {S R : Type 0} where
             (at_snoc (set s.views by (without_claims v)) (claims_of v) u j e),
       )
 
-  pub takes : (by : ℕ) (v : View S R) (other : ℕ) (u : View S R) → Joins IsKept by v other u (with_claims v u) nobody
+  pub takes : (by : ℕ) (v : View S R) (other : ℕ) (u : View S R) → Joins HasOneHistory by v other u (with_claims v u) nobody
   takes by v other u s h at apart there =
       let w = with_claims v u in
       let mine = h.2 by v at in

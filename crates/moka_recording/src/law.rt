@@ -17,12 +17,12 @@ pub struct Claim<S, R> {
     pub entry: Entry<S, R>,
 }
 
-/// What a token knows: the keeper the whole history, and each token some places of it. Exists only
-/// in proofs.
+/// What a token knows: the recorder the whole history, and each token some places of it. Exists
+/// only in proofs.
 pub struct View<S, R> {
-    /// Whether the token is the keeper.
-    pub keeps: bool,
-    /// The whole history if the token is the keeper, else empty.
+    /// Whether the token is the recorder.
+    pub is_recorder: bool,
+    /// The whole history if the token is the recorder, else empty.
     pub all: LinkedList<Entry<S, R>>,
     /// The places that the token claims.
     pub claims: LinkedList<Claim<S, R>>,
@@ -32,15 +32,15 @@ pub struct View<S, R> {
 pub struct Law;
 
 impl<S, R> TableRule<Entry<S, R>, View<S, R>, ()> for Law {
-    ghost use Rattle.moka_recording.specs.History.{IsKept, keeper};
+    ghost use Rattle.moka_recording.specs.History.{HasOneHistory, recorder};
     ghost use Rattle.std.specs.Prelude.{[]};
 
-    ghost holds = { λ _. IsKept };
+    ghost holds = { λ _. HasOneHistory };
 
-    ghost first = { λ _. keeper [] [] };
+    ghost first = { λ _. recorder [] [] };
 }
 
-/// The hand-over of claims between the keeper and another token.
+/// The hand-over of claims between the recorder and another token.
 pub struct Hands;
 
 impl<S, R> Join<View<S, R>> for Hands {
@@ -59,7 +59,7 @@ impl<S, R> Split<View<S, R>> for Hands {
     ghost right = { claims_of };
 }
 
-/// The move by which the keeper adds an entry, and claims it.
+/// The move by which the recorder adds an entry, and claims it.
 pub struct Adds;
 
 impl<S, R> Play<Entry<S, R>, View<S, R>> for Adds {
@@ -68,7 +68,7 @@ impl<S, R> Play<Entry<S, R>, View<S, R>> for Adds {
     ghost then = { Added };
 }
 
-/// The move by which the keeper learns that its claims agree with the history.
+/// The move by which the recorder learns that its claims agree with the history.
 pub struct Compares;
 
 impl<S, R> Play<Entry<S, R>, View<S, R>> for Compares {

@@ -2,7 +2,7 @@
 //! thread did.
 #![tactic(auto)]
 
-pub mod desk;
+pub mod guarded_machine;
 pub mod law;
 pub mod machine;
 pub mod naming;

@@ -15,14 +15,14 @@ pub struct Opened<S: Drop, R: Drop> {
 
 impl<S: Drop, R: Drop> Model for Opened<S, R> {
     ghost use Rattle.std.specs.Prelude.{◌≡◌, []};
-    ghost use Rattle.moka_recording.specs.History.{OpenedData, keeper};
+    ghost use Rattle.moka_recording.specs.History.{OpenedData, recorder};
 
     ghost Value = { OpenedData S R };
 
     ghost view = { λ o. record { table = o.table.shared.table_id; history = o.token.me.0.all } };
 
     ghost invariant = { λ o. (o.token.table_id ≡ o.table.shared.table_id)
-        × (o.token.me ≡ (keeper [] [], []))
+        × (o.token.me ≡ (recorder [] [], []))
         × (o.table.shared.table_id.words ≡ 1) };
 }
 

@@ -6,7 +6,7 @@ ghost use Rattle.moka_recording.specs.Receipts.{AreOf};
 use crate::law::Token;
 use crate::machine::Machine;
 use crate::naming::Naming;
-use crate::receipt::Kept;
+use crate::receipt::StoredReceipt;
 use std::alloc::Global;
 use std::marker::{Model, PhantomData};
 use std::sync::ledger::Share;
@@ -16,7 +16,7 @@ use std::sync::ledger::Share;
 #[derive(Drop)]
 pub struct Pass<M: Machine<S, R>, S: Drop, R: Drop, L: Naming> {
     pub(crate) number: u64,
-    pub(crate) receipts: Vec<Kept<S, R>>,
+    pub(crate) receipts: Vec<StoredReceipt<S, R>>,
     pub(crate) token: Token<S, R>,
     pub(crate) share: Share<L>,
     pub(crate) machine: PhantomData<M>,
@@ -24,12 +24,12 @@ pub struct Pass<M: Machine<S, R>, S: Drop, R: Drop, L: Naming> {
 
 impl<M: Machine<S, R>, S: Drop, R: Drop, L: Naming> Model for Pass<M, S, R, L> {
     ghost use Rattle.std.specs.Prelude.{◌≡◌, ℕ, List, [], length};
-    ghost use Rattle.moka_recording.specs.declared.receipt.Kept.{Kept};
+    ghost use Rattle.moka_recording.specs.declared.receipt.StoredReceipt.{StoredReceipt};
     ghost use Rattle.moka_recording.specs.declared.law.Claim.{Claim};
     ghost use Rattle.moka_recording.specs.History.{claimer};
     ghost use Rattle.moka_recording.specs.Receipts.{AreOf};
 
-    ghost Value = { ℕ × List (Kept S R) };
+    ghost Value = { ℕ × List (StoredReceipt S R) };
 
     ghost view = { λ p. (p.number, p.receipts.items) };
 
@@ -43,7 +43,12 @@ impl<M: Machine<S, R>, S: Drop, R: Drop, L: Naming> Model for Pass<M, S, R, L> {
 
 impl<M: Machine<S, R>, S: Drop, R: Drop, L: Naming> Pass<M, S, R, L> {
     // Creates a pass without receipts.
-    pub(crate) fn fresh(alloc: Global, number: u64, token: Token<S, R>, share: Share<L>) -> Self
+    pub(crate) fn with_number(
+        alloc: Global,
+        number: u64,
+        token: Token<S, R>,
+        share: Share<L>,
+    ) -> Self
         requires token { (token.table_id ≡ L.table) × (token.me ≡ (claimer [], [])) }
         requires share { (share.parts ≡ 1) × (share.amount ≡ 0) }
         ensures { result ≡ (number, []) }

@@ -9,9 +9,9 @@ pub struct Receipt<R> {
     pub reply: R,
 }
 
-/// What a pass keeps of a call.
+/// A receipt as a pass stores it: with the step that was called.
 #[derive(Drop)]
-pub struct Kept<S, R> {
+pub struct StoredReceipt<S, R> {
     /// The place in the history, from 0.
     pub place: u64,
     /// The step.

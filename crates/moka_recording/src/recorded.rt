@@ -1,10 +1,10 @@
 //! A machine under a lock, with the history of its steps.
 ghost use Rattle.std.specs.Prelude.{◌≡◌, ◌+◌, [], length, true, IfOk, IfErr, OnErr, vec_len, sum_by, IsTrue};
-ghost use Rattle.moka_recording.specs.History.{Each, keeper};
+ghost use Rattle.moka_recording.specs.History.{Each, recorder};
 ghost use Rattle.moka_recording.specs.Receipts.{pairs, Stand, AddsReceipt, fresh_passes, IsWhole, HasNumber};
 ghost use mathlib.Core.Logic.{◌↔◌};
 
-use crate::desk::Desk;
+use crate::guarded_machine::GuardedMachine;
 use crate::law::{Compares, Entry, Hands, History, Token};
 use crate::machine::Machine;
 use crate::naming::Naming;
@@ -22,7 +22,7 @@ use std::sync::{Condvar, Mutex, Wait};
 #[derive(Drop)]
 pub struct Recorded<M: Machine<S, R>, S: Drop, R: Drop, L: Naming, W: Drop> {
     history: History<S, R>,
-    desk: Mutex<Desk<M, S, R, L>>,
+    guarded: Mutex<GuardedMachine<M, S, R, L>>,
     moved: Condvar,
     count: u64,
     waits: W,
@@ -46,8 +46,8 @@ pub type Closed<M, S, R, L, W> = Result<
     (Recorded<M, S, R, L, W>, Vec<Pass<M, S, R, L>>),
 >;
 
-// Creates the passes of a new cache, numbered from 0.
-fn deal<M: Machine<S, R>, S: Drop, R: Drop, L: Naming>(
+// Creates the passes of a new machine, numbered from 0.
+fn create_passes<M: Machine<S, R>, S: Drop, R: Drop, L: Naming>(
     alloc: Global,
     history: &History<S, R>,
     token: &mut Token<S, R>,
@@ -56,11 +56,11 @@ fn deal<M: Machine<S, R>, S: Drop, R: Drop, L: Naming>(
 ) -> Result<Vec<Pass<M, S, R, L>>, Refused>
     requires table { history.now.shared.table_id ≡ L.table }
     requires words { history.now.shared.table_id.words ≡ 1 }
-    requires token { (token.old.table_id ≡ L.table) × (token.old.me ≡ (keeper [] [], [])) }
+    requires token { (token.old.table_id ≡ L.table) × (token.old.me ≡ (recorder [] [], [])) }
     requires share { (all.old.parts ≡ count) × (all.old.amount ≡ 0) }
     ensures passes { IfOk result (λ passes. passes.items ≡ fresh_passes count) }
     ensures token { IfOk result (λ _. (token.new.table_id ≡ L.table)
-        × (token.new.me ≡ (keeper [] [], []))) }
+        × (token.new.me ≡ (recorder [] [], []))) }
     ensures share { IfOk result (λ _. (all.new.parts ≡ 0) × (all.new.amount ≡ 0)) }
     ensures cause { IfErr result (λ cause. cause ≡ Refused.OutOfMemory) }
 {
@@ -68,7 +68,7 @@ fn deal<M: Machine<S, R>, S: Drop, R: Drop, L: Naming>(
     for number in 0..count {
         let share = all.split_off(1, 0);
         let theirs = history.shared.split_seat::<Hands>(token);
-        let Ok(()) = passes.push(Pass::fresh(alloc, number, theirs, share)) else {
+        let Ok(()) = passes.push(Pass::with_number(alloc, number, theirs, share)) else {
             return Err(Refused::OutOfMemory);
         };
     }
@@ -86,10 +86,10 @@ fn take_back<M: Machine<S, R>, S: Drop, R: Drop, L: Naming>(
     requires table { history.now.shared.table_id ≡ L.table }
     requires words { history.now.shared.table_id.words ≡ 1 }
     requires token { (token.old.table_id ≡ L.table)
-        × (token.old.me.0.keeps ≡ true)
+        × (token.old.me.0.is_recorder ≡ true)
         × (token.old.me.0.all ≡ entries.now.items) }
     ensures token { (token.new.table_id ≡ L.table)
-        × (token.new.me.0.keeps ≡ true)
+        × (token.new.me.0.is_recorder ≡ true)
         × (token.new.me.0.all ≡ entries.now.items) }
     ensures parts { rest.new.parts ≡ rest.old.parts + 1 }
     ensures amount { rest.new.amount ≡ rest.old.amount + length pass.1 }
@@ -108,7 +108,7 @@ fn take_back<M: Machine<S, R>, S: Drop, R: Drop, L: Naming>(
 }
 
 // Returns whether these are all passes, each once.
-fn all_there<M: Machine<S, R>, S: Drop, R: Drop, L: Naming>(
+fn are_all_passes<M: Machine<S, R>, S: Drop, R: Drop, L: Naming>(
     passes: &[Pass<M, S, R, L>],
     count: u64,
 ) -> bool
@@ -166,8 +166,8 @@ impl<M: Machine<S, R>, S: Drop, R: Drop, L: Naming, W: Drop> Recorded<M, S, R, L
     {
         let Opened { table, mut token } = opened;
         let (book, mut rest) = blank.open::<L>();
-        let passes = deal(alloc, &table, &mut token, &mut rest, count)?;
-        let desk = Desk {
+        let passes = create_passes(alloc, &table, &mut token, &mut rest, count)?;
+        let guarded = GuardedMachine {
             machine,
             entries: Vec::new(alloc),
             token,
@@ -176,7 +176,7 @@ impl<M: Machine<S, R>, S: Drop, R: Drop, L: Naming, W: Drop> Recorded<M, S, R, L
         };
         let recorded = Recorded {
             history: table,
-            desk: Mutex::new(desk),
+            guarded: Mutex::new(guarded),
             moved: Condvar::new(),
             count,
             waits,
@@ -206,23 +206,23 @@ impl<M: Machine<S, R>, S: Drop, R: Drop, L: Naming, W: Drop> Recorded<M, S, R, L
         ensures missing { IfErr result (λ back.
             (back.0 ≡ self) × (back.1 ≡ passes) × ¬ (IsWhole self passes.items)) }
     {
-        if !all_there(passes.as_slice(), self.count) {
+        if !are_all_passes(passes.as_slice(), self.count) {
             return Err((self, passes));
         }
         let Recorded {
             history,
-            desk,
+            guarded,
             moved: _,
             count: _,
             waits: _,
         } = self;
-        let Desk {
+        let GuardedMachine {
             machine,
             entries,
             mut token,
             mut book,
             mut rest,
-        } = desk.into_inner();
+        } = guarded.into_inner();
         for pass in passes {
             take_back(&history, &mut token, &mut rest, &entries, pass);
         }
@@ -251,7 +251,10 @@ impl<M: Machine<S, R>, S: Drop, R: Drop, L: Naming, W: Wait + Drop> Recorded<M, 
         ensures cause { IfErr result (λ cause. cause ≡ Refused.OutOfMemory) }
     {
         let wakes = M::wakes(&step);
-        let receipt = self.desk.lock(&self.waits).add(&self.history, pass, step)?;
+        let receipt = self
+            .guarded
+            .lock(&self.waits)
+            .add(&self.history, pass, step)?;
         if wakes {
             self.moved.notify_all();
         }
@@ -274,10 +277,10 @@ impl<M: Machine<S, R>, S: Drop, R: Drop, L: Naming, W: Wait + Drop> Recorded<M, 
         ensures refused { OnErr result (pass.new ≡ pass.old) }
         ensures cause { IfErr result (λ cause. cause ≡ Refused.OutOfMemory) }
     {
-        let mut desk = self.desk.lock(&self.waits);
-        let receipt = desk.add(&self.history, pass, step)?;
+        let mut guarded = self.guarded.lock(&self.waits);
+        let receipt = guarded.add(&self.history, pass, step)?;
         if M::is_early(&receipt.reply) {
-            drop(self.moved.wait(&self.waits, desk));
+            drop(self.moved.wait(&self.waits, guarded));
         }
         Ok(receipt)
     }

@@ -68,7 +68,7 @@ fn place_of<K, V>(rows: &[(usize, CountedRow<Row<K, V>>)], number: usize) -> Opt
 }
 
 /// Returns the number of the first of these rows whose deadline has come at `now`.
-fn expired_in<K, V>(rows: &[(usize, CountedRow<Row<K, V>>)], now: u64) -> Option<usize>
+fn find_expired<K, V>(rows: &[(usize, CountedRow<Row<K, V>>)], now: u64) -> Option<usize>
     ensures { result ≡ first_number (expired_at now rows.now) }
 {
     for (number, counted_row) in rows {
@@ -223,7 +223,7 @@ impl<K: Eq + Drop, V: Drop> RowStore<K, V> for ListRows<K, V> {
     }
 
     fn first_expired(&self, now: u64) -> Option<usize> {
-        expired_in(&self.admitted, now)
+        find_expired(&self.admitted, now)
     }
 
     fn first_waiting(&self) -> Option<usize> {

@@ -41,7 +41,7 @@ impl Model for PackedEntryInfo {
 
 /// Returns whether there is a value, and the value or else `otherwise`.
 #[inline(always)]
-fn flagged<T: Copy>(value: Option<T>, otherwise: T) -> (bool, T)
+fn pack_option<T: Copy>(value: Option<T>, otherwise: T) -> (bool, T)
     ensures { (if result.0 then Some result.1 else None) ≡ value }
 {
     match value {
@@ -52,7 +52,7 @@ fn flagged<T: Copy>(value: Option<T>, otherwise: T) -> (bool, T)
 
 /// Returns the value if `is_there`, and else `None`.
 #[inline(always)]
-fn unflagged<T: Copy>(is_there: bool, value: T) -> Option<T>
+fn unpack_option<T: Copy>(is_there: bool, value: T) -> Option<T>
     ensures { result ≡ (if is_there then Some value else None) }
 {
     if is_there { Some(value) } else { None }
@@ -64,12 +64,12 @@ impl PackedEntryInfo {
     pub fn new(info: EntryInfo) -> Self
         ensures { result ≡ info }
     {
-        let (has_deadline, deadline) = flagged(info.deadline, 0);
+        let (has_deadline, deadline) = pack_option(info.deadline, 0);
         let none = OwnLife {
             from: 0,
             life: Duration::ZERO,
         };
-        let (has_own_life, own) = flagged(info.own_life, none);
+        let (has_own_life, own) = pack_option(info.own_life, none);
         PackedEntryInfo {
             last_modified: info.last_modified,
             last_accessed: info.last_accessed,
@@ -95,8 +95,8 @@ impl PackedEntryInfo {
         EntryInfo {
             last_modified: self.last_modified,
             last_accessed: self.last_accessed,
-            own_life: unflagged(self.has_own_life, own),
-            deadline: unflagged(self.has_deadline, self.deadline),
+            own_life: unpack_option(self.has_own_life, own),
+            deadline: unpack_option(self.has_deadline, self.deadline),
             policy_weight: self.policy_weight,
             is_hidden: self.is_hidden,
         }

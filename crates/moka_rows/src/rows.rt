@@ -35,7 +35,7 @@ pub struct EntryInfo {
     /// The entry's own lifetime, if it has one.
     pub own_life: Option<OwnLife>,
     /// The moment from which the value is expired, in nanoseconds. Without one it never expires. A
-    /// deadline past the last moment never comes, so `None` is kept for it.
+    /// deadline past the last moment never comes, so `None` is stored for it.
     pub deadline: Option<u64>,
     /// The weight of the entry.
     pub policy_weight: u32,
@@ -51,7 +51,7 @@ pub struct Access {
     /// The entry's own lifetime from then on, if it has one.
     pub own_life: Option<OwnLife>,
     /// The moment from which the value is expired, in nanoseconds. Without one it never expires. A
-    /// deadline past the last moment never comes, so `None` is kept for it.
+    /// deadline past the last moment never comes, so `None` is stored for it.
     pub deadline: Option<u64>,
 }
 
@@ -92,7 +92,7 @@ impl EntryInfo {
 
     /// Returns the metadata after an access.
     #[inline(always)]
-    pub fn used_at(self, touch: Access) -> EntryInfo
+    pub fn with_access(self, touch: Access) -> EntryInfo
         ensures { result ≡ used_at touch self }
     {
         EntryInfo {

@@ -84,7 +84,7 @@ pub enum Reply {
 
 /// Returns the deadline of a row that was used at a moment: 50 later, but none for each third
 /// moment.
-fn due_at(moment: u64) -> Option<u64> {
+fn deadline_at(moment: u64) -> Option<u64> {
     if moment % 3 == 0 {
         None
     } else {
@@ -98,7 +98,7 @@ pub fn written_at(moment: u64) -> EntryInfo {
         last_modified: moment,
         last_accessed: moment,
         own_life: None,
-        deadline: due_at(moment),
+        deadline: deadline_at(moment),
         policy_weight: 1,
         is_hidden: false,
     }
@@ -149,13 +149,13 @@ fn waits<R: RowStore<u64, u64>>(rows: &R, number: usize) -> bool
 }
 
 /// Returns what a row holds.
-fn held(row: &Row<u64, u64>) -> Reply {
+fn content_of(row: &Row<u64, u64>) -> Reply {
     let info = row.info();
     Reply::Value(row.value, info.last_modified, info.last_accessed)
 }
 
 /// Does something with the row of a number.
-fn used<R: RowStore<u64, u64>>(
+fn use_row<R: RowStore<u64, u64>>(
     rows: &mut R,
     given: &[(usize, u64)],
     number: usize,
@@ -165,7 +165,7 @@ fn used<R: RowStore<u64, u64>>(
 {
     match what {
         Use::Find => row_of(given, Some(number)),
-        Use::Read => held(rows.row(number)),
+        Use::Read => content_of(rows.row(number)),
         Use::Hash => Reply::Is(rows.hash(number) == rows.row(number).hash),
         Use::IsAdmitted => Reply::Is(rows.is_admitted(number)),
         Use::IsHidden => Reply::Is(rows.row(number).info().is_hidden),
@@ -182,7 +182,7 @@ fn used<R: RowStore<u64, u64>>(
             let touch = Access {
                 last_accessed: moment,
                 own_life: None,
-                deadline: due_at(moment),
+                deadline: deadline_at(moment),
             };
             rows.touch(number, touch);
             Reply::Done
@@ -223,7 +223,7 @@ pub fn add<R: RowStore<u64, u64>>(
 }
 
 /// Makes a call and returns its result.
-fn made<R: RowStore<u64, u64>>(
+fn make_call<R: RowStore<u64, u64>>(
     alloc: Global,
     rows: &mut R,
     hashes: Hashes,
@@ -244,7 +244,7 @@ fn made<R: RowStore<u64, u64>>(
             None => Reply::Absent,
         },
         Call::TakeFirst => match rows.take_first_admitted() {
-            Some(row) => held(&row),
+            Some(row) => content_of(&row),
             None => Reply::Absent,
         },
         Call::Reserve(more) => {
@@ -260,7 +260,7 @@ fn made<R: RowStore<u64, u64>>(
             }
         },
         Call::Of(key, what) => match number_of(rows, hashes, key).0 {
-            Some(number) => used(rows, given.as_slice(), number, what),
+            Some(number) => use_row(rows, given.as_slice(), number, what),
             None => Reply::Absent,
         },
     })
@@ -276,7 +276,7 @@ pub fn replies<R: RowStore<u64, u64>>(
     let mut given = Vec::new(alloc);
     let mut found = Vec::new(alloc);
     for call in calls {
-        found.push(made(alloc, &mut rows, hashes, &mut given, *call)?)?;
+        found.push(make_call(alloc, &mut rows, hashes, &mut given, *call)?)?;
     }
     Ok(found)
 }

@@ -8,7 +8,7 @@ use std::process::Abort;
 use std::test::Fail;
 
 /// Checks that each call returns what the table says, whichever hashes the keys have.
-fn answers_table<R: RowStore<u64, u64>>(
+fn check_table<R: RowStore<u64, u64>>(
     rt: &impl Abort,
     alloc: Global,
     table: &[(Call, Reply)],
@@ -27,7 +27,7 @@ fn answers_table<R: RowStore<u64, u64>>(
 }
 
 /// Rows that are added, changed and removed. Keys 1, 4 and 7 have one hash if there are three.
-const KEPT: [(Call, Reply); 26] = [
+const STORED: [(Call, Reply); 26] = [
     (Call::Len, Reply::Counted(0)),
     (Call::Of(1, Use::Find), Reply::Absent),
     (Call::Add(1, 10), Reply::Done),
@@ -128,7 +128,7 @@ const ADMITTED: [(Call, Reply); 39] = [
 ];
 
 /// The first expired one of the resident rows.
-const DUE: [(Call, Reply); 25] = [
+const DEADLINES: [(Call, Reply); 25] = [
     (Call::Add(1, 10), Reply::Done),
     (Call::Add(2, 20), Reply::Done),
     (Call::Add(3, 31), Reply::Done),
@@ -233,26 +233,26 @@ const HIDDEN: [(Call, Reply); 45] = [
 /// The plain store returns what the tables say.
 #[test]
 fn lists_answer_the_tables(rt: HostRuntime) -> Result<(), Fail> {
-    answers_table::<ListRows<u64, u64>>(&rt, rt.alloc(), &KEPT)?;
-    answers_table::<ListRows<u64, u64>>(&rt, rt.alloc(), &ADMITTED)?;
-    answers_table::<ListRows<u64, u64>>(&rt, rt.alloc(), &DUE)?;
-    answers_table::<ListRows<u64, u64>>(&rt, rt.alloc(), &HIDDEN)
+    check_table::<ListRows<u64, u64>>(&rt, rt.alloc(), &STORED)?;
+    check_table::<ListRows<u64, u64>>(&rt, rt.alloc(), &ADMITTED)?;
+    check_table::<ListRows<u64, u64>>(&rt, rt.alloc(), &DEADLINES)?;
+    check_table::<ListRows<u64, u64>>(&rt, rt.alloc(), &HIDDEN)
 }
 
 /// The slab returns what the tables say.
 #[test]
 fn a_slab_answers_the_tables(rt: HostRuntime) -> Result<(), Fail> {
-    answers_table::<SlabRows<u64, u64>>(&rt, rt.alloc(), &KEPT)?;
-    answers_table::<SlabRows<u64, u64>>(&rt, rt.alloc(), &ADMITTED)?;
-    answers_table::<SlabRows<u64, u64>>(&rt, rt.alloc(), &DUE)?;
-    answers_table::<SlabRows<u64, u64>>(&rt, rt.alloc(), &HIDDEN)
+    check_table::<SlabRows<u64, u64>>(&rt, rt.alloc(), &STORED)?;
+    check_table::<SlabRows<u64, u64>>(&rt, rt.alloc(), &ADMITTED)?;
+    check_table::<SlabRows<u64, u64>>(&rt, rt.alloc(), &DEADLINES)?;
+    check_table::<SlabRows<u64, u64>>(&rt, rt.alloc(), &HIDDEN)
 }
 
 /// The slab with deadlines returns what the tables say.
 #[test]
 fn a_slab_with_deadlines_answers_the_tables(rt: HostRuntime) -> Result<(), Fail> {
-    answers_table::<ExpiringSlab>(&rt, rt.alloc(), &KEPT)?;
-    answers_table::<ExpiringSlab>(&rt, rt.alloc(), &ADMITTED)?;
-    answers_table::<ExpiringSlab>(&rt, rt.alloc(), &DUE)?;
-    answers_table::<ExpiringSlab>(&rt, rt.alloc(), &HIDDEN)
+    check_table::<ExpiringSlab>(&rt, rt.alloc(), &STORED)?;
+    check_table::<ExpiringSlab>(&rt, rt.alloc(), &ADMITTED)?;
+    check_table::<ExpiringSlab>(&rt, rt.alloc(), &DEADLINES)?;
+    check_table::<ExpiringSlab>(&rt, rt.alloc(), &HIDDEN)
 }

@@ -7,9 +7,9 @@ use Rattle.moka_model.specs.Lives.{Write}
 use Rattle.moka_model.specs.Maintenance.{total}
 use Rattle.moka_model.specs.Numbers.{entry_count, weighted_size}
 use Rattle.moka_model.specs.Removals.{Removal}
-use Rattle.moka_model.specs.Calls.{Call, TakeNotice, Answer, Noticed, accepted, answer_of}
+use Rattle.moka_model.specs.Calls.{Call, TakeNotice, Reply, Noticed, accepted, reply_of}
 use Rattle.moka_model.specs.StandsFor.{Books, WholeView, StandsFor}
-use Rattle.moka_segment_model.specs.Segments.{SegmentedSettings, SegmentedView, share_settings, segments_of, One, Nowhere, asked, at_first, place_of, answer_in, sum_below, first_from, first_noticed, notices_after, is_empty, list_of, events_of, entries_in, weight_in, notices_in, steps_in, AllStandFor}
+use Rattle.moka_segment_model.specs.Segments.{SegmentedSettings, SegmentedView, share_settings, segments_of, One, Nowhere, segment_of_place, at_first, place_of, reply_in, sum_below, first_from, first_with_notice, notices_after, is_empty, list_of, events_of, entries_in, weight_in, notices_in, steps_in, AllStandFor}
 use Rattle.moka_segment_model.proofs.Lists.{there, at_or}
 
 -- a sum depends only on what is below the number
@@ -104,7 +104,7 @@ module _ {K V : Type 0} (E : Type 0) (eq : K → K → Bool) {is_clone : V → V
       (it.0, it.1, rw it.1 at (stand.each i))
 
   -- the first that has a notice, by what the states hold
-  pub noticed-same : first_noticed E eq given (list_of E eq given calls) ≡ first_from (λ i. at_or (λ (v : WholeView K V E). not (is_empty v.values.books.notices)) false (slice_get view.segments i)) 0 (segments_of given)
+  pub noticed-same : first_with_notice E eq given (list_of E eq given calls) ≡ first_from (λ i. at_or (λ (v : WholeView K V E). not (is_empty v.values.books.notices)) false (slice_get view.segments i)) 0 (segments_of given)
   noticed-same =
       first_from-same (λ i. not (is_empty (notices_after E eq given (list_of E eq given calls i)))) (λ i. at_or (λ (v : WholeView K V E). not (is_empty v.values.books.notices)) false (slice_get view.segments i)) 0 (segments_of given)
       (λ j lt.
@@ -135,20 +135,20 @@ module _ {K V : Type 0} (E : Type 0) (eq : K → K → Bool) {is_clone : V → V
       ap (λ (b : Books K V). total (λ (w : Write K V). w.policy_weight) (b.orders.admitted ++ b.orders.waiting)) (sym it.2.books) ∙ sym (ap (λ o. at_or (λ (v : WholeView K V E). total (λ (w : Write K V). w.policy_weight) (writes_of v)) 0 o) it.1))
 
 module _ {K V : Type 0} (E : Type 0) (eq : K → K → Bool) (given : SegmentedSettings K V) (calls : List (Call K V E)) where
-  -- where a notice is taken, and what is answered; and where there is none
-  pub noticed-place : (i : ℕ) → first_noticed E eq given (list_of E eq given calls) ≡ Some i → place_of E eq given calls TakeNotice ≡ One i
+  -- where a notice is taken, and what is returned; and where there is none
+  pub noticed-place : (i : ℕ) → first_with_notice E eq given (list_of E eq given calls) ≡ Some i → place_of E eq given calls TakeNotice ≡ One i
   noticed-place i e = ap at_first e
 
-  pub noticed-answer : (i : ℕ) → first_noticed E eq given (list_of E eq given calls) ≡ Some i
-      → answer_in E eq given calls TakeNotice ≡ answer_of (accepted eq (share_settings given) (steps_in E eq given calls i) TakeNotice)
-  noticed-answer i e = ap (λ o. answer_of (accepted eq (share_settings given) (steps_in E eq given calls (asked (at_first o))) TakeNotice)) e
+  pub noticed-reply : (i : ℕ) → first_with_notice E eq given (list_of E eq given calls) ≡ Some i
+      → reply_in E eq given calls TakeNotice ≡ reply_of (accepted eq (share_settings given) (steps_in E eq given calls i) TakeNotice)
+  noticed-reply i e = ap (λ o. reply_of (accepted eq (share_settings given) (steps_in E eq given calls (segment_of_place (at_first o))) TakeNotice)) e
 
-  pub none-place : first_noticed E eq given (list_of E eq given calls) ≡ None → place_of E eq given calls TakeNotice ≡ Nowhere
+  pub none-place : first_with_notice E eq given (list_of E eq given calls) ≡ None → place_of E eq given calls TakeNotice ≡ Nowhere
   none-place e = ap at_first e
 
-  pub none-answer : first_noticed E eq given (list_of E eq given calls) ≡ None → answer_in E eq given calls TakeNotice ≡ Some (Noticed None)
-  none-answer e =
+  pub none-reply : first_with_notice E eq given (list_of E eq given calls) ≡ None → reply_in E eq given calls TakeNotice ≡ Some (Noticed None)
+  none-reply e =
       let some : segments_of given ≡ suc (segments_of given - 1) = omega (arith, pow_pos given.bits) in
       let none : notices_after E eq given (list_of E eq given calls 0) ≡ [] = empty-nil (notices_after E eq given (list_of E eq given calls 0)) (first_from-none (λ i. not (is_empty (notices_after E eq given (list_of E eq given calls i)))) 0 (segments_of given - 1) (ap (first_from (λ i. not (is_empty (notices_after E eq given (list_of E eq given calls i)))) 0) (sym some) ∙ e)) in
-      ap (λ o. answer_of (accepted eq (share_settings given) (steps_in E eq given calls (asked (at_first o))) TakeNotice)) e
-      ∙ ap (λ (l : List (Removal K V)). let a : Option (Answer K V E) = Some (Noticed (slice_get l 0)) in a) none
+      ap (λ o. reply_of (accepted eq (share_settings given) (steps_in E eq given calls (segment_of_place (at_first o))) TakeNotice)) e
+      ∙ ap (λ (l : List (Removal K V)). let a : Option (Reply K V E) = Some (Noticed (slice_get l 0)) in a) none

@@ -8,7 +8,7 @@ use Rattle.std.proofs.lemmas.Bool.Decides.{eqb_tells, leb_tells}
 abbrev pub enough : ℕ → ℕ → Bool
 enough segments bits = nat_le segments (2 ^ bits)
 
--- what the test tells
+-- what the test says
 pub is-enough : (segments bits : ℕ) → segments ≤ 2 ^ bits → enough segments bits ≡ true
 is-enough segments bits le = ⊎_elim (λ it. it.0) (λ gt. absurd (let no : ⊥ = omega (arith, le, gt.1) in no)) (leb_tells segments (2 ^ bits))
 

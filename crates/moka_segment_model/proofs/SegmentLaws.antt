@@ -13,11 +13,11 @@ use Rattle.moka_model.specs.Numbers.{entry_count, weighted_size, greatest_number
 use Rattle.moka_model.specs.Orders.{orders, is_left_at}
 use Rattle.moka_model.specs.Removals.{notices_left}
 use Rattle.moka_model.specs.Steps.{AcceptedStep, events_in}
-use Rattle.moka_model.specs.Calls.{Call, Insert, RunPendingTasksUpTo, EntryCount, WeightedSize, TakeNotice, Answer, Counted, Left, accepted, answer_of, after, IsLegal}
+use Rattle.moka_model.specs.Calls.{Call, Insert, RunPendingTasksUpTo, EntryCount, WeightedSize, TakeNotice, Reply, Counted, Left, accepted, reply_of, after, IsLegal}
 use Rattle.moka_model.proofs.Callers.{IsLegal-after}
-use Rattle.moka_conserved.specs.Conserved.{SeesKeysAlike, count_written, count_standing, count_left, given_out}
-use Rattle.moka_conserved.proofs.Callers.{is_conserved}
-use Rattle.moka_segment_model.specs.Segments.{SegmentedSettings, segments_of, share, share_settings, segment_of, segment_of_key, place_of_key, key_in, One, goes_to, at_first, asked, place_of, first_noticed, list_of, steps_after, steps_in, events_of, sum_below, any_below, joint_in, answer_by, answer_in}
+use Rattle.moka_model.specs.Conserved.{SeesKeysAlike, count_written, count_standing, count_left, given_out}
+use Rattle.moka_model.proofs.Callers.{is_conserved}
+use Rattle.moka_segment_model.specs.Segments.{SegmentedSettings, segments_of, share, share_settings, segment_of, segment_of_key, place_of_key, key_in, One, goes_to, at_first, segment_of_place, place_of, first_with_notice, list_of, steps_after, steps_in, events_of, sum_below, any_below, joint_in, reply_by, reply_in}
 use Rattle.moka_segment_model.specs.SegmentLaws.{events_by, accepted_in, pairs_written, pairs_standing, pairs_waiting, pairs_given}
 use Rattle.moka_segment_model.proofs.Lists.{segment-within, eqb_refl}
 use Rattle.moka_segment_model.proofs.Counts.{sum_below-same, sum_below-zeros, first_from-passes}
@@ -79,7 +79,7 @@ module _ {K V : Type 0} (E : Type 0) (eq : K → K → Bool) (given : SegmentedS
   abbrev written-of : List (Call K V E) → ℕ → ℕ
   written-of calls i = count_written test (events_of E eq given calls i)
 
-  -- what a call writes, in the segment that is asked
+  -- what a call writes, in the segment of the call
   abbrev added : List (Call K V E) → Call K V E → ℕ
   added calls call = count_written test (events_by (accepted_in E eq given calls call))
 
@@ -88,7 +88,7 @@ module _ {K V : Type 0} (E : Type 0) (eq : K → K → Bool) (given : SegmentedS
       → sum_below (written-of (call ∷ calls)) (segments_of given) ≡ added calls call + sum_below (written-of calls) (segments_of given)
   written-same call calls e =
       sum_below-same (written-of (call ∷ calls)) (written-of calls) (segments_of given) (λ i lt. by i (goes_to i (place_of E eq given calls call)))
-      ∙ sym (none-more _ (sum_below (written-of calls) (segments_of given)) (keyless-none eq (share_settings given) (steps_in E eq given calls (asked (place_of E eq given calls call))) test call e))
+      ∙ sym (none-more _ (sum_below (written-of calls) (segments_of given)) (keyless-none eq (share_settings given) (steps_in E eq given calls (segment_of_place (place_of E eq given calls call))) test call e))
     where
       by : (i : ℕ) (b : Bool) → count_written test (events_in (steps_after {E = E} eq (share_settings given) (cond b (call ∷ list_of E eq given calls i) (list_of E eq given calls i)))) ≡ written-of calls i
       by i true =
@@ -100,7 +100,7 @@ module _ {K V : Type 0} (E : Type 0) (eq : K → K → Bool) (given : SegmentedS
   pub added-none : (call : Call K V E) (calls : List (Call K V E)) → ((k : K) (v : V) → key_in call ≡ Some k → test k v ≡ false) → added calls call ≡ 0
   added-none call calls fails =
       uncounted test (events_by (accepted_in E eq given calls call))
-      (uncounted-call eq (share_settings given) (steps_in E eq given calls (asked (place_of E eq given calls call))) test call fails)
+      (uncounted-call eq (share_settings given) (steps_in E eq given calls (segment_of_place (place_of E eq given calls call))) test call fails)
 
   -- an insert writes its pair where something is stored
   pub added-insert : (k : K) (v : V) (at : ℕ) (calls : List (Call K V E)) → added calls (Insert k v at) ≡ cond (not (stores_nothing given.whole.max_capacity) && test k v) 1 0
@@ -133,7 +133,7 @@ module _ {K V : Type 0} (E : Type 0) (eq : K → K → Bool) (given : SegmentedS
         here =
             ap (λ steps. count_written test (events_in steps)) (steps-here E eq given calls call j (One j) place (eqb_refl j))
             ∙ written-after test (accepted eq (share_settings given) (steps_in E eq given calls j) call) (steps_in E eq given calls j)
-            ∙ ap (λ p. count_written test (events_by (accepted eq (share_settings given) (steps_in E eq given calls (asked p)) call)) + written-of calls j) (sym place)
+            ∙ ap (λ p. count_written test (events_by (accepted eq (share_settings given) (steps_in E eq given calls (segment_of_place p)) call)) + written-of calls j) (sym place)
             ∙ add_comm (added calls call) (written-of calls j)
 
     written-one : (call : Call K V E) (calls : List (Call K V E))
@@ -247,7 +247,7 @@ module _ {K V : Type 0} (E : Type 0) (eq : K → K → Bool) (given : SegmentedS
       wholes None = refl
       wholes (Some c) = ap Some (let all : c + (1 - 1) ≡ c = omega arith in ap (λ n. n / 1) all ∙ div-one c)
 
-  alone-first : (o : Option ℕ) (lists : ℕ → List (Call K V E)) → first_noticed E eq given lists ≡ o → asked (at_first o) ≡ 0
+  alone-first : (o : Option ℕ) (lists : ℕ → List (Call K V E)) → first_with_notice E eq given lists ≡ o → segment_of_place (at_first o) ≡ 0
   alone-first None lists e = refl
   alone-first (Some i) lists e = let it = first_from-passes _ 0 (2 ^ given.bits) i e in let n : 2 ^ given.bits ≡ 1 = ap (λ b. 2 ^ b) one in omega (arith, it.0, n)
 
@@ -255,19 +255,19 @@ module _ {K V : Type 0} (E : Type 0) (eq : K → K → Bool) (given : SegmentedS
     alone-key : (k : K) → segment_of_key given k ≡ 0
     alone-key k = ap (λ b. given.whole.behaviour.hash k / 2 ^ (64 - b)) one ∙ div-eq_of_lt (fits k)
 
-    alone-place : (o : Option K) → asked (place_of_key given o) ≡ 0
+    alone-place : (o : Option K) → segment_of_place (place_of_key given o) ≡ 0
     alone-place None = refl
     alone-place (Some k) = alone-key k
 
-    alone-asked : (calls : List (Call K V E)) (call : Call K V E) → asked (place_of E eq given calls call) ≡ 0
+    alone-asked : (calls : List (Call K V E)) (call : Call K V E) → segment_of_place (place_of E eq given calls call) ≡ 0
     alone-asked calls EntryCount = refl
     alone-asked calls WeightedSize = refl
-    alone-asked calls TakeNotice = alone-first (first_noticed E eq given (list_of E eq given calls)) (list_of E eq given calls) refl
+    alone-asked calls TakeNotice = alone-first (first_with_notice E eq given (list_of E eq given calls)) (list_of E eq given calls) refl
     alone-asked calls call = alone-place (key_in call)
 
-    -- it answers what a cache does that was given its list
-    alone-share : (calls : List (Call K V E)) (call : Call K V E) → answer_in E eq given calls call ≡ answer_by (joint_in E eq given calls call) (answer_of (accepted eq (share_settings given) (steps_in E eq given calls 0) call))
-    alone-share calls call = ap (λ i. answer_by (joint_in E eq given calls call) (answer_of (accepted eq (share_settings given) (steps_in E eq given calls i) call))) (alone-asked calls call)
+    -- it returns what a cache does that was given its list
+    alone-share : (calls : List (Call K V E)) (call : Call K V E) → reply_in E eq given calls call ≡ reply_by (joint_in E eq given calls call) (reply_of (accepted eq (share_settings given) (steps_in E eq given calls 0) call))
+    alone-share calls call = ap (λ i. reply_by (joint_in E eq given calls call) (reply_of (accepted eq (share_settings given) (steps_in E eq given calls i) call))) (alone-asked calls call)
 
     alone-sum : (f : ℕ → ℕ) → sum_below f (segments_of given) ≡ f 0
     alone-sum f = ap (λ b. sum_below f (2 ^ b)) one ∙ (let all : 0 + f 0 ≡ f 0 = omega arith in all)
@@ -275,13 +275,13 @@ module _ {K V : Type 0} (E : Type 0) (eq : K → K → Bool) (given : SegmentedS
     alone-any : (f : ℕ → Bool) → any_below f (segments_of given) ≡ f 0
     alone-any f = ap (λ b. any_below f (2 ^ b)) one
 
-    alone-here : (calls : List (Call K V E)) (call : Call K V E) → answer_by (joint_in E eq given calls call) (answer_of (accepted eq (share_settings given) (steps_in E eq given calls 0) call)) ≡ answer_of (accepted eq (share_settings given) (steps_in E eq given calls 0) call)
-    alone-here calls (RunPendingTasksUpTo limit at) = ap (λ b. let a : Option (Answer K V E) = Some (Left b) in a) (alone-any (λ i. is_left_at eq (share_settings given) (Some limit) at (events_of E eq given calls i)))
-    alone-here calls EntryCount = ap (λ n. let a : Option (Answer K V E) = Some (Counted (min n greatest_number)) in a) (alone-sum (λ i. entry_count eq (share_settings given) (events_of E eq given calls i)))
-    alone-here calls WeightedSize = ap (λ n. let a : Option (Answer K V E) = Some (Counted (min n greatest_number)) in a) (alone-sum (λ i. weighted_size eq (share_settings given) (events_of E eq given calls i)))
+    alone-here : (calls : List (Call K V E)) (call : Call K V E) → reply_by (joint_in E eq given calls call) (reply_of (accepted eq (share_settings given) (steps_in E eq given calls 0) call)) ≡ reply_of (accepted eq (share_settings given) (steps_in E eq given calls 0) call)
+    alone-here calls (RunPendingTasksUpTo limit at) = ap (λ b. let a : Option (Reply K V E) = Some (Left b) in a) (alone-any (λ i. is_left_at eq (share_settings given) (Some limit) at (events_of E eq given calls i)))
+    alone-here calls EntryCount = ap (λ n. let a : Option (Reply K V E) = Some (Counted (min n greatest_number)) in a) (alone-sum (λ i. entry_count eq (share_settings given) (events_of E eq given calls i)))
+    alone-here calls WeightedSize = ap (λ n. let a : Option (Reply K V E) = Some (Counted (min n greatest_number)) in a) (alone-sum (λ i. weighted_size eq (share_settings given) (events_of E eq given calls i)))
     alone-here calls call = refl
 
-    pub alone-answers : (calls : List (Call K V E)) (call : Call K V E) → answer_in E eq given calls call ≡ answer_of (accepted eq given.whole (steps_after eq given.whole (list_of E eq given calls 0)) call)
-    alone-answers calls call =
+    pub alone-replies : (calls : List (Call K V E)) (call : Call K V E) → reply_in E eq given calls call ≡ reply_of (accepted eq given.whole (steps_after eq given.whole (list_of E eq given calls 0)) call)
+    alone-replies calls call =
         alone-share calls call ∙ alone-here calls call
-        ∙ ap (λ s. answer_of (accepted eq s (steps_after {E = E} eq s (list_of E eq given calls 0)) call)) alone-settings
+        ∙ ap (λ s. reply_of (accepted eq s (steps_after {E = E} eq s (list_of E eq given calls 0)) call)) alone-settings

@@ -5,10 +5,10 @@ use Rattle.std.proofs.lemmas.Bool.Decides.{eqb_tells}
 use Rattle.moka_segment_model.proofs.Lists.{eqb_refl}
 use Rattle.moka_model.specs.Lives.{Settings}
 use Rattle.moka_model.specs.Steps.{AcceptedStep}
-use Rattle.moka_model.specs.Calls.{Call, Answer, Accepted, accepted, answer_of, after}
-use Rattle.moka_model.specs.StandsFor.{WholeView, StandsFor, Follows, Answers, IsAnswerOf}
+use Rattle.moka_model.specs.Calls.{Call, Reply, Accepted, accepted, reply_of, after}
+use Rattle.moka_model.specs.StandsFor.{WholeView, StandsFor, Follows, RepliesWith, IsReplyOf}
 use Rattle.moka_model.specs.Calls.{RunPendingTasksUpTo, EntryCount, WeightedSize, TakeNotice}
-use Rattle.moka_segment_model.specs.Segments.{SegmentedSettings, SegmentedView, share_settings, segment_of_key, place_of_key, key_in, Place, One, Each, Nowhere, goes_to, place_of, steps_after, list_of, steps_in, joint_in, answer_by, answer_in, asked, IsAnswerIn, AllStandFor}
+use Rattle.moka_segment_model.specs.Segments.{SegmentedSettings, SegmentedView, share_settings, segment_of_key, place_of_key, key_in, Place, One, Each, Nowhere, goes_to, place_of, steps_after, list_of, steps_in, joint_in, reply_by, reply_in, segment_of_place, IsGivenReply, AllStandFor}
 use Rattle.moka_segment_model.proofs.Lists.{slice_get-set_same, slice_get-set_other, length-set}
 
 -- one state follows a call, where there is one
@@ -17,9 +17,9 @@ FollowsAt eq is_clone call None None = Unit {0}
 FollowsAt eq is_clone call (Some v) (Some w) = Follows eq is_clone v call w
 FollowsAt eq is_clone call v w = ⊥
 
-answered-of : {K V E : Type 0} (is_clone : V → V → Type 0) (it : Option (Accepted K V E)) (answer : Answer K V E) → IsAnswerOf is_clone it answer → IsAnswerIn is_clone (answer_of it) answer
-answered-of is_clone None answer is = is
-answered-of is_clone (Some it) answer is = is
+answered-of : {K V E : Type 0} (is_clone : V → V → Type 0) (it : Option (Accepted K V E)) (reply : Reply K V E) → IsReplyOf is_clone it reply → IsGivenReply is_clone (reply_of it) reply
+answered-of is_clone None reply is = is
+answered-of is_clone (Some it) reply is = is
 
 module _ {K V : Type 0} (E : Type 0) (eq : K → K → Bool) (given : SegmentedSettings K V) where
   -- a call is the newest step of a segment that it goes to, and no step of another
@@ -94,12 +94,12 @@ module _ {K V : Type 0} (E : Type 0) (eq : K → K → Bool) {is_clone : V → V
     each = λ i. subst (λ steps. IfSome (slice_get view.segments i) (λ one. StandsFor eq is_clone (share_settings given) one steps)) (sym (steps-apart E eq given calls call i Nowhere place refl)) (stand.each i);
   }
 
-  -- a state answers as its own list says
-  pub answer-at : (view : SegmentedView K V E) (calls : List (Call K V E)) (j : ℕ) (v : WholeView K V E) (call : Call K V E) (answer : Answer K V E)
-      → slice_get view.segments j ≡ Some v → Answers eq is_clone v call answer → AllStandFor eq is_clone given view calls
-      → IsAnswerIn is_clone (answer_of (accepted eq (share_settings given) (steps_in E eq given calls j) call)) answer
-  answer-at view calls j v call answer here answers stand =
-      answered-of is_clone (accepted eq (share_settings given) (steps_in E eq given calls j) call) answer (answers _ _ (stand-here view calls j v here stand))
+  -- a state returns what its own list says
+  pub reply-at : (view : SegmentedView K V E) (calls : List (Call K V E)) (j : ℕ) (v : WholeView K V E) (call : Call K V E) (reply : Reply K V E)
+      → slice_get view.segments j ≡ Some v → RepliesWith eq is_clone v call reply → AllStandFor eq is_clone given view calls
+      → IsGivenReply is_clone (reply_of (accepted eq (share_settings given) (steps_in E eq given calls j) call)) reply
+  reply-at view calls j v call reply here replies stand =
+      answered-of is_clone (accepted eq (share_settings given) (steps_in E eq given calls j) call) reply (replies _ _ (stand-here view calls j v here stand))
 
 -- A call of a key goes only to the segment of its key.
 pub record IsRouted {K V : Type 0} (E : Type 0) (eq : K → K → Bool) (given : SegmentedSettings K V) (k : K) (call : Call K V E) (calls : List (Call K V E)) : Type 0 where
@@ -114,12 +114,12 @@ routed E eq given k (RunPendingTasksUpTo limit at) calls e = cc
 routed E eq given k call calls e = record { place = ap (place_of_key given) e; joint = refl }
 
 module _ {K V : Type 0} (E : Type 0) (eq : K → K → Bool) (given : SegmentedSettings K V) where
-  -- what is not answered by all together is answered by the segment that is asked
-  pub answer-asked : (calls : List (Call K V E)) (call : Call K V E) (place : Place) → place_of E eq given calls call ≡ place → joint_in E eq given calls call ≡ None
-      → answer_in E eq given calls call ≡ answer_of (accepted eq (share_settings given) (steps_in E eq given calls (asked place)) call)
-  answer-asked calls call place is none =
-      ap (λ joint. answer_by joint (answer_of (accepted eq (share_settings given) (steps_in E eq given calls (asked (place_of E eq given calls call))) call))) none
-      ∙ ap (λ p. answer_of (accepted eq (share_settings given) (steps_in E eq given calls (asked p)) call)) is
+  -- what is not returned by all together is returned by the segment of the call
+  pub reply-asked : (calls : List (Call K V E)) (call : Call K V E) (place : Place) → place_of E eq given calls call ≡ place → joint_in E eq given calls call ≡ None
+      → reply_in E eq given calls call ≡ reply_of (accepted eq (share_settings given) (steps_in E eq given calls (segment_of_place place)) call)
+  reply-asked calls call place is none =
+      ap (λ joint. reply_by joint (reply_of (accepted eq (share_settings given) (steps_in E eq given calls (segment_of_place (place_of E eq given calls call))) call))) none
+      ∙ ap (λ p. reply_of (accepted eq (share_settings given) (steps_in E eq given calls (segment_of_place p)) call)) is
 
 -- a cache hashes as it was built to
 pub hash-at : {K V : Type 0} (E : Type 0) (eq : K → K → Bool) {is_clone : V → V → Type 0} (given : SegmentedSettings K V) (view : SegmentedView K V E) (calls : List (Call K V E)) (k : K) → AllStandFor eq is_clone given view calls → segment_of_key view.settings k ≡ segment_of_key given k

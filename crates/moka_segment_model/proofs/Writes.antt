@@ -13,7 +13,7 @@ use Rattle.moka_model.specs.Numbers.{stores_nothing, is_flush_due}
 use Rattle.moka_model.specs.Turns.{Turn, Name, End, fits, found, is_open_for, is_open_as, has_ticket_as}
 use Rattle.moka_model.specs.Steps.{AcceptedStep, events_in, turns}
 use Rattle.moka_model.specs.Calls.{Call, Get, ContainsKey, Insert, Invalidate, Remove, InvalidateAll, InvalidateIf, RunPendingTasks, RunPendingTasksUpTo, EntryCount, WeightedSize, TakeNotice, OrInsert, Begin, BeginCompute, Finish, Abandon, Collect, Leave, Accepted, Done, without_move, accepted, with_step, write_events, look_event, begun, begun_compute, or_inserted, finished, collected, abandons, spends, acceptable, live_at}
-use Rattle.moka_conserved.specs.Conserved.{count_written}
+use Rattle.moka_model.specs.Conserved.{count_written}
 use Rattle.moka_segment_model.specs.Segments.{key_in}
 use Rattle.moka_segment_model.specs.SegmentLaws.{events_by}
 

@@ -1,4 +1,4 @@
-pub use Rattle.moka_conserved.specs.Conserved
+pub use Rattle.moka_model.specs.Conserved
 pub mod SegmentLaws
 pub mod Segments
 pub mod WorkedSegments

@@ -3,10 +3,10 @@ use Rattle.std.specs.Prelude.{ℕ, ◌+◌, Bool, Option, Some, None, List, [], 
 use Rattle.moka_model.specs.Events.{Event}
 use Rattle.moka_model.specs.Calls.{Call, Accepted, accepted}
 use Rattle.moka_model.specs.Removals.{notices_left}
-use Rattle.moka_conserved.specs.Conserved.{count_written, count_standing, count_left, given_out}
+use Rattle.moka_model.specs.Conserved.{count_written, count_standing, count_left, given_out}
 use Rattle.moka_model.specs.Orders.{orders}
-use Rattle.moka_segment_model.specs.Segments.{SegmentedSettings, share_settings, segments_of, sum_below, asked, place_of, steps_in}
-use Rattle.moka_segment_model.specs.Segments.{events_of}
+use Rattle.moka_segment_model.specs.Segments.{SegmentedSettings, share_settings, segments_of, sum_below, segment_of_place, place_of}
+use Rattle.moka_segment_model.specs.Segments.{steps_in, events_of}
 
 -- The events of the step that a call is. There are none if it fails by its name.
 abbrev pub events_by : {K V E : Type 0} → Option (Accepted K V E) → List (Event K V)
@@ -17,7 +17,7 @@ module _ {K V : Type 0} (E : Type 0) (eq : K → K → Bool) (settings : Segment
   -- What a call returns and which step it is, in the segment of the call.
   abbrev pub accepted_in : List (Call K V E) → Call K V E → Option (Accepted K V E)
   accepted_in calls call =
-      accepted eq (share_settings settings) (steps_in E eq settings calls (asked (place_of E eq settings calls call))) call
+      accepted eq (share_settings settings) (steps_in E eq settings calls (segment_of_place (place_of E eq settings calls call))) call
 
 module _ {K V : Type 0} (E : Type 0) (eq : K → K → Bool) (settings : SegmentedSettings K V) (test : K → V → Bool) where
   -- How many of the pairs that calls write pass a test. Each call counts by its own step, in its segment.

@@ -10,7 +10,7 @@ use Rattle.moka_model.specs.Events.{Event}
 use Rattle.moka_model.specs.Steps.{AcceptedStep, events_in}
 use Rattle.moka_model.specs.Calls.{Call, Get, ContainsKey, Insert, Invalidate, Remove, EntryCount, WeightedSize, TakeNotice}
 use Rattle.moka_model.specs.Calls.{RunPendingTasksUpTo, OrInsert, Begin, BeginCompute, Finish, Abandon, Collect, Leave}
-use Rattle.moka_model.specs.Calls.{Answer, Counted, Left, accepted, answer_of, after, live_at, IsAnswer}
+use Rattle.moka_model.specs.Calls.{Reply, Counted, Left, accepted, reply_of, after, live_at, IsCopiedReply}
 use Rattle.moka_model.specs.StandsFor.{WholeView, StandsFor}
 
 -- The segment of a hash, of 2 ^ bits segments: the number that the hash's highest bits are.
@@ -68,21 +68,21 @@ at_first (Some i) = One i
 
 -- The segment of a call. If a call goes to each or to none, all segments return the same, or they return something
 -- together.
-abbrev pub asked : Place → ℕ
-asked (One i) = i
-asked Each = 0
-asked Nowhere = 0
+abbrev pub segment_of_place : Place → ℕ
+segment_of_place (One i) = i
+segment_of_place Each = 0
+segment_of_place Nowhere = 0
 
 -- What all segments return together: the total of a count, or whether any of them left a part of a maintenance undone.
 pub data Joint : Type 0 where
   Total : ℕ → Joint
   AnyLeft : Bool → Joint
 
--- The answer to a call: what the segments return together or, for any other call, what is given.
-abbrev pub answer_by : {K V E : Type 0} → Option Joint → Option (Answer K V E) → Option (Answer K V E)
-answer_by (Some (Total total)) other = Some (Counted total)
-answer_by (Some (AnyLeft left)) other = Some (Left left)
-answer_by None other = other
+-- The reply to a call: what the segments return together or, for any other call, what is given.
+abbrev pub reply_by : {K V E : Type 0} → Option Joint → Option (Reply K V E) → Option (Reply K V E)
+reply_by (Some (Total total)) other = Some (Counted total)
+reply_by (Some (AnyLeft left)) other = Some (Left left)
+reply_by None other = other
 
 -- The sum of a function over all numbers below another.
 abbrev pub sum_below : (ℕ → ℕ) → ℕ → ℕ
@@ -127,15 +127,15 @@ module _ {K V : Type 0} (E : Type 0) (eq : K → K → Bool) (settings : Segment
   notices_after calls = notices_left eq (share_settings settings) (events_in {E = E} (steps_after eq (share_settings settings) calls))
 
   -- The first segment that has a notice, given the list of each.
-  abbrev pub first_noticed : (ℕ → List (Call K V E)) → Option ℕ
-  first_noticed lists = first_from (λ i. not (is_empty (notices_after (lists i)))) 0 (segments_of settings)
+  abbrev pub first_with_notice : (ℕ → List (Call K V E)) → Option ℕ
+  first_with_notice lists = first_from (λ i. not (is_empty (notices_after (lists i)))) 0 (segments_of settings)
 
   -- Where a call goes, given the list of each segment. A count goes to none, and a `TakeNotice` to the first segment
   -- that has a notice. Any other call goes to the segment of its key, or to each if it has no key.
   abbrev pub place_by : (ℕ → List (Call K V E)) → Call K V E → Place
   place_by lists EntryCount = Nowhere
   place_by lists WeightedSize = Nowhere
-  place_by lists TakeNotice = at_first (first_noticed lists)
+  place_by lists TakeNotice = at_first (first_with_notice lists)
   place_by lists call = place_of_key settings (key_in call)
 
   -- A segment's list: a filter of the list of all calls. Both are read from the newest.
@@ -184,10 +184,10 @@ module _ {K V : Type 0} (E : Type 0) (eq : K → K → Bool) (settings : Segment
 
   -- What a call returns after others, none if it fails by its name. It is what all segments return together, if they
   -- do. Else it is what the call's segment returns, as a cache with its share and its own list.
-  abbrev pub answer_in : List (Call K V E) → Call K V E → Option (Answer K V E)
-  answer_in calls call =
-      answer_by (joint_in calls call)
-      (answer_of (accepted eq (share_settings settings) (steps_in calls (asked (place_of calls call))) call))
+  abbrev pub reply_in : List (Call K V E) → Call K V E → Option (Reply K V E)
+  reply_in calls call =
+      reply_by (joint_in calls call)
+      (reply_of (accepted eq (share_settings settings) (steps_in calls (segment_of_place (place_of calls call))) call))
 
 -- What the states of a cache of several segments are to the definitions.
 pub record SegmentedView (K V E : Type 0) : Type 0 where
@@ -213,13 +213,13 @@ module _ {K V E : Type 0} (eq : K → K → Bool) (is_clone : V → V → Type 0
   abbrev pub FollowsIn : SegmentedView K V E → Call K V E → SegmentedView K V E → Type 0
   FollowsIn old call new = AtEachList old (λ settings calls. AllStandFor eq is_clone settings new (call ∷ calls))
 
--- an answer, up to cloning
-abbrev pub IsAnswerIn : {K V E : Type 0} → (V → V → Type 0) → Option (Answer K V E) → Answer K V E → Type 0
-IsAnswerIn is_clone None answer = ⊥
-IsAnswerIn is_clone (Some it) answer = IsAnswer is_clone it answer
+-- a reply, up to cloning
+abbrev pub IsGivenReply : {K V E : Type 0} → (V → V → Type 0) → Option (Reply K V E) → Reply K V E → Type 0
+IsGivenReply is_clone None reply = ⊥
+IsGivenReply is_clone (Some it) reply = IsCopiedReply is_clone it reply
 
 -- This is what the call returns, whatever calls the states could have come from.
-abbrev pub AnswersIn : {K V E : Type 0} → (K → K → Bool) → (V → V → Type 0) → SegmentedView K V E → Call K V E →
-    Answer K V E → Type 0
-AnswersIn {E} eq is_clone view call answer =
-    AtEachList eq is_clone view (λ settings calls. IsAnswerIn is_clone (answer_in E eq settings calls call) answer)
+abbrev pub RepliesIn : {K V E : Type 0} → (K → K → Bool) → (V → V → Type 0) → SegmentedView K V E → Call K V E →
+    Reply K V E → Type 0
+RepliesIn {E} eq is_clone view call reply =
+    AtEachList eq is_clone view (λ settings calls. IsGivenReply is_clone (reply_in E eq settings calls call) reply)

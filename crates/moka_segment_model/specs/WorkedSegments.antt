@@ -5,9 +5,9 @@ use Rattle.moka_model.specs.declared.turns.Kind.TheVariants.{With}
 use Rattle.moka_model.specs.declared.turns.Outcome.TheVariants.{Value}
 use Rattle.moka_model.specs.Lives.{no_lifetimes}
 use Rattle.moka_model.specs.Turns.{Name}
-use Rattle.moka_model.specs.Calls.{Call, Answer, Get, Insert, Invalidate, InvalidateAll}
+use Rattle.moka_model.specs.Calls.{Call, Reply, Get, Insert, Invalidate, InvalidateAll}
 use Rattle.moka_model.specs.Calls.{RunPendingTasks, RunPendingTasksUpTo, EntryCount, TakeNotice, Begin, Finish, Abandon, Collect}
-use Rattle.moka_segment_model.specs.Segments.{SegmentedSettings, answer_in}
+use Rattle.moka_segment_model.specs.Segments.{SegmentedSettings, reply_in}
 
 -- Some seconds, in nanoseconds.
 abbrev pub seconds : ℕ → ℕ
@@ -34,9 +34,9 @@ abbrev pub upper : ℕ
 upper = 2 ^ 63
 
 -- What calls return, in order, after some calls.
-abbrev pub answers_in : SegmentedSettings ℕ ℕ → List (Call ℕ ℕ ℕ) → List (Call ℕ ℕ ℕ) → List (Option (Answer ℕ ℕ ℕ))
-answers_in settings [] before = []
-answers_in settings (call ∷ calls) before = answer_in ℕ nat_eq settings before call ∷ answers_in settings calls (call ∷ before)
+abbrev pub replies_in : SegmentedSettings ℕ ℕ → List (Call ℕ ℕ ℕ) → List (Call ℕ ℕ ℕ) → List (Option (Reply ℕ ℕ ℕ))
+replies_in settings [] before = []
+replies_in settings (call ∷ calls) before = reply_in ℕ nat_eq settings before call ∷ replies_in settings calls (call ∷ before)
 
 -- Two keys enter the lower segment of two, and one the upper. Of the lower ones one is evicted.
 abbrev pub two_and_one : List (Call ℕ ℕ ℕ)
@@ -49,8 +49,8 @@ abbrev pub upper_first : List (Call ℕ ℕ ℕ)
 upper_first = Insert upper 20 0 ∷ Insert 1 10 0 ∷ Invalidate upper 1 ∷ Invalidate 1 2 ∷ TakeNotice ∷ TakeNotice ∷ TakeNotice ∷ []
 
 -- All entries are invalidated, in both segments.
-abbrev pub both_hidden : List (Call ℕ ℕ ℕ)
-both_hidden = Insert 1 10 0 ∷ Insert upper 20 0 ∷ InvalidateAll ∷ Get 1 0 ∷ Get upper 0 ∷ EntryCount ∷ []
+abbrev pub both_invalidated : List (Call ℕ ℕ ℕ)
+both_invalidated = Insert 1 10 0 ∷ Insert upper 20 0 ∷ InvalidateAll ∷ Get 1 0 ∷ Get upper 0 ∷ EntryCount ∷ []
 
 -- All entries are invalidated, and evicted by maintenances with a limit of 1.
 abbrev pub one_by_one : List (Call ℕ ℕ ℕ)

@@ -2,14 +2,14 @@
 //! own, and depends on no other.
 ghost use Rattle.std.specs.Prelude.{◌≡◌, ◌≢◌, ◌⊎◌, ℕ, ◌*◌, ◌^◌, ◌-◌, ◌≤◌, ◌<◌, ◌+◌, ◌&&◌, not, if◌then◌else◌, true, false, Bool, Some, None, List, [], ◌∷◌};
 ghost use Rattle.std.specs.List.{AllByRecursion};
-ghost use Rattle.moka_model.specs.Calls.{Call, Insert, InvalidateAll, InvalidateIf, RunPendingTasks, RunPendingTasksUpTo, TakeNotice, Done, Left, Noticed, accepted, answer_of, IsLegal};
+ghost use Rattle.moka_model.specs.Calls.{Call, Insert, InvalidateAll, InvalidateIf, RunPendingTasks, RunPendingTasksUpTo, TakeNotice, Done, Left, Noticed, accepted, reply_of, IsLegal};
 ghost use Rattle.moka_model.specs.Events.{latest};
 ghost use Rattle.moka_model.specs.Lives.{Write, is_live};
 ghost use Rattle.moka_model.specs.Numbers.{entry_count, weighted_size, flush_point, stores_nothing, all_standing};
 ghost use Rattle.moka_model.specs.Orders.{standing};
 ghost use Rattle.moka_model.specs.SizeLaws.{WeighsOnes, LimitsSome};
-ghost use Rattle.moka_conserved.specs.Conserved.{SeesKeysAlike};
-ghost use Rattle.moka_segment_model.specs.Segments.{SegmentedSettings, segments_of, bits_for, share, share_settings, segment_of, segment_of_key, key_in, One, Each, Nowhere, goes_to, place_of, list_of, steps_after, steps_in, events_of, joint_in, answer_in};
+ghost use Rattle.moka_model.specs.Conserved.{SeesKeysAlike};
+ghost use Rattle.moka_segment_model.specs.Segments.{SegmentedSettings, segments_of, bits_for, share, share_settings, segment_of, segment_of_key, key_in, One, Each, Nowhere, goes_to, place_of, list_of, steps_after, steps_in, events_of, joint_in, reply_in};
 ghost use Rattle.moka_segment_model.specs.SegmentLaws.{pairs_written, pairs_standing, pairs_waiting, pairs_given};
 
 /// The share of a segment is the least number that, times the number of segments, is at least the
@@ -58,12 +58,12 @@ pub fn what_one_segment_does_changes_no_reply_of_another<K: Eq, V, E>()
     ensures list { (settings : SegmentedSettings K V) (calls : List (Call K V E)) (between : Call K V E) (i j : ℕ)
         → place_of E K.eq settings calls between ≡ One j → i ≢ j
         → list_of E K.eq settings (between ∷ calls) i ≡ list_of E K.eq settings calls i }
-    ensures answer { (settings : SegmentedSettings K V) (calls : List (Call K V E)) (between call : Call K V E) (j : ℕ) (k : K)
+    ensures reply { (settings : SegmentedSettings K V) (calls : List (Call K V E)) (between call : Call K V E) (j : ℕ) (k : K)
         → place_of E K.eq settings calls between ≡ One j → key_in call ≡ Some k → segment_of_key settings k ≢ j
-        → answer_in E K.eq settings (between ∷ calls) call ≡ answer_in E K.eq settings calls call }
+        → reply_in E K.eq settings (between ∷ calls) call ≡ reply_in E K.eq settings calls call }
     ensures by_its_list { (settings : SegmentedSettings K V) (calls others : List (Call K V E)) (call : Call K V E) (k : K) → key_in call ≡ Some k
         → list_of E K.eq settings calls (segment_of_key settings k) ≡ list_of E K.eq settings others (segment_of_key settings k)
-        → answer_in E K.eq settings calls call ≡ answer_in E K.eq settings others call }
+        → reply_in E K.eq settings calls call ≡ reply_in E K.eq settings others call }
 {}
 
 /// A call that goes to each segment returns the same in all of them, unless they return something
@@ -71,9 +71,9 @@ pub fn what_one_segment_does_changes_no_reply_of_another<K: Eq, V, E>()
 pub fn all_segments_answer_a_broadcast_alike<K: Eq, V, E>()
     ensures each { (settings : SegmentedSettings K V) (calls : List (Call K V E)) (call : Call K V E) (i : ℕ)
         → place_of E K.eq settings calls call ≡ Each → joint_in E K.eq settings calls call ≡ None
-        → answer_in E K.eq settings calls call ≡ answer_of (accepted K.eq (share_settings settings) (steps_in E K.eq settings calls i) call) }
+        → reply_in E K.eq settings calls call ≡ reply_of (accepted K.eq (share_settings settings) (steps_in E K.eq settings calls i) call) }
     ensures none { (settings : SegmentedSettings K V) (calls : List (Call K V E)) → place_of E K.eq settings calls TakeNotice ≡ Nowhere
-        → answer_in E K.eq settings calls TakeNotice ≡ Some (Noticed None) }
+        → reply_in E K.eq settings calls TakeNotice ≡ Some (Noticed None) }
 {}
 
 /// A maintenance with a limit runs in each segment with the whole limit. It returns that something
@@ -82,27 +82,27 @@ pub fn a_maintenance_within_a_limit_leaves_what_any_segment_leaves<K: Eq, V, E>(
     ensures each { (settings : SegmentedSettings K V) (calls : List (Call K V E)) (limit at : ℕ)
         → place_of E K.eq settings calls (RunPendingTasksUpTo limit at) ≡ Each }
     ensures some { (settings : SegmentedSettings K V) (calls : List (Call K V E)) (limit at i : ℕ) → i < segments_of settings
-        → answer_of (accepted K.eq (share_settings settings) (steps_in E K.eq settings calls i) (RunPendingTasksUpTo limit at)) ≡ Some (Left true)
-        → answer_in E K.eq settings calls (RunPendingTasksUpTo limit at) ≡ Some (Left true) }
+        → reply_of (accepted K.eq (share_settings settings) (steps_in E K.eq settings calls i) (RunPendingTasksUpTo limit at)) ≡ Some (Left true)
+        → reply_in E K.eq settings calls (RunPendingTasksUpTo limit at) ≡ Some (Left true) }
     ensures none { (settings : SegmentedSettings K V) (calls : List (Call K V E)) (limit at : ℕ)
         → ((i : ℕ) → i < segments_of settings
-        → answer_of (accepted K.eq (share_settings settings) (steps_in E K.eq settings calls i) (RunPendingTasksUpTo limit at)) ≡ Some (Left false))
-        → answer_in E K.eq settings calls (RunPendingTasksUpTo limit at) ≡ Some (Left false) }
+        → reply_of (accepted K.eq (share_settings settings) (steps_in E K.eq settings calls i) (RunPendingTasksUpTo limit at)) ≡ Some (Left false))
+        → reply_in E K.eq settings calls (RunPendingTasksUpTo limit at) ≡ Some (Left false) }
 {}
 
 /// A cache of one segment behaves as a state.
 ///
 /// Its share is the whole (`settings`), and each call returns what a state with the same list
-/// returns (`answer`). The list leaves out counts and each `take_notice` that finds no notice,
+/// returns (`reply`). The list leaves out counts and each `take_notice` that finds no notice,
 /// since they change nothing (`list`).
 pub fn one_segment_answers_as_a_state<K: Eq, V, E>()
     ensures settings { (settings : SegmentedSettings K V) → settings.bits ≡ 0 → share_settings settings ≡ settings.whole }
     ensures list { (settings : SegmentedSettings K V) (calls : List (Call K V E)) (call : Call K V E)
         → settings.bits ≡ 0 → ((k : K) → settings.whole.behaviour.hash k < 2 ^ 64)
         → (place_of E K.eq settings calls call ≡ Nowhere) ⊎ (list_of E K.eq settings (call ∷ calls) 0 ≡ call ∷ list_of E K.eq settings calls 0) }
-    ensures answer { (settings : SegmentedSettings K V) (calls : List (Call K V E)) (call : Call K V E)
+    ensures reply { (settings : SegmentedSettings K V) (calls : List (Call K V E)) (call : Call K V E)
         → settings.bits ≡ 0 → ((k : K) → settings.whole.behaviour.hash k < 2 ^ 64)
-        → answer_in E K.eq settings calls call ≡ answer_of (accepted K.eq settings.whole (steps_after K.eq settings.whole (list_of E K.eq settings calls 0)) call) }
+        → reply_in E K.eq settings calls call ≡ reply_of (accepted K.eq settings.whole (steps_after K.eq settings.whole (list_of E K.eq settings calls 0)) call) }
 {}
 
 /// If equal keys hash alike, each key that is stored in a segment belongs to that segment. So no

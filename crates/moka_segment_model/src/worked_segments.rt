@@ -3,7 +3,7 @@ ghost use Rattle.std.specs.Prelude.{◌≡◌, ◌+◌, ◌^◌, ◌-◌, true, 
 ghost use Rattle.moka_model.specs.declared.notification.RemovalCause.TheVariants.{Explicit, Size};
 ghost use Rattle.moka_model.specs.Calls.{Done, Found, Counted, Left, Noticed, Entered, Run, Wait};
 ghost use Rattle.moka_segment_model.specs.Segments.{share, segment_of, bits_for};
-ghost use Rattle.moka_segment_model.specs.WorkedSegments.{of_segments, upper, answers_in, two_and_one, upper_first, both_hidden, one_by_one, lower_name, upper_name, two_turns};
+ghost use Rattle.moka_segment_model.specs.WorkedSegments.{of_segments, upper, replies_in, two_and_one, upper_first, both_invalidated, one_by_one, lower_name, upper_name, two_turns};
 
 /// Each of eight segments has 13 of a capacity of 100. The hashes of the second segment begin at an
 /// eighth of all hashes. Five segments are rounded up to eight.
@@ -26,21 +26,21 @@ pub fn shares_and_segments()
 /// Two segments share a capacity of two: each keeps one entry. The moment of a lookup in one
 /// segment does not pass in the other.
 pub fn each_segment_has_its_share_and_its_moment()
-    ensures { answers_in (of_segments 1 2) two_and_one [] ≡ Some Done ∷ Some Done ∷ Some Done ∷ Some Done
+    ensures { replies_in (of_segments 1 2) two_and_one [] ≡ Some Done ∷ Some Done ∷ Some Done ∷ Some Done
         ∷ Some (Noticed (Some (record { key = 1; value = 10; cause = Size }))) ∷ Some (Noticed None) ∷ Some (Counted 2)
         ∷ Some (Found None) ∷ Some (Found (Some 30)) ∷ [] }
 {}
 
 /// Notices come segment by segment, not in the order of removal.
 pub fn notices_come_segment_by_segment()
-    ensures { answers_in (of_segments 1 2) upper_first [] ≡ Some Done ∷ Some Done ∷ Some Done ∷ Some Done
+    ensures { replies_in (of_segments 1 2) upper_first [] ≡ Some Done ∷ Some Done ∷ Some Done ∷ Some Done
         ∷ Some (Noticed (Some (record { key = 1; value = 10; cause = Explicit })))
         ∷ Some (Noticed (Some (record { key = upper; value = 20; cause = Explicit }))) ∷ Some (Noticed None) ∷ [] }
 {}
 
 /// `invalidate_all` reaches the last segment too. What is invalidated still counts.
 pub fn all_segments_are_hidden()
-    ensures { answers_in (of_segments 1 2) both_hidden [] ≡ Some Done ∷ Some Done ∷ Some Done ∷ Some (Found None)
+    ensures { replies_in (of_segments 1 2) both_invalidated [] ≡ Some Done ∷ Some Done ∷ Some Done ∷ Some (Found None)
         ∷ Some (Found None) ∷ Some (Counted 2) ∷ [] }
 {}
 
@@ -49,14 +49,14 @@ pub fn all_segments_are_hidden()
 /// Three entries are invalidated, two of them in one segment. A maintenance with a limit of 1
 /// evicts one in each segment.
 pub fn each_segment_is_given_the_whole_limit()
-    ensures { answers_in (of_segments 1 4) one_by_one [] ≡ Some Done ∷ Some Done ∷ Some Done ∷ Some Done
+    ensures { replies_in (of_segments 1 4) one_by_one [] ≡ Some Done ∷ Some Done ∷ Some Done ∷ Some Done
         ∷ Some (Left true) ∷ Some (Counted 1) ∷ Some (Left false) ∷ Some (Counted 0) ∷ [] }
 {}
 
 /// Each segment numbers its own turns, and knows a name only for its own keys. So two turns with
 /// one number do not collide.
 pub fn each_segment_has_its_own_turns()
-    ensures { answers_in (of_segments 1 2) two_turns [] ≡ Some (Run lower_name None) ∷ Some (Run upper_name None)
+    ensures { replies_in (of_segments 1 2) two_turns [] ≡ Some (Run lower_name None) ∷ Some (Run upper_name None)
         ∷ Some (Wait lower_name) ∷ Some (Entered (record { key = 1; value = 7; fresh = true; replaced = false })) ∷ None
         ∷ Some (Entered (record { key = 1; value = 7; fresh = false; replaced = false })) ∷ Some Done
         ∷ Some (Found (Some 7)) ∷ Some (Found None) ∷ [] }

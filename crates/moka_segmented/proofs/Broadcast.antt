@@ -7,11 +7,11 @@ use Rattle.std.proofs.lemmas.Nat.{pow_pos}
 use Rattle.std.proofs.lemmas.Bool.Decides.{eqb_tells}
 use Rattle.moka_model.specs.Lives.{Behaviour, Settings}
 use Rattle.moka_model.specs.Orders.{is_left_at}
-use Rattle.moka_model.specs.Calls.{Call, Answer, RunPendingTasksUpTo, Left}
-use Rattle.moka_model.specs.StandsFor.{WholeView, StandsFor, Follows, Answers}
+use Rattle.moka_model.specs.Calls.{Call, Reply, RunPendingTasksUpTo, Left}
+use Rattle.moka_model.specs.StandsFor.{WholeView, StandsFor, Follows, RepliesWith}
 use Rattle.moka_expiration.specs.Behaviour.{BehaviourData}
 use Rattle.moka_expiration.specs.StateData.{SettingsData, StateData, view_by}
-use Rattle.moka_segment_model.specs.Segments.{SegmentedSettings, Each, place_of, segments_of, share_settings, steps_in, events_of, any_below, AllStandFor, FollowsIn, AnswersIn}
+use Rattle.moka_segment_model.specs.Segments.{SegmentedSettings, Each, place_of, segments_of, share_settings, steps_in, events_of, any_below, AllStandFor, FollowsIn, RepliesIn}
 use Rattle.moka_segment_model.proofs.Callers.{FollowsAt, slice_get-set_same, slice_get-set_other, length-set, eqb_refl, any_below-same, stand-each, there}
 use Rattle.moka_segmented.specs.SegmentedData.{SegmentedData, segmented_view_by}
 
@@ -56,16 +56,16 @@ module _ {K V E S : Type 0} (eq : K → K → Bool) (is_clone : V → V → Type
       rw (slice_get-map view old j, slice_get-map view now j)
       (⊎_elim (λ lt. was.done j (omega (arith, lt))) (λ le. rw (slice_get_past old j le, slice_get_past now j (omega (arith, was.count, le))) tt) (below-or-past j (length old)))
 
--- what the state at a place answers, where there is one
-abbrev pub AnswersAt : {K V E : Type 0} → (K → K → Bool) → (V → V → Type 0) → Call K V E → Answer K V E → Option (WholeView K V E) → Type 0
-AnswersAt eq is_clone call answer None = Unit {0}
-AnswersAt eq is_clone call answer (Some v) = Answers eq is_clone v call answer
+-- what the state at a place returns, where there is one
+abbrev pub RepliesAt : {K V E : Type 0} → (K → K → Bool) → (V → V → Type 0) → Call K V E → Reply K V E → Option (WholeView K V E) → Type 0
+RepliesAt eq is_clone call answer None = Unit {0}
+RepliesAt eq is_clone call answer (Some v) = RepliesWith eq is_clone v call answer
 
 -- The first i of some states have followed a call, and any of them left something exactly where this says so.
 pub record Together {K V E S : Type 0} (eq : K → K → Bool) (is_clone : V → V → Type 0) (view : S → WholeView K V E) (call : Call K V E) (old now : List S) (left : Bool) (i : ℕ) : Type 0 where
   pub progress : Progress eq is_clone view call old now i
   pub answers : ℕ → Bool
-  pub each : (j : ℕ) → j < i → AnswersAt eq is_clone call (Left (answers j)) (option_map view (slice_get old j))
+  pub each : (j : ℕ) → j < i → RepliesAt eq is_clone call (Left (answers j)) (option_map view (slice_get old j))
   pub any : left ≡ any_below answers i
 
 module _ {K V E S : Type 0} (eq : K → K → Bool) (is_clone : V → V → Type 0) (view : S → WholeView K V E) (call : Call K V E) where
@@ -73,7 +73,7 @@ module _ {K V E S : Type 0} (eq : K → K → Bool) (is_clone : V → V → Type
   together-none old = record { progress = progress-none eq is_clone view call old; answers = λ j. false; each = λ j lt. absurd (let no : ⊥ = omega arith in no); any = refl }
 
   -- one state more
-  pub together-more : (old now : List S) (left more : Bool) (i : ℕ) (s t : S) → slice_get now i ≡ Some s → Follows eq is_clone (view s) call (view t) → Answers eq is_clone (view s) call (Left more)
+  pub together-more : (old now : List S) (left more : Bool) (i : ℕ) (s t : S) → slice_get now i ≡ Some s → Follows eq is_clone (view s) call (view t) → RepliesWith eq is_clone (view s) call (Left more)
       → Together eq is_clone view call old now left i → Together eq is_clone view call old (set now i t) (left || more) (i + 1)
   together-more old now left more i s t here follows answers was = record {
     progress = progress-more eq is_clone view call old now i s t here follows was.progress;
@@ -83,10 +83,10 @@ module _ {K V E S : Type 0} (eq : K → K → Bool) (is_clone : V → V → Type
         (λ same.
         let before : slice_get old j ≡ Some s = sym (was.progress.rest j (omega (arith, same.1))) ∙ ap (slice_get now) same.1 ∙ here in
         let said : with_more j ≡ more = ap (λ b. cond b more (was.answers j)) same.0 in
-        rw before (subst (λ b. Answers eq is_clone (view s) call (Left b)) (sym said) answers))
+        rw before (subst (λ b. RepliesWith eq is_clone (view s) call (Left b)) (sym said) answers))
         (λ other.
         let said : with_more j ≡ was.answers j = ap (λ b. cond b more (was.answers j)) other.0 in
-        subst (λ b. AnswersAt eq is_clone call (Left b) (option_map view (slice_get old j))) (sym said) (was.each j (below j lt other.1)))
+        subst (λ b. RepliesAt eq is_clone call (Left b) (option_map view (slice_get old j))) (sym said) (was.each j (below j lt other.1)))
         (eqb_tells j i);
     any =
         let one : i + 1 ≡ suc i = omega arith in
@@ -104,24 +104,24 @@ module _ {K V E S : Type 0} (eq : K → K → Bool) (is_clone : V → V → Type
     unlike j lt = ⊎_elim (λ same. absurd (let no : ⊥ = omega (arith, lt, same.1) in no)) (λ other. other.0) (eqb_tells j i)
 
 module _ {K V H W X F : Type 0} (E : Type 0) (eq : K → K → Bool) {is_clone : V → V → Type 0} (behaviour : BehaviourData H W X → Behaviour K V) (frequency : F → List ℕ → ℕ → ℕ) (opened : F) where
-  -- where all states have run a maintenance within a limit, their answers make the whole's
+  -- where all states have run a maintenance within a limit, their replies make the whole's
   pub together-answers : (limit at : ℕ) (old : SegmentedData K V H W X F E) (now : List (StateData K V H W X F E)) (left : Bool) (i : ℕ) → i ≡ length old.segments
       → Together eq is_clone (view_by behaviour frequency opened) (RunPendingTasksUpTo limit at) old.segments now left i
-      → AnswersIn eq is_clone (segmented_view_by behaviour frequency opened old) (RunPendingTasksUpTo limit at) (Left left)
+      → RepliesIn eq is_clone (segmented_view_by behaviour frequency opened old) (RunPendingTasksUpTo limit at) (Left left)
   together-answers limit at old now left i all was given calls stand =
-      ap (λ b. let a : Answer K V E = Left b in a)
+      ap (λ b. let a : Reply K V E = Left b in a)
       (was.any ∙ any_below-same was.answers (λ j. is_left_at eq (share_settings given) (Some limit) at (events_of E eq given calls j)) i here ∙ ap (any_below (λ j. is_left_at eq (share_settings given) (Some limit) at (events_of E eq given calls j))) count)
     where
       count : i ≡ segments_of given
       count = all ∙ sym (length-map old.segments (view_by behaviour frequency opened)) ∙ stand.count
 
-      by : (j : ℕ) (b : Bool) (o : Option (WholeView K V E)) → IsSome o → AnswersAt eq is_clone (RunPendingTasksUpTo limit at) (Left b) o
+      by : (j : ℕ) (b : Bool) (o : Option (WholeView K V E)) → IsSome o → RepliesAt eq is_clone (RunPendingTasksUpTo limit at) (Left b) o
           → IfSome o (λ one. StandsFor eq is_clone (share_settings given) one (steps_in E eq given calls j))
           → b ≡ is_left_at eq (share_settings given) (Some limit) at (events_of E eq given calls j)
       by j b None some answers stands = cc
       by j b (Some v) some answers stands = left-is (answers (share_settings given) (steps_in E eq given calls j) stands)
         where
-          left-is : {c : Bool} → ◌≡◌ {A = Answer K V E} (Left b) (Left c) → b ≡ c
+          left-is : {c : Bool} → ◌≡◌ {A = Reply K V E} (Left b) (Left c) → b ≡ c
           left-is e = cc
 
       here : (j : ℕ) → j < i → was.answers j ≡ is_left_at eq (share_settings given) (Some limit) at (events_of E eq given calls j)

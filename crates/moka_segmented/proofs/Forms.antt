@@ -9,13 +9,13 @@ use Rattle.moka_model.specs.Lives.{Behaviour, Settings, Write}
 use Rattle.moka_model.specs.Events.{Event}
 use Rattle.moka_model.specs.Steps.{AcceptedStep, events_in, turns}
 use Rattle.moka_model.specs.Turns.{Name, Turn, found, is_open_for}
-use Rattle.moka_model.specs.Calls.{Call, Answer, Begin, Finish, Run, IsWait, IfAnswered, IsAnswer, acceptable, accepted, after, begun, begun_compute, live_at}
+use Rattle.moka_model.specs.Calls.{Call, Reply, Begin, Finish, Run, IsWait, IfReplied, IsCopiedReply, acceptable, accepted, after, begun, begun_compute, live_at}
 use Rattle.moka_model.specs.StandsFor.{StandsFor}
 use Rattle.moka_expiration.specs.Behaviour.{BehaviourData, hash_by}
 use Rattle.moka_expiration.specs.StateData.{StateData, view_by}
 use Rattle.moka_state.specs.Forms.{EndsTurn, IsForm, IfRefusedUnasked, end_call}
 use Rattle.moka_state.specs.Given.{Gives}
-use Rattle.moka_segment_model.specs.Segments.{SegmentedSettings, One, asked, segment_of, segment_of_key, steps_in, place_of, share_settings, AllStandFor, AtEachList, key_in}
+use Rattle.moka_segment_model.specs.Segments.{SegmentedSettings, One, segment_of_place, segment_of, segment_of_key, steps_in, place_of, share_settings, AllStandFor, AtEachList, key_in}
 use Rattle.moka_segment_model.proofs.Callers.{routed, eqb_refl, stand-here, steps-here, steps-apart}
 use Rattle.moka_segmented.specs.SegmentedData.{SegmentedData, segmented_settings_by, segmented_view_by}
 use Rattle.moka_segmented.specs.Forms.{EndsTurnIn, IsFormIn}
@@ -23,7 +23,7 @@ use Rattle.moka_segmented.specs.Turns.{GivesIn}
 use Rattle.moka_segmented.proofs.Routed.{Routing, here-view, index-is, routed-stands}
 
 -- what holds for a loader that fails before its closure runs follows from what held before
-pub unasked-by : {K V E G : Type 0} {P Q : Type 0} (given : Option G) (answer : Result (Answer K V E) Refused) → (P → Q) → IfRefusedUnasked P given answer → IfRefusedUnasked Q given answer
+pub unasked-by : {K V E G : Type 0} {P Q : Type 0} (given : Option G) (answer : Result (Reply K V E) Refused) → (P → Q) → IfRefusedUnasked P given answer → IfRefusedUnasked Q given answer
 unasked-by None (Ok a) implies is = tt
 unasked-by None (Err cause) implies is = implies is
 unasked-by (Some g) answer implies is = tt
@@ -39,12 +39,12 @@ routing-alike settings states here index k q alike routing = record { here_is = 
 
 -- A turn that a begin opens is of the key of the begin.
 module _ {K V E : Type 0} (eq : K → K → Bool) (is_clone : V → V → Type 0) (is_infallible : V → Type 0) (settings : Settings K V) (name : Name K) where
-  begun-key : (h : List (Event K V)) (k : K) (kind : Kind) (said : Option Bool) (now : ℕ) (o : Option (Write K V)) (t : Option (Turn K V E)) → IsAnswer is_clone (begun eq settings h k kind said now o t).answer (Run name None) → name.key ≡ k
+  begun-key : (h : List (Event K V)) (k : K) (kind : Kind) (said : Option Bool) (now : ℕ) (o : Option (Write K V)) (t : Option (Turn K V E)) → IsCopiedReply is_clone (begun eq settings h k kind said now o t).reply (Run name None) → name.key ≡ k
   begun-key h k kind said now (Some w) t is = cc
   begun-key h k kind said now None (Some t) is = cc
   begun-key h k kind said now None None is = ap (λ (n : Name K). n.key) is.0
 
-  compute-key : (h : List (Event K V)) (k : K) (now : ℕ) (t : Option (Turn K V E)) → IsAnswer is_clone (begun_compute eq settings h k false now t).answer (Run name None) → name.key ≡ k
+  compute-key : (h : List (Event K V)) (k : K) (now : ℕ) (t : Option (Turn K V E)) → IsCopiedReply is_clone (begun_compute eq settings h k false now t).reply (Run name None) → name.key ≡ k
   compute-key h k now (Some t) is = cc
   compute-key h k now None is = ap (λ (n : Name K). n.key) is.0
 
@@ -55,7 +55,7 @@ module _ {K V E : Type 0} (eq : K → K → Bool) (is_clone : V → V → Type 0
   opened-key steps k Compute said now gives = compute-key (events_in steps) k now (found (is_open_for eq Compute k) (turns steps)) gives.0
 
 -- what ends a turn is of the turn's key
-end-key : {K V E : Type 0} (name : Name K) (outcome : Outcome V E) (now : ℕ) (answer : Result (Answer K V E) Refused) → key_in (end_call name outcome now answer) ≡ Some name.key
+end-key : {K V E : Type 0} (name : Name K) (outcome : Outcome V E) (now : ℕ) (answer : Result (Reply K V E) Refused) → key_in (end_call name outcome now answer) ≡ Some name.key
 end-key name outcome now (Ok answer) = refl
 end-key name outcome now (Err cause) = refl
 
@@ -71,8 +71,8 @@ module _ {K V : Type 0} (E : Type 0) (eq : K → K → Bool) (given : SegmentedS
   steps-of-others calls call key i other = steps-apart E eq given calls call i (One index) (place-is calls call key) other
 
   -- what is said of the steps at the index is said of those of the segment that is asked
-  pub said-in : (P : List (AcceptedStep K V E) → Type 0) (calls : List (Call K V E)) (call : Call K V E) → key_in call ≡ Some k → P (steps_in E eq given calls index) → P (steps_in E eq given calls (asked (place_of E eq given calls call)))
-  said-in P calls call key is = subst (λ place. P (steps_in E eq given calls (asked place))) (sym (place-is calls call key)) is
+  pub said-in : (P : List (AcceptedStep K V E) → Type 0) (calls : List (Call K V E)) (call : Call K V E) → key_in call ≡ Some k → P (steps_in E eq given calls index) → P (steps_in E eq given calls (segment_of_place (place_of E eq given calls call)))
+  said-in P calls call key is = subst (λ place. P (steps_in E eq given calls (segment_of_place place))) (sym (place-is calls call key)) is
 
 module _ {K V H W X F : Type 0} (E : Type 0) (eq : K → K → Bool) (behaviour : BehaviourData H W X → Behaviour K V) (frequency : F → List ℕ → ℕ → ℕ) (opened : F) (cache : SegmentedData K V H W X F E)
     (here : StateData K V H W X F E) (index : ℕ) (k : K) (routing : Routing (segmented_settings_by behaviour (frequency opened) cache) cache.segments here index k) (new : StateData K V H W X F E) (is_clone : V → V → Type 0) (is_infallible : V → Type 0)
@@ -96,7 +96,7 @@ module _ {K V H W X F : Type 0} (E : Type 0) (eq : K → K → Bool) (behaviour 
     at : index ≡ segment_of_key given k
     at = index-is E eq behaviour frequency opened cache here index k routing given calls stand
 
-    begins : (result : Result (Answer K V E) Refused) → Gives eq is_clone is_infallible share steps the_begin result → GivesIn eq is_clone is_infallible given calls the_begin result
+    begins : (result : Result (Reply K V E) Refused) → Gives eq is_clone is_infallible share steps the_begin result → GivesIn eq is_clone is_infallible given calls the_begin result
     begins result = said-in E eq given index k at (λ those. Gives eq is_clone is_infallible share those the_begin result) calls the_begin refl
 
     -- after the begin
@@ -117,7 +117,7 @@ module _ {K V H W X F : Type 0} (E : Type 0) (eq : K → K → Bool) (behaviour 
         (λ i other. steps-of-others E eq given index k at (the_begin ∷ calls) end key i other ∙ others i other)
         stand
 
-    ends : (name : Name K) (outcome : Outcome V E) (result : Result (Answer K V E) Refused) → name.key ≡ k → EndsTurn eq is_clone is_infallible share (after eq share the_begin steps) name outcome now result (StandsNew share)
+    ends : (name : Name K) (outcome : Outcome V E) (result : Result (Reply K V E) Refused) → name.key ≡ k → EndsTurn eq is_clone is_infallible share (after eq share the_begin steps) name outcome now result (StandsNew share)
         → EndsTurnIn eq is_clone is_infallible given (the_begin ∷ calls) name outcome now result (StandNew given)
     ends name outcome result named is = (
       said-in E eq given index k at (λ those. Gives eq is_clone is_infallible share those (Finish name outcome now) result) (the_begin ∷ calls) (Finish name outcome now) (ap Some named)
@@ -125,9 +125,9 @@ module _ {K V H W X F : Type 0} (E : Type 0) (eq : K → K → Bool) (behaviour 
       ended-stands (end_call name outcome now result) (end-key name outcome now result ∙ ap Some named) is.1,
     )
 
-    form-in : (o : Option (Outcome V E)) (result : Result (Answer K V E) Refused) → IsForm eq is_clone is_infallible share steps the_begin now o result (StandsNew share) → IsFormIn eq is_clone is_infallible given calls the_begin now o result (StandNew given)
+    form-in : (o : Option (Outcome V E)) (result : Result (Reply K V E) Refused) → IsForm eq is_clone is_infallible share steps the_begin now o result (StandsNew share) → IsFormIn eq is_clone is_infallible given calls the_begin now o result (StandNew given)
     form-in None (Ok a) is = (is.0, begins (Ok a) is.1, begun-stands is.2)
-    form-in None (Err causes.TurnIsOpen) is = said-in E eq given index k at (λ those. IfAnswered IsWait (accepted eq share those the_begin)) calls the_begin refl is
+    form-in None (Err causes.TurnIsOpen) is = said-in E eq given index k at (λ those. IfReplied IsWait (accepted eq share those the_begin)) calls the_begin refl is
     form-in None (Err causes.OutOfMemory) is = begins (Err causes.OutOfMemory) is
     form-in None (Err causes.NumbersUsedUp) is = begins (Err causes.NumbersUsedUp) is
     form-in None (Err causes.UnknownTurn) is = begins (Err causes.UnknownTurn) is
@@ -136,7 +136,7 @@ module _ {K V H W X F : Type 0} (E : Type 0) (eq : K → K → Bool) (behaviour 
     form-in (Some outcome) result is = (is.0, begins (Ok (Run is.0 None)) is.1, ends is.0 outcome result (opened-key eq is_clone is_infallible share is.0 steps k kind said now is.1) is.2)
 
   -- a loader on the state is that loader on all segments
-  pub routed-form : (o : Option (Outcome V E)) (answer : Result (Answer K V E) Refused)
+  pub routed-form : (o : Option (Outcome V E)) (answer : Result (Reply K V E) Refused)
       → ((s : Settings K V) (steps : List (AcceptedStep K V E)) → StandsFor eq is_clone s (view_by behaviour frequency opened here) steps → IsForm eq is_clone is_infallible s steps the_begin now o answer (StandsNew s))
       → AtEachList eq is_clone (segmented_view_by behaviour frequency opened cache) (λ given calls. IsFormIn eq is_clone is_infallible given calls the_begin now o answer (StandNew given))
   routed-form o answer form given calls stand =

@@ -7,14 +7,14 @@ use Rattle.moka_model.specs.Lives.{Behaviour, Write}
 use Rattle.moka_model.specs.Maintenance.{total}
 use Rattle.moka_model.specs.Removals.{Removal}
 use Rattle.moka_model.specs.Numbers.{greatest_number}
-use Rattle.moka_model.specs.Calls.{Call, Answer, EntryCount, WeightedSize, TakeNotice, Counted, Noticed}
-use Rattle.moka_model.specs.StandsFor.{Books, WholeView, Follows, Answers}
+use Rattle.moka_model.specs.Calls.{Call, Reply, EntryCount, WeightedSize, TakeNotice, Counted, Noticed}
+use Rattle.moka_model.specs.StandsFor.{Books, WholeView, Follows, RepliesWith}
 use Rattle.moka_expiration.specs.Behaviour.{BehaviourData}
 use Rattle.moka_expiration.specs.StateData.{StateData, view_by}
 use Rattle.moka_state.specs.State.{all_writes}
-use Rattle.moka_segment_model.specs.Segments.{SegmentedSettings, segments_of, sum_below, first_from, first_noticed, list_of, entries_in, weight_in, notices_in, is_empty, Nowhere, place_of, AllStandFor, FollowsIn, AnswersIn, IsAnswerIn}
-use Rattle.moka_segment_model.proofs.Callers.{sum_below-one, sum_below-zeros, sum_below-zero, first_from-none-all, notices-same, slice_get-set_same, slice_get-set_other, length-set, eqb_refl, sum_below-same, first_from-same, first_from-passes, noticed-same, entries-same, weight-same, noticed-place, noticed-answer, none-place, none-answer, stand-one, stand-nowhere, answer-at, at_or}
-use Rattle.moka_segmented.specs.SegmentedData.{SegmentedData, segmented_view_by, state_at, has_notice, stored_at, weight_at, notices_at, notices_kept}
+use Rattle.moka_segment_model.specs.Segments.{SegmentedSettings, segments_of, sum_below, first_from, first_with_notice, list_of, entries_in, weight_in, notices_in, is_empty, Nowhere, place_of, AllStandFor, FollowsIn, RepliesIn, IsGivenReply}
+use Rattle.moka_segment_model.proofs.Callers.{sum_below-one, sum_below-zeros, sum_below-zero, first_from-none-all, notices-same, slice_get-set_same, slice_get-set_other, length-set, eqb_refl, sum_below-same, first_from-same, first_from-passes, noticed-same, entries-same, weight-same, noticed-place, noticed-reply, none-place, none-reply, stand-one, stand-nowhere, reply-at, at_or}
+use Rattle.moka_segmented.specs.SegmentedData.{SegmentedData, segmented_view_by, state_at, has_notice, stored_at, weight_at, notices_at, notices_queued}
 use Rattle.moka_segmented.proofs.Routed.{view-at, views-set}
 
 -- one that is there has a notice, or has none
@@ -59,9 +59,9 @@ module _ {K V H W X F E : Type 0} where
   notices-there states i s e = ap (state_at (λ (s : StateData K V H W X F E). length s.books.notices) 0) e
 
   -- where the state at a place has one notice less, there is one less
-  pub kept-fewer : (states : List (StateData K V H W X F E)) (i : ℕ) (here new : StateData K V H W X F E) → i < length states → slice_get states i ≡ Some here → length here.books.notices ≡ length new.books.notices + 1
-      → notices_kept states ≡ notices_kept (set states i new) + 1
-  kept-fewer states i here new lt at less =
+  pub queued-fewer : (states : List (StateData K V H W X F E)) (i : ℕ) (here new : StateData K V H W X F E) → i < length states → slice_get states i ≡ Some here → length here.books.notices ≡ length new.books.notices + 1
+      → notices_queued states ≡ notices_queued (set states i new) + 1
+  queued-fewer states i here new lt at less =
       sum_below-one (notices_at (set states i new)) (notices_at states) (length states) i 1 lt
       (notices-there states i here at ∙ less ∙ ap (λ n. n + 1) (sym (notices-there (set states i new) i new (slice_get-set_same states i new here at))))
       (λ j other. ap (state_at (λ (s : StateData K V H W X F E). length s.books.notices) 0) (sym (slice_get-set_other states i j new (apart j other))))
@@ -71,8 +71,8 @@ module _ {K V H W X F E : Type 0} where
       apart j other e = let yes : (j == i) ≡ true = ap (λ n. n == i) e ∙ eqb_refl i in let no : true ≡ false = sym yes ∙ other in cc
 
   -- where the first that has a notice is at a place, there is one
-  pub kept-some : (states : List (StateData K V H W X F E)) (i : ℕ) (here : StateData K V H W X F E) → i < length states → slice_get states i ≡ Some here → has_notice states i ≡ true → (here.books.notices ≡ [] → ⊥) × (notices_kept states ≡ 0 → ⊥)
-  kept-some states i here lt at has =
+  pub queued-some : (states : List (StateData K V H W X F E)) (i : ℕ) (here : StateData K V H W X F E) → i < length states → slice_get states i ≡ Some here → has_notice states i ≡ true → (here.books.notices ≡ [] → ⊥) × (notices_queued states ≡ 0 → ⊥)
+  queued-some states i here lt at has =
       let some : not (is_empty here.books.notices) ≡ true = sym (notice-there states i here at) ∙ has in
       let filled : here.books.notices ≡ [] → ⊥ = λ e. let no : false ≡ true = sym (ap (λ (l : List (Removal K V)). not (is_empty l)) e) ∙ some in cc in
       (filled, λ none. filled (empty here.books.notices (sym (notices-there states i here at) ∙ sum_below-zero (notices_at states) (length states) i none lt)))
@@ -82,8 +82,8 @@ module _ {K V H W X F E : Type 0} where
       empty (x ∷ xs) e = absurd (let no : ⊥ = omega (arith, e) in no)
 
   -- where none has a notice there is none
-  pub kept-none : (states : List (StateData K V H W X F E)) → None ≡ first_from (has_notice states) 0 (length states) → notices_kept states ≡ 0
-  kept-none states none =
+  pub queued-none : (states : List (StateData K V H W X F E)) → None ≡ first_from (has_notice states) 0 (length states) → notices_queued states ≡ 0
+  queued-none states none =
       sum_below-zeros (notices_at states) (length states) (λ i lt. by (slice_get states i) (first_from-none-all (has_notice states) 0 (length states) (sym none) i (omega arith) (omega (arith, lt))))
     where
       by : (o : Option (StateData K V H W X F E)) → state_at (λ (s : StateData K V H W X F E). not (is_empty s.books.notices)) false o ≡ false → state_at (λ (s : StateData K V H W X F E). length s.books.notices) 0 o ≡ 0
@@ -109,7 +109,7 @@ module _ {K V H W X F : Type 0} (E : Type 0) (eq : K → K → Bool) (behaviour 
     count = sym stand.count ∙ length-map cache.segments (view_by behaviour frequency opened)
 
     -- the first segment that has a notice
-    first-by : first_noticed E eq given (list_of E eq given calls) ≡ first_from (has_notice cache.segments) 0 (length cache.segments)
+    first-by : first_with_notice E eq given (list_of E eq given calls) ≡ first_from (has_notice cache.segments) 0 (length cache.segments)
     first-by =
         noticed-same E eq given (segmented_view_by behaviour frequency opened cache) calls stand
         ∙ first_from-same (λ i. at_or (λ (v : WholeView K V E). not (is_empty v.values.books.notices)) false (slice_get (map (view_by behaviour frequency opened) cache.segments) i)) (has_notice cache.segments) 0 (segments_of given)
@@ -125,7 +125,7 @@ module _ {K V H W X F : Type 0} (E : Type 0) (eq : K → K → Bool) (behaviour 
         ∙ ap (sum_below (stored_at cache.segments)) count
 
     -- how many notices they hold
-    pub notices-by : notices_in E eq given calls ≡ notices_kept cache.segments
+    pub notices-by : notices_in E eq given calls ≡ notices_queued cache.segments
     notices-by =
         notices-same E eq given (segmented_view_by behaviour frequency opened cache) calls stand
         ∙ sum_below-same (λ i. at_or (λ (v : WholeView K V E). length v.values.books.notices) 0 (slice_get (map (view_by behaviour frequency opened) cache.segments) i)) (notices_at cache.segments) (segments_of given)
@@ -141,12 +141,12 @@ module _ {K V H W X F : Type 0} (E : Type 0) (eq : K → K → Bool) (behaviour 
         ∙ ap (sum_below (weight_at cache.segments)) count
 
   module _ {is_clone : V → V → Type 0} where
-    -- a count is the answer, and changes nothing
-    pub entries-answer : (n : ℕ) → n ≡ min (sum_below (stored_at cache.segments) (length cache.segments)) greatest_number → AnswersIn eq is_clone (segmented_view_by behaviour frequency opened cache) EntryCount (Counted n)
-    entries-answer n is given calls stand = ap (λ m. let a : Answer K V E = Counted m in a) (is ∙ ap (λ m. min m greatest_number) (sym (entries-by given calls stand)))
+    -- a count is the reply, and changes nothing
+    pub entries-answer : (n : ℕ) → n ≡ min (sum_below (stored_at cache.segments) (length cache.segments)) greatest_number → RepliesIn eq is_clone (segmented_view_by behaviour frequency opened cache) EntryCount (Counted n)
+    entries-answer n is given calls stand = ap (λ m. let a : Reply K V E = Counted m in a) (is ∙ ap (λ m. min m greatest_number) (sym (entries-by given calls stand)))
 
-    pub weight-answers : (n : ℕ) → n ≡ min (sum_below (weight_at cache.segments) (length cache.segments)) greatest_number → AnswersIn eq is_clone (segmented_view_by behaviour frequency opened cache) WeightedSize (Counted n)
-    weight-answers n is given calls stand = ap (λ m. let a : Answer K V E = Counted m in a) (is ∙ ap (λ m. min m greatest_number) (sym (weight-by given calls stand)))
+    pub weight-answers : (n : ℕ) → n ≡ min (sum_below (weight_at cache.segments) (length cache.segments)) greatest_number → RepliesIn eq is_clone (segmented_view_by behaviour frequency opened cache) WeightedSize (Counted n)
+    weight-answers n is given calls stand = ap (λ m. let a : Reply K V E = Counted m in a) (is ∙ ap (λ m. min m greatest_number) (sym (weight-by given calls stand)))
 
     pub count-stays : (call : Call K V E) → ((given : SegmentedSettings K V) (calls : List (Call K V E)) → place_of E eq given calls call ≡ Nowhere) → FollowsIn eq is_clone (segmented_view_by behaviour frequency opened cache) call (segmented_view_by behaviour frequency opened cache)
     count-stays call place given calls stand = stand-nowhere E eq given (segmented_view_by behaviour frequency opened cache) calls call (place given calls) stand
@@ -156,14 +156,14 @@ module _ {K V H W X F : Type 0} (E : Type 0) (eq : K → K → Bool) (behaviour 
     here-view = let passes = first_from-passes (has_notice cache.segments) 0 (length cache.segments) index (sym found) in view-at (view_by behaviour frequency opened) cache.segments index here (omega (arith, passes.0)) here_is
 
     module _ {is_clone : V → V → Type 0} where
-      first-is : (given : SegmentedSettings K V) (calls : List (Call K V E)) → AllStandFor eq is_clone given (segmented_view_by behaviour frequency opened cache) calls → first_noticed E eq given (list_of E eq given calls) ≡ Some index
+      first-is : (given : SegmentedSettings K V) (calls : List (Call K V E)) → AllStandFor eq is_clone given (segmented_view_by behaviour frequency opened cache) calls → first_with_notice E eq given (list_of E eq given calls) ≡ Some index
       first-is given calls stand = first-by given calls stand ∙ sym found
 
-      -- a notice of the first segment that has one is the answer, and that segment's state goes on
-      pub taken-answers : (answer : Answer K V E) → Answers eq is_clone (view_by behaviour frequency opened here) TakeNotice answer → AnswersIn eq is_clone (segmented_view_by behaviour frequency opened cache) TakeNotice answer
+      -- a notice of the first segment that has one is the reply, and that segment's state goes on
+      pub taken-answers : (answer : Reply K V E) → RepliesWith eq is_clone (view_by behaviour frequency opened here) TakeNotice answer → RepliesIn eq is_clone (segmented_view_by behaviour frequency opened cache) TakeNotice answer
       taken-answers answer answers given calls stand =
-          subst (λ o. IsAnswerIn is_clone o answer) (sym (noticed-answer E eq given calls index (first-is given calls stand)))
-          (answer-at E eq given (segmented_view_by behaviour frequency opened cache) calls index (view_by behaviour frequency opened here) TakeNotice answer here-view answers stand)
+          subst (λ o. IsGivenReply is_clone o answer) (sym (noticed-reply E eq given calls index (first-is given calls stand)))
+          (reply-at E eq given (segmented_view_by behaviour frequency opened cache) calls index (view_by behaviour frequency opened here) TakeNotice answer here-view answers stand)
 
       pub taken-follows : (new : StateData K V H W X F E) → Follows eq is_clone (view_by behaviour frequency opened here) TakeNotice (view_by behaviour frequency opened new)
           → FollowsIn eq is_clone (segmented_view_by behaviour frequency opened cache) TakeNotice (segmented_view_by behaviour frequency opened (record cache { segments = set cache.segments index new }))
@@ -175,9 +175,9 @@ module _ {K V H W X F : Type 0} (E : Type 0) (eq : K → K → Bool) (behaviour 
   module _ (none : None ≡ first_from (has_notice cache.segments) 0 (length cache.segments)) where
     module _ {is_clone : V → V → Type 0} where
       -- where no segment has a notice there is none, and nothing changes
-      pub none-answers : AnswersIn eq is_clone (segmented_view_by behaviour frequency opened cache) TakeNotice (Noticed None)
+      pub none-answers : RepliesIn eq is_clone (segmented_view_by behaviour frequency opened cache) TakeNotice (Noticed None)
       none-answers given calls stand =
-          subst (λ (o : Option (Answer K V E)). IsAnswerIn is_clone o (Noticed None)) (sym (none-answer E eq given calls (first-by given calls stand ∙ sym none))) refl
+          subst (λ (o : Option (Reply K V E)). IsGivenReply is_clone o (Noticed None)) (sym (none-reply E eq given calls (first-by given calls stand ∙ sym none))) refl
 
       pub none-follows : FollowsIn eq is_clone (segmented_view_by behaviour frequency opened cache) TakeNotice (segmented_view_by behaviour frequency opened cache)
       none-follows given calls stand =

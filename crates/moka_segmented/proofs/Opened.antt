@@ -1,4 +1,4 @@
--- Segments that were just opened.
+-- Segments that were just built.
 use Rattle.std.proofs.Common.{◌≡◌, ◌≢◌, ℕ, zero, suc, ◌+◌, ◌-◌, ◌*◌, ◌/◌, ◌%◌, ◌<◌, ◌^◌, min, Bool, Option, Some, None, IfSome, List, [], ◌∷◌, ◌++◌, subst, length, map, option_map, refl, sym, ap, ◌∙◌, arith}
 use Rattle.std.specs.List.{slice_get, AllByRecursion}
 use Rattle.std.proofs.Math.Nat.{div-eq_of_lt, mul-add-div_right, mod-eq-sub-div-mul, div-mul-le_self, mod-lt}

@@ -11,7 +11,7 @@ use Rattle.moka_predicate_ids.specs.declared.predicate_error.PredicateError.TheV
 use Rattle.std.specs.Arc.{arc_value}
 use Rattle.std.specs.declared.alloc.Global.{Global}
 use Rattle.std.specs.declared.sync.Arc.{Arc}
-use Rattle.moka_model.specs.StandsFor.{StandsFor, IsAnswerOf}
+use Rattle.moka_model.specs.StandsFor.{StandsFor, IsReplyOf}
 use Rattle.moka_expiration.specs.Behaviour.{BehaviourData}
 use Rattle.moka_expiration.specs.StateData.{StateData, view_by}
 use Rattle.moka_model.specs.declared.notification.Notice.{Notice}
@@ -22,7 +22,7 @@ use Rattle.moka_state.specs.declared.step.Reply.{Reply}
 use Rattle.moka_state.specs.declared.step.Reply.TheVariants.{Found, Contains, Done, Counted, Left, Noticed, Refused, PredicateRefused}
 use Rattle.moka_state.specs.declared.step.Reply.TheVariants.{Entered, Run, Wait, Nothing, Failed, Computed, NotYet, Abandoned, Ended}
 use Rattle.moka_state.specs.Step.{call_of, IsAccepted, IsReplyTo, after_reply}
-use Rattle.moka_segment_model.specs.Segments.{SegmentedSettings, asked, steps_in, place_of, share_settings, AllStandFor, AtEachList, answer_in, IsAnswerIn, key_in}
+use Rattle.moka_segment_model.specs.Segments.{SegmentedSettings, segment_of_place, steps_in, place_of, share_settings, AllStandFor, AtEachList, reply_in, IsGivenReply, key_in}
 use Rattle.moka_segment_model.proofs.Callers.{routed}
 use Rattle.moka_segmented.specs.SegmentedData.{SegmentedData, segmented_settings_by, segmented_view_by}
 use Rattle.moka_segmented.specs.Step.{IsReplyBy, IsReplyIn, after_reply_in}
@@ -36,8 +36,8 @@ module _ {K V C H W X P F L T S : Type 0} (E : Type 0) (eq : K → K → Bool) {
       → AtEachList eq is_clone (segmented_view_by behaviour frequency opened cache) (λ given calls. IsReplyIn E eq is_clone is_infallible given calls call reply)
   routed-replies is_infallible replies given calls stand =
       let it = routed E eq given k call calls key in
-      subst (λ joint. IsReplyBy joint (IsReplyTo eq is_clone is_infallible (share_settings given) (steps_in E eq given calls (asked (place_of E eq given calls call))) call reply) reply) (sym it.joint)
-      (subst (λ place. IsReplyTo eq is_clone is_infallible (share_settings given) (steps_in E eq given calls (asked place)) call reply) (sym it.place)
+      subst (λ joint. IsReplyBy joint (IsReplyTo eq is_clone is_infallible (share_settings given) (steps_in E eq given calls (segment_of_place (place_of E eq given calls call))) call reply) reply) (sym it.joint)
+      (subst (λ place. IsReplyTo eq is_clone is_infallible (share_settings given) (steps_in E eq given calls (segment_of_place place)) call reply) (sym it.place)
       (routed-history E eq behaviour frequency opened cache here index k routing (λ s steps. IsReplyTo eq is_clone is_infallible s steps call reply) replies given calls stand))
 
   -- if that state could have come from its own steps with this one, all could have come from the calls with it
@@ -77,12 +77,12 @@ module _ {K V C H W X P F L T S : Type 0} (E : Type 0) (eq : K → K → Bool) {
 -- What a call without a key replies, by what it says of the segment that is asked.
 module _ {K V : Type 0} (E : Type 0) (eq : K → K → Bool) (is_clone : V → V → Type 0) (is_infallible : V → Type 0) (given : SegmentedSettings K V) (calls : List (Call K V E)) (test : K → V → Bool) where
   abbrev asked_steps : Call K V E → List (AcceptedStep K V E)
-  asked_steps call = steps_in E eq given calls (asked (place_of E eq given calls call))
+  asked_steps call = steps_in E eq given calls (segment_of_place (place_of E eq given calls call))
 
-  -- a predicate is accepted where closures are supported, and refused by its name where not
+  -- a predicate is accepted where closures are supported, and fails by its name where not
   pub hidden-replies : given.whole.supports_closures ≡ true → IsAccepted eq is_clone (share_settings given) (asked_steps (InvalidateIf test)) (InvalidateIf test) answers.Done
   hidden-replies supports =
-      subst (λ b. let it : Option (Accepted K V E) = cond b (Some (without_move answers.Done (Hidden test ∷ []))) None in IsAnswerOf is_clone it answers.Done × ¬ (WantsNumber (next_number (share_settings given) (events_in (steps_in E eq given calls 0))) (turns (steps_in E eq given calls 0)) it))
+      subst (λ b. let it : Option (Accepted K V E) = cond b (Some (without_move answers.Done (Hidden test ∷ []))) None in IsReplyOf is_clone it answers.Done × ¬ (WantsNumber (next_number (share_settings given) (events_in (steps_in E eq given calls 0))) (turns (steps_in E eq given calls 0)) it))
       (sym supports) (refl, λ out. let no : ⊥ = omega (arith, out.0) in no)
 
   pub refused-replies : (given.whole.supports_closures ≡ true → ⊥) → IsRefusedAs eq (share_settings given) ClosuresUnsupported (asked_steps (InvalidateIf test)) (InvalidateIf test)
@@ -92,8 +92,8 @@ module _ {K V : Type 0} (E : Type 0) (eq : K → K → Bool) (is_clone : V → V
       by true e = absurd (not e)
       by false e = (ap (λ b. let it : Option (Accepted K V E) = cond b (Some (without_move answers.Done (Hidden test ∷ []))) None in it) e, refl)
 
-  -- what taking a notice answers it replies
-  pub taken-replies : (notice : Option (Notice K V)) → IsAnswerIn is_clone (answer_in E eq given calls TakeNotice) (answers.Noticed (option_map removal_of notice)) → IsAccepted eq is_clone (share_settings given) (asked_steps TakeNotice) TakeNotice (answers.Noticed (option_map removal_of notice))
+  -- what taking a notice returns it replies
+  pub taken-replies : (notice : Option (Notice K V)) → IsGivenReply is_clone (reply_in E eq given calls TakeNotice) (answers.Noticed (option_map removal_of notice)) → IsAccepted eq is_clone (share_settings given) (asked_steps TakeNotice) TakeNotice (answers.Noticed (option_map removal_of notice))
   taken-replies notice is = (is, λ out. let no : ⊥ = omega (arith, out.0) in no)
 
 -- so does a step of a predicate that is refused

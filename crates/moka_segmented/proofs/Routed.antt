@@ -5,15 +5,15 @@ use Rattle.std.proofs.lemmas.List.{set-get_or}
 use Rattle.std.proofs.lemmas.Option.{slice_get_read, slice_get-map}
 use Rattle.moka_model.specs.Lives.{Behaviour, Settings}
 use Rattle.moka_model.specs.Steps.{AcceptedStep}
-use Rattle.moka_model.specs.Calls.{Call, Answer, accepted, answer_of}
-use Rattle.moka_model.specs.StandsFor.{StandsFor, Follows, Answers}
+use Rattle.moka_model.specs.Calls.{Call, Reply, accepted, reply_of}
+use Rattle.moka_model.specs.StandsFor.{StandsFor, Follows, RepliesWith}
 use Rattle.moka_expiration.specs.Behaviour.{BehaviourData}
 use Rattle.moka_expiration.specs.StateData.{SettingsData, StateData, view_by}
-use Rattle.moka_segment_model.specs.Segments.{SegmentedSettings, One, segment_of_key, steps_in, place_of, share_settings, AllStandFor, AtEachList, AnswersIn, FollowsIn, IsAnswerIn, key_in}
-use Rattle.moka_segment_model.proofs.Callers.{routed, answer-at, answer-asked, hash-at, stand-set, stand-one, stand-here}
+use Rattle.moka_segment_model.specs.Segments.{SegmentedSettings, One, segment_of_key, steps_in, place_of, share_settings, AllStandFor, AtEachList, RepliesIn, FollowsIn, IsGivenReply, key_in}
+use Rattle.moka_segment_model.proofs.Callers.{routed, reply-at, reply-asked, hash-at, stand-set, stand-one, stand-here}
 use Rattle.moka_segmented.specs.SegmentedData.{SegmentedData, segmented_settings_by, segmented_view_by}
 
--- what an answer gives, by what its contract says
+-- what a reply gives, by what its contract says
 pub IfOk-by : {A E : Type 0} {P Q : A → Type 0} (r : Result A E) → ((x : A) → P x → Q x) → IfOk r P → IfOk r Q
 IfOk-by (Ok x) more is = more x is
 IfOk-by (Err e) more is = tt
@@ -81,14 +81,14 @@ module _ {K V H W X F : Type 0} (E : Type 0) (eq : K → K → Bool) (behaviour 
     pub index-is : (given : SegmentedSettings K V) (calls : List (Call K V E)) → AllStandFor eq is_clone given (segmented_view_by behaviour frequency opened cache) calls → index ≡ segment_of_key given k
     index-is given calls stand = routing.is ∙ hash-at E eq given (segmented_view_by behaviour frequency opened cache) calls k stand
 
-    -- the state's answer is the answer
-    pub routed-answers : (call : Call K V E) (answer : Answer K V E) → key_in call ≡ Some k → Answers eq is_clone (view_by behaviour frequency opened here) call answer
-        → AnswersIn eq is_clone (segmented_view_by behaviour frequency opened cache) call answer
+    -- the state's reply is the reply
+    pub routed-answers : (call : Call K V E) (answer : Reply K V E) → key_in call ≡ Some k → RepliesWith eq is_clone (view_by behaviour frequency opened here) call answer
+        → RepliesIn eq is_clone (segmented_view_by behaviour frequency opened cache) call answer
     routed-answers call answer key answers given calls stand =
         let it = routed E eq given k call calls key in
-        subst (λ o. IsAnswerIn is_clone o answer) (sym (answer-asked E eq given calls call (One (segment_of_key given k)) it.place it.joint))
-        (subst (λ j. IsAnswerIn is_clone (answer_of (accepted eq (share_settings given) (steps_in E eq given calls j) call)) answer) (index-is given calls stand)
-        (answer-at E eq given (segmented_view_by behaviour frequency opened cache) calls index (view_by behaviour frequency opened here) call answer here-view answers stand))
+        subst (λ o. IsGivenReply is_clone o answer) (sym (reply-asked E eq given calls call (One (segment_of_key given k)) it.place it.joint))
+        (subst (λ j. IsGivenReply is_clone (reply_of (accepted eq (share_settings given) (steps_in E eq given calls j) call)) answer) (index-is given calls stand)
+        (reply-at E eq given (segmented_view_by behaviour frequency opened cache) calls index (view_by behaviour frequency opened here) call answer here-view answers stand))
 
     -- where it stands for its own steps, and those of all other segments stay, all stand for a list of calls
     pub routed-stands : (given : SegmentedSettings K V) (calls later : List (Call K V E)) (new : StateData K V H W X F E) → StandsFor eq is_clone (share_settings given) (view_by behaviour frequency opened new) (steps_in E eq given later index)

@@ -4,33 +4,33 @@ use Rattle.moka_policy.specs.declared.policy.Refused.{Refused}
 use Rattle.moka_policy.specs.declared.policy.Refused.TheVariants as causes
 use Rattle.moka_model.specs.declared.turns.Outcome.{Outcome}
 use Rattle.moka_model.specs.Turns.{Name}
-use Rattle.moka_model.specs.Calls.{Call, Answer, Finish, Run, IsWait, IfAnswered, accepted}
+use Rattle.moka_model.specs.Calls.{Call, Reply, Finish, Run, IsWait, IfReplied, accepted}
 use Rattle.moka_state.specs.Forms.{IsEntered, end_call}
-use Rattle.moka_segment_model.specs.Segments.{SegmentedSettings, asked, place_of, share_settings, steps_in}
+use Rattle.moka_segment_model.specs.Segments.{SegmentedSettings, segment_of_place, place_of, share_settings, steps_in}
 use Rattle.moka_segmented.specs.Turns.{GivesIn}
 
 module _ {K V E : Type 0} (eq : K → K → Bool) (is_clone : V → V → Type 0) (is_infallible : V → Type 0)
     (settings : SegmentedSettings K V) where
-  -- A turn ends with an outcome: the segment of its key gives this answer to the finish. The segments could then have
+  -- A turn ends with an outcome: the segment of its key gives this reply to the finish. The segments could then have
   -- come from the calls with the finish or, if it failed, with an abandon in its place.
-  abbrev pub EndsTurnIn : List (Call K V E) → Name K → Outcome V E → ℕ → Result (Answer K V E) Refused →
+  abbrev pub EndsTurnIn : List (Call K V E) → Name K → Outcome V E → ℕ → Result (Reply K V E) Refused →
       (List (Call K V E) → Type 0) → Type 0
-  EndsTurnIn calls name outcome now answer Stand =
-      GivesIn eq is_clone is_infallible settings calls (Finish name outcome now) answer
-      × Stand (end_call name outcome now answer ∷ calls)
+  EndsTurnIn calls name outcome now reply Stand =
+      GivesIn eq is_clone is_infallible settings calls (Finish name outcome now) reply
+      × Stand (end_call name outcome now reply ∷ calls)
 
   -- A loader is its begin and, if that opens a turn, the end of the turn with what the closure returned, in the key's
   -- segment. `given` is what the closure returned, none if it did not run. `Stand` says which calls the segments could
   -- have come from afterwards.
-  abbrev pub IsFormIn : List (Call K V E) → Call K V E → ℕ → Option (Outcome V E) → Result (Answer K V E) Refused →
+  abbrev pub IsFormIn : List (Call K V E) → Call K V E → ℕ → Option (Outcome V E) → Result (Reply K V E) Refused →
       (List (Call K V E) → Type 0) → Type 0
-  IsFormIn calls begin now None (Ok answer) Stand =
-      IsEntered answer × GivesIn eq is_clone is_infallible settings calls begin (Ok answer) × Stand (begin ∷ calls)
+  IsFormIn calls begin now None (Ok reply) Stand =
+      IsEntered reply × GivesIn eq is_clone is_infallible settings calls begin (Ok reply) × Stand (begin ∷ calls)
   IsFormIn calls begin now None (Err causes.TurnIsOpen) Stand =
-      IfAnswered IsWait
+      IfReplied IsWait
       (accepted eq (share_settings settings)
-      (steps_in E eq settings calls (asked (place_of E eq settings calls begin))) begin)
+      (steps_in E eq settings calls (segment_of_place (place_of E eq settings calls begin))) begin)
   IsFormIn calls begin now None (Err cause) Stand = GivesIn eq is_clone is_infallible settings calls begin (Err cause)
-  IsFormIn calls begin now (Some outcome) answer Stand =
+  IsFormIn calls begin now (Some outcome) reply Stand =
       (name : Name K) × GivesIn eq is_clone is_infallible settings calls begin (Ok (Run name None))
-      × EndsTurnIn (begin ∷ calls) name outcome now answer Stand
+      × EndsTurnIn (begin ∷ calls) name outcome now reply Stand

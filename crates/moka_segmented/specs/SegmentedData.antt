@@ -4,14 +4,14 @@ use Rattle.std.specs.Arc.{arc_value}
 use Rattle.std.specs.List.{AllByRecursion}
 use Rattle.moka_model.specs.Lives.{Behaviour}
 use Rattle.moka_model.specs.Maintenance.{total}
-use Rattle.moka_model.specs.Calls.{Call, Answer}
+use Rattle.moka_model.specs.Calls.{Call, Reply}
 use Rattle.moka_expiration.specs.Behaviour.{BehaviourData}
 use Rattle.moka_expiration.specs.StateData.{SettingsData, StateData, settings_by, view_by}
 use Rattle.moka_policy.specs.Policy.{is_lru}
 use Rattle.moka_state.specs.State.{all_writes, settings_of}
 use Rattle.moka_state.specs.declared.state.Settings.{Settings}
 use Rattle.moka_segment_model.specs.Segments.{SegmentedSettings, SegmentedView, is_empty, sum_below}
-use Rattle.moka_segment_model.specs.Segments.{AllStandFor, AtEachList, FollowsIn, AnswersIn}
+use Rattle.moka_segment_model.specs.Segments.{AllStandFor, AtEachList, FollowsIn, RepliesIn}
 
 -- What a cache of several segments keeps: how many bits choose a segment, the settings of the whole, and the segments'
 -- states.
@@ -58,8 +58,8 @@ module _ {K V E S : Type 0} (eq : K → K → Bool) (is_clone : V → V → Type
   FollowsInBy old call new = FollowsIn eq is_clone (view old) call (view new)
 
   -- This is what the call returns, whatever calls the cache could have come from.
-  abbrev pub AnswersInBy : S → Call K V E → Answer K V E → Type 0
-  AnswersInBy it call answer = AnswersIn eq is_clone (view it) call answer
+  abbrev pub RepliesInBy : S → Call K V E → Reply K V E → Type 0
+  RepliesInBy it call answer = RepliesIn eq is_clone (view it) call answer
 
 -- Each state hashes by this hasher.
 abbrev pub AllHashBy : {K V H W X F E : Type 0} → H → List (StateData K V H W X F E) → Type 0
@@ -83,5 +83,5 @@ module _ {K V H W X F E : Type 0} (states : List (StateData K V H W X F E)) wher
   abbrev pub notices_at : ℕ → ℕ  -- how many notices it has
   notices_at i = state_at (λ state. length state.books.notices) 0 (slice_get states i)
 
-  abbrev pub notices_kept : ℕ  -- how many notices all states have
-  notices_kept = sum_below notices_at (length states)
+  abbrev pub notices_queued : ℕ  -- how many notices all states have
+  notices_queued = sum_below notices_at (length states)

@@ -5,7 +5,8 @@ use Rattle.moka_state.specs.declared.step.Step.{Step}
 use Rattle.moka_state.specs.declared.step.Reply.{Reply}
 use Rattle.moka_state.specs.declared.step.Reply.TheVariants.{Counted, Left, Refused, PredicateRefused}
 use Rattle.moka_state.specs.Step.{call_of, IsReplyTo}
-use Rattle.moka_segment_model.specs.Segments.{SegmentedSettings, share_settings, steps_in, asked, place_of, Joint, Total, AnyLeft, joint_in}
+use Rattle.moka_segment_model.specs.Segments.{SegmentedSettings, share_settings, steps_in, segment_of_place, place_of}
+use Rattle.moka_segment_model.specs.Segments.{Joint, Total, AnyLeft, joint_in}
 
 -- If all segments return something together, the reply is that. For any other call, `Otherwise` says what the reply is.
 abbrev pub IsReplyBy : {K V C H W X P F L T E S : Type 0} → Option Joint → Type 0 → Reply K V C H W X P F L T E S → Type 0
@@ -20,7 +21,7 @@ abbrev pub IsReplyIn : {K V C H W X P F L T S : Type 0} (E : Type 0) → (K → 
 IsReplyIn E eq is_clone is_infallible settings calls call reply =
     IsReplyBy (joint_in E eq settings calls call)
     (IsReplyTo eq is_clone is_infallible (share_settings settings)
-    (steps_in E eq settings calls (asked (place_of E eq settings calls call))) call reply)
+    (steps_in E eq settings calls (segment_of_place (place_of E eq settings calls call))) call reply)
     reply
 
 -- The calls after a reply to one more. A failed call leaves them as they are.

@@ -1,22 +1,22 @@
 -- What the calls of turns give if there are several segments.
 use Rattle.std.specs.Prelude.{Bool, List, Result}
 use Rattle.moka_policy.specs.declared.policy.Refused.{Refused}
-use Rattle.moka_model.specs.Calls.{Call, Answer}
+use Rattle.moka_model.specs.Calls.{Call, Reply}
 use Rattle.moka_state.specs.declared.answers.Begun.{Begun}
 use Rattle.moka_state.specs.Given.{Gives}
 use Rattle.moka_state.specs.Begin.{GivesBegun}
-use Rattle.moka_segment_model.specs.Segments.{SegmentedSettings, asked, place_of, share_settings, steps_in}
+use Rattle.moka_segment_model.specs.Segments.{SegmentedSettings, segment_of_place, place_of, share_settings, steps_in}
 
 module _ {K V E : Type 0} (eq : K → K → Bool) (is_clone : V → V → Type 0) (is_infallible : V → Type 0)
     (settings : SegmentedSettings K V) (calls : List (Call K V E)) (call : Call K V E) where
   -- What a call gives after others: what the call's segment gives, as a state with its share and its own list.
-  abbrev pub GivesIn : Result (Answer K V E) Refused → Type 0
+  abbrev pub GivesIn : Result (Reply K V E) Refused → Type 0
   GivesIn result =
       Gives eq is_clone is_infallible (share_settings settings)
-      (steps_in E eq settings calls (asked (place_of E eq settings calls call))) call result
+      (steps_in E eq settings calls (segment_of_place (place_of E eq settings calls call))) call result
 
   -- What a begin gives so, with a flag for whether it may wait.
   abbrev pub GivesBegunIn : Bool → Result (Begun K V) Refused → Type 0
   GivesBegunIn may_wait result =
       GivesBegun eq is_clone is_infallible (share_settings settings)
-      (steps_in E eq settings calls (asked (place_of E eq settings calls call))) call may_wait result
+      (steps_in E eq settings calls (segment_of_place (place_of E eq settings calls call))) call may_wait result

@@ -4,7 +4,7 @@ ghost use Rattle.std.specs.Arc.{arc_value};
 ghost use Rattle.moka_model.specs.Calls.{InvalidateAll, InvalidateIf, RunPendingTasks, RunPendingTasksUpTo, EntryCount, WeightedSize, Counted, Left};
 ghost use Rattle.moka_model.specs.Numbers.{greatest_number};
 ghost use Rattle.moka_segment_model.specs.Segments.{sum_below};
-ghost use Rattle.moka_segmented.specs.SegmentedData.{stored_at, weight_at, notices_kept};
+ghost use Rattle.moka_segmented.specs.SegmentedData.{stored_at, weight_at, notices_queued};
 
 use crate::segment::Segmented;
 use crate::segmented_view::SegmentedStateView;
@@ -50,7 +50,7 @@ impl<K: Hash + Drop, V: Clone, C: CacheTypes<K, V>, R: RowStore<K, V>> Segmented
     ///
     /// That of a state's `run_pending_tasks_up_to`, in each segment.
     pub fn run_pending_tasks_up_to(&mut self, limit: u64, now: u64) -> bool
-        ensures reply { ⟦<C as SegmentedStateView<K, V>>⟧.answers_in
+        ensures reply { ⟦<C as SegmentedStateView<K, V>>⟧.replies_in
             self.old (RunPendingTasksUpTo limit now) (Left result) }
         ensures stands { ⟦<C as SegmentedStateView<K, V>>⟧.follows_in
             self.old (RunPendingTasksUpTo limit now) self.new }
@@ -67,7 +67,7 @@ impl<K: Hash + Drop, V: Clone, C: CacheTypes<K, V>, R: RowStore<K, V>> Segmented
     pub fn entry_count(&self) -> u64
         ensures counted { result ≡ min
             (sum_below (stored_at self.now.segments) (length self.now.segments)) greatest_number }
-        ensures reply { ⟦<C as SegmentedStateView<K, V>>⟧.answers_in
+        ensures reply { ⟦<C as SegmentedStateView<K, V>>⟧.replies_in
             self.now EntryCount (Counted result) }
         ensures stands { ⟦<C as SegmentedStateView<K, V>>⟧.follows_in self.now EntryCount self.now }
     {
@@ -83,7 +83,7 @@ impl<K: Hash + Drop, V: Clone, C: CacheTypes<K, V>, R: RowStore<K, V>> Segmented
     pub fn weighted_size(&self) -> u64
         ensures counted { result ≡ min
             (sum_below (weight_at self.now.segments) (length self.now.segments)) greatest_number }
-        ensures reply { ⟦<C as SegmentedStateView<K, V>>⟧.answers_in
+        ensures reply { ⟦<C as SegmentedStateView<K, V>>⟧.replies_in
             self.now WeightedSize (Counted result) }
         ensures stands { ⟦<C as SegmentedStateView<K, V>>⟧.follows_in
             self.now WeightedSize self.now }
@@ -98,7 +98,7 @@ impl<K: Hash + Drop, V: Clone, C: CacheTypes<K, V>, R: RowStore<K, V>> Segmented
     /// Returns the number of notices in all segments that were not taken. It is at most
     /// `usize::MAX`.
     pub fn notice_count(&self) -> usize
-        ensures { result ≡ min (notices_kept self.now.segments) greatest_number }
+        ensures { result ≡ min (notices_queued self.now.segments) greatest_number }
     {
         let mut count: usize = 0;
         for index in 0..self.segments.len() {
@@ -130,7 +130,7 @@ impl<K: Hash + Drop, V: Clone, C: CacheTypes<K, V>, R: RowStore<K, V>> Segmented
             (λ cause. cause ≡ PredicateError.InvalidationClosuresDisabled) }
         ensures refused { OnErr result (self.new ≡ self.old) }
     {
-        self.room_in_all()?;
+        self.check_closures_enabled()?;
         self.hide_in_all(&predicate);
         Ok(())
     }
@@ -157,13 +157,13 @@ impl<K: Hash + Drop, V: Clone, C: CacheTypes<K, V>, R: RowStore<K, V>> Segmented
             (λ cause. cause ≡ PredicateError.InvalidationClosuresDisabled) }
         ensures refused { OnErr result (self.new ≡ self.old) }
     {
-        self.room_in_all()?;
+        self.check_closures_enabled()?;
         self.hide_in_all(&predicate);
         Ok(())
     }
 
     // Checks that every segment supports closures. Changes nothing.
-    fn room_in_all(&mut self) -> Result<(), PredicateError>
+    fn check_closures_enabled(&mut self) -> Result<(), PredicateError>
         ensures accepted { IsOk result ↔ ((i : ℕ) → IfSome (slice_get self.old.segments i)
             (λ state. state.settings.supports_closures ≡ true)) }
         ensures cause { IfErr result

@@ -78,13 +78,13 @@ impl<K: Hash + Clone + Drop, V: Clone, C: CacheTypes<K, V>, R: RowStore<K, V>> S
         requires asks { F.IsAlwaysCallable init }
         requires keeps { (v : V) → F.post init v → C.keeps key.now v }
         ensures form { (asked : K) × IsAsked K.eq K.is_clone key.now asked × (given : Option V)
-            × (answer : Result (calls.Answer K V C.Error) Refused)
+            × (reply : Result (calls.Reply K V C.Error) Refused)
             × ⟦<C as SegmentedStateView<K, V>>⟧.at_each_list self.old (λ settings calls.
             IsFormIn K.eq V.is_clone V.is_infallible settings calls
-            (Begin asked Kind.With None now) now (option_map Outcome.Value given) answer
+            (Begin asked Kind.With None now) now (option_map Outcome.Value given) reply
             (λ later. ⟦<C as SegmentedStateView<K, V>>⟧.all_stand_for settings self.new later))
-            × IsValue answer result × IfSome given (F.post init)
-            × IfRefusedUnasked (self.new ≡ self.old) given answer }
+            × IsValue reply result × IfSome given (F.post init)
+            × IfRefusedUnasked (self.new ≡ self.old) given reply }
         ensures kept { IfOk result (C.keeps key.now) }
     {
         let place = self.place_of(key);
@@ -103,13 +103,13 @@ impl<K: Hash + Clone + Drop, V: Clone, C: CacheTypes<K, V>, R: RowStore<K, V>> S
         requires asks { F.IsAlwaysCallable init }
         requires keeps { (o : Option V) → F.post init o → IfSome o (C.keeps key.now) }
         ensures form { (asked : K) × IsAsked K.eq K.is_clone key.now asked
-            × (given : Option (Option V)) × (answer : Result (calls.Answer K V C.Error) Refused)
+            × (given : Option (Option V)) × (reply : Result (calls.Reply K V C.Error) Refused)
             × ⟦<C as SegmentedStateView<K, V>>⟧.at_each_list self.old (λ settings calls.
             IsFormIn K.eq V.is_clone V.is_infallible settings calls
-            (Begin asked Kind.Optionally None now) now (option_map optional_outcome given) answer
+            (Begin asked Kind.Optionally None now) now (option_map optional_outcome given) reply
             (λ later. ⟦<C as SegmentedStateView<K, V>>⟧.all_stand_for settings self.new later))
-            × IsOptional answer result × IfSome given (F.post init)
-            × IfRefusedUnasked (self.new ≡ self.old) given answer }
+            × IsOptional reply result × IfSome given (F.post init)
+            × IfRefusedUnasked (self.new ≡ self.old) given reply }
         ensures kept { IfOk result (λ found. IfSome found (C.keeps key.now)) }
     {
         let place = self.place_of(key);
@@ -129,13 +129,13 @@ impl<K: Hash + Clone + Drop, V: Clone, C: CacheTypes<K, V>, R: RowStore<K, V>> S
         requires keeps { (r : Result V C.Error) → F.post init r → IfOk r (C.keeps key.now) }
         ensures form { (asked : K) × IsAsked K.eq K.is_clone key.now asked
             × (given : Option (Result V C.Error))
-            × (answer : Result (calls.Answer K V C.Error) Refused)
+            × (reply : Result (calls.Reply K V C.Error) Refused)
             × ⟦<C as SegmentedStateView<K, V>>⟧.at_each_list self.old (λ settings calls.
             IsFormIn K.eq V.is_clone V.is_infallible settings calls
-            (Begin asked Kind.Try None now) now (option_map tried_outcome given) answer
+            (Begin asked Kind.Try None now) now (option_map tried_outcome given) reply
             (λ later. ⟦<C as SegmentedStateView<K, V>>⟧.all_stand_for settings self.new later))
-            × IsTried answer result × IfSome given (F.post init)
-            × IfRefusedUnasked (self.new ≡ self.old) given answer }
+            × IsTried reply result × IfSome given (F.post init)
+            × IfRefusedUnasked (self.new ≡ self.old) given reply }
         ensures kept { IfOk result (λ tried. IfOk tried (C.keeps key.now)) }
     {
         let place = self.place_of(key);

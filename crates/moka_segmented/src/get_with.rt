@@ -42,13 +42,13 @@ impl<K: Hash + Drop, V: Clone, C: CacheTypes<K, V>, R: RowStore<K, V>> Segmented
     ) -> Result<V, Refused>
         requires asks { F.IsAlwaysCallable init }
         requires keeps { (v : V) → F.post init v → C.keeps key v }
-        ensures form { (given : Option V) × (answer : Result (calls.Answer K V C.Error) Refused)
+        ensures form { (given : Option V) × (reply : Result (calls.Reply K V C.Error) Refused)
             × ⟦<C as SegmentedStateView<K, V>>⟧.at_each_list self.old (λ settings calls.
             IsFormIn K.eq V.is_clone V.is_infallible settings calls (Begin key Kind.With None now) now
-            (option_map Outcome.Value given) answer
+            (option_map Outcome.Value given) reply
             (λ later. ⟦<C as SegmentedStateView<K, V>>⟧.all_stand_for settings self.new later))
-            × IsValue answer result × IfSome given (F.post init)
-            × IfRefusedUnasked (self.new ≡ self.old) given answer }
+            × IsValue reply result × IfSome given (F.post init)
+            × IfRefusedUnasked (self.new ≡ self.old) given reply }
         ensures kept { IfOk result (C.keeps key) }
     {
         let place = self.place_of(&key);
@@ -69,14 +69,14 @@ impl<K: Hash + Drop, V: Clone, C: CacheTypes<K, V>, R: RowStore<K, V>> Segmented
         requires shows { P.IsAlwaysCallable replace_if }
         requires keeps { (v : V) → F.post init v → C.keeps key v }
         ensures form { (said : Option Bool) × (given : Option V)
-            × (answer : Result (calls.Answer K V C.Error) Refused)
+            × (reply : Result (calls.Reply K V C.Error) Refused)
             × ⟦<C as SegmentedStateView<K, V>>⟧.at_each_list self.old (λ settings calls.
             IsSaidOf P.FnMut (Some replace_if) (live_in C.Error K.eq settings calls key now) said
             × IsFormIn K.eq V.is_clone V.is_infallible settings calls (Begin key Kind.With said now) now
-            (option_map Outcome.Value given) answer
+            (option_map Outcome.Value given) reply
             (λ later. ⟦<C as SegmentedStateView<K, V>>⟧.all_stand_for settings self.new later))
-            × IsValue answer result × IfSome given (F.post init)
-            × IfRefusedUnasked (self.new ≡ self.old) given answer }
+            × IsValue reply result × IfSome given (F.post init)
+            × IfRefusedUnasked (self.new ≡ self.old) given reply }
         ensures kept { IfOk result (C.keeps key) }
     {
         let place = self.place_of(&key);
@@ -94,13 +94,13 @@ impl<K: Hash + Drop, V: Clone, C: CacheTypes<K, V>, R: RowStore<K, V>> Segmented
         requires asks { F.IsAlwaysCallable init }
         requires keeps { (o : Option V) → F.post init o → IfSome o (C.keeps key) }
         ensures form { (given : Option (Option V))
-            × (answer : Result (calls.Answer K V C.Error) Refused)
+            × (reply : Result (calls.Reply K V C.Error) Refused)
             × ⟦<C as SegmentedStateView<K, V>>⟧.at_each_list self.old (λ settings calls.
             IsFormIn K.eq V.is_clone V.is_infallible settings calls
-            (Begin key Kind.Optionally None now) now (option_map optional_outcome given) answer
+            (Begin key Kind.Optionally None now) now (option_map optional_outcome given) reply
             (λ later. ⟦<C as SegmentedStateView<K, V>>⟧.all_stand_for settings self.new later))
-            × IsOptional answer result × IfSome given (F.post init)
-            × IfRefusedUnasked (self.new ≡ self.old) given answer }
+            × IsOptional reply result × IfSome given (F.post init)
+            × IfRefusedUnasked (self.new ≡ self.old) given reply }
         ensures kept { IfOk result (λ found. IfSome found (C.keeps key)) }
     {
         let place = self.place_of(&key);
@@ -124,13 +124,13 @@ impl<K: Hash + Drop, V: Clone, C: CacheTypes<K, V>, R: RowStore<K, V>> Segmented
         requires asks { F.IsAlwaysCallable init }
         requires keeps { (r : Result V C.Error) → F.post init r → IfOk r (C.keeps key) }
         ensures form { (given : Option (Result V C.Error))
-            × (answer : Result (calls.Answer K V C.Error) Refused)
+            × (reply : Result (calls.Reply K V C.Error) Refused)
             × ⟦<C as SegmentedStateView<K, V>>⟧.at_each_list self.old (λ settings calls.
             IsFormIn K.eq V.is_clone V.is_infallible settings calls (Begin key Kind.Try None now) now
-            (option_map tried_outcome given) answer
+            (option_map tried_outcome given) reply
             (λ later. ⟦<C as SegmentedStateView<K, V>>⟧.all_stand_for settings self.new later))
-            × IsTried answer result × IfSome given (F.post init)
-            × IfRefusedUnasked (self.new ≡ self.old) given answer }
+            × IsTried reply result × IfSome given (F.post init)
+            × IfRefusedUnasked (self.new ≡ self.old) given reply }
         ensures kept { IfOk result (λ tried. IfOk tried (C.keeps key)) }
     {
         let place = self.place_of(&key);

@@ -10,7 +10,7 @@ ghost use Rattle.moka_model.specs.SizeLaws.{LimitsSome};
 ghost use Rattle.moka_state.specs.Hashes.{IsHashOf};
 ghost use Rattle.moka_table.specs.Table.{removal_of};
 ghost use Rattle.moka_segment_model.specs.Segments.{segment_of, segment_of_key, first_from, share_settings, steps_in, live_in};
-ghost use Rattle.moka_segmented.specs.SegmentedData.{SegmentedData, AllHashBy, data_of, has_notice, notices_kept};
+ghost use Rattle.moka_segmented.specs.SegmentedData.{SegmentedData, AllHashBy, data_of, has_notice, notices_queued};
 
 use crate::segmented_view::SegmentedStateView;
 use moka_expiration::view::StateView;
@@ -75,7 +75,7 @@ impl<K: Hash + Drop, V: Clone, C: CacheTypes<K, V>, R: RowStore<K, V>> Segmented
     /// - `OutOfMemory`: cloning the value failed.
     pub fn get(&mut self, key: &K, now: u64) -> Result<Option<V>, Refused>
         ensures reply { IfOk result (λ found.
-            ⟦<C as SegmentedStateView<K, V>>⟧.answers_in self.old (Get key.now now) (Found found)) }
+            ⟦<C as SegmentedStateView<K, V>>⟧.replies_in self.old (Get key.now now) (Found found)) }
         ensures stands { OnOk result
             (⟦<C as SegmentedStateView<K, V>>⟧.follows_in self.old (Get key.now now) self.new) }
         ensures kept { IfOk result (λ found. IfSome found (C.keeps key.now)) }
@@ -98,7 +98,7 @@ impl<K: Hash + Drop, V: Clone, C: CacheTypes<K, V>, R: RowStore<K, V>> Segmented
     /// Returns whether `key` has a live value at a moment, in its segment. Does not count as an
     /// access, and records nothing.
     pub fn contains_key(&self, key: &K, now: u64) -> bool
-        ensures reply { ⟦<C as SegmentedStateView<K, V>>⟧.answers_in self.now
+        ensures reply { ⟦<C as SegmentedStateView<K, V>>⟧.replies_in self.now
             (ContainsKey key.now now) (Contains result) }
         ensures stands { ⟦<C as SegmentedStateView<K, V>>⟧.follows_in self.now
             (ContainsKey key.now now) self.now }
@@ -158,7 +158,7 @@ impl<K: Hash + Drop, V: Clone, C: CacheTypes<K, V>, R: RowStore<K, V>> Segmented
     ///
     /// - `OutOfMemory`: cloning the value failed.
     pub fn remove(&mut self, key: &K, now: u64) -> Result<Option<V>, Refused>
-        ensures reply { IfOk result (λ found. ⟦<C as SegmentedStateView<K, V>>⟧.answers_in
+        ensures reply { IfOk result (λ found. ⟦<C as SegmentedStateView<K, V>>⟧.replies_in
             self.old (Remove key.now now) (Found found)) }
         ensures stands { OnOk result (⟦<C as SegmentedStateView<K, V>>⟧.follows_in
             self.old (Remove key.now now) self.new) }
@@ -182,17 +182,17 @@ impl<K: Hash + Drop, V: Clone, C: CacheTypes<K, V>, R: RowStore<K, V>> Segmented
     /// Takes the oldest notice of the first segment that has one; returns `None` exactly if no
     /// segment has a notice. Does not allocate.
     pub fn take_notice(&mut self) -> Option<Notice<K, V>>
-        ensures reply { ⟦<C as SegmentedStateView<K, V>>⟧.answers_in self.old TakeNotice
+        ensures reply { ⟦<C as SegmentedStateView<K, V>>⟧.replies_in self.old TakeNotice
             (Noticed (option_map removal_of result)) }
         ensures stands { ⟦<C as SegmentedStateView<K, V>>⟧.follows_in self.old TakeNotice self.new }
         ensures kept { IfSome result (λ notice. C.keeps (arc_value notice.key) notice.value) }
 
         // So a loop that takes notices ends.
-        ensures none { IsNone result ↔ (notices_kept self.old.segments ≡ 0) }
+        ensures none { IsNone result ↔ (notices_queued self.old.segments ≡ 0) }
         ensures fewer { IfSome result (λ _.
-            notices_kept self.old.segments ≡ notices_kept self.new.segments + 1) }
+            notices_queued self.old.segments ≡ notices_queued self.new.segments + 1) }
     {
-        match self.first_noticed() {
+        match self.first_with_notice() {
             Some(index) => self.segments[index].take_notice(),
             None => None,
         }
@@ -256,7 +256,7 @@ impl<K: Hash + Drop, V: Clone, C: CacheTypes<K, V>, R: RowStore<K, V>> Segmented
     }
 
     // Returns the number of the first segment that has a notice.
-    fn first_noticed(&self) -> Option<usize>
+    fn first_with_notice(&self) -> Option<usize>
         ensures { result ≡ first_from (has_notice self.now.segments) 0 (length self.now.segments) }
     {
         for index in 0..self.segments.len() {

@@ -7,7 +7,7 @@ use std::hash::Hash;
 /// states. It follows from the types: every `CacheTypes` has it.
 pub trait SegmentedStateView<K: Hash, V: Clone>: CacheTypes<K, V> {
     ghost use Rattle.std.specs.Prelude.{List};
-    ghost use Rattle.moka_model.specs.Calls.{Call, Answer};
+    ghost use Rattle.moka_model.specs.Calls.{Call, Reply};
     ghost use Rattle.moka_segment_model.specs.Segments.{SegmentedSettings};
     ghost use Rattle.moka_segmented.specs.SegmentedData.{SegmentedData};
 
@@ -36,14 +36,14 @@ pub trait SegmentedStateView<K: Hash, V: Clone>: CacheTypes<K, V> {
 
     /// Whatever calls the cache could have come from, this is what the call returns after them, up
     /// to cloning.
-    ghost answers_in: { SegmentedData K V Self.Hasher Self.Weigher Self.Expiry Self.Frequency Self.Error
+    ghost replies_in: { SegmentedData K V Self.Hasher Self.Weigher Self.Expiry Self.Frequency Self.Error
         → Call K V Self.Error
-        → Answer K V Self.Error
+        → Reply K V Self.Error
         → Type 0 };
 }
 
 impl<K: Hash, V: Clone, C: CacheTypes<K, V>> SegmentedStateView<K, V> for C {
-    ghost use Rattle.moka_segmented.specs.SegmentedData.{segmented_settings_by, segmented_view_by, AllStandForBy, AtEachListBy, FollowsInBy, AnswersInBy};
+    ghost use Rattle.moka_segmented.specs.SegmentedData.{segmented_settings_by, segmented_view_by, AllStandForBy, AtEachListBy, FollowsInBy, RepliesInBy};
 
     ghost segmented_settings = { segmented_settings_by
         ⟦<C as BehaviourView<K, V>>⟧.behaviour
@@ -64,7 +64,7 @@ impl<K: Hash, V: Clone, C: CacheTypes<K, V>> SegmentedStateView<K, V> for C {
         ⟦<C as BehaviourView<K, V>>⟧.frequency
         C.Frequency.opened) };
 
-    ghost answers_in = { AnswersInBy K.eq V.is_clone (segmented_view_by
+    ghost replies_in = { RepliesInBy K.eq V.is_clone (segmented_view_by
         ⟦<C as BehaviourView<K, V>>⟧.behaviour
         ⟦<C as BehaviourView<K, V>>⟧.frequency
         C.Frequency.opened) };

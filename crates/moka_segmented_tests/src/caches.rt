@@ -53,7 +53,7 @@ pub(crate) fn builder(capacity: u64) -> Builder {
 }
 
 /// Builds a cache of so many segments, with the settings of a builder.
-pub(crate) fn opened(alloc: Global, builder: Builder, segments: usize) -> Result<Texts, Fail> {
+pub(crate) fn open_cache(alloc: Global, builder: Builder, segments: usize) -> Result<Texts, Fail> {
     Ok(
         builder
             .segments(segments)?

@@ -1,7 +1,7 @@
 //! The calls of a segmented cache. One about a key acts in its segment, one about all keys in all.
 use crate::caches::{
     Odd, SECOND, Texts, UPPER, builder, entry_count, hide_odd, holds, insert, invalidate,
-    invalidate_all, is_live, look, notice_count, opened, remove, run_pending_tasks, run_up_to,
+    invalidate_all, is_live, look, notice_count, open_cache, remove, run_pending_tasks, run_up_to,
     take_notice, text, weighted_size, write,
 };
 use moka::PredicateError;
@@ -15,7 +15,7 @@ use std::test::Fail;
 use std::time::Duration;
 
 /// Checks what a lookup of a key finds.
-fn found(
+fn check_found(
     rt: &impl Abort,
     cache: &mut Texts,
     key: u64,
@@ -28,13 +28,18 @@ fn found(
 }
 
 /// Checks what a removal returns.
-fn removed(rt: &impl Abort, cache: &mut Texts, key: u64, text: Option<&str>) -> Result<(), Fail> {
+fn check_removed(
+    rt: &impl Abort,
+    cache: &mut Texts,
+    key: u64,
+    text: Option<&str>,
+) -> Result<(), Fail> {
     assert_eq!(rt; remove(cache, key)?.as_deref(), text);
     Ok(())
 }
 
 /// Takes the next notice, and checks it.
-fn left(rt: &impl Abort, cache: &mut Texts, key: u64, value: &str, cause: RemovalCause) {
+fn check_notice(rt: &impl Abort, cache: &mut Texts, key: u64, value: &str, cause: RemovalCause) {
     match take_notice(cache) {
         Some(notice) => is_of(rt, &notice, key, value, cause),
         None => panic!(rt; "there is no notice"),
@@ -61,8 +66,8 @@ fn no_more_left(rt: &impl Abort, cache: &mut Texts) {
 /// Each segment has its share of the capacity, and its own latest moment.
 #[test]
 fn each_segment_has_its_share_and_its_moment(rt: HostRuntime) -> Result<(), Fail> {
-    let told = builder(2).time_to_live(Duration::from_secs(10));
-    let mut cache = opened(rt.alloc(), told, 2)?;
+    let settings = builder(2).time_to_live(Duration::from_secs(10));
+    let mut cache = open_cache(rt.alloc(), settings, 2)?;
     has_its_share_and_its_moment(&rt, rt.alloc(), &mut cache)
 }
 
@@ -75,14 +80,14 @@ fn has_its_share_and_its_moment(
     insert(cache, alloc, UPPER, "b", 0)?;
     insert(cache, alloc, 2, "c", 0)?;
     loses_the_first(rt, cache);
-    found(rt, cache, UPPER, 10 * SECOND, None)?;
-    found(rt, cache, 2, 9 * SECOND, Some("c"))
+    check_found(rt, cache, UPPER, 10 * SECOND, None)?;
+    check_found(rt, cache, 2, 9 * SECOND, Some("c"))
 }
 
 /// Checks that the first of two keys of a segment is evicted.
 fn loses_the_first(rt: &impl Abort, cache: &mut Texts) {
     run_pending_tasks(cache, 0);
-    left(rt, cache, 1, "a", RemovalCause::Size);
+    check_notice(rt, cache, 1, "a", RemovalCause::Size);
     no_more_left(rt, cache);
     assert_eq!(rt; entry_count(cache), 2);
 }
@@ -90,15 +95,15 @@ fn loses_the_first(rt: &impl Abort, cache: &mut Texts) {
 /// Notices come segment by segment, and in order within each.
 #[test]
 fn notices_come_segment_by_segment(rt: HostRuntime) -> Result<(), Fail> {
-    let mut cache = opened(rt.alloc(), builder(100), 4)?;
+    let mut cache = open_cache(rt.alloc(), builder(100), 4)?;
     come_segment_by_segment(&rt, rt.alloc(), &mut cache)
 }
 
 fn come_segment_by_segment(rt: &impl Abort, alloc: Global, cache: &mut Texts) -> Result<(), Fail> {
     one_of_each_leaves(rt, alloc, cache)?;
     come_in_order(rt, cache);
-    removed(rt, cache, 1, None)?;
-    found(rt, cache, u64::MAX, 0, Some("e"))
+    check_removed(rt, cache, 1, None)?;
+    check_found(rt, cache, u64::MAX, 0, Some("e"))
 }
 
 /// In three segments, the last one first, a value is overwritten, one is invalidated, and one
@@ -109,14 +114,14 @@ fn one_of_each_leaves(rt: &impl Abort, alloc: Global, cache: &mut Texts) -> Resu
     insert(cache, alloc, UPPER, "c", 0)?;
     invalidate(cache, UPPER);
     insert(cache, alloc, 1, "a", 0)?;
-    removed(rt, cache, 1, Some("a"))
+    check_removed(rt, cache, 1, Some("a"))
 }
 
 fn come_in_order(rt: &impl Abort, cache: &mut Texts) {
     assert_eq!(rt; notice_count(cache), 3);
-    left(rt, cache, 1, "a", RemovalCause::Explicit);
-    left(rt, cache, UPPER, "c", RemovalCause::Explicit);
-    left(rt, cache, u64::MAX, "d", RemovalCause::Replaced);
+    check_notice(rt, cache, 1, "a", RemovalCause::Explicit);
+    check_notice(rt, cache, UPPER, "c", RemovalCause::Explicit);
+    check_notice(rt, cache, u64::MAX, "d", RemovalCause::Replaced);
     no_more_left(rt, cache);
     assert_eq!(rt; notice_count(cache), 0);
 }
@@ -143,8 +148,8 @@ fn fill(cache: &mut Texts, alloc: Global) -> Result<(), Fail> {
 /// Invalidations and maintenance act in all segments.
 #[test]
 fn what_goes_to_all_goes_to_the_last_too(rt: HostRuntime) -> Result<(), Fail> {
-    let told = builder(100).support_invalidation_closures();
-    let mut cache = opened(rt.alloc(), told, 4)?;
+    let settings = builder(100).support_invalidation_closures();
+    let mut cache = open_cache(rt.alloc(), settings, 4)?;
     goes_to_all(&rt, rt.alloc(), &mut cache)
 }
 
@@ -153,13 +158,13 @@ fn goes_to_all(rt: &impl Abort, alloc: Global, cache: &mut Texts) -> Result<(), 
     a_predicate_goes_to_all(rt, cache);
     a_removal_goes_to_all(rt, cache);
     insert(cache, alloc, 1, "b", 0)?;
-    shared_accepted(rt, cache, Arc::new(alloc, Odd)?, Ok(()));
-    found(rt, cache, 1, 0, None)
+    check_shared_accepted(rt, cache, Arc::new(alloc, Odd)?, Ok(()));
+    check_found(rt, cache, 1, 0, None)
 }
 
 /// Checks that a predicate invalidates the odd keys, and that maintenance removes them.
 fn a_predicate_goes_to_all(rt: &impl Abort, cache: &mut Texts) {
-    accepted(rt, cache, Ok(()));
+    check_accepted(rt, cache, Ok(()));
     for key in KEYS {
         assert_eq!(rt; is_live(cache, key, 0), key % 2 == 0);
     }
@@ -187,27 +192,27 @@ fn weighs(rt: &impl Abort, cache: &Texts, entries: u64) {
 type Accepted = Result<(), PredicateError>;
 
 /// Checks whether a predicate is accepted, or why it is rejected.
-fn accepted(rt: &impl Abort, cache: &mut Texts, expected: Accepted) {
+fn check_accepted(rt: &impl Abort, cache: &mut Texts, expected: Accepted) {
     assert_eq!(rt; cache.invalidate_entries_if(Odd), expected);
 }
 
 /// Checks the same for a predicate in an `Arc`.
-fn shared_accepted(rt: &impl Abort, cache: &mut Texts, shared: Arc<Odd>, expected: Accepted) {
+fn check_shared_accepted(rt: &impl Abort, cache: &mut Texts, shared: Arc<Odd>, expected: Accepted) {
     assert_eq!(rt; hide_odd(cache, shared), expected);
 }
 
 /// A predicate is rejected by all segments if predicates are not supported.
 #[test]
 fn a_predicate_is_accepted_by_all_or_by_none(rt: HostRuntime) -> Result<(), Fail> {
-    let mut cache = opened(rt.alloc(), builder(100), 4)?;
+    let mut cache = open_cache(rt.alloc(), builder(100), 4)?;
     is_accepted_by_none(&rt, rt.alloc(), &mut cache)
 }
 
 fn is_accepted_by_none(rt: &impl Abort, alloc: Global, cache: &mut Texts) -> Result<(), Fail> {
     fill(cache, alloc)?;
     let disabled = PredicateError::InvalidationClosuresDisabled;
-    accepted(rt, cache, Err(disabled));
-    shared_accepted(rt, cache, Arc::new(alloc, Odd)?, Err(disabled));
+    check_accepted(rt, cache, Err(disabled));
+    check_shared_accepted(rt, cache, Arc::new(alloc, Odd)?, Err(disabled));
     for key in KEYS {
         assert!(rt; is_live(cache, key, 0));
     }
@@ -217,7 +222,7 @@ fn is_accepted_by_none(rt: &impl Abort, alloc: Global, cache: &mut Texts) -> Res
 /// Each segment gets the whole limit of a maintenance.
 #[test]
 fn each_segment_is_given_the_whole_limit(rt: HostRuntime) -> Result<(), Fail> {
-    let mut cache = opened(rt.alloc(), builder(100), 4)?;
+    let mut cache = open_cache(rt.alloc(), builder(100), 4)?;
     is_given_the_whole_limit(&rt, rt.alloc(), &mut cache)
 }
 
@@ -241,8 +246,8 @@ fn leaves_undone(rt: &impl Abort, cache: &mut Texts, limit: u64, undone: bool, e
 /// Each segment has sequence numbers of its own.
 #[test]
 fn each_segment_has_numbers_of_its_own(rt: HostRuntime) -> Result<(), Fail> {
-    let told = builder(100).first_number(u64::MAX - 1);
-    let mut cache = opened(rt.alloc(), told, 2)?;
+    let settings = builder(100).first_number(u64::MAX - 1);
+    let mut cache = open_cache(rt.alloc(), settings, 2)?;
     has_numbers_of_its_own(&rt, rt.alloc(), &mut cache)
 }
 
@@ -250,7 +255,7 @@ fn has_numbers_of_its_own(rt: &impl Abort, alloc: Global, cache: &mut Texts) -> 
     insert(cache, alloc, 1, "a", 0)?;
     is_refused(rt, cache, text(alloc, "b")?);
     insert(cache, alloc, UPPER, "c", 0)?;
-    found(rt, cache, UPPER, 0, Some("c"))
+    check_found(rt, cache, UPPER, 0, Some("c"))
 }
 
 /// Checks that an insert of key 2 fails for lack of a sequence number, and hands back its

@@ -19,7 +19,7 @@ type Numbers = SegmentedState<u64, u64, Types>;
 type One = CacheState<u64, u64, Types>;
 
 /// Builds a cache of four segments, with room for ten entries in each.
-fn opened(alloc: Global) -> Result<Numbers, Fail> {
+fn open_cache(alloc: Global) -> Result<Numbers, Fail> {
     Ok(
         CacheBuilder::new(40)
             .eviction_policy(EvictionPolicy::lru())
@@ -29,7 +29,7 @@ fn opened(alloc: Global) -> Result<Numbers, Fail> {
 }
 
 /// Builds an owned cache with the share of one segment.
-fn one(alloc: Global) -> Result<One, Fail> {
+fn open_one(alloc: Global) -> Result<One, Fail> {
     Ok(
         CacheBuilder::new(10)
             .eviction_policy(EvictionPolicy::lru())
@@ -52,16 +52,16 @@ fn segments(cache: &Numbers) -> &[One] {
 }
 
 /// Returns the result of `get_with` at a moment, by a closure that returns `given`.
-fn got_with(cache: &mut Numbers, key: u64, given: u64, now: u64) -> Result<u64, Refused> {
+fn call_get_with(cache: &mut Numbers, key: u64, given: u64, now: u64) -> Result<u64, Refused> {
     cache.get_with(key, move || given, now)
 }
 
-fn got_with_by_ref(cache: &mut Numbers, key: u64, given: u64) -> Result<u64, Refused> {
+fn call_get_with_by_ref(cache: &mut Numbers, key: u64, given: u64) -> Result<u64, Refused> {
     cache.get_with_by_ref(&key, move || given, 0)
 }
 
 /// The same with `get_with_if`, which replaces a live value equal to `unwanted`.
-fn got_with_if(
+fn call_get_with_if(
     cache: &mut Numbers,
     key: u64,
     given: u64,
@@ -73,11 +73,11 @@ fn got_with_if(
 
 type Maybe = Option<u64>;
 
-fn maybe_got(cache: &mut Numbers, key: u64, given: Maybe) -> Result<Maybe, Refused> {
+fn call_optionally_get_with(cache: &mut Numbers, key: u64, given: Maybe) -> Result<Maybe, Refused> {
     cache.optionally_get_with(key, move || given, 0)
 }
 
-fn maybe_got_by_ref(
+fn call_optionally_get_with_by_ref(
     cache: &mut Numbers,
     key: u64,
     given: Maybe,
@@ -99,12 +99,12 @@ fn stands_nowhere(rt: &impl Abort, cache: &Numbers, key: u64) {
 }
 
 /// Checks the result of a loader whose closure returns `given`.
-fn gets_with(rt: &impl Abort, cache: &mut Numbers, key: u64, given: u64, answered: u64) {
-    assert_eq!(rt; got_with(cache, key, given, 0), Ok(answered));
+fn gets_with(rt: &impl Abort, cache: &mut Numbers, key: u64, given: u64, returned: u64) {
+    assert_eq!(rt; call_get_with(cache, key, given, 0), Ok(returned));
 }
 
-fn gets_with_by_ref(rt: &impl Abort, cache: &mut Numbers, key: u64, given: u64, answered: u64) {
-    assert_eq!(rt; got_with_by_ref(cache, key, given), Ok(answered));
+fn gets_with_by_ref(rt: &impl Abort, cache: &mut Numbers, key: u64, given: u64, returned: u64) {
+    assert_eq!(rt; call_get_with_by_ref(cache, key, given), Ok(returned));
 }
 
 /// Checks the same for `get_with_if`, which replaces a live value equal to `unwanted`.
@@ -114,37 +114,43 @@ fn gets_with_if(
     key: u64,
     given: u64,
     unwanted: u64,
-    answered: u64,
+    returned: u64,
 ) {
-    assert_eq!(rt; got_with_if(cache, key, given, unwanted, 0), Ok(answered));
+    assert_eq!(rt;
+        call_get_with_if(cache, key, given, unwanted, 0),
+        Ok(returned)
+    );
 }
 
-fn may_get(rt: &impl Abort, cache: &mut Numbers, key: u64, given: Maybe, answered: Maybe) {
-    assert_eq!(rt; maybe_got(cache, key, given), Ok(answered));
+fn may_get(rt: &impl Abort, cache: &mut Numbers, key: u64, given: Maybe, returned: Maybe) {
+    assert_eq!(rt; call_optionally_get_with(cache, key, given), Ok(returned));
 }
 
-fn may_get_by_ref(rt: &impl Abort, cache: &mut Numbers, key: u64, given: Maybe, answered: Maybe) {
-    assert_eq!(rt; maybe_got_by_ref(cache, key, given, 0), Ok(answered));
+fn may_get_by_ref(rt: &impl Abort, cache: &mut Numbers, key: u64, given: Maybe, returned: Maybe) {
+    assert_eq!(rt;
+        call_optionally_get_with_by_ref(cache, key, given, 0),
+        Ok(returned)
+    );
 }
 
 type Tried = Result<u64, u64>;
 
-fn tries(rt: &impl Abort, cache: &mut Numbers, key: u64, given: Tried, answered: Tried) {
-    is_told(rt, cache.try_get_with(key, move || given, 0), answered);
+fn tries(rt: &impl Abort, cache: &mut Numbers, key: u64, given: Tried, returned: Tried) {
+    check_tried(rt, cache.try_get_with(key, move || given, 0), returned);
 }
 
-fn tries_by_ref(rt: &impl Abort, cache: &mut Numbers, key: u64, given: Tried, answered: Tried) {
-    is_told(
+fn tries_by_ref(rt: &impl Abort, cache: &mut Numbers, key: u64, given: Tried, returned: Tried) {
+    check_tried(
         rt,
         cache.try_get_with_by_ref(&key, move || given, 0),
-        answered,
+        returned,
     );
 }
 
-fn is_told(rt: &impl Abort, told: Result<Result<u64, Arc<u64>>, Refused>, answered: Tried) {
-    match told {
-        Ok(Ok(value)) => assert_eq!(rt; answered, Ok(value)),
-        Ok(Err(error)) => assert_eq!(rt; answered, Err(*error)),
+fn check_tried(rt: &impl Abort, reply: Result<Result<u64, Arc<u64>>, Refused>, returned: Tried) {
+    match reply {
+        Ok(Ok(value)) => assert_eq!(rt; returned, Ok(value)),
+        Ok(Err(error)) => assert_eq!(rt; returned, Err(*error)),
         Err(_) => panic!(rt; "it is refused"),
     }
 }
@@ -152,7 +158,7 @@ fn is_told(rt: &impl Abort, told: Result<Result<u64, Arc<u64>>, Refused>, answer
 /// A loaded value is stored in the segment of its key.
 #[test]
 fn what_is_worked_out_is_of_the_segment_of_its_key(rt: HostRuntime) -> Result<(), Fail> {
-    is_worked_out(&rt, &mut opened(rt.alloc())?);
+    is_worked_out(&rt, &mut open_cache(rt.alloc())?);
     Ok(())
 }
 
@@ -168,7 +174,7 @@ fn is_worked_out(rt: &impl Abort, cache: &mut Numbers) {
 /// `get_with_if` replaces a value in the segment of its key.
 #[test]
 fn what_is_turned_down_is_replaced_in_its_segment(rt: HostRuntime) -> Result<(), Fail> {
-    is_turned_down(&rt, &mut opened(rt.alloc())?);
+    is_turned_down(&rt, &mut open_cache(rt.alloc())?);
     Ok(())
 }
 
@@ -185,7 +191,7 @@ fn is_turned_down(rt: &impl Abort, cache: &mut Numbers) {
 /// Nothing is stored if the closure returns `None`.
 #[test]
 fn nothing_is_written_where_none_is_given(rt: HostRuntime) -> Result<(), Fail> {
-    is_not_written(&rt, &mut opened(rt.alloc())?);
+    is_not_written(&rt, &mut open_cache(rt.alloc())?);
     Ok(())
 }
 
@@ -203,7 +209,7 @@ fn is_not_written(rt: &impl Abort, cache: &mut Numbers) {
 /// Nothing is stored if the closure fails.
 #[test]
 fn nor_where_an_initializer_fails(rt: HostRuntime) -> Result<(), Fail> {
-    fails(&rt, &mut opened(rt.alloc())?);
+    fails(&rt, &mut open_cache(rt.alloc())?);
     Ok(())
 }
 
@@ -221,7 +227,7 @@ fn fails(rt: &impl Abort, cache: &mut Numbers) {
 /// A key by reference belongs to the same segment.
 #[test]
 fn lent_keys_are_of_the_same_segment(rt: HostRuntime) -> Result<(), Fail> {
-    are_of_the_same_segment(&rt, &mut opened(rt.alloc())?);
+    are_of_the_same_segment(&rt, &mut open_cache(rt.alloc())?);
     Ok(())
 }
 
@@ -237,7 +243,7 @@ fn are_of_the_same_segment(rt: &impl Abort, cache: &mut Numbers) {
 /// The loaders by reference store nothing for `None` or an error.
 #[test]
 fn lent_keys_may_get_none_or_an_error(rt: HostRuntime) -> Result<(), Fail> {
-    may_get_none_or_an_error(&rt, &mut opened(rt.alloc())?);
+    may_get_none_or_an_error(&rt, &mut open_cache(rt.alloc())?);
     Ok(())
 }
 
@@ -258,7 +264,10 @@ fn opens(rt: &impl Abort, cache: &mut Numbers, key: u64, number: u64) {
     match cache.begin_by_ref(&key, Kind::With, None::<fn(&u64) -> bool>, 0) {
         Ok(Begun::Run(turn)) => {
             assert_eq!(rt; (turn.number(), *turn.key()), (number, key));
-            assert_eq!(rt; got_with_by_ref(cache, key, 7), Err(Refused::TurnIsOpen));
+            assert_eq!(rt;
+                call_get_with_by_ref(cache, key, 7),
+                Err(Refused::TurnIsOpen)
+            );
             assert!(rt; cache.abandon(turn).is_ok());
         }
         Ok(Begun::Wait(ticket)) => {
@@ -273,7 +282,7 @@ fn opens(rt: &impl Abort, cache: &mut Numbers, key: u64, number: u64) {
 /// A loader fails with `TurnIsOpen` while a turn of its key is open in its segment.
 #[test]
 fn an_open_turn_is_not_waited_for(rt: HostRuntime) -> Result<(), Fail> {
-    is_not_waited_for(&rt, &mut opened(rt.alloc())?);
+    is_not_waited_for(&rt, &mut open_cache(rt.alloc())?);
     Ok(())
 }
 
@@ -287,17 +296,20 @@ fn is_not_waited_for(rt: &impl Abort, cache: &mut Numbers) {
 /// Checks that a loader returns the same on the cache and on a cache of its own.
 fn works_out_alike(rt: &impl Abort, cache: &mut Numbers, own: &mut One, key: u64, now: u64) {
     let said = own.get_with(key, || now, now);
-    assert_eq!(rt; got_with(cache, key, now, now), said);
+    assert_eq!(rt; call_get_with(cache, key, now, now), said);
 }
 
 fn replaces_alike(rt: &impl Abort, cache: &mut Numbers, own: &mut One, key: u64, now: u64) {
     let said = own.get_with_if(key, || key, |value| *value == now, now);
-    assert_eq!(rt; got_with_if(cache, key, key, now, now), said);
+    assert_eq!(rt; call_get_with_if(cache, key, key, now, now), said);
 }
 
 fn gives_none_alike(rt: &impl Abort, cache: &mut Numbers, own: &mut One, key: u64, now: u64) {
     let said = own.optionally_get_with_by_ref(&key, || None, now);
-    assert_eq!(rt; maybe_got_by_ref(cache, key, None, now), said);
+    assert_eq!(rt;
+        call_optionally_get_with_by_ref(cache, key, None, now),
+        said
+    );
 }
 
 fn finds_alike(rt: &impl Abort, cache: &mut Numbers, own: &mut One, key: u64) {
@@ -318,12 +330,12 @@ fn has_as_many(rt: &impl Abort, cache: &Numbers, own: &One) {
 }
 
 /// Builds a segmented cache, and checks that its loaders return what those of `own` do.
-fn answers_as(rt: &impl Abort, alloc: Global, own: &mut One) -> Result<(), Fail> {
-    are_answered_alike(rt, &mut opened(alloc)?, own);
+fn replies_as(rt: &impl Abort, alloc: Global, own: &mut One) -> Result<(), Fail> {
+    reply_alike(rt, &mut open_cache(alloc)?, own);
     Ok(())
 }
 
-fn are_answered_alike(rt: &impl Abort, cache: &mut Numbers, own: &mut One) {
+fn reply_alike(rt: &impl Abort, cache: &mut Numbers, own: &mut One) {
     for step in 0..30 {
         let key = UPPER + step % 12;
         let other = UPPER + 1 + step % 12;
@@ -347,6 +359,6 @@ fn run_pending_tasks(cache: &mut Numbers, own: &mut One) {
 /// A segment returns what an owned cache with its share would.
 #[test]
 fn a_segment_answers_as_a_state_of_its_own(rt: HostRuntime) -> Result<(), Fail> {
-    let mut own = one(rt.alloc())?;
-    answers_as(&rt, rt.alloc(), &mut own)
+    let mut own = open_one(rt.alloc())?;
+    replies_as(&rt, rt.alloc(), &mut own)
 }

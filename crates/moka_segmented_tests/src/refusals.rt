@@ -2,7 +2,7 @@
 //! or says where it failed: `scripts/refused_memory` tries each.
 use crate::caches::{
     Builder, Hasher, Odd, SECOND, Texts, UPPER, builder, entry_count, hide_odd, holds, invalidate,
-    invalidate_all, is_live, look, name, notice_count, opened, remove, run_pending_tasks,
+    invalidate_all, is_live, look, name, notice_count, open_cache, remove, run_pending_tasks,
     run_up_to, segments, take_notice, text, weighted_size, write,
 };
 use moka::common::builder_utils::BuildError;
@@ -13,7 +13,7 @@ use std::process::Abort;
 use std::sync::Arc;
 use std::test::Fail;
 
-fn built(alloc: Global) -> Result<Texts, BuildError> {
+fn build_once(alloc: Global) -> Result<Texts, BuildError> {
     Builder::new(400)
         .initial_capacity(8)
         .eviction_policy(EvictionPolicy::lru())
@@ -23,9 +23,9 @@ fn built(alloc: Global) -> Result<Texts, BuildError> {
 }
 
 /// Builds a cache. Retries once if an allocation fails.
-fn built_anew(alloc: Global) -> Result<Texts, BuildError> {
-    match built(alloc) {
-        Err(BuildError::OutOfMemory) => built(alloc),
+fn build_anew(alloc: Global) -> Result<Texts, BuildError> {
+    match build_once(alloc) {
+        Err(BuildError::OutOfMemory) => build_once(alloc),
         built => built,
     }
 }
@@ -33,7 +33,7 @@ fn built_anew(alloc: Global) -> Result<Texts, BuildError> {
 /// A build that fails with `OutOfMemory` can be repeated.
 #[test]
 fn a_cache_is_built_anew_where_memory_was_refused(rt: HostRuntime) -> Result<(), Fail> {
-    let cache = built_anew(rt.alloc())?;
+    let cache = build_anew(rt.alloc())?;
     is_built_anew(&rt, &cache);
     Ok(())
 }
@@ -45,7 +45,7 @@ fn is_built_anew(rt: &impl Abort, cache: &Texts) {
 }
 
 /// Creates a text. Retries once if the allocation fails.
-fn given(alloc: Global, it: &str) -> Result<String, Fail> {
+fn create_text(alloc: Global, it: &str) -> Result<String, Fail> {
     match text(alloc, it) {
         Ok(it) => Ok(it),
         Err(_) => Ok(text(alloc, it)?),
@@ -54,7 +54,12 @@ fn given(alloc: Global, it: &str) -> Result<String, Fail> {
 
 /// Returns the text that a failed insert hands back. Checks its key and that the cause is
 /// `OutOfMemory`.
-fn handed_back(rt: &impl Abort, refused: InsertRefused<u64, String>, key: u64, it: &str) -> String {
+fn text_handed_back(
+    rt: &impl Abort,
+    refused: InsertRefused<u64, String>,
+    key: u64,
+    it: &str,
+) -> String {
     assert_eq!(rt; (refused.key, refused.cause), (key, Refused::OutOfMemory));
     assert_eq!(rt; refused.value.as_str(), it);
     refused.value
@@ -69,8 +74,8 @@ fn insert(
     it: &str,
 ) -> Result<(), Fail> {
     let (entries, notices) = (entry_count(cache), notice_count(cache));
-    if let Err(refused) = write(cache, key, given(alloc, it)?, 0) {
-        let value = handed_back(rt, refused, key, it);
+    if let Err(refused) = write(cache, key, create_text(alloc, it)?, 0) {
+        let value = text_handed_back(rt, refused, key, it);
         holds(rt, cache, entries, notices);
         write(cache, key, value, 0)?;
     }
@@ -83,18 +88,18 @@ const KEYS: [u64; 4] = [1, 1 << 62, UPPER, u64::MAX];
 /// Inserts, lookups and removals work, also if any one allocation fails.
 #[test]
 fn answers_where_a_call_is_refused(rt: HostRuntime) -> Result<(), Fail> {
-    let mut cache = built_anew(rt.alloc())?;
-    answers(&rt, rt.alloc(), &mut cache)
+    let mut cache = build_anew(rt.alloc())?;
+    check_replies(&rt, rt.alloc(), &mut cache)
 }
 
-fn answers(rt: &impl Abort, alloc: Global, cache: &mut Texts) -> Result<(), Fail> {
+fn check_replies(rt: &impl Abort, alloc: Global, cache: &mut Texts) -> Result<(), Fail> {
     for key in KEYS {
         insert(rt, cache, alloc, key, "a")?;
         insert(rt, cache, alloc, key, "b")?;
     }
     for key in KEYS {
-        is_text(rt, looked_up(cache, key)?, "b");
-        is_text(rt, removed(cache, key)?, "b");
+        is_text(rt, look_up(cache, key)?, "b");
+        is_text(rt, remove_key(cache, key)?, "b");
     }
     holds(rt, cache, 0, 8);
     Ok(())
@@ -107,7 +112,7 @@ fn is_text(rt: &impl Abort, given: Maybe, expected: &str) {
 }
 
 /// Returns what a lookup of a key finds. Retries once if an allocation fails.
-fn looked_up(cache: &mut Texts, key: u64) -> Result<Maybe, Refused> {
+fn look_up(cache: &mut Texts, key: u64) -> Result<Maybe, Refused> {
     match look(cache, key, 0) {
         Err(Refused::OutOfMemory) => look(cache, key, 0),
         found => found,
@@ -115,7 +120,7 @@ fn looked_up(cache: &mut Texts, key: u64) -> Result<Maybe, Refused> {
 }
 
 /// Returns what a removal returns. Retries once if an allocation fails.
-fn removed(cache: &mut Texts, key: u64) -> Result<Maybe, Refused> {
+fn remove_key(cache: &mut Texts, key: u64) -> Result<Maybe, Refused> {
     match remove(cache, key) {
         Err(Refused::OutOfMemory) => remove(cache, key),
         removed => removed,
@@ -125,8 +130,8 @@ fn removed(cache: &mut Texts, key: u64) -> Result<Maybe, Refused> {
 /// Calls other than inserts do not allocate, if they clone no value.
 #[test]
 fn takes_no_memory_but_for_writes(rt: HostRuntime) -> Result<(), Fail> {
-    let told = builder(100).support_invalidation_closures();
-    let mut cache = opened(rt.alloc(), told, 2)?;
+    let settings = builder(100).support_invalidation_closures();
+    let mut cache = open_cache(rt.alloc(), settings, 2)?;
     takes_none_but_for_a_write(&rt, rt.alloc(), &mut cache)
 }
 

@@ -3,7 +3,7 @@ ghost use Rattle.std.specs.Prelude.{◌≡◌, IfOk, OnOk};
 ghost use Rattle.std.specs.List.{All, AllByRecursion};
 ghost use Rattle.moka.specs.Step.{StepKeeps};
 
-use crate::caches::{Odd, SECOND, Texts, Types, UPPER, builder, opened, text};
+use crate::caches::{Odd, SECOND, Texts, Types, UPPER, builder, open_cache, text};
 use moka::policy::{CacheTypes, Predicate};
 use moka::state::Step;
 use moka::sync::value_initializer::{Kind, Outcome, TurnName};
@@ -140,8 +140,8 @@ const REPLIES: &str =
 /// A run replies to each of its steps, in order.
 #[test]
 fn a_run_replies_to_each_step(rt: HostRuntime) -> Result<(), Fail> {
-    let told = builder(100).time_to_live(Duration::from_secs(10));
-    let mut cache = opened(rt.alloc(), told, 2)?;
+    let settings = builder(100).time_to_live(Duration::from_secs(10));
+    let mut cache = open_cache(rt.alloc(), settings, 2)?;
     replies_to_each(&rt, rt.alloc(), &mut cache)
 }
 
@@ -181,7 +181,7 @@ fn replies(
 /// Steps about turns name their turns, and reply as the calls return.
 #[test]
 fn steps_of_turns_name_their_turns(rt: HostRuntime) -> Result<(), Fail> {
-    let mut cache = opened(rt.alloc(), builder(100), 2)?;
+    let mut cache = open_cache(rt.alloc(), builder(100), 2)?;
     name_their_turns(&rt, rt.alloc(), &mut cache)
 }
 

@@ -1,5 +1,7 @@
 //! The number of segments, the share of each, and the keys that belong to it.
-use crate::caches::{Builder, Hasher, Texts, UPPER, builder, has, insert, name, opened, segments};
+use crate::caches::{
+    Builder, Hasher, Texts, UPPER, builder, has, insert, name, open_cache, segments,
+};
 use moka::common::builder_utils::BuildError;
 use moka::policy::{EvictionPolicy, NoListener, Policy};
 use std::alloc::Global;
@@ -37,7 +39,7 @@ fn opens_with_shares(
     share: u64,
 ) -> Result<(), Fail> {
     let capacity = policy.max_capacity().ok_or("a capacity")?;
-    let cache = opened(alloc, builder(capacity), wanted)?;
+    let cache = open_cache(alloc, builder(capacity), wanted)?;
     has_shares(rt, &cache, policy, share);
     Ok(())
 }
@@ -58,17 +60,17 @@ fn have_policies(rt: &impl Abort, cache: &Texts, policy: Policy, share: Policy) 
 /// A segmented cache and its segments have the settings of the builder.
 #[test]
 fn every_setting_is_kept(rt: HostRuntime) -> Result<(), Fail> {
-    let told: Builder = Builder::new(400)
+    let settings: Builder = Builder::new(400)
         .time_to_live(Duration::from_secs(2700))
         .time_to_idle(Duration::from_secs(900))
         .eviction_policy(EvictionPolicy::lru())
         .eviction_listener(NoListener)
         .name(rt.alloc(), "tracked_sessions")?;
-    keeps_settings(&rt, &opened(rt.alloc(), told, 24)?);
+    has_settings(&rt, &open_cache(rt.alloc(), settings, 24)?);
     Ok(())
 }
 
-fn keeps_settings(rt: &impl Abort, cache: &Texts) {
+fn has_settings(rt: &impl Abort, cache: &Texts) {
     let (live, idle) = (Duration::from_secs(2700), Duration::from_secs(900));
     let policy = Policy::new(Some(400), 32, Some(live), Some(idle));
     let share = Policy::new(Some(13), 1, Some(live), Some(idle));
@@ -114,7 +116,7 @@ fn opens_and_is_of_segment(
     key: u64,
     place: usize,
 ) -> Result<(), Fail> {
-    let mut cache = opened(alloc, builder(100), 5)?;
+    let mut cache = open_cache(alloc, builder(100), 5)?;
     is_of_segment(rt, alloc, &mut cache, key, place)
 }
 

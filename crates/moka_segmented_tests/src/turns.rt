@@ -1,7 +1,7 @@
 //! The calls about turns, each in the segment of the turn's key.
 ghost use Rattle.std.specs.Prelude.{◌≡◌};
 
-use crate::caches::{Texts, UPPER, builder, has, insert, look, opened, segments, text};
+use crate::caches::{Texts, UPPER, builder, has, insert, look, open_cache, segments, text};
 use moka::policy::Refused;
 use moka::sync::value_initializer::{
     Answer, Begun, CollectRefused, Collected, FinishRefused, Finished, Kind, Outcome, Ticket, Turn,
@@ -32,12 +32,12 @@ fn finish(cache: &mut Texts, turn: Turn<u64>, value: String) -> Ended
 }
 
 /// Collects a ticket.
-fn collect(cache: &mut Texts, ticket: Ticket<u64>) -> Result<Told, CollectRefused<u64>> {
+fn collect(cache: &mut Texts, ticket: Ticket<u64>) -> Result<Collects, CollectRefused<u64>> {
     cache.collect(ticket)
 }
 
 /// Consumes what a begin returned, and returns what it was.
-fn spent(cache: &mut Texts, begun: Begins) -> &'static str {
+fn consume_begun(cache: &mut Texts, begun: Begins) -> &'static str {
     match begun {
         Ok(Begun::Run(turn)) => {
             let _ = abandon(cache, turn);
@@ -53,25 +53,25 @@ fn spent(cache: &mut Texts, begun: Begins) -> &'static str {
 }
 
 /// Returns the turn of a begin that runs.
-fn ran(rt: &impl Abort, cache: &mut Texts, key: &Arc<u64>) -> Turn<u64>
+fn begin_running(rt: &impl Abort, cache: &mut Texts, key: &Arc<u64>) -> Turn<u64>
     ensures { result.key.kind ≡ Kind.With }
 {
     match cache.begin(key, Kind::With, None::<fn(&String) -> bool>, 0) {
         Ok(Begun::Run(turn)) => turn,
-        begun => panic!(rt; "{}", spent(cache, begun)),
+        begun => panic!(rt; "{}", consume_begun(cache, begun)),
     }
 }
 
 /// Returns the ticket of a begin that waits.
-fn waited(rt: &impl Abort, cache: &mut Texts, key: &Arc<u64>) -> Ticket<u64> {
+fn begin_waiting(rt: &impl Abort, cache: &mut Texts, key: &Arc<u64>) -> Ticket<u64> {
     match cache.begin(key, Kind::With, None::<fn(&String) -> bool>, 0) {
         Ok(Begun::Wait(ticket)) => ticket,
-        begun => panic!(rt; "{}", spent(cache, begun)),
+        begun => panic!(rt; "{}", consume_begun(cache, begun)),
     }
 }
 
 /// Finishes a turn with a text, which is fresh.
-fn finished(rt: &impl Abort, cache: &mut Texts, turn: Turn<u64>, value: String)
+fn finish_with_text(rt: &impl Abort, cache: &mut Texts, turn: Turn<u64>, value: String)
     requires { turn.key.kind ≡ Kind.With }
 {
     match finish(cache, turn, value) {
@@ -86,11 +86,11 @@ fn finished(rt: &impl Abort, cache: &mut Texts, turn: Turn<u64>, value: String)
     }
 }
 
-type Told = Collected<u64, String, Infallible>;
+type Collects = Collected<u64, String, Infallible>;
 
 /// Consumes what a ticket collected, and returns what it was.
-fn spent_told(cache: &mut Texts, told: Told) -> &'static str {
-    match told {
+fn consume_collected(cache: &mut Texts, collected: Collects) -> &'static str {
+    match collected {
         Collected::Ready(_) => "it gave something",
         Collected::NotYet(ticket) => {
             let _ = leave(cache, ticket);
@@ -102,9 +102,9 @@ fn spent_told(cache: &mut Texts, told: Told) -> &'static str {
 }
 
 /// Returns what a ticket collects.
-fn collected(rt: &impl Abort, cache: &mut Texts, ticket: Ticket<u64>) -> Told {
+fn collect_ticket(rt: &impl Abort, cache: &mut Texts, ticket: Ticket<u64>) -> Collects {
     match collect(cache, ticket) {
-        Ok(told) => told,
+        Ok(collected) => collected,
         Err(CollectRefused { ticket, .. }) => {
             let _ = leave(cache, ticket);
             panic!(rt; "it is refused")
@@ -113,21 +113,21 @@ fn collected(rt: &impl Abort, cache: &mut Texts, ticket: Ticket<u64>) -> Told {
 }
 
 /// Checks that a ticket collects this text under this key.
-fn told(rt: &impl Abort, cache: &mut Texts, ticket: Ticket<u64>, key: u64, value: &str) {
-    match collected(rt, cache, ticket) {
+fn check_collected(rt: &impl Abort, cache: &mut Texts, ticket: Ticket<u64>, key: u64, value: &str) {
+    match collect_ticket(rt, cache, ticket) {
         Collected::Ready(Answer::Entry(entry)) => {
             assert_eq!(rt; (*entry.key(), entry.value().as_str()), (key, value));
             assert!(rt; !entry.is_fresh());
         }
-        told => panic!(rt; "{}", spent_told(cache, told)),
+        collected => panic!(rt; "{}", consume_collected(cache, collected)),
     }
 }
 
 /// Returns the ticket again after it found its turn still open.
-fn open_still(rt: &impl Abort, cache: &mut Texts, ticket: Ticket<u64>) -> Ticket<u64> {
-    match collected(rt, cache, ticket) {
+fn collect_open(rt: &impl Abort, cache: &mut Texts, ticket: Ticket<u64>) -> Ticket<u64> {
+    match collect_ticket(rt, cache, ticket) {
         Collected::NotYet(ticket) => ticket,
-        told => panic!(rt; "{}", spent_told(cache, told)),
+        collected => panic!(rt; "{}", consume_collected(cache, collected)),
     }
 }
 
@@ -137,7 +137,7 @@ const KEYS: [u64; 4] = [1, 1 << 62, UPPER, u64::MAX];
 /// A turn belongs to the segment of its key.
 #[test]
 fn a_turn_is_of_the_segment_of_its_key(rt: HostRuntime) -> Result<(), Fail> {
-    let mut cache = opened(rt.alloc(), builder(400), 4)?;
+    let mut cache = open_cache(rt.alloc(), builder(400), 4)?;
     each_is_of_its_segment(&rt, rt.alloc(), &mut cache)
 }
 
@@ -165,12 +165,12 @@ fn stands_in(rt: &impl Abort, cache: &Texts, key: u64, index: usize) {
 
 /// Begins a turn, waits for it with a ticket, and finishes it. Checks what the ticket collects.
 fn runs_and_waits(rt: &impl Abort, cache: &mut Texts, key: &Arc<u64>, value: String) {
-    let turn = ran(rt, cache, key);
+    let turn = begin_running(rt, cache, key);
     assert_eq!(rt; (turn.number(), *turn.key()), (0, **key));
-    let ticket = waited(rt, cache, key);
+    let ticket = begin_waiting(rt, cache, key);
     assert_eq!(rt; (ticket.number(), *ticket.key()), (0, **key));
-    finished(rt, cache, turn, value);
-    told(rt, cache, ticket, **key, "a");
+    finish_with_text(rt, cache, turn, value);
+    check_collected(rt, cache, ticket, **key, "a");
 }
 
 /// Turns of two segments are independent, also with equal numbers.
@@ -178,7 +178,7 @@ fn runs_and_waits(rt: &impl Abort, cache: &mut Texts, key: &Arc<u64>, value: Str
 fn turns_of_two_segments_do_not_meet(rt: HostRuntime) -> Result<(), Fail> {
     let (low, high) = (Arc::new(rt.alloc(), 1)?, Arc::new(rt.alloc(), UPPER)?);
     let (first, second) = (text(rt.alloc(), "a")?, text(rt.alloc(), "b")?);
-    let mut cache = opened(rt.alloc(), builder(400), 4)?;
+    let mut cache = open_cache(rt.alloc(), builder(400), 4)?;
     do_not_meet(&rt, &mut cache, (&low, first), (&high, second));
     Ok(())
 }
@@ -189,24 +189,24 @@ fn do_not_meet(
     low: (&Arc<u64>, String),
     high: (&Arc<u64>, String),
 ) {
-    let turn = ran(rt, cache, low.0);
-    let ticket = waited(rt, cache, low.0);
+    let turn = begin_running(rt, cache, low.0);
+    let ticket = begin_waiting(rt, cache, low.0);
     abandons(rt, cache, high.0);
-    let ticket = open_still(rt, cache, ticket);
-    let next = ran(rt, cache, high.0);
+    let ticket = collect_open(rt, cache, ticket);
+    let next = begin_running(rt, cache, high.0);
     assert_eq!(rt; (turn.number(), next.number()), (0, 1));
-    let more = waited(rt, cache, high.0);
-    finished(rt, cache, turn, low.1);
-    let more = open_still(rt, cache, more);
-    finished(rt, cache, next, high.1);
-    told(rt, cache, ticket, 1, "a");
-    told(rt, cache, more, UPPER, "b");
+    let more = begin_waiting(rt, cache, high.0);
+    finish_with_text(rt, cache, turn, low.1);
+    let more = collect_open(rt, cache, more);
+    finish_with_text(rt, cache, next, high.1);
+    check_collected(rt, cache, ticket, 1, "a");
+    check_collected(rt, cache, more, UPPER, "b");
 }
 
 /// Begins a turn, waits for it with a ticket, abandons it, and leaves the ticket.
 fn abandons(rt: &impl Abort, cache: &mut Texts, key: &Arc<u64>) {
-    let turn = ran(rt, cache, key);
-    let ticket = waited(rt, cache, key);
+    let turn = begin_running(rt, cache, key);
+    let ticket = begin_waiting(rt, cache, key);
     assert_eq!(rt; turn.number(), 0);
     assert!(rt; abandon(cache, turn).is_ok());
     assert!(rt; leave(cache, ticket).is_ok());
@@ -216,7 +216,7 @@ fn abandons(rt: &impl Abort, cache: &mut Texts, key: &Arc<u64>) {
 #[test]
 fn a_live_value_is_found_or_replaced(rt: HostRuntime) -> Result<(), Fail> {
     let key = Arc::new(rt.alloc(), UPPER)?;
-    let mut cache = opened(rt.alloc(), builder(400), 4)?;
+    let mut cache = open_cache(rt.alloc(), builder(400), 4)?;
     is_found_or_replaced(&rt, rt.alloc(), &mut cache, &key)
 }
 
@@ -234,25 +234,25 @@ fn is_found_or_replaced(
 }
 
 fn is_replaced(rt: &impl Abort, cache: &mut Texts, key: &Arc<u64>, value: String) {
-    let turn = ran_over(rt, cache, key);
-    finished(rt, cache, turn, value);
+    let turn = begin_replacing(rt, cache, key);
+    finish_with_text(rt, cache, turn, value);
 }
 
 /// Checks that a begin that replaces longer texts finds this one.
 fn is_found(rt: &impl Abort, cache: &mut Texts, key: &Arc<u64>) {
     match cache.begin(key, Kind::With, Some(|value: &String| value.len() > 1), 0) {
         Ok(Begun::Found(entry)) => assert_eq!(rt; entry.value().as_str(), "a"),
-        begun => panic!(rt; "{}", spent(cache, begun)),
+        begun => panic!(rt; "{}", consume_begun(cache, begun)),
     }
 }
 
 /// Returns the turn of a begin that replaces this text.
-fn ran_over(rt: &impl Abort, cache: &mut Texts, key: &Arc<u64>) -> Turn<u64>
+fn begin_replacing(rt: &impl Abort, cache: &mut Texts, key: &Arc<u64>) -> Turn<u64>
     ensures { result.key.kind ≡ Kind.With }
 {
     match cache.begin(key, Kind::With, Some(|value: &String| value.len() == 1), 0) {
         Ok(Begun::Run(turn)) => turn,
-        begun => panic!(rt; "{}", spent(cache, begun)),
+        begun => panic!(rt; "{}", consume_begun(cache, begun)),
     }
 }
 
@@ -261,7 +261,7 @@ fn ran_over(rt: &impl Abort, cache: &mut Texts, key: &Arc<u64>) -> Turn<u64>
 fn what_another_cache_handed_out_is_not_known(rt: HostRuntime) -> Result<(), Fail> {
     let key = Arc::new(rt.alloc(), UPPER)?;
     let value = text(rt.alloc(), "a")?;
-    let mut other = opened(rt.alloc(), builder(400), 4)?;
+    let mut other = open_cache(rt.alloc(), builder(400), 4)?;
     is_not_known_to(&rt, rt.alloc(), &mut other, &key, value)
 }
 
@@ -272,7 +272,7 @@ fn is_not_known_to(
     key: &Arc<u64>,
     value: String,
 ) -> Result<(), Fail> {
-    let mut cache = opened(alloc, builder(400), 4)?;
+    let mut cache = open_cache(alloc, builder(400), 4)?;
     are_not_known(rt, &mut cache, other, key, value);
     Ok(())
 }
@@ -284,8 +284,8 @@ fn are_not_known(
     key: &Arc<u64>,
     value: String,
 ) {
-    let turn = ran(rt, cache, key);
-    let ticket = waited(rt, cache, key);
+    let turn = begin_running(rt, cache, key);
+    let ticket = begin_waiting(rt, cache, key);
     let turn = unknown_turn(rt, other, turn, value);
     let ticket = unknown_ticket(rt, other, ticket);
     assert_eq!(rt; leave(other, ticket), Err(Refused::UnknownTicket));
@@ -319,6 +319,6 @@ fn unknown_ticket(rt: &impl Abort, cache: &mut Texts, ticket: Ticket<u64>) -> Ti
             assert_eq!(rt; cause, Refused::UnknownTicket);
             ticket
         }
-        Ok(told) => panic!(rt; "{}", spent_told(cache, told)),
+        Ok(collected) => panic!(rt; "{}", consume_collected(cache, collected)),
     }
 }

@@ -14,17 +14,17 @@ use std::time::{Clock, Instant};
 type Alone<R> = State<u64, u64, Plain, R>;
 
 /// Creates a cache and runs a load on it.
-pub(crate) fn timed<R: Clock>(
+pub(crate) fn time_load<R: Clock>(
     rt: &R,
     alloc: Global,
     load: &Load,
     keys: &[u64],
 ) -> io::Result<Outcome> {
-    let mut state = opened(alloc, load.capacity)?;
-    timed_on(rt, &mut state, keys)
+    let mut state = build_state(alloc, load.capacity)?;
+    time_load_on(rt, &mut state, keys)
 }
 
-fn opened(alloc: Global, capacity: u32) -> Result<Alone<ExpiringRows<u64, u64>>, AllocError> {
+fn build_state(alloc: Global, capacity: u32) -> Result<Alone<ExpiringRows<u64, u64>>, AllocError> {
     let builder = CacheBuilder::new(u64::from(capacity)).eviction_policy(EvictionPolicy::lru());
     match builder.build_state(alloc, FoldState::default()) {
         Ok(state) => Ok(state),
@@ -33,7 +33,7 @@ fn opened(alloc: Global, capacity: u32) -> Result<Alone<ExpiringRows<u64, u64>>,
 }
 
 /// Times the second half of the keys. The first half brings the cache to a steady state.
-fn timed_on<R: RowStore<u64, u64>>(
+fn time_load_on<R: RowStore<u64, u64>>(
     rt: &impl Clock,
     state: &mut Alone<R>,
     keys: &[u64],
@@ -52,7 +52,7 @@ fn look_for_all<R: RowStore<u64, u64>>(
 ) -> Result<u64, AllocError> {
     let mut found = 0_u64;
     for key in keys {
-        if look(state, *key)? {
+        if look_up(state, *key)? {
             found = found.wrapping_add(1);
         }
     }
@@ -60,7 +60,7 @@ fn look_for_all<R: RowStore<u64, u64>>(
 }
 
 /// Looks a key up, and inserts it if it is not found. Returns whether it was found.
-fn look<R: RowStore<u64, u64>>(state: &mut Alone<R>, key: u64) -> Result<bool, AllocError> {
+fn look_up<R: RowStore<u64, u64>>(state: &mut Alone<R>, key: u64) -> Result<bool, AllocError> {
     let Ok(found) = state.get(&key, 0) else {
         return Err(AllocError);
     };

@@ -1,6 +1,6 @@
 //! Many threads that load one key at once. Its value takes a millisecond to compute.
 use crate::initializer::Initializer;
-use crate::measure::{Call, Way, by_threads, nanos_since};
+use crate::measure::{Call, Way, nanos_since, run_by_threads};
 use crate::subject::{OneLock, Segments, Subject};
 use crate::table::{NO_ROUND, Round, median_time};
 use std::alloc::Global;
@@ -68,7 +68,7 @@ fn round<S: Subject<R> + Sync, R: Wait + Clock + Threads + Copy + Send + Sync>(
     rt: &R,
     alloc: Global,
 ) -> io::Result<(u64, Round)> {
-    let subject = S::made(alloc, 100, *rt)?;
+    let subject = S::create(alloc, 100, *rt)?;
     round_on(rt, alloc, &subject)
 }
 
@@ -79,19 +79,19 @@ fn round_on<S: Subject<R> + Sync, R: Clock + Threads + Copy + Sync>(
 ) -> io::Result<(u64, Round)> {
     let initializer = Initializer::new(Duration::from_millis(1), *rt);
     let mut times = NO_ROUND;
-    times[0] = asked(rt, alloc, subject, &initializer)?;
-    times[1] = asked(rt, alloc, subject, &initializer)?;
-    Ok((initializer.asked(), times))
+    times[0] = time_callers(rt, alloc, subject, &initializer)?;
+    times[1] = time_callers(rt, alloc, subject, &initializer)?;
+    Ok((initializer.call_count(), times))
 }
 
 /// Returns the nanoseconds from before the first thread starts until the last has ended.
-fn asked<S: Subject<R> + Sync, R: Clock + Threads + Sync>(
+fn time_callers<S: Subject<R> + Sync, R: Clock + Threads + Sync>(
     rt: &R,
     alloc: Global,
     subject: &S,
     initializer: &Initializer<R>,
 ) -> io::Result<u64> {
     let begun = Instant::now(rt)?;
-    by_threads(rt, alloc, subject, CALLERS, &KEYS, initializer)?;
+    run_by_threads(rt, alloc, subject, CALLERS, &KEYS, initializer)?;
     nanos_since(rt, begun)
 }

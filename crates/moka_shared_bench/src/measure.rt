@@ -52,7 +52,7 @@ pub(crate) struct Outcome {
 }
 
 /// Creates what is measured, and runs a load on it.
-pub(crate) fn measured<R: Wait + Clock + Threads + Copy + Send + Sync>(
+pub(crate) fn measure_load<R: Wait + Clock + Threads + Copy + Send + Sync>(
     rt: &R,
     alloc: Global,
     which: Which,
@@ -61,28 +61,28 @@ pub(crate) fn measured<R: Wait + Clock + Threads + Copy + Send + Sync>(
     keys: &[u64],
 ) -> io::Result<Outcome> {
     match which {
-        Which::Alone => alone::timed(rt, alloc, load, keys),
-        Which::Map => timed::<LockedMap<R>, R>(rt, alloc, way, load, keys),
-        Which::Lru => timed::<LockedLru<R>, R>(rt, alloc, way, load, keys),
-        Which::OneLock => timed::<OneLock<R>, R>(rt, alloc, way, load, keys),
-        Which::Segments => timed::<Segments<R>, R>(rt, alloc, way, load, keys),
+        Which::Alone => alone::time_load(rt, alloc, load, keys),
+        Which::Map => time_load::<LockedMap<R>, R>(rt, alloc, way, load, keys),
+        Which::Lru => time_load::<LockedLru<R>, R>(rt, alloc, way, load, keys),
+        Which::OneLock => time_load::<OneLock<R>, R>(rt, alloc, way, load, keys),
+        Which::Segments => time_load::<Segments<R>, R>(rt, alloc, way, load, keys),
     }
 }
 
 /// Times the second half of the keys. The first half, looked up by one thread, brings the subject
 /// to a steady state.
-fn timed<S: Subject<R> + Sync, R: Wait + Clock + Threads + Copy + Send + Sync>(
+fn time_load<S: Subject<R> + Sync, R: Wait + Clock + Threads + Copy + Send + Sync>(
     rt: &R,
     alloc: Global,
     way: Way,
     load: &Load,
     keys: &[u64],
 ) -> io::Result<Outcome> {
-    let subject = S::made(alloc, load.capacity, *rt)?;
-    timed_on(rt, alloc, &subject, way, keys)
+    let subject = S::create(alloc, load.capacity, *rt)?;
+    time_load_on(rt, alloc, &subject, way, keys)
 }
 
-fn timed_on<S: Subject<R> + Sync, R: Clock + Threads + Copy + Sync>(
+fn time_load_on<S: Subject<R> + Sync, R: Clock + Threads + Copy + Sync>(
     rt: &R,
     alloc: Global,
     subject: &S,
@@ -93,15 +93,15 @@ fn timed_on<S: Subject<R> + Sync, R: Clock + Threads + Copy + Sync>(
     let initializer = Initializer::new(Duration::ZERO, *rt);
     found_of(subject, Call::Look, before, &initializer)?;
     let begun = Instant::now(rt)?;
-    let found = by_threads(rt, alloc, subject, way, measured, &initializer)?;
+    let found = run_by_threads(rt, alloc, subject, way, measured, &initializer)?;
     let nanos = nanos_since(rt, begun)?;
     // A value that an initializer computed was not found.
-    let found = found.saturating_sub(initializer.asked());
+    let found = found.saturating_sub(initializer.call_count());
     Ok(Outcome { nanos, found })
 }
 
 /// Runs the keys, a part of them in each of the threads. Returns how many were found.
-pub(crate) fn by_threads<S: Subject<R> + Sync, R: Threads + Sync>(
+pub(crate) fn run_by_threads<S: Subject<R> + Sync, R: Threads + Sync>(
     rt: &R,
     alloc: Global,
     subject: &S,
@@ -143,7 +143,7 @@ fn found_of<S: Subject<R>, R>(
     let mut found = 0_u64;
     for key in keys {
         let is_found = match call {
-            Call::Look => subject.look(*key)?,
+            Call::Look => subject.look_up(*key)?,
             Call::GetWith => subject.get_with(*key, initializer)? == *key,
         };
         if is_found {

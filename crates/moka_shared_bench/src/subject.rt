@@ -14,10 +14,10 @@ use std::time::Clock;
 /// What threads share.
 pub(crate) trait Subject<W>: Drop {
     /// Creates an empty subject with room for `capacity` entries. `waits` waits for its lock.
-    fn made(alloc: Global, capacity: u32, waits: W) -> Result<Self, AllocError>;
+    fn create(alloc: Global, capacity: u32, waits: W) -> Result<Self, AllocError>;
 
     /// Looks a key up, and inserts it if it is not found. Returns whether it was found.
-    fn look(&self, key: u64) -> Result<bool, AllocError>;
+    fn look_up(&self, key: u64) -> Result<bool, AllocError>;
 
     /// Returns the value of a key. If it is not found, the initializer computes it, and it is
     /// stored.
@@ -32,12 +32,12 @@ pub(crate) struct LockedMap<W> {
 }
 
 impl<W: Wait + Clock + Drop> Subject<W> for LockedMap<W> {
-    fn made(alloc: Global, _capacity: u32, waits: W) -> Result<Self, AllocError> {
+    fn create(alloc: Global, _capacity: u32, waits: W) -> Result<Self, AllocError> {
         let map = Mutex::new(HashMap::with_hasher(alloc, FoldState::default()));
         Ok(LockedMap { map, waits })
     }
 
-    fn look(&self, key: u64) -> Result<bool, AllocError> {
+    fn look_up(&self, key: u64) -> Result<bool, AllocError> {
         let found = self.map.lock(&self.waits).get(&key).is_some();
         if !found && self.map.lock(&self.waits).insert(key, key).is_err() {
             return Err(AllocError);
@@ -67,13 +67,13 @@ pub(crate) struct LockedLru<W> {
 }
 
 impl<W: Wait + Clock + Drop> Subject<W> for LockedLru<W> {
-    fn made(alloc: Global, capacity: u32, waits: W) -> Result<Self, AllocError> {
+    fn create(alloc: Global, capacity: u32, waits: W) -> Result<Self, AllocError> {
         let capacity = NonZeroUsize::new(capacity as usize).ok_or(AllocError)?;
         let cache = Mutex::new(LruCache::with_hasher(alloc, capacity, FoldState::default())?);
         Ok(LockedLru { cache, waits })
     }
 
-    fn look(&self, key: u64) -> Result<bool, AllocError> {
+    fn look_up(&self, key: u64) -> Result<bool, AllocError> {
         let found = self.cache.lock(&self.waits).get(&key).is_some();
         if !found && self.cache.lock(&self.waits).put(key, key).is_err() {
             return Err(AllocError);
@@ -102,7 +102,7 @@ pub(crate) struct OneLock<W: Drop> {
 }
 
 impl<W: Wait + Clock + Drop> Subject<W> for OneLock<W> {
-    fn made(alloc: Global, capacity: u32, waits: W) -> Result<Self, AllocError> {
+    fn create(alloc: Global, capacity: u32, waits: W) -> Result<Self, AllocError> {
         let builder = CacheBuilder::new(u64::from(capacity)).eviction_policy(EvictionPolicy::lru());
         match builder.build_with_hasher(alloc, FoldState::default(), ManualClock::new(0), waits) {
             Ok(cache) => Ok(OneLock { cache }),
@@ -110,7 +110,7 @@ impl<W: Wait + Clock + Drop> Subject<W> for OneLock<W> {
         }
     }
 
-    fn look(&self, key: u64) -> Result<bool, AllocError> {
+    fn look_up(&self, key: u64) -> Result<bool, AllocError> {
         let Ok(found) = self.cache.get(&key) else {
             return Err(AllocError);
         };
@@ -138,7 +138,7 @@ pub(crate) struct Segments<W: Drop> {
 }
 
 impl<W: Wait + Clock + Clone + Drop> Subject<W> for Segments<W> {
-    fn made(alloc: Global, capacity: u32, waits: W) -> Result<Self, AllocError> {
+    fn create(alloc: Global, capacity: u32, waits: W) -> Result<Self, AllocError> {
         let builder = CacheBuilder::new(u64::from(capacity)).eviction_policy(EvictionPolicy::lru());
         let Ok(builder) = builder.segments(SEGMENTS) else {
             return Err(AllocError);
@@ -149,7 +149,7 @@ impl<W: Wait + Clock + Clone + Drop> Subject<W> for Segments<W> {
         }
     }
 
-    fn look(&self, key: u64) -> Result<bool, AllocError> {
+    fn look_up(&self, key: u64) -> Result<bool, AllocError> {
         let Ok(found) = self.cache.get(&key) else {
             return Err(AllocError);
         };

@@ -1,7 +1,7 @@
 //! The tables that are printed.
 use crate::hot;
 use crate::load::{ALL_THERE, FEW_HITS, FEW_LOOKS, LOADS, Load};
-use crate::measure::{Call, Way, Which, measured};
+use crate::measure::{Call, Way, Which, measure_load};
 use std::alloc::{AllocError, Global};
 use std::io;
 use std::io::Print;
@@ -227,7 +227,7 @@ fn print_columns<R: Runtime + Wait + Threads + Copy + Send + Sync>(
 ) -> io::Result<()> {
     let keys = load.keys(alloc)?;
     for column in columns {
-        let found = measured(rt, alloc, column.which, column.way, load, &keys)?.found;
+        let found = measure_load(rt, alloc, column.which, column.way, load, &keys)?.found;
         println!(rt;
             "{}: {found} of {} {} found",
             column.name, load.calls, load.name
@@ -298,7 +298,7 @@ fn round<R: Wait + Clock + Threads + Copy + Send + Sync>(
 ) -> io::Result<Round> {
     let mut round = NO_ROUND;
     for (column, time) in columns.iter().zip(round.iter_mut()) {
-        *time = measured(rt, alloc, column.which, column.way, load, keys)?.nanos;
+        *time = measure_load(rt, alloc, column.which, column.way, load, keys)?.nanos;
     }
     Ok(round)
 }

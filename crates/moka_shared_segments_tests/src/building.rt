@@ -104,19 +104,19 @@ fn has_shares<W: Wait + Drop>(
 /// A segmented cache has the settings of its builder.
 #[test]
 fn every_setting_is_kept(rt: HostRuntime) -> Result<(), Fail> {
-    let told: Builder = Builder::new(400)
+    let settings: Builder = Builder::new(400)
         .time_to_live(Duration::from_secs(2700))
         .time_to_idle(Duration::from_secs(900))
         .eviction_listener(NoListener)
         .name(rt.alloc(), "tracked_sessions")?;
-    let cache = told
+    let cache = settings
         .segments(24)?
         .build_with_hasher(rt.alloc(), Hasher::default(), ManualClock::new(0), rt)?;
-    keeps_settings(&rt, &cache);
+    has_settings(&rt, &cache);
     Ok(())
 }
 
-fn keeps_settings<W: Wait + Drop>(rt: &impl Abort, cache: &ByNumber<W>) {
+fn has_settings<W: Wait + Drop>(rt: &impl Abort, cache: &ByNumber<W>) {
     let (live, idle) = (Duration::from_secs(2700), Duration::from_secs(900));
     let policy = Policy::new(Some(400), 32, Some(live), Some(idle));
     assert_eq!(rt; cache.policy(), policy);
@@ -133,8 +133,8 @@ fn no_segments_and_too_many_are_refused(rt: HostRuntime) -> Result<(), Fail> {
         (9_223_372_036_854_775_809, Some(BuildError::TooManySegments)),
     ] {
         assert_eq!(rt; Builder::new(100).segments(count).err(), refused);
-        let told = ByNumber::<HostRuntime>::builder(count);
-        assert_eq!(rt; told.err(), refused);
+        let settings = ByNumber::<HostRuntime>::builder(count);
+        assert_eq!(rt; settings.err(), refused);
     }
     Ok(())
 }
@@ -168,8 +168,8 @@ fn lives(live: u64, idle: u64) -> Builder {
 }
 
 /// Returns why no cache with one lock is built, or `None`.
-fn single_refused<W: Wait + Drop>(rt: W, alloc: Global, told: Builder) -> Option<BuildError> {
-    let built = told.build_with_hasher(alloc, Hasher::default(), ManualClock::new(0), rt);
+fn single_refused<W: Wait + Drop>(rt: W, alloc: Global, settings: Builder) -> Option<BuildError> {
+    let built = settings.build_with_hasher(alloc, Hasher::default(), ManualClock::new(0), rt);
     built.err()
 }
 
@@ -177,13 +177,13 @@ fn single_refused<W: Wait + Drop>(rt: W, alloc: Global, told: Builder) -> Option
 fn several_refused<W: Wait + Clone + Drop>(
     rt: W,
     alloc: Global,
-    told: Builder,
+    settings: Builder,
 ) -> Option<BuildError> {
-    let told = match told.segments(4) {
-        Ok(told) => told,
+    let settings = match settings.segments(4) {
+        Ok(settings) => settings,
         Err(cause) => return Some(cause),
     };
-    let built = told.build_with_hasher(alloc, Hasher::default(), ManualClock::new(0), rt);
+    let built = settings.build_with_hasher(alloc, Hasher::default(), ManualClock::new(0), rt);
     built.err()
 }
 

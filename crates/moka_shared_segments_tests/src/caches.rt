@@ -1,7 +1,7 @@
 //! The caches under test, with four segments. Each key is its own hash, so its two highest bits
 //! choose its segment.
 
-use crate::marks::{Marks, come, inside_until_done, mark};
+use crate::marks::{Marks, inside_until_done, mark, reaches};
 use moka::notification::RemovalCause;
 use moka::policy::{
     EvictionPolicy, Listener, ManualClock, NoExpiry, NoPredicate, NoWeigher, NumberHash, Refused,
@@ -72,7 +72,7 @@ pub(crate) const THIRD: u64 = 1 << 63;
 pub(crate) const FOURTH: u64 = THIRD | SECOND;
 
 /// Wraps a value in an `Arc`. Retries once if the allocation fails.
-pub(crate) fn shared<T: Drop>(alloc: Global, value: T) -> Result<Arc<T>, AllocError> {
+pub(crate) fn share<T: Drop>(alloc: Global, value: T) -> Result<Arc<T>, AllocError> {
     match Arc::new(alloc, value) {
         Ok(value) => Ok(value),
         Err(failed) => Ok(Arc::new(alloc, failed.value)?),
@@ -85,7 +85,7 @@ pub(crate) fn builder<W: Clock + Drop>() -> Builder<W> {
 }
 
 /// Builds a cache of four segments, with the settings of a builder.
-pub(crate) fn opened<W: Wait + Clock + Clone + Drop>(
+pub(crate) fn open_cache<W: Wait + Clock + Clone + Drop>(
     rt: W,
     alloc: Global,
     builder: Builder<W>,
@@ -102,7 +102,7 @@ pub(crate) fn cache<W: Wait + Clock + Clone + Drop>(
     rt: W,
     alloc: Global,
 ) -> Result<Numbers<W>, Fail> {
-    opened(rt, alloc, builder())
+    open_cache(rt, alloc, builder())
 }
 
 // Each call of a cache is made once in these files, since each further function that makes it is as
@@ -137,7 +137,7 @@ fn gets_once_one_is_inside<W: Wait + Clock + Drop>(
     marks: &Marks,
     key: u64,
 ) -> Found {
-    come(rt, &marks.arrived, 1);
+    reaches(rt, &marks.arrived, 1);
     let found = get(cache, key);
     mark(&marks.done);
     found

@@ -7,11 +7,11 @@ mod building;
 #[cfg(test)]
 mod caches;
 #[cfg(test)]
+mod listeners;
+#[cfg(test)]
 mod locks;
 #[cfg(test)]
 mod marks;
-#[cfg(test)]
-mod told;
 #[cfg(test)]
 mod waiting;
 #[cfg(test)]

@@ -35,7 +35,12 @@ const OUTSIDE: [Form; 5] = [
 
 /// Makes a call about key 1, whose closure waits until another thread is done. The value is 1 then
 /// if that was in time.
-fn made_by<W: Wait + Clock + Drop>(rt: &W, cache: &Numbers<W>, marks: &Marks, form: Form) -> bool {
+fn make_call<W: Wait + Clock + Drop>(
+    rt: &W,
+    cache: &Numbers<W>,
+    marks: &Marks,
+    form: Form,
+) -> bool {
     match form {
         Form::With => gives(rt, cache, marks),
         Form::Optionally => may_give(rt, cache, marks),
@@ -87,7 +92,7 @@ fn replaces<W: Wait + Clock + Drop>(rt: &W, cache: &Numbers<W>, marks: &Marks) -
 #[test]
 fn a_get_in_the_same_segment_answers_while_a_closure_runs(rt: HostRuntime) -> Result<(), Fail> {
     for form in OUTSIDE {
-        answers_within(rt, rt.alloc(), form, 2)?;
+        replies_within(rt, rt.alloc(), form, 2)?;
     }
     Ok(())
 }
@@ -96,21 +101,21 @@ fn a_get_in_the_same_segment_answers_while_a_closure_runs(rt: HostRuntime) -> Re
 #[test]
 fn a_get_in_another_segment_answers_while_a_segment_is_locked(rt: HostRuntime) -> Result<(), Fail> {
     for key in [SECOND, THIRD, FOURTH] {
-        answers_within(rt, rt.alloc(), Form::ReplaceIf, key)?;
+        replies_within(rt, rt.alloc(), Form::ReplaceIf, key)?;
     }
     Ok(())
 }
 
-fn answers_within<W>(rt: W, alloc: Global, form: Form, key: u64) -> Result<(), Fail>
+fn replies_within<W>(rt: W, alloc: Global, form: Form, key: u64) -> Result<(), Fail>
 where
     W: Wait + Clock + Threads + Abort + Copy + Drop + Send + Sync + 'static,
 {
     let marks = new_marks(alloc)?;
     let cache = cache(rt, alloc)?;
-    a_get_answers(&rt, &cache, &marks, form, key)
+    a_get_replies(&rt, &cache, &marks, form, key)
 }
 
-fn a_get_answers<W>(
+fn a_get_replies<W>(
     rt: &W,
     cache: &Numbers<W>,
     marks: &Arc<Marks>,
@@ -125,14 +130,14 @@ where
     }
     insert(cache, key, 20)?;
     let child = gets_beside(rt, cache, marks, key)?;
-    assert!(rt; made_by(rt, cache, marks, form), "{form:?}");
+    assert!(rt; make_call(rt, cache, marks, form), "{form:?}");
     let found = child.join(rt);
-    have_answered(rt, get(cache, 1), found, form, key);
+    have_replied(rt, get(cache, 1), found, form, key);
     Ok(())
 }
 
 /// Checks that the lookup found its value, and that the closure saw that it was done.
-fn have_answered(rt: &impl Abort, made: Found, found: Found, form: Form, key: u64) {
+fn have_replied(rt: &impl Abort, made: Found, found: Found, form: Form, key: u64) {
     assert_eq!(rt;
         made,
         Ok(Some(1)),

@@ -2,8 +2,8 @@
 ghost use Rattle.std.specs.Prelude.{◌≡◌, ◌≢◌};
 ghost use Rattle.moka_model.specs.declared.turns.Kind.{Kind};
 
-use crate::caches::{FOURTH, Numbers, SECOND, THIRD, cache, clone, shared};
-use crate::marks::{Marks, come, mark, new_marks, pause, so_far};
+use crate::caches::{FOURTH, Numbers, SECOND, THIRD, cache, clone, share};
+use crate::marks::{Marks, count_so_far, mark, new_marks, pause, reaches};
 use moka::policy::Refused;
 use moka::sync::value_initializer::{Begun, FinishRefused, Kind, Outcome, Turn};
 use std::alloc::Global;
@@ -26,7 +26,7 @@ const THREADS: u64 = 4;
 /// The initializer. It returns its value once all threads have arrived and had time to wait.
 fn works_it_out(rt: &impl Clock, marks: &Marks) -> u64 {
     mark(&marks.asks);
-    come(rt, &marks.arrived, THREADS);
+    reaches(rt, &marks.arrived, THREADS);
     pause(rt);
     7
 }
@@ -114,28 +114,28 @@ fn all_are_given<W>(rt: &W, marks: &Marks, children: Vec<JoinHandle<Given>>)
 where
     W: Clock + Threads + Abort,
 {
-    assert!(rt; come(rt, &marks.done, THREADS), "all are answered");
+    assert!(rt; reaches(rt, &marks.done, THREADS), "all are answered");
     for child in children {
         assert_eq!(rt; child.join(rt), Ok(7));
     }
-    assert_eq!(rt; so_far(&marks.asks), 1, "one initializer ran");
+    assert_eq!(rt; count_so_far(&marks.asks), 1, "one initializer ran");
 }
 
 /// Counts a call of the caller's own initializer, and returns its value.
-fn own(marks: &Marks) -> u64 {
+fn count_own(marks: &Marks) -> u64 {
     mark(&marks.asks);
     12
 }
 
 fn asks<W: Wait + Clock + Drop>(cache: &Numbers<W>, marks: &Marks, key: u64) -> Given {
     mark(&marks.arrived);
-    let given = cache.get_with(key, || own(marks));
+    let given = cache.get_with(key, || count_own(marks));
     mark(&marks.done);
     given
 }
 
 /// Returns a turn of a kind, whatever is live.
-fn ran<W: Wait + Clock + Drop>(
+fn begin_running<W: Wait + Clock + Drop>(
     rt: &impl Abort,
     cache: &Numbers<W>,
     key: &Arc<u64>,
@@ -216,13 +216,13 @@ fn waits_for_a_turn<W>(rt: W, alloc: Global, key: u64, end: End) -> Result<(), F
 where
     W: Wait + Clock + Threads + Abort + Copy + Drop + Send + Sync + 'static,
 {
-    let key = shared(alloc, key)?;
+    let key = share(alloc, key)?;
     let marks = new_marks(alloc)?;
     let cache = cache(rt, alloc)?;
-    is_answered(&rt, &cache, (&key, &marks), end)
+    gets_reply(&rt, &cache, (&key, &marks), end)
 }
 
-fn is_answered<W>(
+fn gets_reply<W>(
     rt: &W,
     cache: &Numbers<W>,
     shared: (&Arc<u64>, &Arc<Marks>),
@@ -233,20 +233,20 @@ where
 {
     let (key, marks) = shared;
     let (theirs, others, number) = (clone(cache)?, marks.clone()?, **key);
-    let turn = ran(rt, cache, key, Kind::With);
+    let turn = begin_running(rt, cache, key, Kind::With);
     let child = thread::spawn(rt, move || asks(&theirs, &others, number));
     waits_still(rt, marks);
     ends(rt, cache, turn, end);
-    assert!(rt; come(rt, &marks.done, 1), "the other is answered");
-    is_given(rt, child?.join(rt), so_far(&marks.asks), end);
+    assert!(rt; reaches(rt, &marks.done, 1), "the other is answered");
+    is_given(rt, child?.join(rt), count_so_far(&marks.asks), end);
     Ok(())
 }
 
 /// Checks that one caller has arrived, and is still waiting after a pause.
 fn waits_still(rt: &(impl Clock + Abort), marks: &Marks) {
-    assert!(rt; come(rt, &marks.arrived, 1), "the other waits");
+    assert!(rt; reaches(rt, &marks.arrived, 1), "the other waits");
     pause(rt);
-    assert_eq!(rt; so_far(&marks.done), 0, "the other waits");
+    assert_eq!(rt; count_so_far(&marks.done), 0, "the other waits");
 }
 
 /// Checks that the waiting caller got the turn's value, or computed its own.

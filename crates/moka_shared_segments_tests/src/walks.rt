@@ -1,7 +1,7 @@
 //! An iteration holds no lock between two of its steps, and goes on while entries are written.
 
 use crate::caches::{FOURTH, Hasher, Numbers, SECOND, THIRD, Types, builder, cache, clone, insert};
-use crate::marks::{Marks, come, mark, new_marks, so_far};
+use crate::marks::{Marks, count_so_far, mark, new_marks, reaches};
 use moka::policy::ManualClock;
 use moka::sync::{Cache, Iter};
 use std::alloc::Global;
@@ -36,7 +36,7 @@ const LATE: u64 = 2;
 
 /// Iterates to the end, and after each step waits for a write of another thread. Returns the keys;
 /// checks that none came twice.
-fn walked<W: Wait + Clock + Abort + Drop>(
+fn walk_to_end<W: Wait + Clock + Abort + Drop>(
     rt: &W,
     alloc: Global,
     walk: Walk<'_, W>,
@@ -48,7 +48,7 @@ fn walked<W: Wait + Clock + Abort + Drop>(
         assert!(rt; !came.contains(&*key), "no key comes twice");
         came.push(*key)?;
         mark(&marks.arrived);
-        let is_written = come(rt, &marks.done, so_far(&marks.arrived));
+        let is_written = reaches(rt, &marks.done, count_so_far(&marks.arrived));
         assert!(rt; is_written, "a write answers between two steps");
     }
     Ok(came)
@@ -56,7 +56,11 @@ fn walked<W: Wait + Clock + Abort + Drop>(
 
 /// Waits for the next step of the iteration.
 fn waits_for_a_step(rt: &impl Clock, marks: &Marks) {
-    come(rt, &marks.arrived, so_far(&marks.done).wrapping_add(1));
+    reaches(
+        rt,
+        &marks.arrived,
+        count_so_far(&marks.done).wrapping_add(1),
+    );
 }
 
 /// At each step writes a key that was stored before, and one that was not. Returns whether all
@@ -95,7 +99,7 @@ fn all_come<W>(
 where
     W: Wait + Clock + Threads + Abort + Copy + Drop + Send + Sync + 'static,
 {
-    let came = walked(rt, alloc, walk, marks)?;
+    let came = walk_to_end(rt, alloc, walk, marks)?;
     assert!(rt; child.join(rt), "no write is refused");
     for key in KEYS {
         assert!(rt; came.contains(&key), "a key that stood comes: {key}");

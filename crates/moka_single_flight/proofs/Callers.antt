@@ -5,7 +5,7 @@ use Rattle.std.specs.Prelude.{⊤}
 use Rattle.moka_single_flight.specs.declared.replies.Begun.{Begun}
 use Rattle.moka_single_flight.specs.declared.replies.Begun.TheVariants.{Found, Run, Wait}
 use Rattle.moka_single_flight.specs.declared.replies.Collected.{Collected}
-use Rattle.moka_single_flight.specs.declared.replies.Collected.TheVariants.{Ready, NotYet, Again}
+use Rattle.moka_single_flight.specs.declared.replies.Collected.TheVariants.{Ready, NotYet, Retry}
 use Rattle.moka_single_flight.specs.declared.replies.Joined.{Joined}
 use Rattle.moka_single_flight.specs.declared.replies.Joined.TheVariants.{Value, Turn, TooMany}
 use Rattle.moka_single_flight.specs.Holds.{HoldsOfBegun, HoldsOfCollected, HoldsOfJoined}
@@ -27,7 +27,7 @@ module _ {P V T K : Type 0} (begun : P → Begun V T K → P → Type 0) (collec
 
   collects-to-keep : (s : P) (t : K) (o : Option V) (u : P) → Inv s → OfTicket t → CollectsTo collected s t o u → Inv u × HoldsOfValue Q o
   collects-to-keep s t (Some v) u inv of h = collects-keep h.0 s t (Ready v) u inv of h.1
-  collects-to-keep s t None u inv of h = collects-keep h.0 s t Again u inv of h.1
+  collects-to-keep s t None u inv of h = collects-keep h.0 s t Retry u inv of h.1
 
   waits-keep : (s : P) (o : Option V) (u : P) → Inv s → Waits begun collected s o u → Inv u × HoldsOfValue Q o
   waits-keep s o u inv h = let told = begins s (Wait h.0) h.1 inv h.2 in collects-to-keep h.1 h.0 o u told.0 told.1 h.3

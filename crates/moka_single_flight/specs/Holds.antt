@@ -1,9 +1,9 @@
--- What holds for an answer, if `Q` holds for values, `R` for turns, and `OfTicket` for tickets.
+-- What holds for a reply, if `Q` holds for values, `R` for turns, and `OfTicket` for tickets.
 use Rattle.std.specs.Prelude.{⊤}
 use Rattle.moka_single_flight.specs.declared.replies.Begun.{Begun}
 use Rattle.moka_single_flight.specs.declared.replies.Begun.TheVariants.{Found, Run, Wait}
 use Rattle.moka_single_flight.specs.declared.replies.Collected.{Collected}
-use Rattle.moka_single_flight.specs.declared.replies.Collected.TheVariants.{Ready, NotYet, Again}
+use Rattle.moka_single_flight.specs.declared.replies.Collected.TheVariants.{Ready, NotYet, Retry}
 use Rattle.moka_single_flight.specs.declared.replies.Joined.{Joined}
 use Rattle.moka_single_flight.specs.declared.replies.Joined.TheVariants.{Value, Turn, TooMany}
 
@@ -19,7 +19,7 @@ module _ {V K : Type 0} (Q : V → Type 0) (OfTicket : K → Type 0) where
   abbrev pub HoldsOfCollected : Collected V K → Type 0
   HoldsOfCollected (Ready v) = Q v
   HoldsOfCollected (NotYet t) = OfTicket t
-  HoldsOfCollected Again = ⊤
+  HoldsOfCollected Retry = ⊤
 
 module _ {V T : Type 0} (Q : V → Type 0) (R : T → Type 0) where
   -- How the loop ends: with a value for which `Q` holds, with a turn for which `R` holds, or after too many waits.

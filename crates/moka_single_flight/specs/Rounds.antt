@@ -3,7 +3,7 @@ use Rattle.std.specs.Prelude.{⊤, ◌≡◌, ℕ, zero, suc, ◌+◌, ◌<◌, 
 use Rattle.moka_single_flight.specs.declared.replies.Begun.{Begun}
 use Rattle.moka_single_flight.specs.declared.replies.Begun.TheVariants.{Found, Run, Wait}
 use Rattle.moka_single_flight.specs.declared.replies.Collected.{Collected}
-use Rattle.moka_single_flight.specs.declared.replies.Collected.TheVariants.{Ready, NotYet, Again}
+use Rattle.moka_single_flight.specs.declared.replies.Collected.TheVariants.{Ready, NotYet, Retry}
 use Rattle.moka_single_flight.specs.declared.replies.Joined.{Joined}
 use Rattle.moka_single_flight.specs.declared.replies.Joined.TheVariants.{Value, Turn, TooMany}
 
@@ -34,7 +34,7 @@ module _ {P V K : Type 0} (collected : P → K → Collected V K → P → Type 
   -- Collects until the turn has ended: with a value, or with nothing for this caller.
   abbrev pub CollectsTo : P → K → Option V → P → Type 0
   CollectsTo s t (Some v) u = (n : ℕ) × Collects n s t (Ready v) u
-  CollectsTo s t None u = (n : ℕ) × Collects n s t Again u
+  CollectsTo s t None u = (n : ℕ) × Collects n s t Retry u
 
   -- `collect_refused s t r u`: a collect of `t` may fail with `r`.
   module _ {E : Type 0} (collect_refused : P → K → E → P → Type 0) where

@@ -1,10 +1,10 @@
-//! A caller that may have to wait for another caller's turn.
+//! Who takes part in a single flight: a caller that may have to wait for another caller's turn.
 ghost use Rattle.std.specs.Prelude.{◌≡◌, IfOk, IfErr};
 
 use crate::replies::{Begun, Collected};
 
-/// A caller that asks the place `X` for the value `V` of one key. It begins, and it collects the
-/// ticket if it has to wait.
+/// A caller that asks an `X`, such as a cache, for the value `V` of one key. It begins, and it
+/// collects the ticket if it has to wait.
 ///
 /// Turns and tickets need not be `Drop`. The error holds what a failed call was given, and what the
 /// caller still holds then.

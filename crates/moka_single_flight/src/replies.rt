@@ -20,7 +20,7 @@ pub enum Collected<V, K> {
     NotYet(K),
     /// The turn has ended and gave this caller nothing: it was abandoned, or it was a compute's. The
     /// caller begins again.
-    Again,
+    Retry,
 }
 
 /// How the loop ends.

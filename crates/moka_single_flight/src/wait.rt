@@ -12,8 +12,8 @@ pub const MAX_RETRIES: u64 = 200;
 /// Waits until there is a value or a turn.
 ///
 /// It begins, and collects a ticket until the turn has ended. If the turn gave nothing, it begins
-/// again. After `max_retries` such waits it gives up; with `None` it never does, as for a compute. With a
-/// `max_retries` of 0 it does not even begin.
+/// again. After `max_retries` such waits it gives up; with `None` it never does, as for a compute.
+/// With a `max_retries` of 0 it does not even begin.
 ///
 /// How to wait is up to the caller's `collect`. This loop holds no lock and does not allocate.
 ///
@@ -35,7 +35,7 @@ pub fn wait_for<V, X, P: Participant<X, V>, R: Wait>(
 {
     let mut left = max_retries;
     for _ in rt.forever() {
-        let Some(rest) = one_less(left) else {
+        let Some(rest) = take_retry(left) else {
             return Ok(Joined::TooMany);
         };
         left = rest;
@@ -70,14 +70,14 @@ fn collect_all<V, X, P: Participant<X, V>, R: Wait>(
         match caller.collect(at, ticket)? {
             Collected::Ready(value) => return Ok(Some(value)),
             Collected::NotYet(same) => ticket = same,
-            Collected::Again => return Ok(None),
+            Collected::Retry => return Ok(None),
         }
     }
     unreachable!()
 }
 
-// Counts one wait off those that are left. Returns `None` if none is left.
-fn one_less(left: Option<u64>) -> Option<Option<u64>>
+// Takes one wait from those that are left. Returns `None` if none is left.
+fn take_retry(left: Option<u64>) -> Option<Option<u64>>
     ensures some { IfSome result (λ rest. IsOneLess left rest) }
     ensures none { IfNone result (left ≡ Some 0) }
 {

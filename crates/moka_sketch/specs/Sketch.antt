@@ -58,8 +58,8 @@ count_with bits hash row note count = if nat_eq (place bits row note) (place bit
 
 -- The count that a hash's counter in a row has after these notes, the newest first. Each note that uses it adds 1, up
 -- to 15. Every ten notes per counter of a row halve it.
-abbrev pub kept : ℕ → ℕ → List ℕ → ℕ → ℕ
-kept bits hash [] row = 0
-kept bits hash (newest ∷ earlier) row =
-    let count = count_with bits hash row newest (kept bits hash earlier row) in
+abbrev pub count_after : ℕ → ℕ → List ℕ → ℕ → ℕ
+count_after bits hash [] row = 0
+count_after bits hash (newest ∷ earlier) row =
+    let count = count_with bits hash row newest (count_after bits hash earlier row) in
     if nat_eq (length (newest ∷ earlier) % (10 * counter_count bits)) 0 then count / 2 else count

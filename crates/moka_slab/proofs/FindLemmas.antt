@@ -5,13 +5,13 @@ use Rattle.std.proofs.lemmas.Bool.{cases_eq, ne_eqb, eq-eqb}
 use Rattle.slab.specs.Slab.{Slab}
 use Rattle.moka_rows.specs.Rows.{row_under, is_row_of, IsRowOf, NoneIsRowOf}
 use Rattle.moka_rows.specs.declared.rows.Row.{Row}
-use Rattle.moka_deques.specs.Paths.{IsAmong}
-use Rattle.moka_row_index.specs.RowIndex.{IsLinked, admitted_of, waiting_of, numbers_of, hash_at, first_at, same_at, chain_of}
-use Rattle.moka_row_index.specs.declared.row_index.RowIndex.{RowIndex}
-use Rattle.moka_row_index.proofs.Callers.{IsLine, among-back, among-parts, no-more, few-linked, linked-chains, linked-among, among-linked}
-use Rattle.moka_slab.specs.Kept.{row_at, numbered}
+use Rattle.moka_index.specs.Paths.{IsAmong}
+use Rattle.moka_index.specs.RowIndex.{IsLinked, admitted_of, waiting_of, numbers_of, hash_at, first_at, same_at, chain_of}
+use Rattle.moka_index.specs.declared.row_index.RowIndex.{RowIndex}
+use Rattle.moka_index.proofs.Callers.{IsLine, among-back, among-parts, no-more, few-linked, linked-chains, linked-among, among-linked}
+use Rattle.moka_slab.specs.NumberedRows.{row_at, numbered}
 use Rattle.moka_slab.specs.Tied.{IsTied, all_rows}
-use Rattle.moka_slab.proofs.KeptLemmas.{some-of, filter-in, filter-out, none-pass, passing, passes}
+use Rattle.moka_slab.proofs.NumberedLemmas.{some-of, filter-in, filter-out, none-pass, passing, passes}
 use Rattle.moka_slab.proofs.TiedLemmas.{all-is, under-all}
 
 -- a filtered list is not longer than the list

@@ -1,4 +1,4 @@
-pub mod KeptLemmas
+pub mod NumberedLemmas
 pub mod TiedLemmas
 pub mod RoomLemmas
 pub mod FindLemmas

@@ -5,8 +5,8 @@ use Rattle.std.proofs.lemmas.Bool.{ltb-true, ltb-false}
 use Rattle.slab.specs.Slab.{Slab, get, slab_len, with_value, entries_from}
 use Rattle.slab.proofs.SlabLemmas.{length-entries_from}
 use Rattle.moka_rows.specs.declared.rows.Row.{Row}
-use Rattle.moka_row_index.specs.RowIndex.{places_of, spare_of}
-use Rattle.moka_row_index.specs.declared.row_index.RowIndex.{RowIndex}
+use Rattle.moka_index.specs.RowIndex.{places_of, spare_of}
+use Rattle.moka_index.specs.declared.row_index.RowIndex.{RowIndex}
 use Rattle.moka_slab.specs.Tied.{room_in}
 
 module _ {R : Type 0} where

@@ -7,13 +7,13 @@ use Rattle.slab.specs.Slab.{Slab, get, Updates, with_value}
 use Rattle.moka_rows.specs.Rows.{row_under, with_row, without_row, NumbersDiffer, count_under, IsOrderOf}
 use Rattle.moka_rows.specs.declared.rows.Order.TheVariants.{Admitted}
 use Rattle.moka_rows.specs.declared.rows.Row.{Row}
-use Rattle.moka_deques.specs.Paths.{IsAmong, IsAbsent, without}
-use Rattle.moka_row_index.specs.RowIndex.{IsLinked, admitted_of, waiting_of, numbers_of, hash_at}
-use Rattle.moka_row_index.specs.declared.row_index.RowIndex.{RowIndex}
-use Rattle.moka_row_index.proofs.Callers.{IsApart, absent-without, among-without, among-push, without-absent, among-parts, linked-above, linked-among, among-linked, linked-once, admitted-apart, waiting-apart}
-use Rattle.moka_slab.specs.Kept.{row_at, numbered, order_of}
+use Rattle.moka_index.specs.Paths.{IsAmong, IsAbsent, without}
+use Rattle.moka_index.specs.RowIndex.{IsLinked, admitted_of, waiting_of, numbers_of, hash_at}
+use Rattle.moka_index.specs.declared.row_index.RowIndex.{RowIndex}
+use Rattle.moka_index.proofs.Callers.{IsApart, absent-without, among-without, among-push, without-absent, among-parts, linked-above, linked-among, among-linked, linked-once, admitted-apart, waiting-apart}
+use Rattle.moka_slab.specs.NumberedRows.{row_at, numbered, order_of}
 use Rattle.moka_slab.specs.Tied.{IsTied, admitted_rows, waiting_rows, all_rows}
-use Rattle.moka_slab.proofs.KeptLemmas.{some-of, numbered-append, under-among, under-absent, under-some, numbered-without, numbered-same, numbered-changed, count-numbered}
+use Rattle.moka_slab.proofs.NumberedLemmas.{some-of, numbered-append, under-among, under-absent, under-some, numbered-without, numbered-same, numbered-changed, count-numbered}
 
 apart-both : (xs ys : List ℕ) → IsApart xs → IsApart ys → ((k : ℕ) → IsAmong k xs → IsAbsent k ys) → IsApart (xs ++ ys)
 apart-both [] ys a b once = b

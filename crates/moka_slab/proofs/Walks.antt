@@ -6,13 +6,13 @@ use Rattle.std.proofs.lemmas.List.Elements.{filter-append}
 use Rattle.slab.specs.Slab.{Slab}
 use Rattle.moka_rows.specs.declared.rows.Row.{Row}
 use Rattle.moka_rows.specs.Rows.{first_number, is_expired, expired_at}
-use Rattle.moka_deques.specs.Paths.{IsAmong, first_of, number_behind}
-use Rattle.moka_row_index.specs.declared.row_index.RowIndex.{RowIndex}
-use Rattle.moka_row_index.specs.RowIndex.{IsLinked, admitted_of}
-use Rattle.moka_row_index.proofs.Callers.{IsApart, admitted-apart}
-use Rattle.moka_slab.specs.Kept.{row_at, numbered}
+use Rattle.moka_index.specs.Paths.{IsAmong, first_of, number_behind}
+use Rattle.moka_index.specs.declared.row_index.RowIndex.{RowIndex}
+use Rattle.moka_index.specs.RowIndex.{IsLinked, admitted_of}
+use Rattle.moka_index.proofs.Callers.{IsApart, admitted-apart}
+use Rattle.moka_slab.specs.NumberedRows.{row_at, numbered}
 use Rattle.moka_slab.specs.Tied.{admitted_rows}
-use Rattle.moka_slab.proofs.KeptLemmas.{numbered-append}
+use Rattle.moka_slab.proofs.NumberedLemmas.{numbered-append}
 
 -- a number behind others is among them all, and the one behind it is the first of the rest
 among-at : (n : ℕ) (passed back : List ℕ) → IsAmong n (passed ++ n ∷ back)

@@ -1,5 +1,5 @@
 pub use Rattle.moka_rows.specs.Rows
-pub use Rattle.moka_row_index.specs.RowIndex
-pub mod Kept
+pub use Rattle.moka_index.specs.RowIndex
+pub mod NumberedRows
 pub mod Tied
 pub mod Store

@@ -2,9 +2,9 @@
 use Rattle.std.specs.Prelude.{◌≡◌, ℕ, ◌+◌, ◌-◌, if◌then◌else◌, nat_lt, Some, IsSome, List, ◌++◌, min}
 use Rattle.slab.specs.Slab.{Slab, slab_len}
 use Rattle.moka_rows.specs.declared.rows.Row.{Row}
-use Rattle.moka_row_index.specs.RowIndex.{IsLinked, admitted_of, waiting_of, hash_at, places_of, spare_of}
-use Rattle.moka_row_index.specs.declared.row_index.RowIndex.{RowIndex}
-use Rattle.moka_slab.specs.Kept.{row_at, numbered}
+use Rattle.moka_index.specs.RowIndex.{IsLinked, admitted_of, waiting_of, hash_at, places_of, spare_of}
+use Rattle.moka_index.specs.declared.row_index.RowIndex.{RowIndex}
+use Rattle.moka_slab.specs.NumberedRows.{row_at, numbered}
 
 module _ {K V : Type 0} where
   -- Each linked number has a row, and the number's hash is the row's hash.

@@ -2,11 +2,11 @@
 ghost use Rattle.std.specs.Prelude.{◌≡◌, ◌⊎◌, ℕ, ◌+◌, ◌-◌, ◌^◌, ◌<◌, ◌≤◌, ◌==◌, [], ◌∷◌, ◌++◌, length, filter};
 ghost use Rattle.std.specs.Prelude.{IsSome, IfSome, IfNone, OnSome, Some, None};
 ghost use Rattle.moka_rows.specs.Rows.{row_under, first_number, expired_at, IsRowOf, NoneIsRowOf};
-ghost use Rattle.moka_slab.specs.Kept.{row_at, order_of};
-ghost use Rattle.moka_row_index.specs.RowIndex.{IsLinked};
+ghost use Rattle.moka_slab.specs.NumberedRows.{row_at, order_of};
+ghost use Rattle.moka_index.specs.RowIndex.{IsLinked};
 ghost use Rattle.moka_slab.specs.Tied.{IsTied, admitted_rows, waiting_rows, all_rows, room_in};
 
-use moka_row_index::row_index::RowIndex;
+use moka_index::row_index::RowIndex;
 use moka_rows::counted_row::CountedRow;
 use moka_rows::rows::{Access, EntryInfo, Order, Previous, Row, RowStore};
 use moka_rows::visits::step;

@@ -17,7 +17,7 @@ use Rattle.moka_model.specs.Numbers.{drawn_in, next_number, greatest_number}
 use Rattle.moka_model.specs.OrderLaws.{HasOneEach}
 use Rattle.moka_model.specs.Turns.{Turn, Name, Move, Opened, Waited, moved, AreApart, IsIn, found, is_open_for, same_kind}
 use Rattle.moka_model.specs.Steps.{AcceptedStep, events_in, turns}
-use Rattle.moka_model.specs.Calls.{Call, Accepted, Answer, Begin, Entered, Run, Wait, begun, begun_by, acceptable, look_event, live_at, accepted, after, with_step, entry_of, IfAnswered, IsWait, Holds}
+use Rattle.moka_model.specs.Calls.{Call, Accepted, Reply, Begin, Entered, Run, Wait, begun, begun_by, acceptable, look_event, live_at, accepted, after, with_step, entry_of, IfReplied, IsWait, Holds}
 use Rattle.moka_model.specs.StandsFor.{Books, View, StandsFor}
 use Rattle.moka_model.proofs.Callers.{IsViewOf, whole, view-of, stands-moved, numbered-alone, found-is, same_kind-is}
 use Rattle.moka_policy.specs.declared.policy.Refused.{Refused}
@@ -217,7 +217,7 @@ module _ {K V E : Type 0} (eq : K → K → Bool) (is_clone : V → V → Type 0
   no-draw out = let none = look-draws V said k at in absurd (let no : ⊥ = omega (arith, none, out.0) in no)
 
   -- a live value that is acceptable is found,
-  pub gives-found : (w : Write K V) → acceptable said (live_at eq settings k at h) ≡ Some w → (answer : Answer K V E) → Rattle.moka_model.specs.Calls.IsAnswer is_clone (Entered (entry_of w)) answer
+  pub gives-found : (w : Write K V) → acceptable said (live_at eq settings k at h) ≡ Some w → (answer : Reply K V E) → Rattle.moka_model.specs.Calls.IsCopiedReply is_clone (Entered (entry_of w)) answer
       → Gives eq is_clone is_infallible settings steps (Begin k kind said at) (Ok answer)
   gives-found w is answer same = gives-accepted eq is_clone is_infallible settings steps (Begin k kind said at) (begun eq settings h k kind said at (Some w) opened_here) answer (accepted-is (Some w) is opened_here refl) same no-draw
 
@@ -235,7 +235,7 @@ module _ {K V E : Type 0} (eq : K → K → Bool) (is_clone : V → V → Type 0
     pub gives-wait : (t : Turn K V E) → opened_here ≡ Some t → t.unspent ≢ greatest_number → (name : Name K) → name ≡ record { number = t.name.number; kind = kind; key = k } → Gives eq is_clone is_infallible settings steps (Begin k kind said at) (Ok (Wait name))
     gives-wait t opened few name named =
         gives-accepted eq is_clone is_infallible settings steps (Begin k kind said at) (waits t) (Wait name) (accepted-is None none (Some t) opened)
-        (ap (λ n. let a : Answer K V E = Wait n in a) (named ∙ ap (λ (q : Kind). let n : Name K = record { number = t.name.number; kind = q; key = k } in n) (sym kind_is)))
+        (ap (λ n. let a : Reply K V E = Wait n in a) (named ∙ ap (λ (q : Kind). let n : Name K = record { number = t.name.number; kind = q; key = k } in n) (sym kind_is)))
         (λ out. let same = sym (full t opened) ∙ out.1 in few (ap (λ (o : Option (Turn K V E)). unspent_of o) same ∙ out.2))
       where
         kind_is : t.name.kind ≡ kind
@@ -273,7 +273,7 @@ module _ {K V E : Type 0} (eq : K → K → Bool) (is_clone : V → V → Type 0
     gives-refused hash_of opened_now ended_now q number may_wait (Some t) opened counted causes.UnknownTurn begins = absurd begins
     gives-refused hash_of opened_now ended_now q number may_wait (Some t) opened counted causes.UnknownTicket begins = absurd begins
     gives-refused hash_of opened_now ended_now q number may_wait (Some t) opened counted causes.WaitsAbandoned begins = absurd begins
-    gives-refused hash_of opened_now ended_now q number may_wait (Some t) opened counted causes.TurnIsOpen begins = (begins, subst (IfAnswered IsWait) (sym (accepted-is None none (Some t) opened)) tt)
+    gives-refused hash_of opened_now ended_now q number may_wait (Some t) opened counted causes.TurnIsOpen begins = (begins, subst (IfReplied IsWait) (sym (accepted-is None none (Some t) opened)) tt)
 
 -- what a begin in the table of turns says that returns a ticket
 pub waits-told : {K V E : Type 0} (eq : K → K → Bool) (is_clone : V → V → Type 0) (hash_of : K → ℕ) (opened_now : TurnKey K → Option (OpenTurn V)) (ended_now : ℕ → Option (EndedTurn K V E)) (q : TurnKey K) (number : ℕ) (may_wait : Bool) (ts : List (Turn K V E)) (o : Option (Turn K V E)) (ticket : Ticket K) → IsBegun (λ after. Represents eq is_clone hash_of after opened_now ended_now) q number may_wait ts o (Ok (begun_turns.Wait ticket))

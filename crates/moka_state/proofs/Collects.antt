@@ -6,7 +6,7 @@ use Rattle.moka_policy.specs.declared.policy.Refused.TheVariants.{OutOfMemory, U
 use Rattle.moka_model.specs.Lives.{Settings}
 use Rattle.moka_model.specs.Turns.{Turn, Name, End, Value, Nothing, Failed, Computed, Abandoned, Move, Spent, moved, found, has_ticket_as}
 use Rattle.moka_model.specs.Steps.{AcceptedStep, events_in, turns}
-use Rattle.moka_model.specs.Calls.{Call, Answer, Accepted, Collect, NotYet, answer_by, collected, accepted, after, with_step, with_move, without_move, IfAnswered, AnswerMayFail, MayTakeMemory, IsAnswer, IsCopiedEnd, Holds}
+use Rattle.moka_model.specs.Calls.{Call, Reply, Accepted, Collect, NotYet, reply_by, collected, accepted, after, with_step, with_move, without_move, IfReplied, ReplyMayFail, MayTakeMemory, IsCopiedReply, IsCopiedEnd, Holds}
 use Rattle.moka_model.specs.StandsFor.{View, StandsFor}
 use Rattle.moka_model.proofs.Callers.{whole, unmoved, stands-question}
 use Rattle.moka_turns.specs.declared.table.CollectState.{CollectState}
@@ -16,12 +16,12 @@ use Rattle.moka_turns.specs.Represents.{end_of}
 use Rattle.moka_turns.specs.declared.handles.Ticket.{Ticket}
 use Rattle.moka_turns.specs.Handles.{ticket_name}
 use Rattle.moka_turns.specs.CollectState.{IsTold, IfNotYet, TakesCopy, IsUnspent}
-use Rattle.moka_state.specs.Given.{Gives, told_as}
+use Rattle.moka_state.specs.Given.{Gives, collected_as}
 use Rattle.moka_state.proofs.Turns.{gives-accepted, gives-memory, stands-by, no-less}
 
 -- the result of a collect in the table of turns, as one of the specification
-abbrev pub result_as : {K V E : Type 0} → Name K → Result (CollectState K V E) (CollectRefused K) → Result (Answer K V E) Refused
-result_as name (Ok told) = Ok (told_as name told)
+abbrev pub result_as : {K V E : Type 0} → Name K → Result (CollectState K V E) (CollectRefused K) → Result (Reply K V E) Refused
+result_as name (Ok told) = Ok (collected_as name told)
 result_as name (Err refused) = Err refused.cause
 
 -- a ticket that comes back has the name of the given one
@@ -29,41 +29,41 @@ pub unspent-named : {K V E : Type 0} (ticket : Ticket K) (told : CollectState K 
 unspent-named ticket (tells.NotYet same) is = ap ticket_name is
 unspent-named ticket (tells.Ended key end) is = tt
 
--- the answer for an end, if there is one
-abbrev answer_by-some : {K V E : Type 0} → Name K → Option (End V E) → Answer K V E
-answer_by-some name None = NotYet
-answer_by-some name (Some end) = answer_by name end
+-- the reply for an end, if there is one
+abbrev reply_by-some : {K V E : Type 0} → Name K → Option (End V E) → Reply K V E
+reply_by-some name None = NotYet
+reply_by-some name (Some end) = reply_by name end
 
--- the answers for an end and for a clone of it are clones
-answers-copied : {K V E : Type 0} (is_clone : V → V → Type 0) (name : Name K) (a b : End V E) → IsCopiedEnd is_clone (Some a) (Some b) → IsAnswer is_clone (answer_by name a) (answer_by name b)
+-- the replies for an end and for a clone of it are clones
+answers-copied : {K V E : Type 0} (is_clone : V → V → Type 0) (name : Name K) (a b : End V E) → IsCopiedEnd is_clone (Some a) (Some b) → IsCopiedReply is_clone (reply_by name a) (reply_by name b)
 answers-copied is_clone name (Value v m) (Value w n) is = (refl, is.0, refl, is.1)
 answers-copied is_clone name (Value v m) Nothing is = cc
 answers-copied is_clone name (Value v m) (Failed e) is = cc
 answers-copied is_clone name (Value v m) Computed is = cc
 answers-copied is_clone name (Value v m) Abandoned is = cc
-answers-copied is_clone name Nothing b is = ap (answer_by-some name) is
-answers-copied is_clone name (Failed e) b is = ap (answer_by-some name) is
-answers-copied is_clone name Computed b is = ap (answer_by-some name) is
-answers-copied is_clone name Abandoned b is = ap (answer_by-some name) is
+answers-copied is_clone name Nothing b is = ap (reply_by-some name) is
+answers-copied is_clone name (Failed e) b is = ap (reply_by-some name) is
+answers-copied is_clone name Computed b is = ap (reply_by-some name) is
+answers-copied is_clone name Abandoned b is = ap (reply_by-some name) is
 
 module _ {K V E : Type 0} (eq : K → K → Bool) (is_clone : V → V → Type 0) (is_infallible : V → Type 0) (settings : Settings K V) (steps : List (AcceptedStep K V E)) (name : Name K) (After : Turn K V E → Type 0) where
   abbrev its : Turn K V E → Accepted K V E
   its t = collected name t.name.number t.end
 
-  abbrev Collects : Result (Answer K V E) Refused → Type 0
+  abbrev Collects : Result (Reply K V E) Refused → Type 0
   Collects = Gives eq is_clone is_infallible settings steps (Collect name)
 
   -- by the end of the turn that has the ticket
-  gives-end : (t : Turn K V E) → accepted eq settings steps (Collect name) ≡ Some (its t) → (o : Option (End V E)) → t.end ≡ o → (end : End V E) → IsCopiedEnd is_clone o (Some end) → Collects (Ok (answer_by name end))
+  gives-end : (t : Turn K V E) → accepted eq settings steps (Collect name) ≡ Some (its t) → (o : Option (End V E)) → t.end ≡ o → (end : End V E) → IsCopiedEnd is_clone o (Some end) → Collects (Ok (reply_by name end))
   gives-end t is None ended end copied = cc
   gives-end t is (Some e) ended end copied =
       let it : Accepted K V E = collected name t.name.number (Some e) in
-      gives-accepted eq is_clone is_infallible settings steps (Collect name) it (answer_by name end) (is ∙ ap (λ o. Some (collected name t.name.number o)) ended) (answers-copied is_clone name e end copied) (λ out. no-less out.0)
+      gives-accepted eq is_clone is_infallible settings steps (Collect name) it (reply_by name end) (is ∙ ap (λ o. Some (collected name t.name.number o)) ended) (answers-copied is_clone name e end copied) (λ out. no-less out.0)
 
-  memory : (t : Turn K V E) → accepted eq settings steps (Collect name) ≡ Some (its t) → (e : End V E) → t.end ≡ Some e → IfAnswered (AnswerMayFail is_infallible) (Some (collected name t.name.number (Some e))) → Collects (Err OutOfMemory)
+  memory : (t : Turn K V E) → accepted eq settings steps (Collect name) ≡ Some (its t) → (e : End V E) → t.end ≡ Some e → IfReplied (ReplyMayFail is_infallible) (Some (collected name t.name.number (Some e))) → Collects (Err OutOfMemory)
   memory t is e ended may =
       let it = is ∙ ap (λ o. Some (collected name t.name.number o)) ended in
-      gives-memory eq is_clone is_infallible settings steps (Collect name) (collected name t.name.number (Some e)) it (subst (IfAnswered (AnswerMayFail is_infallible)) (sym it) may) (λ out. no-less out.0)
+      gives-memory eq is_clone is_infallible settings steps (Collect name) (collected name t.name.number (Some e)) it (subst (IfReplied (ReplyMayFail is_infallible)) (sym it) may) (λ out. no-less out.0)
 
   takes-end : (t : Turn K V E) → accepted eq settings steps (Collect name) ≡ Some (its t) → (o : Option (End V E)) → t.end ≡ o → TakesCopy o → Collects (Err OutOfMemory)
   takes-end t is None ended takes = absurd takes

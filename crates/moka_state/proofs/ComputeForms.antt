@@ -7,7 +7,7 @@ use Rattle.moka_model.specs.Lives.{Settings}
 use Rattle.moka_model.specs.Events.{Event}
 use Rattle.moka_model.specs.Turns.{Turn}
 use Rattle.moka_model.specs.Steps.{AcceptedStep}
-use Rattle.moka_model.specs.Calls.{Call, Answer, IsWait, IfAnswered, begun_compute}
+use Rattle.moka_model.specs.Calls.{Call, Reply, IsWait, IfReplied, begun_compute}
 use Rattle.moka_model.specs.Calls as calls
 use Rattle.moka_turns.specs.declared.table.OpenTurn.{OpenTurn}
 use Rattle.moka_turns.specs.Represents.{Agree, IsOpenRow}
@@ -22,7 +22,7 @@ err-is (Err own) e is = ap Err is
 
 module _ {K V E : Type 0} (eq : K → K → Bool) (is_clone : V → V → Type 0) (is_infallible : V → Type 0) (settings : Settings K V) (steps : List (AcceptedStep K V E)) (call : Call K V E) where
   -- a begin that may wait does not fail with `TurnIsOpen`
-  pub when-waiting : (result : Result (Answer K V E) Refused) → GivesAtOnce eq is_clone is_infallible settings steps call true result → Gives eq is_clone is_infallible settings steps call result
+  pub when-waiting : (result : Result (Reply K V E) Refused) → GivesAtOnce eq is_clone is_infallible settings steps call true result → Gives eq is_clone is_infallible settings steps call result
   when-waiting (Ok answer) gives = gives
   when-waiting (Err causes.OutOfMemory) gives = gives
   when-waiting (Err causes.NumbersUsedUp) gives = gives
@@ -52,7 +52,7 @@ module _ {K V E : Type 0} (eq : K → K → Bool) (is_clone : V → V → Type 0
 
 -- where the table has an open turn of a key, a compute would wait
 pub open-waits : {K V E : Type 0} (eq : K → K → Bool) (is_clone : V → V → Type 0) (settings : Settings K V) (h : List (Event K V)) (k : K) (keep : Bool) (at : ℕ) (o : Option (Turn K V E)) (row : Option (OpenTurn V)) → Agree (IsOpenRow eq is_clone) o row → (b : Bool) → b ≡ is_some row → b ≡ true
-    → IfAnswered IsWait (Some (begun_compute eq settings h k keep at o))
+    → IfReplied IsWait (Some (begun_compute eq settings h k keep at o))
 open-waits eq is_clone settings h k keep at (Some t) (Some row) agree b told is = tt
 open-waits eq is_clone settings h k keep at None (Some row) agree b told is = absurd agree
 open-waits eq is_clone settings h k keep at (Some t) None agree b told is = absurd agree

@@ -15,7 +15,7 @@ use Rattle.moka_model.specs.Events.{Event, Looked, Passed, Drawn}
 use Rattle.moka_model.specs.Numbers.{next_number, greatest_number}
 use Rattle.moka_model.specs.Turns.{Turn, Name, Opened, Waited, AreApart, found, is_open_for, same_kind}
 use Rattle.moka_model.specs.Steps.{AcceptedStep, events_in, turns}
-use Rattle.moka_model.specs.Calls.{Call, Accepted, Answer, BeginCompute, Run, Wait, StillNone, begun_compute, new_name, live_at, accepted, after, with_step, entry_of, entry_under, fresh_entry, put_by, removed_by, kept_by, IsAnswer, IsCopyOf, IsCopiedEntry, IsEntryOf, WantsNumber}
+use Rattle.moka_model.specs.Calls.{Call, Accepted, Reply, BeginCompute, Run, Wait, StillNone, begun_compute, new_name, live_at, accepted, after, with_step, entry_of, entry_under, fresh_entry, put_by, removed_by, kept_by, IsCopiedReply, IsCopyOf, IsCopiedEntry, IsEntryOf, WantsNumber}
 use Rattle.moka_model.specs.Calls as calls
 use Rattle.moka_model.specs.Entries as entries_of
 use Rattle.moka_model.specs.CompResults.{of_computed}
@@ -56,8 +56,8 @@ module _ {K V : Type 0} (is_clone : V → V → Type 0) (key : K) where
   copied-entry : (a e x : calls.Entry K V) → x ≡ e → IsCopiedEntry is_clone a e → IsCopiedEntry is_clone a x
   copied-entry a e x is copied = subst (λ (y : calls.Entry K V). IsCopiedEntry is_clone a y) (sym is) copied
 
-  pub left-answer : (E : Type 0) (name : Name K) → key ≡ name.key → (kept copy : Option V) → IsCopyOf is_clone kept copy → (result : CompResult K V) → IsLeft key copy result → IsAnswer is_clone (kept_by {E = E} name kept) (of_computed result)
-  left-answer E name keyed None None copied (results.StillNone own) is = ap (λ k. let a : Answer K V E = StillNone k in a) (is ∙ keyed)
+  pub left-answer : (E : Type 0) (name : Name K) → key ≡ name.key → (kept copy : Option V) → IsCopyOf is_clone kept copy → (result : CompResult K V) → IsLeft key copy result → IsCopiedReply is_clone (kept_by {E = E} name kept) (of_computed result)
+  left-answer E name keyed None None copied (results.StillNone own) is = ap (λ k. let a : Reply K V E = StillNone k in a) (is ∙ keyed)
   left-answer E name keyed None None copied (results.Unchanged entry) is = absurd is
   left-answer E name keyed None None copied (results.Inserted entry) is = absurd is
   left-answer E name keyed None None copied (results.ReplacedWith entry) is = absurd is
@@ -82,8 +82,8 @@ module _ {K V : Type 0} (is_clone : V → V → Type 0) (key : K) where
   left-given own keyed (Some w) (results.ReplacedWith entry) is = absurd is
   left-given own keyed (Some w) (results.Removed entry) is = absurd is
 
-  pub removed-answer : (E : Type 0) (name : Name K) → key ≡ name.key → (live : Option (Write K V)) (copy : Option V) → IsCopyOf is_clone (option_map (λ w. w.value) live) copy → (result : CompResult K V) → IsRemoved key copy result → IsAnswer is_clone (removed_by {E = E} name live) (of_computed result)
-  removed-answer E name keyed None None copied (results.StillNone own) is = ap (λ k. let a : Answer K V E = StillNone k in a) (is ∙ keyed)
+  pub removed-answer : (E : Type 0) (name : Name K) → key ≡ name.key → (live : Option (Write K V)) (copy : Option V) → IsCopyOf is_clone (option_map (λ w. w.value) live) copy → (result : CompResult K V) → IsRemoved key copy result → IsCopiedReply is_clone (removed_by {E = E} name live) (of_computed result)
+  removed-answer E name keyed None None copied (results.StillNone own) is = ap (λ k. let a : Reply K V E = StillNone k in a) (is ∙ keyed)
   removed-answer E name keyed None None copied (results.Unchanged entry) is = absurd is
   removed-answer E name keyed None None copied (results.Inserted entry) is = absurd is
   removed-answer E name keyed None None copied (results.ReplacedWith entry) is = absurd is
@@ -109,7 +109,7 @@ module _ {K V : Type 0} (is_clone : V → V → Type 0) (key : K) where
   removed-given own keyed (Some w) (results.Removed entry) is = ap (λ (x : calls.Entry K V). x.key) is ∙ keyed
 
   module _ (v w : V) (copied : is_clone v w) where
-    pub put-answer : (E : Type 0) (name : Name K) → key ≡ name.key → (shown was_shown : Bool) → was_shown ≡ shown → (result : CompResult K V) → IsPut key w was_shown result → IsAnswer is_clone (put_by {E = E} name v shown) (of_computed result)
+    pub put-answer : (E : Type 0) (name : Name K) → key ≡ name.key → (shown was_shown : Bool) → was_shown ≡ shown → (result : CompResult K V) → IsPut key w was_shown result → IsCopiedReply is_clone (put_by {E = E} name v shown) (of_computed result)
     put-answer E name keyed true true same (results.ReplacedWith entry) is = copied-entry (fresh_entry name.key v true) (fresh_entry key w true) (entries_of.entry_of entry) is (keyed, copied, refl, refl)
     put-answer E name keyed true true same (results.StillNone own) is = absurd is
     put-answer E name keyed true true same (results.Unchanged entry) is = absurd is
@@ -141,9 +141,9 @@ may-fail is_infallible true w o is not_dead fails = absurd (not_dead refl)
 may-fail is_infallible false w o is not_dead fails = rw is fails
 
 -- The lookup of a compute that finds nothing has no clone to keep aside.
-pub nothing-kept : {V : Type 0} (is_clone : V → V → Type 0) (keep : Bool) → IsCopyOf is_clone (cond keep None None) None
-nothing-kept is_clone true = tt
-nothing-kept is_clone false = tt
+pub nothing-saved : {V : Type 0} (is_clone : V → V → Type 0) (keep : Bool) → IsCopyOf is_clone (cond keep None None) None
+nothing-saved is_clone true = tt
+nothing-saved is_clone false = tt
 
 -- where the table has no open turn of a key, there is none
 pub none-open : {K V E : Type 0} (eq : K → K → Bool) (is_clone : V → V → Type 0) (hash_of : K → ℕ) (ts : List (Turn K V E)) (opened : TurnKey K → Option (OpenTurn V)) (ended : ℕ → Option (EndedTurn K V E)) → Represents eq is_clone hash_of ts opened ended
@@ -163,7 +163,7 @@ module _ {K V E : Type 0} (eq : K → K → Bool) (is_clone : V → V → Type 0
   abbrev opened_here : Option (Turn K V E)
   opened_here = found (is_open_for eq Compute k) (turns steps)
 
-  abbrev GivesHere : Result (Answer K V E) Refused → Type 0
+  abbrev GivesHere : Result (Reply K V E) Refused → Type 0
   GivesHere = Gives eq is_clone is_infallible settings steps (BeginCompute k keep at)
 
   accepted-is : (t : Option (Turn K V E)) → opened_here ≡ t → accepted eq settings steps (BeginCompute k keep at) ≡ Some (begun_compute eq settings h k keep at t)
@@ -187,7 +187,7 @@ module _ {K V E : Type 0} (eq : K → K → Bool) (is_clone : V → V → Type 0
     pub compute-waits : t.unspent ≢ greatest_number → (name : Name K) → name ≡ record { number = t.name.number; kind = Compute; key = k } → GivesHere (Ok (Wait name))
     compute-waits few name named =
         gives-accepted eq is_clone is_infallible settings steps (BeginCompute k keep at) (begun_compute eq settings h k keep at (Some t)) (Wait name) (accepted-is (Some t) opened)
-        (ap (λ n. let a : Answer K V E = Wait n in a) (named ∙ ap (λ (q : Kind). let n : Name K = record { number = t.name.number; kind = q; key = k } in n) (sym kind_is)))
+        (ap (λ n. let a : Reply K V E = Wait n in a) (named ∙ ap (λ (q : Kind). let n : Name K = record { number = t.name.number; kind = q; key = k } in n) (sym kind_is)))
         (λ out. let same = sym full ∙ out.1 in few (ap (λ (o : Option (Turn K V E)). unspent_of o) same ∙ out.2))
 
     pub compute-full : t.unspent ≡ greatest_number → GivesHere (Err causes.NumbersUsedUp)
@@ -246,7 +246,7 @@ module _ {K V E : Type 0} (eq : K → K → Bool) (is_clone : V → V → Type 0
 
   -- A row that is found stores the live value.
   pub shows-live : (shown : Shown K V) → IsShown eq is_clone keep k hash (max latest at) (entries contents) (Some shown)
-      → (row : Row K V) × (live_here ≡ Some (stored_write row)) × IsEntryOfRow is_clone row (entries_of.entry_of shown.entry) × IsCopyOf is_clone (cond keep (Some row.value) None) shown.kept
+      → (row : Row K V) × (live_here ≡ Some (stored_write row)) × IsEntryOfRow is_clone row (entries_of.entry_of shown.entry) × IsCopyOf is_clone (cond keep (Some row.value) None) shown.saved
   shows-live shown (row, there, of_key, live, entry, kept) = (row, live-is shown.number row there (same-key eq k hash row of_key) true live, entry, kept)
 
   -- A use of that row is the recorded lookup.

@@ -9,10 +9,11 @@ use Rattle.moka_model.specs.Lives.{Settings}
 use Rattle.moka_turns.specs.Handles.{name_by}
 use Rattle.moka_model.specs.Removals.{Removal}
 use Rattle.moka_model.specs.Steps.{AcceptedStep, events_in}
-use Rattle.moka_model.specs.Calls.{Call, Answer}
+use Rattle.moka_model.specs.Calls as calls
+use Rattle.moka_model.specs.Calls.{Call}
 use Rattle.moka_model.specs.StandsFor.{WholeView, StandsFor, books_of}
-use Rattle.moka_conserved.specs.Conserved.{given_out, IsConserved}
-use Rattle.moka_conserved.proofs.Callers.{is_conserved, given-by_answer}
+use Rattle.moka_model.specs.Conserved.{given_out, IsConserved}
+use Rattle.moka_model.proofs.Callers.{is_conserved, given-by_reply}
 use Rattle.moka_table.specs.Table.{removal_of}
 use Rattle.moka_state.specs.declared.step.Step.{Step}
 use Rattle.moka_state.specs.declared.step.Reply.{Reply}
@@ -46,26 +47,26 @@ module _ {K V C H W X P F L T E S : Type 0} (eq : K → K → Bool) (is_clone : 
   -- a call gives out the notice of its reply
   given-reply : (steps : List (AcceptedStep K V E)) (call : Call K V E) (reply : Reply K V C H W X P F L T E S) → IsReplyTo eq is_clone is_infallible settings steps call reply
       → given_out eq settings (events_in (after_reply eq settings call reply steps)) ≡ given_out eq settings (events_in steps) ++ noticed_in (reply ∷ [])
-  given-reply steps call (Found v) is = given-by_answer is_clone eq settings steps call (Answer.Found v) is.0
-  given-reply steps call (Contains b) is = given-by_answer is_clone eq settings steps call (Answer.Contains b) is.0
-  given-reply steps call Done is = given-by_answer is_clone eq settings steps call Answer.Done is.0
-  given-reply steps call (Counted n) is = given-by_answer is_clone eq settings steps call (Answer.Counted n) is.0
-  given-reply steps call (Left b) is = given-by_answer is_clone eq settings steps call (Answer.Left b) is.0
-  given-reply steps call (Noticed None) is = given-by_answer is_clone eq settings steps call (Answer.Noticed None) is.0
-  given-reply steps call (Noticed (Some n)) is = given-by_answer is_clone eq settings steps call (Answer.Noticed (Some (removal_of n))) is.0
-  given-reply steps call (Entered entry) is = given-by_answer is_clone eq settings steps call (Answer.Entered (entry_of entry)) is.0
-  given-reply steps call (Run name entry) is = given-by_answer is_clone eq settings steps call (Answer.Run (name_by name) (option_map entry_of entry)) is.0
-  given-reply steps call (Wait name) is = given-by_answer is_clone eq settings steps call (Answer.Wait (name_by name)) is.0
-  given-reply steps call Nothing is = given-by_answer is_clone eq settings steps call Answer.GaveNothing is.0
-  given-reply steps call (Failed error) is = given-by_answer is_clone eq settings steps call (Answer.GaveError (arc_value error)) is.0
-  given-reply steps call (Computed (results.StillNone key)) is = given-by_answer is_clone eq settings steps call (Answer.StillNone (arc_value key)) is.0
-  given-reply steps call (Computed (results.Unchanged entry)) is = given-by_answer is_clone eq settings steps call (Answer.Unchanged (entry_of entry)) is.0
-  given-reply steps call (Computed (results.Inserted entry)) is = given-by_answer is_clone eq settings steps call (Answer.Inserted (entry_of entry)) is.0
-  given-reply steps call (Computed (results.ReplacedWith entry)) is = given-by_answer is_clone eq settings steps call (Answer.ReplacedWith (entry_of entry)) is.0
-  given-reply steps call (Computed (results.Removed entry)) is = given-by_answer is_clone eq settings steps call (Answer.Removed (entry_of entry)) is.0
-  given-reply steps call NotYet is = given-by_answer is_clone eq settings steps call Answer.NotYet is.0
-  given-reply steps call Abandoned is = given-by_answer is_clone eq settings steps call Answer.WasAbandoned is.0
-  given-reply steps call Ended is = given-by_answer is_clone eq settings steps call Answer.HasEnded is.0
+  given-reply steps call (Found v) is = given-by_reply is_clone eq settings steps call (calls.Found v) is.0
+  given-reply steps call (Contains b) is = given-by_reply is_clone eq settings steps call (calls.Contains b) is.0
+  given-reply steps call Done is = given-by_reply is_clone eq settings steps call calls.Done is.0
+  given-reply steps call (Counted n) is = given-by_reply is_clone eq settings steps call (calls.Counted n) is.0
+  given-reply steps call (Left b) is = given-by_reply is_clone eq settings steps call (calls.Left b) is.0
+  given-reply steps call (Noticed None) is = given-by_reply is_clone eq settings steps call (calls.Noticed None) is.0
+  given-reply steps call (Noticed (Some n)) is = given-by_reply is_clone eq settings steps call (calls.Noticed (Some (removal_of n))) is.0
+  given-reply steps call (Entered entry) is = given-by_reply is_clone eq settings steps call (calls.Entered (entry_of entry)) is.0
+  given-reply steps call (Run name entry) is = given-by_reply is_clone eq settings steps call (calls.Run (name_by name) (option_map entry_of entry)) is.0
+  given-reply steps call (Wait name) is = given-by_reply is_clone eq settings steps call (calls.Wait (name_by name)) is.0
+  given-reply steps call Nothing is = given-by_reply is_clone eq settings steps call calls.GaveNothing is.0
+  given-reply steps call (Failed error) is = given-by_reply is_clone eq settings steps call (calls.GaveError (arc_value error)) is.0
+  given-reply steps call (Computed (results.StillNone key)) is = given-by_reply is_clone eq settings steps call (calls.StillNone (arc_value key)) is.0
+  given-reply steps call (Computed (results.Unchanged entry)) is = given-by_reply is_clone eq settings steps call (calls.Unchanged (entry_of entry)) is.0
+  given-reply steps call (Computed (results.Inserted entry)) is = given-by_reply is_clone eq settings steps call (calls.Inserted (entry_of entry)) is.0
+  given-reply steps call (Computed (results.ReplacedWith entry)) is = given-by_reply is_clone eq settings steps call (calls.ReplacedWith (entry_of entry)) is.0
+  given-reply steps call (Computed (results.Removed entry)) is = given-by_reply is_clone eq settings steps call (calls.Removed (entry_of entry)) is.0
+  given-reply steps call NotYet is = given-by_reply is_clone eq settings steps call calls.NotYet is.0
+  given-reply steps call Abandoned is = given-by_reply is_clone eq settings steps call calls.WasAbandoned is.0
+  given-reply steps call Ended is = given-by_reply is_clone eq settings steps call calls.HasEnded is.0
   given-reply steps call (Refused cause) is = sym (append-nil (given_out eq settings (events_in steps)))
   given-reply steps call (PredicateRefused cause) is = sym (append-nil (given_out eq settings (events_in steps)))
 

@@ -25,5 +25,5 @@ module _ {X : Type 0} (P : X → Type 0) (weight : X → ℕ) (capacity : Option
   all-evicted = recursion_from_All P (evicted_in of_parts) (All-evicted_in P of_parts in_parts)
 
   -- of all that it leaves
-  pub all-kept : AllByRecursion P (everything (after_parts q of_parts))
-  all-kept = recursion_from_All P (everything (after_parts q of_parts)) (All-after_parts P q of_parts of_admitted of_waiting in_parts)
+  pub all-retained : AllByRecursion P (everything (after_parts q of_parts))
+  all-retained = recursion_from_All P (everything (after_parts q of_parts)) (All-after_parts P q of_parts of_admitted of_waiting in_parts)

@@ -15,7 +15,7 @@ use Rattle.moka_model.specs.Turns.{Turn, Name, Move, Ended, fits, moved, found, 
 use Rattle.moka_model.specs.Steps.{AcceptedStep, events_in, turns}
 use Rattle.moka_model.specs.Calls as calls
 use Rattle.moka_model.specs.Entries.{entry_of}
-use Rattle.moka_model.specs.Calls.{Answer, Entered, Accepted, Finish, end_by, finish_answer, finish_events, finished, is_replacing, accepted, after, with_step, FinishMayFail, WantsNumber, IsAnswer, IsCopiedEnd, IsLegal, Holds}
+use Rattle.moka_model.specs.Calls.{Reply, Entered, Accepted, Finish, end_by, reply_of_finish, finish_events, finished, is_replacing, accepted, after, with_step, FinishMayFail, WantsNumber, IsCopiedReply, IsCopiedEnd, IsLegal, Holds}
 use Rattle.moka_model.specs.Turns as turning
 use Rattle.moka_turns.specs.declared.table.TurnEnd.{TurnEnd}
 use Rattle.moka_turns.specs.declared.table.TurnEnd.TheVariants as ends_of
@@ -47,7 +47,7 @@ module _ {K V E : Type 0} (eq : K → K → Bool) (settings : Settings K V) (ste
   FinishOutOfNumbers = (0 < drawn_in (finish_events eq settings h name.key at outcome)) × (next_number settings h ≡ greatest_number)
 
   module _ (is_clone : V → V → Type 0) (is_infallible : V → Type 0) where
-    abbrev Finishes : Result (Answer K V E) Refused → Type 0
+    abbrev Finishes : Result (Reply K V E) Refused → Type 0
     Finishes = Gives eq is_clone is_infallible settings steps (Finish name outcome at)
 
     -- no open turn has the name
@@ -55,7 +55,7 @@ module _ {K V E : Type 0} (eq : K → K → Bool) (settings : Settings K V) (ste
     finish-unknown is = (accepted-by None is, refl)
 
     module _ (t : Turn K V E) (is : found (is_open_as eq name) (turns steps) ≡ Some t) where
-      pub finish-given : (answer : Answer K V E) → IsAnswer is_clone (finish_answer eq settings h t at outcome name) answer → ¬ FinishOutOfNumbers → Finishes (Ok answer)
+      pub finish-given : (answer : Reply K V E) → IsCopiedReply is_clone (reply_of_finish eq settings h t at outcome name) answer → ¬ FinishOutOfNumbers → Finishes (Ok answer)
       finish-given answer same left = gives-accepted eq is_clone is_infallible settings steps (Finish name outcome at) (ends t) answer (accepted-by (Some t) is) same left
 
       pub finish-memory : FinishMayFail eq is_infallible settings steps name at outcome → ¬ FinishOutOfNumbers → Finishes (Err OutOfMemory)
@@ -92,10 +92,10 @@ closed-told Q None result is none = refl
 closed-told Q (Some a) result is none = absurd (nobody result none is.0)
 
 -- if the kept value is a clone, so is the kept end with it
-pub kept-copied : {V : Type 0} (E : Type 0) (is_clone : V → V → Type 0) (value : V) (is_replaced : Bool) (kept : Option V) → IfSome kept (is_clone value)
+pub saved-copied : {V : Type 0} (E : Type 0) (is_clone : V → V → Type 0) (value : V) (is_replaced : Bool) (kept : Option V) → IfSome kept (is_clone value)
     → IfSome (option_map (λ v. let it : TurnEnd V E = ends_of.Value v is_replaced in it) kept) (λ end. IsCopiedEnd is_clone (Some (turning.Value value is_replaced)) (Some (end_of end)))
-kept-copied E is_clone value is_replaced None copied = tt
-kept-copied E is_clone value is_replaced (Some v) copied = (copied, refl)
+saved-copied E is_clone value is_replaced None copied = tt
+saved-copied E is_clone value is_replaced (Some v) copied = (copied, refl)
 
 -- the same rows are the same books
 pub same-books-of : {K V : Type 0} (latest number : ℕ) (old new : Contents K V) → SameRows old new → books_by new latest number ≡ books_by old latest number
@@ -111,8 +111,8 @@ pub failed-copied : {V E : Type 0} (is_clone : V → V → Type 0) (e : E) (end 
 failed-copied is_clone e None is = tt
 failed-copied is_clone e (Some kept) is = ap (λ o. Some o) is
 
--- the entry in an answer, if it has one
-abbrev entered : {K V E : Type 0} → calls.Entry K V → Answer K V E → calls.Entry K V
+-- the entry in a reply, if it has one
+abbrev entered : {K V E : Type 0} → calls.Entry K V → Reply K V E → calls.Entry K V
 entered default (Entered e) = e
 entered default answer = default
 

@@ -18,7 +18,7 @@ use Rattle.moka_model.specs.Steps.{AcceptedStep, events_in, turns}
 use Rattle.moka_model.specs.Turns.{Name, Turn, Opened, opening, fits, found, same_kind, is_open_for, is_open_as}
 use Rattle.moka_model.specs.Calls.{Call, Accepted, Begin, Finish, Abandon, Entered, Run, GaveNothing, GaveError, acceptable, accepted, after, begun, live_at, new_name, with_step}
 use Rattle.moka_model.specs.Calls as calls
-use Rattle.moka_model.specs.StandsFor.{WholeView, StandsFor, IsAnswerOf}
+use Rattle.moka_model.specs.StandsFor.{WholeView, StandsFor, IsReplyOf}
 use Rattle.moka_state.specs.Begin.{GivesBegun, IsSaidOf}
 use Rattle.moka_state.specs.Forms.{IsForm, IsFailed, IsOptional, IsTried, IsValue, tried_outcome}
 use Rattle.moka_state.specs.declared.answers.Answer as answers
@@ -70,38 +70,38 @@ unsaid call (Some f) (Some w) said none says = cc
 
 -- A value or an error, as the result of a loader that may return something else too.
 module _ {K V E : Type 0} where
-  pub optional-value : (answer : Result (calls.Answer K V E) Refused) (v : V) → IsValue answer (Ok v) → IsOptional answer (Ok (Some v))
+  pub optional-value : (answer : Result (calls.Reply K V E) Refused) (v : V) → IsValue answer (Ok v) → IsOptional answer (Ok (Some v))
   optional-value (Ok (Entered e)) v is = is
   optional-value (Ok answer) v is = absurd is
   optional-value (Err cause) v is = absurd is
 
-  pub optional-refused : (answer : Result (calls.Answer K V E) Refused) (cause : Refused) → IsValue answer (Err cause) → IsOptional answer (Err cause)
+  pub optional-refused : (answer : Result (calls.Reply K V E) Refused) (cause : Refused) → IsValue answer (Err cause) → IsOptional answer (Err cause)
   optional-refused (Ok (Entered e)) cause is = absurd is
   optional-refused (Ok answer) cause is = absurd is
   optional-refused (Err own) cause is = is
 
-  -- the answer for a turn that ends without a value
+  -- the reply for a turn that ends without a value
   pub optional-none : (is_clone : V → V → Type 0) (key : K) (answer : answers.Answer K V E) → IsGiven is_clone key outcomes.Nothing answer → of_answer answer ≡ GaveNothing
   optional-none is_clone key given.Nothing is = refl
   optional-none is_clone key (given.Entry entry) is = absurd is
   optional-none is_clone key (given.Failed error) is = absurd is
 
-  pub tried-value : (answer : Result (calls.Answer K V E) Refused) (v : V) → IsValue answer (Ok v) → IsTried answer (Ok (Ok v))
+  pub tried-value : (answer : Result (calls.Reply K V E) Refused) (v : V) → IsValue answer (Ok v) → IsTried answer (Ok (Ok v))
   tried-value (Ok (Entered e)) v is = is
   tried-value (Ok answer) v is = absurd is
   tried-value (Err cause) v is = absurd is
 
-  pub tried-refused : (answer : Result (calls.Answer K V E) Refused) (cause : Refused) → IsValue answer (Err cause) → IsTried answer (Err cause)
+  pub tried-refused : (answer : Result (calls.Reply K V E) Refused) (cause : Refused) → IsValue answer (Err cause) → IsTried answer (Err cause)
   tried-refused (Ok (Entered e)) cause is = absurd is
   tried-refused (Ok answer) cause is = absurd is
   tried-refused (Err own) cause is = is
 
-  pub tried-failed : (answer : Result (calls.Answer K V E) Refused) (shared : Arc E Global) → IsFailed answer (Ok shared) → IsTried answer (Ok (Err shared))
+  pub tried-failed : (answer : Result (calls.Reply K V E) Refused) (shared : Arc E Global) → IsFailed answer (Ok shared) → IsTried answer (Ok (Err shared))
   tried-failed (Ok (GaveError e)) shared is = is
   tried-failed (Ok answer) shared is = absurd is
   tried-failed (Err cause) shared is = absurd is
 
-  pub failed-refused : (answer : Result (calls.Answer K V E) Refused) (cause : Refused) → IsFailed answer (Err cause) → IsTried answer (Err cause)
+  pub failed-refused : (answer : Result (calls.Reply K V E) Refused) (cause : Refused) → IsFailed answer (Err cause) → IsTried answer (Err cause)
   failed-refused (Ok (GaveError e)) cause is = absurd is
   failed-refused (Ok answer) cause is = absurd is
   failed-refused (Err own) cause is = is
@@ -150,11 +150,11 @@ module _ {K V E : Type 0} (eq : K → K → Bool) (laws : IsEquivalence eq) (is_
           let is_its : is_open_as {V = V} {E = E} eq name (opening n false None) ≡ true = subst (λ m. is_open_as {V = V} {E = E} eq m (opening n false None) ≡ true) (sym named) same in
           rw (fit, moves) (some-map _ _ (found-last (is_open_as eq name) (turns steps) (opening n false None) is_its))
 
-      go : (o : Option (Write K V)) (t : Option (Turn K V E)) → accepted eq settings steps the_begin ≡ Some (the_begun o t) → IsAnswerOf is_clone (accepted eq settings steps the_begin) (Run name None) → IsSome (accepted eq settings (after eq settings the_begin steps) (Finish name outcome at))
-      go (Some w) t is answers = let no = subst (λ a. IsAnswerOf is_clone a (Run name None)) is answers in cc
-      go None (Some t) is answers = let no = subst (λ a. IsAnswerOf is_clone a (Run name None)) is answers in cc
+      go : (o : Option (Write K V)) (t : Option (Turn K V E)) → accepted eq settings steps the_begin ≡ Some (the_begun o t) → IsReplyOf is_clone (accepted eq settings steps the_begin) (Run name None) → IsSome (accepted eq settings (after eq settings the_begin steps) (Finish name outcome at))
+      go (Some w) t is answers = let no = subst (λ a. IsReplyOf is_clone a (Run name None)) is answers in cc
+      go None (Some t) is answers = let no = subst (λ a. IsReplyOf is_clone a (Run name None)) is answers in cc
       go None None is answers =
-          let it = subst (λ a. IsAnswerOf is_clone a (Run name None)) is answers in
+          let it = subst (λ a. IsReplyOf is_clone a (Run name None)) is answers in
           subst (λ a. IsSome (accepted eq settings (with_step a steps) (Finish name outcome at))) (sym is)
           (opens (new_name eq settings (events_in steps) kind k) it.0 (the_begun None None).step refl)
 

@@ -6,14 +6,14 @@ use Rattle.moka_model.specs.declared.turns.Kind.TheVariants.{With, Optionally, T
 use Rattle.moka_model.specs.Lives.{Settings, Write}
 use Rattle.moka_model.specs.Turns.{Turn, found, is_open_for}
 use Rattle.moka_model.specs.Steps.{AcceptedStep, events_in, turns}
-use Rattle.moka_model.specs.Calls.{Accepted, Begin, accepted, answer_of, acceptable, begun, begun_compute, entry_of, live_at}
+use Rattle.moka_model.specs.Calls.{Accepted, Begin, accepted, reply_of, acceptable, begun, begun_compute, entry_of, live_at}
 use Rattle.moka_state.specs.declared.handed_out.HandedOut.{HandedOut}
 use Rattle.moka_state.specs.HandedOut.{HasName, HasEntry, HandsOut}
 
 module _ {K V E : Type 0} (eq : K → K → Bool) (is_clone : V → V → Type 0) (settings : Settings K V) (steps : List (AcceptedStep K V E)) (out : HandedOut K V E) where
   -- all is there that an accepted call hands out
   abbrev pub Out : Option (Accepted K V E) → Type 0
-  Out it = IfSome (answer_of it) (λ answer. HandsOut is_clone answer out)
+  Out it = IfSome (reply_of it) (λ answer. HandsOut is_clone answer out)
 
   -- what is live
   abbrev pub HasLive : Option (Write K V) → Type 0

@@ -33,7 +33,7 @@ use Rattle.moka_state.specs.State.{IsSound}
 use Rattle.moka_state.proofs.Held.{held-row}
 use Rattle.moka_state.proofs.Maintained.{HasLives, becomes-maintained}
 use Rattle.moka_state.proofs.Sound.{IsSound-maintained}
-use Rattle.moka_state.proofs.Targets.{goes_with-lookup, goes_with-now, IsSound-put, IsWhere, where-lookup, where-now, one-kept, becomes-put, becomes-put-now}
+use Rattle.moka_state.proofs.WriteSlots.{goes_with-lookup, goes_with-now, IsSound-put, IsWhere, where-lookup, where-now, one-stays, becomes-put, becomes-put-now}
 use Rattle.moka_state.proofs.Views.{view_with, Becomes, option_to_list-same, view-becomes}
 
 -- the same rows are the same view
@@ -89,7 +89,7 @@ module _ {K V : Type 0} (eq : K → K → Bool) (laws : IsEquivalence eq) (given
         subst (λ es. IsViewOf eq given new (es ++ h)) (sym (write_events-nothing eq given k v at h (stores-alike ∙ nothing)))
         (view-becomes eq laws given view new h (Passed at) is becomes)
 
-  -- A target is over a live value where the definitions find one.
+  -- A slot is over a live value where the definitions find one.
   module _ (settings : Settings K V) (lives : ExpirationPolicy) (expired_alike : HasLives settings lives) (frequency : List ℕ → ℕ → ℕ) (contents : Contents K V) (moment number : ℕ) (h : List (Event K V))
       (is : IsViewOf eq given (view_with settings contents frequency moment number) h) (dated : AreDated lives (entries contents)) (key : K) (at : ℕ) (is_moment : max moment at < 2 ^ 64) where
     over_live : (slot : WriteSlot K) → IsWhere eq laws key contents slot → is_over_live slot (max moment at) contents ≡ is_some (live eq given key (max (latest h) at) h)
@@ -154,7 +154,7 @@ module _ {K V : Type 0} (eq : K → K → Bool) (laws : IsEquivalence eq) (given
         let writes = wrote.5 in
         let flush_is = flushed kept cut wrote.2 in
         let there = where-now eq laws settings (frequency []) settings.flush_limit (max moment at) contents kept one flush_is.orders key sound (sound-then kept cut wrote.2) respects it.hash lookup own slot hashed place.2 place.1 wrote.4 in
-        let ones = one-kept eq laws settings (frequency []) settings.flush_limit (max moment at) contents kept one flush_is.orders in
+        let ones = one-stays eq laws settings (frequency []) settings.flush_limit (max moment at) contents kept one flush_is.orders in
         let info_is = subst (λ m. IsInfoOf settings.behaviour slot it.value it.weight m kept writes.0) timed writes.1 in
         let becomes = becomes-put-now eq laws key kept settings lives expired_alike frequency moment number ones (sound-then kept cut wrote.2).dated new it.value at it.hash it.weight writes.0 slot is_moment there hashed weighed info_is writes.3 in
         subst (λ es. IsViewOf eq given new_view (es ++ h)) (sym (write_events-flushed eq given key it.value at h (stores-alike old_view h is ∙ stores) (flush-viewed old_view h is ∙ many-wait contents place.0)))

@@ -22,7 +22,7 @@ pub mod Removing
 pub mod Replied
 pub mod Runs
 pub mod Sound
-pub mod Targets
 pub mod TurnSteps
 pub mod Turns
 pub mod Views
+pub mod WriteSlots

@@ -12,7 +12,7 @@ use Rattle.moka_model.specs.Events.{Event, Looked, Written, Maintained, Passed}
 use Rattle.moka_model.specs.Numbers.{drawn_in, next_number, greatest_number, stores_nothing, is_flush_due}
 use Rattle.moka_model.specs.Turns.{Turn, found, is_open_for}
 use Rattle.moka_model.specs.Steps.{AcceptedStep, events_in, turns}
-use Rattle.moka_model.specs.Calls.{Answer, Entry, Begin, OrInsert, Entered, IsAnswer, IsCopiedEntry, WantsNumber, acceptable, accepted, after, begun, entry_of, fresh_entry, live_at, or_inserted, with_step, write_events}
+use Rattle.moka_model.specs.Calls.{Reply, Entry, Begin, OrInsert, Entered, IsCopiedReply, IsCopiedEntry, WantsNumber, acceptable, accepted, after, begun, entry_of, fresh_entry, live_at, or_inserted, with_step, write_events}
 use Rattle.moka_model.specs.StandsFor.{View, StandsFor}
 use Rattle.moka_model.proofs.Callers.{IsViewOf, whole, view-of, stands-after}
 use Rattle.moka_expiration.specs.declared.expiration_policy.ExpirationPolicy.{ExpirationPolicy}
@@ -41,7 +41,7 @@ module _ {K V E : Type 0} (eq : K → K → Bool) (is_clone : V → V → Type 0
   abbrev h : List (Event K V)
   h = events_in steps
 
-  abbrev Inserts : Result (Answer K V E) Refused → Type 0
+  abbrev Inserts : Result (Reply K V E) Refused → Type 0
   Inserts = Gives eq is_clone is_infallible settings steps (OrInsert k v at)
 
   -- the events of a lookup, and of a write after its flush or of a moment that passes
@@ -60,7 +60,7 @@ module _ {K V E : Type 0} (eq : K → K → Bool) (is_clone : V → V → Type 0
   accepted-or o is = ap (λ w. Some (or_inserted {E = E} eq settings h k v at w)) is
 
   -- a begin that returns an entry has found the live value
-  begins-live : (o : Option (Write K V)) (t : Option (Turn K V E)) (e : Entry K V) → IsAnswer is_clone (begun eq settings h k With None at o t).answer (Entered e) → (w : Write K V) × (o ≡ Some w) × IsCopiedEntry is_clone (entry_of w) e
+  begins-live : (o : Option (Write K V)) (t : Option (Turn K V E)) (e : Entry K V) → IsCopiedReply is_clone (begun eq settings h k With None at o t).reply (Entered e) → (w : Write K V) × (o ≡ Some w) × IsCopiedEntry is_clone (entry_of w) e
   begins-live (Some w) t e is = (w, refl, is)
   begins-live None (Some t) e is = cc
   begins-live None None e is = cc

@@ -1,4 +1,4 @@
--- Replies that have one answer, and records that grow.
+-- Replies that are one of the specification, and records that grow.
 use Rattle.std.proofs.Common.{◌≡◌, ◌⊎◌, Bool, List, [], ◌∷◌, ◌++◌, map, Option, Some, None, option_map, refl, sym, ap, ◌∙◌, subst, inl, inr}
 use Rattle.std.specs.Prelude.{IfSome, IfOk, Result, Ok, Err}
 use Rattle.std.specs.List.{AllByRecursion}
@@ -8,9 +8,9 @@ use Rattle.moka_model.specs.declared.notification.Notice.{Notice}
 use Rattle.moka_model.specs.Lives.{Settings}
 use Rattle.moka_model.specs.Removals.{Removal}
 use Rattle.moka_model.specs.Steps.{AcceptedStep}
-use Rattle.moka_model.specs.Calls.{Call, Answer, Accepted, accepted, answer_of, IsAnswer}
+use Rattle.moka_model.specs.Calls.{Call, Accepted, accepted, reply_of, IsCopiedReply}
 use Rattle.moka_model.specs.Calls as calls
-use Rattle.moka_model.specs.StandsFor.{WholeView, StandsFor, IsAnswerOf}
+use Rattle.moka_model.specs.StandsFor.{WholeView, StandsFor, IsReplyOf}
 use Rattle.moka_table.specs.Table.{removal_of}
 use Rattle.moka_state.specs.declared.handed_out.HandedOut.{HandedOut}
 use Rattle.moka_state.specs.declared.step.Step.{Step}
@@ -37,28 +37,28 @@ module _ {K V : Type 0} (is_clone : V → V → Type 0) where
   own-notice None = tt
   own-notice (Some n) = (refl, inl refl, refl)
 
-  noticed : {E : Type 0} (answer : Answer K V E) (n : Option (Notice K V)) → IsAnswer is_clone answer (calls.Noticed (option_map removal_of n)) → IsNoticed is_clone answer n
-  noticed {E} answer n is = subst (λ (a : Answer K V E). IsNoticed is_clone a n) (same answer is) (own-notice n)
+  noticed : {E : Type 0} (answer : calls.Reply K V E) (n : Option (Notice K V)) → IsCopiedReply is_clone answer (calls.Noticed (option_map removal_of n)) → IsNoticed is_clone answer n
+  noticed {E} answer n is = subst (λ (a : calls.Reply K V E). IsNoticed is_clone a n) (same answer is) (own-notice n)
     where
-      same : (a : Answer K V E) → IsAnswer is_clone a (calls.Noticed (option_map removal_of n)) → ◌≡◌ {A = Answer K V E} (calls.Noticed (option_map removal_of n)) a
+      same : (a : calls.Reply K V E) → IsCopiedReply is_clone a (calls.Noticed (option_map removal_of n)) → ◌≡◌ {A = calls.Reply K V E} (calls.Noticed (option_map removal_of n)) a
       same (calls.Found v) is = is
       same (calls.Entered e) is = is
       same a is = is
 
 module _ {K V E : Type 0} (is_clone : V → V → Type 0) where
-  by : (it : Option (Accepted K V E)) (answer : Answer K V E) → IsAnswerOf is_clone it answer → (a : Answer K V E) × (answer_of it ≡ Some a) × IsAnswer is_clone a answer
+  by : (it : Option (Accepted K V E)) (answer : calls.Reply K V E) → IsReplyOf is_clone it answer → (a : calls.Reply K V E) × (reply_of it ≡ Some a) × IsCopiedReply is_clone a answer
   by None answer is = absurd is
-  by (Some it) answer is = (it.answer, refl, is)
+  by (Some it) answer is = (it.reply, refl, is)
 
-  by-notice : (it : Option (Accepted K V E)) (n : Option (Notice K V)) → IsAnswerOf is_clone it (calls.Noticed (option_map removal_of n)) → (a : Answer K V E) × (answer_of it ≡ Some a) × IsNoticed is_clone a n
+  by-notice : (it : Option (Accepted K V E)) (n : Option (Notice K V)) → IsReplyOf is_clone it (calls.Noticed (option_map removal_of n)) → (a : calls.Reply K V E) × (reply_of it ≡ Some a) × IsNoticed is_clone a n
   by-notice None n is = absurd is
-  by-notice (Some it) n is = (it.answer, refl, noticed is_clone it.answer n is)
+  by-notice (Some it) n is = (it.reply, refl, noticed is_clone it.reply n is)
 
 module _ {K V C H W X P F L T E S : Type 0} (eq : K → K → Bool) (is_clone : V → V → Type 0) (is_infallible : V → Type 0) (settings : Settings K V) (steps : List (AcceptedStep K V E)) (call : Call K V E) where
   abbrev pub Said : Reply K V C H W X P F L T E S → Type 0
-  Said reply = IsRefusal reply ⊎ ((answer : Answer K V E) × (answer_of (accepted eq settings steps call) ≡ Some answer) × IsSaid is_clone answer reply)
+  Said reply = IsRefusal reply ⊎ ((answer : calls.Reply K V E) × (reply_of (accepted eq settings steps call) ≡ Some answer) × IsSaid is_clone answer reply)
 
-  -- a reply is a failure, or has the answer of the specification
+  -- a reply is a failure, or is the reply of the specification
   pub said : (reply : Reply K V C H W X P F L T E S) → IsReplyTo eq is_clone is_infallible settings steps call reply → Said reply
   said (Refused cause) is = inl tt
   said (PredicateRefused cause) is = inl tt
@@ -79,11 +79,11 @@ module _ {K V C H W X P F L T E S : Type 0} (eq : K → K → Bool) (is_clone : 
   said Ended is = inr (by is_clone (accepted eq settings steps call) _ is.0)
 
   abbrev pub SaysAgain : Reply K V C H W X P F L T E S → HandedOut K V E → Reply K V C H W X P F L T E S → Type 0
-  SaysAgain reply out again = (answer : Answer K V E) → IsSaid is_clone answer reply → HandsOut is_clone answer out → IsSaid is_clone answer again
+  SaysAgain reply out again = (answer : calls.Reply K V E) → IsSaid is_clone answer reply → HandsOut is_clone answer out → IsSaid is_clone answer again
 
   -- so a reply, and two others made of it with clones for its step, are the same
   pub same-replies : (reply one other : Reply K V C H W X P F L T E S) (out more : HandedOut K V E) → IsReplyTo eq is_clone is_infallible settings steps call reply
-      → IfSome (answer_of (accepted eq settings steps call)) (λ answer. HandsOut is_clone answer out) → IfSome (answer_of (accepted eq settings steps call)) (λ answer. HandsOut is_clone answer more)
+      → IfSome (reply_of (accepted eq settings steps call)) (λ answer. HandsOut is_clone answer out) → IfSome (reply_of (accepted eq settings steps call)) (λ answer. HandsOut is_clone answer more)
       → SaysAgain reply out one → SaysAgain reply more other → (IsRefusal reply → one ≡ reply) → (IsRefusal reply → other ≡ reply)
       → SameReply is_clone reply one × SameReply is_clone reply other × SameReply is_clone one other
   same-replies reply one other out more is hands hands_more again again_other refused refused_other = go (said reply is)

@@ -18,7 +18,7 @@ use Rattle.moka_rows.specs.Rows.{row_under, used_at, touched, overwritten}
 use Rattle.moka_table.specs.Table.{Contents, weight_of, entries, SameRows, UsesRow, TakesRow}
 use Rattle.moka_rows.proofs.Callers.{all-append}
 use Rattle.moka_table.proofs.Callers.{of-row, of-used, of-taken}
-use Rattle.moka_state.proofs.Elements.{all-kept, all-evicted}
+use Rattle.moka_state.proofs.Elements.{all-retained, all-evicted}
 
 -- it holds of the same rows
 pub IsSound-same : {K V : Type 0} (keeps : K → V → Type 0) (hash_of : K → ℕ) (lives : ExpirationPolicy) (old new : Contents K V) → SameRows old new → IsSound keeps hash_of lives old → IsSound keeps hash_of lives new
@@ -87,9 +87,9 @@ module _ {K V : Type 0} (keeps : K → V → Type 0) (hash_of : K → ℕ) (live
       let gone : List (ℕ × Row K V) = evicted_in (done limit (row_parts lives is_lru frequency_of capacity at old)) in
       let left : everything (after_parts (rows_of old) (done limit (row_parts lives is_lru frequency_of capacity at old))) ≡ entries new = sym (ap everything is.orders) in
       record {
-        dated = subst (AllByRecursion Dated) left (all-kept Dated weight_of capacity wins (is_alive lives at) limit (rows_of old) sound.dated);
-        hashed = subst (AllByRecursion Hashed) left (all-kept Hashed weight_of capacity wins (is_alive lives at) limit (rows_of old) sound.hashed);
-        kept = subst (AllByRecursion Keeps) left (all-kept Keeps weight_of capacity wins (is_alive lives at) limit (rows_of old) sound.kept);
+        dated = subst (AllByRecursion Dated) left (all-retained Dated weight_of capacity wins (is_alive lives at) limit (rows_of old) sound.dated);
+        hashed = subst (AllByRecursion Hashed) left (all-retained Hashed weight_of capacity wins (is_alive lives at) limit (rows_of old) sound.hashed);
+        kept = subst (AllByRecursion Keeps) left (all-retained Keeps weight_of capacity wins (is_alive lives at) limit (rows_of old) sound.kept);
         notices_kept = rw is.notices (all-append Noticed old.notices _ sound.notices_kept (kept-noticed gone (all-evicted Keeps weight_of capacity wins (is_alive lives at) limit (rows_of old) sound.kept)));
       }
     where

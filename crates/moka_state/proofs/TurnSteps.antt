@@ -16,8 +16,9 @@ use Rattle.moka_model.specs.Removals.{notices_left}
 use Rattle.moka_model.specs.Numbers.{next_number}
 use Rattle.moka_model.specs.Turns.{Turn, found, is_open_for}
 use Rattle.moka_model.specs.Steps.{AcceptedStep, events_in, turns}
-use Rattle.moka_model.specs.Calls.{Call, Answer, Begin, BeginCompute, begun, acceptable, live_at, accepted, after, with_step, IsLegal, IsAnswer, WantsNumber}
-use Rattle.moka_model.specs.StandsFor.{Books, books_of, WholeView, StandsFor, Follows, IsAnswerOf}
+use Rattle.moka_model.specs.Calls as spec
+use Rattle.moka_model.specs.Calls.{Call, Begin, BeginCompute, begun, acceptable, live_at, accepted, after, with_step, IsLegal, IsCopiedReply, WantsNumber}
+use Rattle.moka_model.specs.StandsFor.{Books, books_of, WholeView, StandsFor, Follows, IsReplyOf}
 use Rattle.moka_model.proofs.Callers.{held-orders, filter-both, IsLegal-after}
 use Rattle.moka_policy.specs.declared.policy.Refused.{Refused}
 use Rattle.moka_policy.specs.declared.policy.Refused.TheVariants as causes
@@ -25,7 +26,7 @@ use Rattle.moka_state.specs.declared.answers.Begun.{Begun}
 use Rattle.moka_state.specs.declared.answers.Begun.TheVariants as begins
 use Rattle.moka_state.specs.Begin.{IsSaidOf, GivesBegun}
 use Rattle.moka_state.specs.Given.{Gives, of_begin}
-use Rattle.moka_state.specs.Replies.{after_given, EntryKeeps, HasNoNotice}
+use Rattle.moka_state.specs.Replies.{after_given, HasNoNotice, ReplyEntryKeeps}
 use Rattle.moka_state.specs.Step.{ReplyKeeps}
 use Rattle.moka_state.specs.declared.step.Step.TheVariants as calls
 use Rattle.moka_state.specs.declared.step.Reply.{Reply}
@@ -105,14 +106,14 @@ module _ {K V E : Type 0} (eq : K → K → Bool) (settings : Settings K V) (ste
       same (Some t) b wants = wants
 
   -- gives the same,
-  gives-unsaid : (is_clone : V → V → Type 0) (is_infallible : V → Type 0) (b : Bool) (given : Result (Answer K V E) Refused) → Gives eq is_clone is_infallible settings steps (Begin k kind None at) given
+  gives-unsaid : (is_clone : V → V → Type 0) (is_infallible : V → Type 0) (b : Bool) (given : Result (spec.Reply K V E) Refused) → Gives eq is_clone is_infallible settings steps (Begin k kind None at) given
       → Gives eq is_clone is_infallible settings steps (Begin k kind (Some b) at) given
   gives-unsaid is_clone is_infallible b (Ok answer) gives = (
-    subst (λ a. IsAnswerOf is_clone a answer) (sym (accepted-unsaid (Some b))) (same opened_here (subst (λ a. IsAnswerOf is_clone a answer) (accepted-unsaid None) gives.0)),
+    subst (λ a. IsReplyOf is_clone a answer) (sym (accepted-unsaid (Some b))) (same opened_here (subst (λ a. IsReplyOf is_clone a answer) (accepted-unsaid None) gives.0)),
     λ out. gives.1 (wants-unsaid (next_number settings (events_in steps)) b out),
   )
     where
-      same : (o : Option (Turn K V E)) → IsAnswer is_clone (begun eq settings (events_in steps) k kind None at None o).answer answer → IsAnswer is_clone (begun eq settings (events_in steps) k kind (Some b) at None o).answer answer
+      same : (o : Option (Turn K V E)) → IsCopiedReply is_clone (begun eq settings (events_in steps) k kind None at None o).reply answer → IsCopiedReply is_clone (begun eq settings (events_in steps) k kind (Some b) at None o).reply answer
       same None is = is
       same (Some t) is = is
   gives-unsaid is_clone is_infallible b (Err causes.OutOfMemory) gives = (tt, λ no. absurd no)
@@ -164,11 +165,11 @@ begun-gives eq is_clone is_infallible settings steps call (Err causes.TurnIsOpen
 begun-gives eq is_clone is_infallible settings steps call (Err causes.WaitsAbandoned) is = is
 
 -- a begin of a compute is one that keeps no copy
-pub compute-gives : {K V E : Type 0} (eq : K → K → Bool) (is_clone : V → V → Type 0) (is_infallible : V → Type 0) (settings : Settings K V) (steps : List (AcceptedStep K V E)) (k : K) (kind : Kind) → kind ≡ Compute → (replace : Option Bool) (at : ℕ) (given : Result (Answer K V E) Refused)
+pub compute-gives : {K V E : Type 0} (eq : K → K → Bool) (is_clone : V → V → Type 0) (is_infallible : V → Type 0) (settings : Settings K V) (steps : List (AcceptedStep K V E)) (k : K) (kind : Kind) → kind ≡ Compute → (replace : Option Bool) (at : ℕ) (given : Result (spec.Reply K V E) Refused)
     → Gives eq is_clone is_infallible settings steps (BeginCompute k false at) given → Gives eq is_clone is_infallible settings steps (Begin k kind replace at) given
 compute-gives {K} {V} {E} eq is_clone is_infallible settings steps k kind is replace at given gives = subst (λ (q : Kind). Gives eq is_clone is_infallible settings steps (Begin k q replace at) given) (sym is) (go given gives)
   where
-    go : (given : Result (Answer K V E) Refused) → Gives eq is_clone is_infallible settings steps (BeginCompute k false at) given → Gives eq is_clone is_infallible settings steps (Begin k Compute replace at) given
+    go : (given : Result (spec.Reply K V E) Refused) → Gives eq is_clone is_infallible settings steps (BeginCompute k false at) given → Gives eq is_clone is_infallible settings steps (Begin k Compute replace at) given
     go (Ok answer) gives = gives
     go (Err causes.OutOfMemory) gives = gives
     go (Err causes.NumbersUsedUp) gives = gives
@@ -183,7 +184,7 @@ after-compute eq settings steps k kind is replace at = ap (λ (q : Kind). after 
 
 -- A begin whose caller says the same of any live value.
 module _ {K V E : Type 0} (eq : K → K → Bool) (settings : Settings K V) (steps : List (AcceptedStep K V E)) (k : K) (kind : Kind) (at : ℕ) (initializer : kind ≢ Compute) (says : Bool) where
-  pub gives-said : (is_clone : V → V → Type 0) (is_infallible : V → Type 0) (said : Option Bool) → IsSaidOrUnasked says (live_at eq settings k at (events_in steps)) said → (given : Result (Answer K V E) Refused)
+  pub gives-said : (is_clone : V → V → Type 0) (is_infallible : V → Type 0) (said : Option Bool) → IsSaidOrUnasked says (live_at eq settings k at (events_in steps)) said → (given : Result (spec.Reply K V E) Refused)
       → Gives eq is_clone is_infallible settings steps (Begin k kind said at) given → Gives eq is_clone is_infallible settings steps (Begin k kind (Some says) at) given
   gives-said is_clone is_infallible said (inl is) given gives = subst (λ s. Gives eq is_clone is_infallible settings steps (Begin k kind s at) given) is gives
   gives-said is_clone is_infallible said (inr (none, is)) given gives =
@@ -212,13 +213,13 @@ OnErr-so (Err e) is refused = is
 
 -- what the caller gets from a call of a turn
 module _ {K V C H W X P F L T E S : Type 0} (keeps : K → V → Type 0) where
-  pub begin-keeps : (key : Arc K Global) (kind : Kind) (replace : Option Bool) (now : ℕ) (reply : Reply K V C H W X P F L T E S) → EntryKeeps keeps reply → ReplyKeeps keeps (calls.Begin key kind replace now) reply
+  pub begin-keeps : (key : Arc K Global) (kind : Kind) (replace : Option Bool) (now : ℕ) (reply : Reply K V C H W X P F L T E S) → ReplyEntryKeeps keeps reply → ReplyKeeps keeps (calls.Begin key kind replace now) reply
   begin-keeps key kind replace now (Entered entry) is = is
   begin-keeps key kind replace now (Run name (Some entry)) is = is
   begin-keeps key kind replace now (Noticed notice) is = absurd is
   begin-keeps key kind replace now reply is = tt
 
-  pub compute-keeps : (key : Arc K Global) (keep : Bool) (now : ℕ) (reply : Reply K V C H W X P F L T E S) → EntryKeeps keeps reply → ReplyKeeps keeps (calls.BeginCompute key keep now) reply
+  pub compute-keeps : (key : Arc K Global) (keep : Bool) (now : ℕ) (reply : Reply K V C H W X P F L T E S) → ReplyEntryKeeps keeps reply → ReplyKeeps keeps (calls.BeginCompute key keep now) reply
   compute-keeps key keep now (Run name (Some entry)) is = is
   compute-keeps key keep now (Noticed notice) is = absurd is
   compute-keeps key keep now reply is = tt

@@ -9,8 +9,8 @@ use Rattle.std.specs.Prelude.{Result, Ok, Err}
 use Rattle.moka_policy.specs.declared.policy.Refused.{Refused}
 use Rattle.moka_policy.specs.declared.policy.Refused.TheVariants.{OutOfMemory}
 use Rattle.moka_model.specs.Numbers.{next_number}
-use Rattle.moka_model.specs.Calls.{Call, Answer, Accepted, accepted, after, with_step, IsLegal, IsAnswer, MayTakeMemory, WantsNumber, WantsNumberBy, Holds}
-use Rattle.moka_model.specs.StandsFor.{IsAnswerOf}
+use Rattle.moka_model.specs.Calls.{Call, Reply, Accepted, accepted, after, with_step, IsLegal, IsCopiedReply, MayTakeMemory, WantsNumber, WantsNumberBy, Holds}
+use Rattle.moka_model.specs.StandsFor.{IsReplyOf}
 use Rattle.moka_state.specs.Given.{Gives}
 use Rattle.moka_model.specs.StandsFor.{View, StandsFor, Books}
 use Rattle.moka_model.proofs.Callers.{IsViewOf, whole, view-of, stands-moved, legal-fit, turns-apart, one_is_open}
@@ -72,14 +72,14 @@ new-books contents number none no_notices = let both = both-empty contents.admit
 
 -- What a call without a number to draw gives, by what a search finds.
 module _ {K V E : Type 0} (eq : K → K → Bool) (is_clone : V → V → Type 0) (is_infallible : V → Type 0) (settings : Settings K V) (steps : List (AcceptedStep K V E)) (call : Call K V E) where
-  abbrev GivesThis : Result (Answer K V E) Refused → Type 0
+  abbrev GivesThis : Result (Reply K V E) Refused → Type 0
   GivesThis = Gives eq is_clone is_infallible settings steps call
 
-  -- it is accepted, with an answer,
-  pub gives-accepted : (it : Accepted K V E) (answer : Answer K V E) → accepted eq settings steps call ≡ Some it → IsAnswer is_clone it.answer answer
+  -- it is accepted, with a reply,
+  pub gives-accepted : (it : Accepted K V E) (answer : Reply K V E) → accepted eq settings steps call ≡ Some it → IsCopiedReply is_clone it.reply answer
       → ¬ (WantsNumberBy (next_number settings (events_in steps)) (turns steps) it.step.events it.step.move) → GivesThis (Ok answer)
   gives-accepted it answer is same draws =
-      (subst (λ a. IsAnswerOf is_clone a answer) (sym is) same, λ out. draws (subst (WantsNumber (next_number settings (events_in steps)) (turns steps)) is out))
+      (subst (λ a. IsReplyOf is_clone a answer) (sym is) same, λ out. draws (subst (WantsNumber (next_number settings (events_in steps)) (turns steps)) is out))
 
   -- or it may take memory
   pub gives-memory : (it : Accepted K V E) → accepted eq settings steps call ≡ Some it → MayTakeMemory eq is_infallible settings steps call

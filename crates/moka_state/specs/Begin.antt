@@ -11,7 +11,7 @@ use Rattle.moka_model.specs.declared.entry.Entry.{Entry}
 use Rattle.moka_model.specs.Entries.{entry_of}
 use Rattle.moka_model.specs.Lives.{Settings, Write}
 use Rattle.moka_model.specs.Steps.{AcceptedStep, events_in}
-use Rattle.moka_model.specs.Calls.{Call, Begin, Entered, IsWait, IfAnswered, accepted, acceptable, live_at}
+use Rattle.moka_model.specs.Calls.{Call, Begin, Entered, IsWait, IfReplied, accepted, acceptable, live_at}
 use Rattle.moka_expiration.specs.StateData.{StateData}
 use Rattle.moka_table.specs.LiveEntry.{IsSaid}
 use Rattle.moka_state.specs.declared.answers.Begun.{Begun}
@@ -49,7 +49,7 @@ pub record LookEnds {K V H W X F E : Type 0} (gives : Result (Option (Entry K V)
 abbrev pub GivesBegun : {K V E : Type 0} → (K → K → Bool) → (V → V → Type 0) → (V → Type 0) → Settings K V →
     List (AcceptedStep K V E) → Call K V E → Bool → Result (Begun K V) Refused → Type 0
 GivesBegun eq is_clone is_infallible settings steps call may_wait (Err causes.TurnIsOpen) =
-    (may_wait ≡ false) × IfAnswered IsWait (accepted eq settings steps call)
+    (may_wait ≡ false) × IfReplied IsWait (accepted eq settings steps call)
 GivesBegun eq is_clone is_infallible settings steps call may_wait (Ok (begins.Wait ticket)) =
     (may_wait ≡ true) × Gives eq is_clone is_infallible settings steps call (of_begin (Ok (begins.Wait ticket)))
 GivesBegun eq is_clone is_infallible settings steps call may_wait result =

@@ -8,7 +8,7 @@ use Rattle.moka_model.specs.declared.comp_result.CompResult.{CompResult}
 use Rattle.moka_model.specs.declared.comp_result.CompResult.TheVariants as results
 use Rattle.moka_model.specs.Lives.{Settings}
 use Rattle.moka_model.specs.Steps.{AcceptedStep}
-use Rattle.moka_model.specs.Calls.{Call, IsCopyOf, IsWait, IfAnswered, accepted, entry_under, fresh_entry}
+use Rattle.moka_model.specs.Calls.{Call, IsCopyOf, IsWait, IfReplied, accepted, entry_under, fresh_entry}
 use Rattle.moka_model.specs.Calls as calls
 use Rattle.moka_model.specs.Entries.{entry_of}
 use Rattle.moka_rows.specs.declared.rows.Row.{Row}
@@ -28,13 +28,13 @@ abbrev pub IsShown : {K V : Type 0} → (K → K → Bool) → (V → V → Type
     List (ℕ × Row K V) → Option (Shown K V) → Type 0
 IsShown {K} {V} eq is_clone keep key hash at rows (Some shown) =
     (row : Row K V) × (row_under shown.number rows ≡ Some row) × IsRowOf eq key hash row × (is_live_row at (Some row) ≡ true)
-    × IsEntryOfRow is_clone row (entry_of shown.entry) × IsCopyOf is_clone (if keep then Some row.value else None) shown.kept
+    × IsEntryOfRow is_clone row (entry_of shown.entry) × IsCopyOf is_clone (if keep then Some row.value else None) shown.saved
 IsShown {K} {V} eq is_clone keep key hash at rows None =
     NoneIsRowOf eq key hash rows
     ⊎ ((n : ℕ) × (row : Row K V) × (row_under n rows ≡ Some row) × IsRowOf eq key hash row × (is_live_row at (Some row) ≡ false))
 
 -- The begin of a compute ends as `gives` says. If it succeeds, `follows` holds; if it fails, nothing has changed.
-pub record ComputeBegins {K V H W X F E : Type 0} (gives : Result (calls.Answer K V E) Refused → Type 0) (follows : Type 0)
+pub record ComputeBegins {K V H W X F E : Type 0} (gives : Result (calls.Reply K V E) Refused → Type 0) (follows : Type 0)
     (old new : StateData K V H W X F E) (result : Result (BegunCompute K V) Refused) : Type 0 where
   pub reply : gives (of_begin_compute result)
   pub stands : OnOk result follows
@@ -43,9 +43,9 @@ pub record ComputeBegins {K V H W X F E : Type 0} (gives : Result (calls.Answer 
 -- A begin that may not wait fails with `TurnIsOpen` only if it would have to wait. Any other result is the one of the
 -- specification.
 abbrev pub GivesAtOnce : {K V E : Type 0} → (K → K → Bool) → (V → V → Type 0) → (V → Type 0) → Settings K V →
-    List (AcceptedStep K V E) → Call K V E → Bool → Result (calls.Answer K V E) Refused → Type 0
+    List (AcceptedStep K V E) → Call K V E → Bool → Result (calls.Reply K V E) Refused → Type 0
 GivesAtOnce eq is_clone is_infallible settings steps call may_wait (Err causes.TurnIsOpen) =
-    (may_wait ≡ false) × IfAnswered IsWait (accepted eq settings steps call)
+    (may_wait ≡ false) × IfReplied IsWait (accepted eq settings steps call)
 GivesAtOnce eq is_clone is_infallible settings steps call may_wait result =
     Gives eq is_clone is_infallible settings steps call result
 
@@ -69,11 +69,11 @@ abbrev pub ShownKeepsFor : {K V : Type 0} → (K → V → Type 0) → K → Beg
 ShownKeepsFor keeps key (begins.Run turn shown) = IfSome shown (EntryKeeps keeps key)
 ShownKeepsFor keeps key (begins.Wait ticket) = ⊤
 
--- The result of a compute that does nothing: the value that was kept aside, if one was.
+-- The result of a compute that does nothing: the value that was saved, if one was.
 abbrev pub IsLeft : {K V : Type 0} → K → Option V → CompResult K V → Type 0
 IsLeft key None (results.StillNone own) = arc_value own ≡ key
 IsLeft key (Some v) (results.Unchanged entry) = entry_of entry ≡ entry_under key v
-IsLeft key kept result = ⊥
+IsLeft key saved result = ⊥
 
 -- The result of a compute that removes: the live value that it removed, if there was one.
 abbrev pub IsRemoved : {K V : Type 0} → K → Option V → CompResult K V → Type 0

@@ -11,25 +11,25 @@ use Rattle.moka_model.specs.Entries.{entry_of}
 use Rattle.moka_model.specs.Lives.{Settings}
 use Rattle.moka_model.specs.Steps.{AcceptedStep}
 use Rattle.moka_model.specs.Turns.{Name}
-use Rattle.moka_model.specs.Calls.{Call, Abandon, Done, Run, Inserted, ReplacedWith, IsWait, IfAnswered, accepted, after}
+use Rattle.moka_model.specs.Calls.{Call, Abandon, Done, Run, Inserted, ReplacedWith, IsWait, IfReplied, accepted, after}
 use Rattle.moka_model.specs.Calls as calls
 use Rattle.moka_state.specs.Forms.{EndsTurn}
 use Rattle.moka_state.specs.Given.{Gives}
 
 module _ {K V E : Type 0} where
-  -- The result of a compute, as an answer of the specification.
-  abbrev pub of_computing : Result (CompResult K V) Refused → Result (calls.Answer K V E) Refused
+  -- The result of a compute, as a reply of the specification.
+  abbrev pub of_computing : Result (CompResult K V) Refused → Result (calls.Reply K V E) Refused
   of_computing (Ok computed) = Ok (of_computed computed)
   of_computing (Err cause) = Err cause
 
-  -- The same if the closure may fail: then the turn is abandoned, and the answer is `Done`.
-  abbrev pub of_trying : {X : Type 0} → Result (Result (CompResult K V) X) Refused → Result (calls.Answer K V E) Refused
+  -- The same if the closure may fail: then the turn is abandoned, and the reply is `Done`.
+  abbrev pub of_trying : {X : Type 0} → Result (Result (CompResult K V) X) Refused → Result (calls.Reply K V E) Refused
   of_trying (Ok (Ok computed)) = Ok (of_computed computed)
   of_trying (Ok (Err error)) = Ok Done
   of_trying (Err cause) = Err cause
 
   -- An upsert returns the entry that its compute put, or the cause of the failure.
-  abbrev pub IsUpserted : Result (calls.Answer K V E) Refused → Result (Entry K V) Refused → Type 0
+  abbrev pub IsUpserted : Result (calls.Reply K V E) Refused → Result (Entry K V) Refused → Type 0
   IsUpserted (Ok (Inserted put)) (Ok entry) = entry_of entry ≡ put
   IsUpserted (Ok (ReplacedWith put)) (Ok entry) = entry_of entry ≡ put
   IsUpserted (Err cause) (Err refused) = refused ≡ cause
@@ -49,7 +49,7 @@ IsErrorOf given result = ⊤
 
 module _ {K V E : Type 0} (eq : K → K → Bool) (is_clone : V → V → Type 0) (is_infallible : V → Type 0) (settings : Settings K V) where
   -- The turn of a compute ends with the operation that the closure returned, or is abandoned if the closure failed.
-  abbrev pub EndsCompute : List (AcceptedStep K V E) → Name K → Option (Op V) → ℕ → Result (calls.Answer K V E) Refused →
+  abbrev pub EndsCompute : List (AcceptedStep K V E) → Name K → Option (Op V) → ℕ → Result (calls.Reply K V E) Refused →
       (List (AcceptedStep K V E) → Type 0) → Type 0
   EndsCompute steps name (Some op) now answer Stands =
       EndsTurn eq is_clone is_infallible settings steps name (outcomes.Op op) now answer Stands
@@ -59,9 +59,9 @@ module _ {K V E : Type 0} (eq : K → K → Bool) (is_clone : V → V → Type 0
   -- returned. `shown` is the live entry that the closure got, if any. `given` is what it returned; none if it did not
   -- run. `Stands` holds of the history of the new state.
   abbrev pub IsComputeForm : List (AcceptedStep K V E) → Call K V E → ℕ → Option (calls.Entry K V) → Option (Option (Op V)) →
-      Result (calls.Answer K V E) Refused → (List (AcceptedStep K V E) → Type 0) → Type 0
+      Result (calls.Reply K V E) Refused → (List (AcceptedStep K V E) → Type 0) → Type 0
   IsComputeForm steps begin now shown None (Ok answer) Stands = ⊥
-  IsComputeForm steps begin now shown None (Err causes.TurnIsOpen) Stands = IfAnswered IsWait (accepted eq settings steps begin)
+  IsComputeForm steps begin now shown None (Err causes.TurnIsOpen) Stands = IfReplied IsWait (accepted eq settings steps begin)
   IsComputeForm steps begin now shown None (Err cause) Stands =
       Gives eq is_clone is_infallible settings steps begin (Err cause)
   IsComputeForm steps begin now shown (Some said) answer Stands =

@@ -46,9 +46,9 @@ OutcomeKeeps keeps outcome = ⊤
 pub record IsCopiesOf {K V : Type 0} (is_clone : V → V → Type 0) (turn : Turn K) (value : V) (waiting : ℕ)
     (copies : Copies K V) : Type 0 where
   pub key : arc_value copies.key ≡ arc_value turn.key.key
-  pub answer : is_clone value copies.answer
-  pub waited : 0 < waiting → IsSome copies.kept
-  pub kept : IfSome copies.kept (is_clone value)
+  pub reply : is_clone value copies.reply
+  pub waited : 0 < waiting → IsSome copies.saved
+  pub saved : IfSome copies.saved (is_clone value)
 
 -- The result of a loader's turn is its outcome: a clone of the value under the turn's key, nothing, or the same error.
 abbrev pub IsGiven : {K V E : Type 0} → (V → V → Type 0) → K → Outcome V (Arc E Global) → Answer K V E → Type 0
@@ -73,9 +73,9 @@ IsFinished is_clone key outcome (finishes.Answer answer) = IsGiven is_clone key 
 IsFinished is_clone key (outcomes.Op op) (finishes.Computed result) = IsComputed is_clone key op result
 IsFinished is_clone key outcome (finishes.Computed result) = ⊥
 
--- A finish ends as `gives` says, and keeps the settings. If it succeeds, `follows` holds, and the result is the
+-- A finish ends as `gives` says, and leaves the settings as they were. If it succeeds, `follows` holds, and the result is the
 -- outcome. If it fails, nothing has changed, and the turn and the outcome come back.
-pub record FinishEnds {K V H W X F E : Type 0} (is_clone : V → V → Type 0) (gives : Result (calls.Answer K V E) Refused → Type 0)
+pub record FinishEnds {K V H W X F E : Type 0} (is_clone : V → V → Type 0) (gives : Result (calls.Reply K V E) Refused → Type 0)
     (follows : Type 0) (old new : StateData K V H W X F E) (turn : Turn K) (outcome : Outcome V (Arc E Global))
     (result : Result (Finished K V E) (FinishRefused K V E)) : Type 0 where
   pub reply : gives (of_finish result)

@@ -2,7 +2,7 @@
 use Rattle.std.specs.Prelude.{⊤, ◌≡◌, Option, Some, None, IfSome, IsSomeAnd}
 use Rattle.std.specs.Arc.{arc_value}
 use Rattle.moka_model.specs.Lives.{Write}
-use Rattle.moka_model.specs.Calls.{Entry, Answer, IsCopyOf}
+use Rattle.moka_model.specs.Calls.{Entry, Reply, IsCopyOf}
 use Rattle.moka_model.specs.Calls as calls
 use Rattle.moka_table.specs.Notices.{IsNoticeOf}
 use Rattle.moka_state.specs.declared.handed_out.HandedOut.{HandedOut}
@@ -27,8 +27,8 @@ module _ {K V E : Type 0} where
   abbrev pub HasEntry : (V → V → Type 0) → Entry K V → HandedOut K V E → Type 0
   HasEntry is_clone e out = HasKey e.key out × IsSomeAnd out.value (is_clone e.value)
 
-  -- Everything that an answer hands out is there; a value as a clone.
-  abbrev pub HandsOut : (V → V → Type 0) → Answer K V E → HandedOut K V E → Type 0
+  -- Everything that a reply hands out is there; a value as a clone.
+  abbrev pub HandsOut : (V → V → Type 0) → Reply K V E → HandedOut K V E → Type 0
   HandsOut is_clone (calls.Found v) out = IsCopyOf is_clone v out.value
   HandsOut is_clone (calls.Noticed n) out = IsNoticeOf is_clone n out.notice
   HandsOut is_clone (calls.Entered e) out = HasEntry is_clone e out

@@ -3,18 +3,18 @@ use Rattle.std.specs.Prelude.{◌≡◌, Result, Ok, Err, OnOk, OnErr}
 use Rattle.moka_policy.specs.declared.policy.Refused.{Refused}
 use Rattle.moka_model.specs.declared.entry.Entry.{Entry}
 use Rattle.moka_model.specs.Entries.{entry_of}
-use Rattle.moka_model.specs.Calls.{Answer, Entered}
+use Rattle.moka_model.specs.Calls.{Reply, Entered}
 use Rattle.moka_expiration.specs.StateData.{StateData}
 use Rattle.moka_state.specs.declared.or_insert.OrInsertRefused.{OrInsertRefused}
 
 module _ {K V E : Type 0} where
-  -- The result of an `or_insert`, as an answer of the specification.
-  abbrev pub of_or_insert : Result (Entry K V) (OrInsertRefused V) → Result (Answer K V E) Refused
+  -- The result of an `or_insert`, as a reply of the specification.
+  abbrev pub of_or_insert : Result (Entry K V) (OrInsertRefused V) → Result (Reply K V E) Refused
   of_or_insert (Ok entry) = Ok (Entered (entry_of entry))
   of_or_insert (Err refused) = Err refused.cause
 
-  -- The result of an `or_default`, as an answer of the specification.
-  abbrev pub of_or_default : Result (Entry K V) Refused → Result (Answer K V E) Refused
+  -- The result of an `or_default`, as a reply of the specification.
+  abbrev pub of_or_default : Result (Entry K V) Refused → Result (Reply K V E) Refused
   of_or_default (Ok entry) = Ok (Entered (entry_of entry))
   of_or_default (Err cause) = Err cause
 

@@ -14,7 +14,7 @@ use Rattle.moka_model.specs.CompResults.{of_computed}
 use Rattle.moka_model.specs.Entries.{entry_of}
 use Rattle.moka_model.specs.Lives.{Settings}
 use Rattle.moka_model.specs.Removals.{Removal}
-use Rattle.moka_model.specs.Calls.{Answer, IsAnswer}
+use Rattle.moka_model.specs.Calls.{IsCopiedReply}
 use Rattle.moka_model.specs.Calls as calls
 use Rattle.moka_model.specs.StandsFor.{WholeView, StandsFor}
 use Rattle.moka_turns.specs.Handles.{name_by}
@@ -57,10 +57,10 @@ module _ {V : Type 0} (is_clone : V → V → Type 0) where
         (arc_value n.key ≡ r.key) × ((n.value ≡ r.value) ⊎ is_clone r.value n.value) × (n.cause ≡ r.cause)
     IsNoticeFor r n = ⊥
 
-    -- The answer is a removal, and the notice is that of the removal; or both are none.
-    abbrev pub IsNoticed : {E : Type 0} → Answer K V E → Option (Notice K V) → Type 0
+    -- The reply of the specification is a removal, and the notice is that of the removal; or both are none.
+    abbrev pub IsNoticed : {E : Type 0} → calls.Reply K V E → Option (Notice K V) → Type 0
     IsNoticed (calls.Noticed r) n = IsNoticeFor r n
-    IsNoticed answer n = ⊥
+    IsNoticed returned n = ⊥
 
   module _ {K C H W X P F L T E S : Type 0} where
     -- The second step is a clone of the first: it has a clone of the value, and all else is the same.
@@ -93,29 +93,29 @@ module _ {V : Type 0} (is_clone : V → V → Type 0) where
     SameStep = OfOne IsStepCopy
 
   module _ {K C H W X P F L T E S : Type 0} where
-    -- The reply has this answer, with clones of the answer's values. The value of a notice may also be the original.
-    abbrev pub IsSaid : Answer K V E → Reply K V C H W X P F L T E S → Type 0
-    IsSaid answer (Found v) = IsAnswer is_clone answer (calls.Found v)
-    IsSaid answer (Contains b) = IsAnswer is_clone answer (calls.Contains b)
-    IsSaid answer Done = IsAnswer is_clone answer calls.Done
-    IsSaid answer (Counted n) = IsAnswer is_clone answer (calls.Counted n)
-    IsSaid answer (Left b) = IsAnswer is_clone answer (calls.Left b)
-    IsSaid answer (Noticed n) = IsNoticed answer n
-    IsSaid answer (Entered entry) = IsAnswer is_clone answer (calls.Entered (entry_of entry))
-    IsSaid answer (Run name entry) = IsAnswer is_clone answer (calls.Run (name_by name) (option_map entry_of entry))
-    IsSaid answer (Wait name) = IsAnswer is_clone answer (calls.Wait (name_by name))
-    IsSaid answer Nothing = IsAnswer is_clone answer calls.GaveNothing
-    IsSaid answer (Failed error) = IsAnswer is_clone answer (calls.GaveError (arc_value error))
-    IsSaid answer (Computed result) = IsAnswer is_clone answer (of_computed result)
-    IsSaid answer NotYet = IsAnswer is_clone answer calls.NotYet
-    IsSaid answer Abandoned = IsAnswer is_clone answer calls.WasAbandoned
-    IsSaid answer Ended = IsAnswer is_clone answer calls.HasEnded
-    IsSaid answer (Refused cause) = ⊥
-    IsSaid answer (PredicateRefused cause) = ⊥
+    -- The reply is this one of the specification, with clones of its values. The value of a notice may also be the original.
+    abbrev pub IsSaid : calls.Reply K V E → Reply K V C H W X P F L T E S → Type 0
+    IsSaid returned (Found v) = IsCopiedReply is_clone returned (calls.Found v)
+    IsSaid returned (Contains b) = IsCopiedReply is_clone returned (calls.Contains b)
+    IsSaid returned Done = IsCopiedReply is_clone returned calls.Done
+    IsSaid returned (Counted n) = IsCopiedReply is_clone returned (calls.Counted n)
+    IsSaid returned (Left b) = IsCopiedReply is_clone returned (calls.Left b)
+    IsSaid returned (Noticed n) = IsNoticed returned n
+    IsSaid returned (Entered entry) = IsCopiedReply is_clone returned (calls.Entered (entry_of entry))
+    IsSaid returned (Run name entry) = IsCopiedReply is_clone returned (calls.Run (name_by name) (option_map entry_of entry))
+    IsSaid returned (Wait name) = IsCopiedReply is_clone returned (calls.Wait (name_by name))
+    IsSaid returned Nothing = IsCopiedReply is_clone returned calls.GaveNothing
+    IsSaid returned (Failed error) = IsCopiedReply is_clone returned (calls.GaveError (arc_value error))
+    IsSaid returned (Computed result) = IsCopiedReply is_clone returned (of_computed result)
+    IsSaid returned NotYet = IsCopiedReply is_clone returned calls.NotYet
+    IsSaid returned Abandoned = IsCopiedReply is_clone returned calls.WasAbandoned
+    IsSaid returned Ended = IsCopiedReply is_clone returned calls.HasEnded
+    IsSaid returned (Refused cause) = ⊥
+    IsSaid returned (PredicateRefused cause) = ⊥
 
-    -- Both replies have one answer, or they are the same failure.
+    -- Both are the same reply of the specification, or they are the same failure.
     abbrev pub SameReply : Reply K V C H W X P F L T E S → Reply K V C H W X P F L T E S → Type 0
-    SameReply a b = ((answer : Answer K V E) × IsSaid answer a × IsSaid answer b) ⊎ (IsRefusal a × (b ≡ a))
+    SameReply a b = ((returned : calls.Reply K V E) × IsSaid returned a × IsSaid returned b) ⊎ (IsRefusal a × (b ≡ a))
 
     -- Two lists of steps and replies are the same, place by place, up to clones.
     abbrev pub AreRecords : List (Step K V C H W X P F L T E S × Reply K V C H W X P F L T E S) →

@@ -3,7 +3,8 @@ use Rattle.std.specs.Prelude.{⊤, ◌≡◌, Bool, List, Result, Ok, Err, Some}
 use Rattle.moka_policy.specs.declared.policy.Refused as policies
 use Rattle.moka_model.specs.Lives.{Settings}
 use Rattle.moka_model.specs.Steps.{AcceptedStep}
-use Rattle.moka_model.specs.Calls.{Call, Answer, after}
+use Rattle.moka_model.specs.Calls as calls
+use Rattle.moka_model.specs.Calls.{Call, after}
 use Rattle.moka_state.specs.Given.{Gives}
 use Rattle.moka_state.specs.Step.{IsReplyTo, after_reply}
 use Rattle.moka_model.specs.Entries.{entry_of}
@@ -18,7 +19,7 @@ after_given eq settings call (Err refused) steps = steps
 
 -- The reply is right for each call that gives this result.
 abbrev pub Says : {K V C H W X P F L T E S : Type 0} → (K → K → Bool) → (V → V → Type 0) → (V → Type 0) →
-    Result (Answer K V E) policies.Refused → Reply K V C H W X P F L T E S → Type 0
+    Result (calls.Reply K V E) policies.Refused → Reply K V C H W X P F L T E S → Type 0
 Says {K} {V} {E = E} eq is_clone is_infallible given reply =
     (settings : Settings K V) (steps : List (AcceptedStep K V E)) (call : Call K V E) →
     Gives eq is_clone is_infallible settings steps call given → IsReplyTo eq is_clone is_infallible settings steps call reply
@@ -31,11 +32,11 @@ Leaves {K = K} {V = V} {E = E} eq given reply =
 
 module _ {K V C H W X P F L T E S : Type 0} where
   -- The entry in the reply, if any, satisfies the invariant. The reply has no notice.
-  abbrev pub EntryKeeps : (K → V → Type 0) → Reply K V C H W X P F L T E S → Type 0
-  EntryKeeps keeps (Entered entry) = keeps (entry_of entry).key (entry_of entry).value
-  EntryKeeps keeps (Run name (Some entry)) = keeps (entry_of entry).key (entry_of entry).value
-  EntryKeeps keeps (Noticed notice) = ⊥
-  EntryKeeps keeps reply = ⊤
+  abbrev pub ReplyEntryKeeps : (K → V → Type 0) → Reply K V C H W X P F L T E S → Type 0
+  ReplyEntryKeeps keeps (Entered entry) = keeps (entry_of entry).key (entry_of entry).value
+  ReplyEntryKeeps keeps (Run name (Some entry)) = keeps (entry_of entry).key (entry_of entry).value
+  ReplyEntryKeeps keeps (Noticed notice) = ⊥
+  ReplyEntryKeeps keeps reply = ⊤
 
   -- The reply has no notice.
   abbrev pub HasNoNotice : Reply K V C H W X P F L T E S → Type 0

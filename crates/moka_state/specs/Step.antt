@@ -5,10 +5,11 @@ use Rattle.moka_predicate_ids.specs.declared.predicate_error.PredicateError.TheV
 use Rattle.moka_predicate_ids.specs.declared.predicate_error.PredicateError.TheVariants as predicates
 use Rattle.moka_model.specs.Lives.{Settings}
 use Rattle.moka_model.specs.Steps.{AcceptedStep}
-use Rattle.moka_model.specs.Calls.{Call, Answer, ClosuresUnsupported, accepted, after, IsOutOfNumbers, IsRefusedAs}
+use Rattle.moka_model.specs.Calls as calls
+use Rattle.moka_model.specs.Calls.{Call, ClosuresUnsupported, accepted, after, IsOutOfNumbers, IsRefusedAs}
 use Rattle.moka_model.specs.Entries.{entry_of}
 use Rattle.moka_model.specs.CompResults.{of_computed}
-use Rattle.moka_model.specs.StandsFor.{IsAnswerOf}
+use Rattle.moka_model.specs.StandsFor.{IsReplyOf}
 use Rattle.moka_turns.specs.Handles.{name_by}
 use Rattle.moka_state.specs.Finish.{OutcomeKeeps, outcome_of}
 use Rattle.moka_state.specs.Given.{Gives}
@@ -48,31 +49,31 @@ module _ {K V C H W X P F L T E S : Type 0} where
 -- The type of the values says what a clone is, and of which values clones cannot fail.
 module _ {K V E : Type 0} (eq : K → K → Bool) (is_clone : V → V → Type 0) (settings : Settings K V)
     (steps : List (AcceptedStep K V E)) where
-  -- The call is accepted with this answer, and is not out of sequence numbers.
-  abbrev pub IsAccepted : Call K V E → Answer K V E → Type 0
-  IsAccepted call answer = IsAnswerOf is_clone (accepted eq settings steps call) answer × ¬ (IsOutOfNumbers eq settings steps call)
+  -- The call is accepted with this reply of the specification, and is not out of sequence numbers.
+  abbrev pub IsAccepted : Call K V E → calls.Reply K V E → Type 0
+  IsAccepted call returned = IsReplyOf is_clone (accepted eq settings steps call) returned × ¬ (IsOutOfNumbers eq settings steps call)
 
 module _ {K V C H W X P F L T E S : Type 0} (eq : K → K → Bool) (is_clone : V → V → Type 0) (is_infallible : V → Type 0)
     (settings : Settings K V) (steps : List (AcceptedStep K V E)) where
-  -- The reply is right for the call. An accepted call has an answer of the specification, and draws a sequence number
+  -- The reply is right for the call. An accepted call has a reply of the specification, and draws a sequence number
   -- only if one is left. A failed one has a cause that holds, as `Gives` says. A predicate fails with
   -- `InvalidationClosuresDisabled`, exactly if the specification does not accept the call.
   abbrev pub IsReplyTo : Call K V E → Reply K V C H W X P F L T E S → Type 0
-  IsReplyTo call (Found v) = IsAccepted eq is_clone settings steps call (Answer.Found v)
-  IsReplyTo call (Contains b) = IsAccepted eq is_clone settings steps call (Answer.Contains b)
-  IsReplyTo call Done = IsAccepted eq is_clone settings steps call Answer.Done
-  IsReplyTo call (Counted n) = IsAccepted eq is_clone settings steps call (Answer.Counted n)
-  IsReplyTo call (Left b) = IsAccepted eq is_clone settings steps call (Answer.Left b)
-  IsReplyTo call (Noticed n) = IsAccepted eq is_clone settings steps call (Answer.Noticed (option_map removal_of n))
-  IsReplyTo call (Entered entry) = IsAccepted eq is_clone settings steps call (Answer.Entered (entry_of entry))
-  IsReplyTo call (Run name entry) = IsAccepted eq is_clone settings steps call (Answer.Run (name_by name) (option_map entry_of entry))
-  IsReplyTo call (Wait name) = IsAccepted eq is_clone settings steps call (Answer.Wait (name_by name))
-  IsReplyTo call Nothing = IsAccepted eq is_clone settings steps call Answer.GaveNothing
-  IsReplyTo call (Failed error) = IsAccepted eq is_clone settings steps call (Answer.GaveError (arc_value error))
+  IsReplyTo call (Found v) = IsAccepted eq is_clone settings steps call (calls.Found v)
+  IsReplyTo call (Contains b) = IsAccepted eq is_clone settings steps call (calls.Contains b)
+  IsReplyTo call Done = IsAccepted eq is_clone settings steps call calls.Done
+  IsReplyTo call (Counted n) = IsAccepted eq is_clone settings steps call (calls.Counted n)
+  IsReplyTo call (Left b) = IsAccepted eq is_clone settings steps call (calls.Left b)
+  IsReplyTo call (Noticed n) = IsAccepted eq is_clone settings steps call (calls.Noticed (option_map removal_of n))
+  IsReplyTo call (Entered entry) = IsAccepted eq is_clone settings steps call (calls.Entered (entry_of entry))
+  IsReplyTo call (Run name entry) = IsAccepted eq is_clone settings steps call (calls.Run (name_by name) (option_map entry_of entry))
+  IsReplyTo call (Wait name) = IsAccepted eq is_clone settings steps call (calls.Wait (name_by name))
+  IsReplyTo call Nothing = IsAccepted eq is_clone settings steps call calls.GaveNothing
+  IsReplyTo call (Failed error) = IsAccepted eq is_clone settings steps call (calls.GaveError (arc_value error))
   IsReplyTo call (Computed result) = IsAccepted eq is_clone settings steps call (of_computed result)
-  IsReplyTo call NotYet = IsAccepted eq is_clone settings steps call Answer.NotYet
-  IsReplyTo call Abandoned = IsAccepted eq is_clone settings steps call Answer.WasAbandoned
-  IsReplyTo call Ended = IsAccepted eq is_clone settings steps call Answer.HasEnded
+  IsReplyTo call NotYet = IsAccepted eq is_clone settings steps call calls.NotYet
+  IsReplyTo call Abandoned = IsAccepted eq is_clone settings steps call calls.WasAbandoned
+  IsReplyTo call Ended = IsAccepted eq is_clone settings steps call calls.HasEnded
   IsReplyTo call (Refused cause) = Gives eq is_clone is_infallible settings steps call (Err cause)
   IsReplyTo call (PredicateRefused InvalidationClosuresDisabled) = IsRefusedAs eq settings ClosuresUnsupported steps call
   IsReplyTo call (PredicateRefused predicates.OutOfMemory) = ⊥

@@ -4,7 +4,7 @@ ghost use Rattle.std.specs.Arc.{arc_value};
 ghost use Rattle.moka_model.specs.Entries.{entry_of};
 ghost use Rattle.moka_model.specs.CompResults.{of_computed};
 ghost use Rattle.moka_model.specs.Calls as calls;
-ghost use Rattle.moka_model.specs.Calls.{Answer, IsAnswer, IsCopiedEntry};
+ghost use Rattle.moka_model.specs.Calls.{IsCopiedReply, IsCopiedEntry};
 ghost use Rattle.moka_turns.specs.Handles.{name_by};
 ghost use Rattle.moka_state.specs.HandedOut.{HandsOut};
 ghost use Rattle.moka_state.specs.Recorded.{IsSaid, WantsMemory};
@@ -20,7 +20,7 @@ use moka_turns::turn_name::TurnName;
 use std::sync::Arc;
 
 // Returns the same name, with this key.
-fn name_again<K: Drop>(name: &TurnName<K>, key: Option<Arc<K>>) -> Option<TurnName<K>>
+fn name_with_key<K: Drop>(name: &TurnName<K>, key: Option<Arc<K>>) -> Option<TurnName<K>>
     ensures { IsSomeAnd key (λ own. arc_value own ≡ arc_value name.now.key)
         → IsSomeAnd result (λ again. name_by again ≡ name_by name.now) }
 {
@@ -35,7 +35,7 @@ fn name_again<K: Drop>(name: &TurnName<K>, key: Option<Arc<K>>) -> Option<TurnNa
 }
 
 // Returns the same entry, with this key and this value.
-fn entry_again<K: Drop, V: Clone>(
+fn entry_with_clones<K: Drop, V: Clone>(
     entry: &Entry<K, V>,
     key: Option<Arc<K>>,
     value: Option<V>,
@@ -54,27 +54,27 @@ fn entry_again<K: Drop, V: Clone>(
 }
 
 // Returns the same result of a compute, with the given clones.
-fn result_again<K: Drop, V: Clone, E: Drop>(
+fn result_with_clones<K: Drop, V: Clone, E: Drop>(
     computed: &CompResult<K, V>,
     out: HandedOut<K, V, E>,
 ) -> Option<CompResult<K, V>>
-    ensures { (answer : Answer K V E) → IsAnswer V.is_clone answer (of_computed computed.now)
+    ensures { (answer : calls.Reply K V E) → IsCopiedReply V.is_clone answer (of_computed computed.now)
         → HandsOut V.is_clone answer out
-        → IsSomeAnd result (λ again. IsAnswer V.is_clone answer (of_computed again)) }
+        → IsSomeAnd result (λ again. IsCopiedReply V.is_clone answer (of_computed again)) }
 {
     match computed {
         CompResult::StillNone(_) => Some(CompResult::StillNone(out.key?)),
         CompResult::Unchanged(entry) => {
-            Some(CompResult::Unchanged(entry_again(entry, out.key, out.value)?))
+            Some(CompResult::Unchanged(entry_with_clones(entry, out.key, out.value)?))
         }
         CompResult::Inserted(entry) => {
-            Some(CompResult::Inserted(entry_again(entry, out.key, out.value)?))
+            Some(CompResult::Inserted(entry_with_clones(entry, out.key, out.value)?))
         }
         CompResult::ReplacedWith(entry) => {
-            Some(CompResult::ReplacedWith(entry_again(entry, out.key, out.value)?))
+            Some(CompResult::ReplacedWith(entry_with_clones(entry, out.key, out.value)?))
         }
         CompResult::Removed(entry) => {
-            Some(CompResult::Removed(entry_again(entry, out.key, out.value)?))
+            Some(CompResult::Removed(entry_with_clones(entry, out.key, out.value)?))
         }
     }
 }
@@ -82,28 +82,30 @@ fn result_again<K: Drop, V: Clone, E: Drop>(
 impl<K: Eq + Drop, V: Clone, C: CacheTypes<K, V>> Reply<K, V, C> {
     // Returns the reply of an accepted step with the given clones in it, or `None` if one is
     // missing.
-    fn again_if(&self, out: HandedOut<K, V, C::Error>) -> Option<Reply<K, V, C>>
-        ensures { (answer : Answer K V C.Error) → IsSaid V.is_clone answer self.now
+    fn try_with_clones(&self, out: HandedOut<K, V, C::Error>) -> Option<Reply<K, V, C>>
+        ensures { (answer : calls.Reply K V C.Error) → IsSaid V.is_clone answer self.now
             → HandsOut V.is_clone answer out → IsSomeAnd result (IsSaid V.is_clone answer) }
     {
         match self {
             Reply::Found(_) => Some(Reply::Found(out.value)),
-            Reply::Contains(answer) => Some(Reply::Contains(*answer)),
+            Reply::Contains(is_live) => Some(Reply::Contains(*is_live)),
             Reply::Done => Some(Reply::Done),
             Reply::Counted(count) => Some(Reply::Counted(*count)),
-            Reply::Left(answer) => Some(Reply::Left(*answer)),
+            Reply::Left(has_left) => Some(Reply::Left(*has_left)),
             Reply::Noticed(_) => Some(Reply::Noticed(out.notice)),
-            Reply::Entered(entry) => Some(Reply::Entered(entry_again(entry, out.key, out.value)?)),
-            Reply::Run(name, None) => Some(Reply::Run(name_again(name, out.name)?, None)),
+            Reply::Entered(entry) => Some(Reply::Entered(entry_with_clones(
+                entry, out.key, out.value,
+            )?)),
+            Reply::Run(name, None) => Some(Reply::Run(name_with_key(name, out.name)?, None)),
             Reply::Run(name, Some(entry)) => {
-                let name = name_again(name, out.name)?;
-                let entry = entry_again(entry, out.key, out.value)?;
+                let name = name_with_key(name, out.name)?;
+                let entry = entry_with_clones(entry, out.key, out.value)?;
                 Some(Reply::Run(name, Some(entry)))
             }
-            Reply::Wait(name) => Some(Reply::Wait(name_again(name, out.name)?)),
+            Reply::Wait(name) => Some(Reply::Wait(name_with_key(name, out.name)?)),
             Reply::Nothing => Some(Reply::Nothing),
             Reply::Failed(_) => Some(Reply::Failed(out.error?)),
-            Reply::Computed(computed) => Some(Reply::Computed(result_again(computed, out)?)),
+            Reply::Computed(computed) => Some(Reply::Computed(result_with_clones(computed, out)?)),
             Reply::NotYet => Some(Reply::NotYet),
             Reply::Abandoned => Some(Reply::Abandoned),
             Reply::Ended => Some(Reply::Ended),
@@ -114,15 +116,15 @@ impl<K: Eq + Drop, V: Clone, C: CacheTypes<K, V>> Reply<K, V, C> {
 
     /// Returns the same reply, with the given clones, which are those of its step. If a clone is
     /// missing, as from another step, returns `Nothing`.
-    pub(crate) fn again(&self, out: HandedOut<K, V, C::Error>) -> Reply<K, V, C>
-        ensures said { (answer : Answer K V C.Error) → IsSaid V.is_clone answer self.now
+    pub(crate) fn with_clones(&self, out: HandedOut<K, V, C::Error>) -> Reply<K, V, C>
+        ensures said { (answer : calls.Reply K V C.Error) → IsSaid V.is_clone answer self.now
             → HandsOut V.is_clone answer out → IsSaid V.is_clone answer result }
         ensures refused { IsRefusal self.now → result ≡ self.now }
     {
         match self {
             Reply::Refused(cause) => Reply::Refused(*cause),
             Reply::PredicateRefused(cause) => Reply::PredicateRefused(*cause),
-            accepted => match accepted.again_if(out) {
+            accepted => match accepted.try_with_clones(out) {
                 Some(reply) => reply,
                 None => Reply::Nothing,
             },

@@ -2,11 +2,11 @@
 ghost use Rattle.std.specs.Prelude.{◌≡◌};
 ghost use Rattle.std.specs.Arc.{arc_value};
 ghost use Rattle.moka_model.specs.Turns.{Name};
-ghost use Rattle.moka_model.specs.Calls.{answer_by};
+ghost use Rattle.moka_model.specs.Calls.{reply_by};
 ghost use Rattle.moka_turns.specs.Handles.{ticket_name};
 ghost use Rattle.moka_turns.specs.Represents.{end_of};
 ghost use Rattle.moka_turns.specs.CollectState.{IfEnded, IfNotYet};
-ghost use Rattle.moka_state.specs.Given.{IfUnspent, of_collected, told_as};
+ghost use Rattle.moka_state.specs.Given.{IfUnspent, collected_as, of_collected};
 
 use moka_model::comp_result::CompResult;
 use moka_model::entry::Entry;
@@ -82,7 +82,7 @@ pub struct FinishRefused<K, V, E> {
 // Returns what a ticket gets from the end of its turn. An entry has the ticket's key.
 fn collected_end<K: Drop, V, E>(key: Arc<K>, end: TurnEnd<V, E>) -> Collected<K, V, E>
     ensures reply { (name : Name K) → arc_value key ≡ name.key →
-        of_collected result ≡ answer_by name (end_of end) }
+        of_collected result ≡ reply_by name (end_of end) }
     ensures spent { (name : Name K) → IfUnspent (λ ticket. ticket_name ticket ≡ name) result }
 {
     match end {
@@ -98,13 +98,13 @@ fn collected_end<K: Drop, V, E>(key: Arc<K>, end: TurnEnd<V, E>) -> Collected<K,
 }
 
 /// Converts what the table of turns returns for a ticket into what its caller gets.
-pub(crate) fn told_to_caller<K: Drop, V, E>(told: CollectState<K, V, E>) -> Collected<K, V, E>
-    ensures reply { (name : Name K) → IfEnded (λ key. arc_value key ≡ name.key) told →
-        of_collected result ≡ told_as name told }
-    ensures unspent { (name : Name K) → IfNotYet (λ ticket. ticket_name ticket ≡ name) told →
+pub(crate) fn into_collected<K: Drop, V, E>(found: CollectState<K, V, E>) -> Collected<K, V, E>
+    ensures reply { (name : Name K) → IfEnded (λ key. arc_value key ≡ name.key) found →
+        of_collected result ≡ collected_as name found }
+    ensures unspent { (name : Name K) → IfNotYet (λ ticket. ticket_name ticket ≡ name) found →
         IfUnspent (λ ticket. ticket_name ticket ≡ name) result }
 {
-    match told {
+    match found {
         CollectState::NotYet(ticket) => Collected::NotYet(ticket),
         CollectState::Ended(key, end) => collected_end(key, end),
     }

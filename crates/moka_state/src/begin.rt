@@ -111,7 +111,7 @@ impl<K: Hash + Drop, V: Clone, C: CacheTypes<K, V>, R: RowStore<K, V>> State<K, 
         ensures settings { self.new.settings ≡ self.old.settings }
     {
         let now = self.latest.max(now);
-        let Some(number) = self.table.acceptable(key, hash, replace_if, now) else {
+        let Some(number) = self.table.find_acceptable(key, hash, replace_if, now) else {
             return Ok(None);
         };
         let Ok(entry) = self.table.entry(number) else {
@@ -204,11 +204,11 @@ impl<K: Hash + Clone + Drop, V: Clone, C: CacheTypes<K, V>, R: RowStore<K, V>> S
         ensures kept_for { IfOk result (FoundKeepsFor C.keeps key.now) }
         ensures settings { self.new.settings ≡ self.old.settings }
     {
-        self.begin_lent(key, kind, replace_if, now, true)
+        self.begin_borrowed(key, kind, replace_if, now, true)
     }
 
     // Works like `begin_by_ref`, but fails with `TurnIsOpen` if it would have to wait and may not.
-    pub(crate) fn begin_lent<F: FnMut(&V) -> bool + Drop>(
+    pub(crate) fn begin_borrowed<F: FnMut(&V) -> bool + Drop>(
         &mut self,
         key: &K,
         kind: Kind,

@@ -42,7 +42,7 @@ impl<K: Hash + Drop, V: Clone, C: CacheTypes<K, V>, R: RowStore<K, V>> State<K, 
             key.now hash }
         requires within { hash ≤ greatest_number }
         ensures reply { IfOk result (λ found.
-            ⟦<C as StateView<K, V>>⟧.answers self.old (Get key.now now) (Found found)) }
+            ⟦<C as StateView<K, V>>⟧.replies_with self.old (Get key.now now) (Found found)) }
         ensures stands { OnOk result
             (⟦<C as StateView<K, V>>⟧.follows self.old (Get key.now now) self.new) }
         ensures kept { IfOk result (λ found. IfSome found (C.keeps key.now)) }
@@ -175,7 +175,7 @@ impl<K: Hash + Drop, V: Clone, C: CacheTypes<K, V>, R: RowStore<K, V>> State<K, 
         let now = self.latest.max(now);
         let cause = Refused::OutOfMemory;
         let weight = self.behaviour.weight(key.key(), &value);
-        let place = match self.table.place(key, hash, self.alloc) {
+        let place = match self.table.plan_write(key, hash, self.alloc) {
             Ok(place) => place,
             Err(key) => return Err(InsertRefused { key, value, cause }),
         };
@@ -203,7 +203,7 @@ impl<K: Hash + Drop, V: Clone, C: CacheTypes<K, V>, R: RowStore<K, V>> State<K, 
         requires hash { IsHashOf (⟦<C as StateView<K, V>>⟧.settings self.now.settings)
             key.now hash }
         requires within { hash ≤ greatest_number }
-        ensures reply { ⟦<C as StateView<K, V>>⟧.answers self.now
+        ensures reply { ⟦<C as StateView<K, V>>⟧.replies_with self.now
             (ContainsKey key.now now) (Contains result) }
         ensures stands { ⟦<C as StateView<K, V>>⟧.follows self.now
             (ContainsKey key.now now) self.now }
@@ -250,7 +250,7 @@ impl<K: Hash + Drop, V: Clone, C: CacheTypes<K, V>, R: RowStore<K, V>> State<K, 
             key.now hash }
         requires within { hash ≤ greatest_number }
         ensures reply { IfOk result (λ found.
-            ⟦<C as StateView<K, V>>⟧.answers self.old (Remove key.now now) (Found found)) }
+            ⟦<C as StateView<K, V>>⟧.replies_with self.old (Remove key.now now) (Found found)) }
         ensures stands { OnOk result
             (⟦<C as StateView<K, V>>⟧.follows self.old (Remove key.now now) self.new) }
         ensures kept { IfOk result (λ found. IfSome found (C.keeps key.now)) }

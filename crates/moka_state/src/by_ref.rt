@@ -6,7 +6,7 @@ ghost use Rattle.moka_state.specs.Begin.{BeginEnds, FoundKeepsFor, GivesBegun, I
 ghost use Rattle.moka_state.specs.Forms.{IfRefusedUnasked, IsForm, IsOptional, IsTried, IsValue, optional_outcome, tried_outcome};
 
 use crate::answers::Begun;
-use crate::get_with::without;
+use crate::get_with::none_like;
 use crate::state::State;
 use moka_expiration::view::StateView;
 use moka_model::turns::{Kind, Outcome};
@@ -36,13 +36,13 @@ impl<K: Hash + Clone + Drop, V: Clone, C: CacheTypes<K, V>, R: RowStore<K, V>> S
         requires asks { F.IsAlwaysCallable init }
         requires keeps { (v : V) → F.post init v → C.keeps key.now v }
         ensures form { (asked : K) × IsAsked K.eq K.is_clone key.now asked × (given : Option V)
-            × (answer : Result (calls.Answer K V C.Error) Refused)
+            × (reply : Result (calls.Reply K V C.Error) Refused)
             × ⟦<C as StateView<K, V>>⟧.at_each_history self.old (λ settings steps.
             IsForm K.eq V.is_clone V.is_infallible settings steps (Begin asked Kind.With None now)
-            now (option_map Outcome.Value given) answer
+            now (option_map Outcome.Value given) reply
             (λ after. ⟦<C as StateView<K, V>>⟧.stands_for settings self.new after))
-            × IsValue answer result × IfSome given (F.post init)
-            × IfRefusedUnasked (self.new ≡ self.old) given answer }
+            × IsValue reply result × IfSome given (F.post init)
+            × IfRefusedUnasked (self.new ≡ self.old) given reply }
         ensures kept { IfOk result (C.keeps key.now) }
         ensures settings { self.new.settings ≡ self.old.settings }
     {
@@ -69,13 +69,13 @@ impl<K: Hash + Clone + Drop, V: Clone, C: CacheTypes<K, V>, R: RowStore<K, V>> S
         requires asks { F.IsAlwaysCallable init }
         requires keeps { (o : Option V) → F.post init o → IfSome o (C.keeps key.now) }
         ensures form { (asked : K) × IsAsked K.eq K.is_clone key.now asked × (given : Option (Option V))
-            × (answer : Result (calls.Answer K V C.Error) Refused)
+            × (reply : Result (calls.Reply K V C.Error) Refused)
             × ⟦<C as StateView<K, V>>⟧.at_each_history self.old (λ settings steps.
             IsForm K.eq V.is_clone V.is_infallible settings steps (Begin asked Kind.Optionally None now)
-            now (option_map optional_outcome given) answer
+            now (option_map optional_outcome given) reply
             (λ after. ⟦<C as StateView<K, V>>⟧.stands_for settings self.new after))
-            × IsOptional answer result × IfSome given (F.post init)
-            × IfRefusedUnasked (self.new ≡ self.old) given answer }
+            × IsOptional reply result × IfSome given (F.post init)
+            × IfRefusedUnasked (self.new ≡ self.old) given reply }
         ensures kept { IfOk result (λ found. IfSome found (C.keeps key.now)) }
         ensures settings { self.new.settings ≡ self.old.settings }
     {
@@ -101,13 +101,13 @@ impl<K: Hash + Clone + Drop, V: Clone, C: CacheTypes<K, V>, R: RowStore<K, V>> S
         requires asks { F.IsAlwaysCallable init }
         requires keeps { (r : Result V C.Error) → F.post init r → IfOk r (C.keeps key.now) }
         ensures form { (asked : K) × IsAsked K.eq K.is_clone key.now asked × (given : Option (Result V C.Error))
-            × (answer : Result (calls.Answer K V C.Error) Refused)
+            × (reply : Result (calls.Reply K V C.Error) Refused)
             × ⟦<C as StateView<K, V>>⟧.at_each_history self.old (λ settings steps.
             IsForm K.eq V.is_clone V.is_infallible settings steps (Begin asked Kind.Try None now)
-            now (option_map tried_outcome given) answer
+            now (option_map tried_outcome given) reply
             (λ after. ⟦<C as StateView<K, V>>⟧.stands_for settings self.new after))
-            × IsTried answer result × IfSome given (F.post init)
-            × IfRefusedUnasked (self.new ≡ self.old) given answer }
+            × IsTried reply result × IfSome given (F.post init)
+            × IfRefusedUnasked (self.new ≡ self.old) given reply }
         ensures kept { IfOk result (λ tried. IfOk tried (C.keeps key.now)) }
         ensures settings { self.new.settings ≡ self.old.settings }
     {
@@ -142,6 +142,6 @@ impl<K: Hash + Clone + Drop, V: Clone, C: CacheTypes<K, V>, R: RowStore<K, V>> S
         ensures kept { IfOk result (FoundKeepsFor C.keeps key.now) }
         ensures settings { self.new.settings ≡ self.old.settings }
     {
-        self.begin_lent(key, kind, without(|_: &V| false), now, false)
+        self.begin_borrowed(key, kind, none_like(|_: &V| false), now, false)
     }
 }

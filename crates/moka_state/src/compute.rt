@@ -11,7 +11,7 @@ ghost use Rattle.moka_state.specs.Given.{Gives};
 ghost use Rattle.moka_state.specs.Hashes.{IsHashOf};
 
 use crate::answers::{BegunCompute, FinishRefused, Finished};
-use crate::finish::place_for;
+use crate::finish::plan_for;
 use crate::state::State;
 use moka_expiration::live_value::copy_of_live;
 use moka_expiration::view::StateView;
@@ -30,16 +30,16 @@ use std::hash::Hash;
 use std::sync::Arc;
 
 // What the begin of a compute finds live: the row's number, the entry for the caller, and the clone
-// that is kept aside, if any.
+// that is saved, if any.
 #[derive(Drop)]
 struct Shown<K, V> {
     number: usize,
     entry: Entry<K, V>,
-    kept: Option<V>,
+    saved: Option<V>,
 }
 
 // Clones a value if `keep` is true.
-fn kept_copy<V: Clone>(value: &V, keep: bool) -> Result<Option<V>, AllocError>
+fn clone_if<V: Clone>(value: &V, keep: bool) -> Result<Option<V>, AllocError>
     ensures { IfOk result (IsCopyOf V.is_clone (if keep then Some value.now else None)) }
 {
     if !keep {
@@ -51,7 +51,7 @@ fn kept_copy<V: Clone>(value: &V, keep: bool) -> Result<Option<V>, AllocError>
     }
 }
 
-// Finds what is live for a key at a moment, with a clone to keep aside if `keep` is true. Can fail
+// Finds what is live for a key at a moment, with a clone to save if `keep` is true. Can fail
 // only if a value is live.
 fn find_live<K: Eq + Drop, V: Clone, R: RowStore<K, V>>(
     table: &Table<K, V, R>,
@@ -71,19 +71,19 @@ fn find_live<K: Eq + Drop, V: Clone, R: RowStore<K, V>>(
         return Ok(None);
     }
     let entry = table.entry(number)?;
-    let kept = kept_copy(&row.value, keep)?;
+    let saved = clone_if(&row.value, keep)?;
     Ok(Some(Shown {
         number,
         entry,
-        kept,
+        saved,
     }))
 }
 
 // Makes the result of a compute that does nothing.
-fn unchanged_result<K, V>(key: Arc<K>, kept: Option<V>) -> CompResult<K, V>
-    ensures { IsLeft (arc_value key) kept result }
+fn unchanged_result<K, V>(key: Arc<K>, saved: Option<V>) -> CompResult<K, V>
+    ensures { IsLeft (arc_value key) saved result }
 {
-    match kept {
+    match saved {
         Some(value) => CompResult::Unchanged(Entry::new(key, value, false, false)),
         None => CompResult::StillNone(key),
     }
@@ -128,7 +128,7 @@ impl<K: Hash + Drop, V: Clone, C: CacheTypes<K, V>, R: RowStore<K, V>> State<K, 
     /// - Else opens a turn, which the caller has to end. Returns it with the live entry, if there
     ///   is one. This is a recorded lookup, as [`State::get`].
     ///
-    /// With `keep`, a second clone of the live value is kept aside. A finish with [`Op::Nop`]
+    /// With `keep`, a second clone of the live value is saved. A finish with [`Op::Nop`]
     /// returns it.
     ///
     /// # Errors
@@ -222,9 +222,9 @@ impl<K: Hash + Drop, V: Clone, C: CacheTypes<K, V>, R: RowStore<K, V>> State<K, 
         let Shown {
             number,
             entry,
-            kept,
+            saved,
         } = shown;
-        let turn = self.turns.open_shown(wanted, next, true, kept)?;
+        let turn = self.turns.open_shown(wanted, next, true, saved)?;
         self.housekeeper
             .hit(&mut self.table, number, hash, now, &self.behaviour);
         self.latest = now;
@@ -272,13 +272,13 @@ impl<K: Hash + Drop, V: Clone, C: CacheTypes<K, V>, R: RowStore<K, V>> State<K, 
             self.old self.new turn (Outcome.Op Op.Nop) result }
     {
         let hash = self.behaviour.hash(turn.key());
-        let turn = turn.rehashed(hash);
+        let turn = turn.with_hash(hash);
         let Some(_) = self.turns.waiting_for(&turn) else {
             return Err(refusal(turn, Op::Nop, Refused::UnknownTurn));
         };
         let (key, open) = self.turns.finish_computed(turn);
         self.latest = self.latest.max(now);
-        Ok(Finished::Computed(unchanged_result(key, open.kept)))
+        Ok(Finished::Computed(unchanged_result(key, open.saved)))
     }
 
     // Ends a compute that removes the entry.
@@ -297,7 +297,7 @@ impl<K: Hash + Drop, V: Clone, C: CacheTypes<K, V>, R: RowStore<K, V>> State<K, 
             self.old self.new turn (Outcome.Op Op.Remove) result }
     {
         let hash = self.behaviour.hash(turn.key());
-        let turn = turn.rehashed(hash);
+        let turn = turn.with_hash(hash);
         let Some(_) = self.turns.waiting_for(&turn) else {
             return Err(refusal(turn, Op::Remove, Refused::UnknownTurn));
         };
@@ -359,7 +359,7 @@ impl<K: Hash + Drop, V: Clone, C: CacheTypes<K, V>, R: RowStore<K, V>> State<K, 
             self.old self.new turn (Outcome.Op (Op.Put value)) result }
     {
         let hash = self.behaviour.hash(turn.key());
-        let turn = turn.rehashed(hash);
+        let turn = turn.with_hash(hash);
         let Some(_) = self.turns.waiting_for(&turn) else {
             return Err(refusal(turn, Op::Put(value), Refused::UnknownTurn));
         };
@@ -390,18 +390,18 @@ impl<K: Hash + Drop, V: Clone, C: CacheTypes<K, V>, R: RowStore<K, V>> State<K, 
             self.old self.new turn (Outcome.Op (Op.Put value)) result }
     {
         let hash = self.behaviour.hash(turn.key());
-        let turn = turn.rehashed(hash);
+        let turn = turn.with_hash(hash);
         let Some(_) = self.turns.waiting_for(&turn) else {
             return Err(refusal(turn, Op::Put(value), Refused::UnknownTurn));
         };
         if self.next_number == u64::MAX {
             return Err(refusal(turn, Op::Put(value), Refused::NumbersUsedUp));
         }
-        let Ok(answer) = value.clone() else {
+        let Ok(reply) = value.clone() else {
             return Err(refusal(turn, Op::Put(value), Refused::OutOfMemory));
         };
         let weight = self.behaviour.weight(turn.key(), &value);
-        let Ok(place) = place_for(&mut self.table, &turn, hash, self.alloc) else {
+        let Ok(place) = plan_for(&mut self.table, &turn, hash, self.alloc) else {
             return Err(refusal(turn, Op::Put(value), Refused::OutOfMemory));
         };
         let now = self.latest.max(now);
@@ -421,6 +421,6 @@ impl<K: Hash + Drop, V: Clone, C: CacheTypes<K, V>, R: RowStore<K, V>> State<K, 
         self.latest = now;
         self.next_number += 1;
         let (key, open) = self.turns.finish_computed(turn);
-        Ok(Finished::Computed(put_result(key, answer, open.shown)))
+        Ok(Finished::Computed(put_result(key, reply, open.shown)))
     }
 }

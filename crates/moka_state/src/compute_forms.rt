@@ -23,8 +23,8 @@ use moka_turns::handles::Turn;
 use std::hash::Hash;
 
 impl<K: Hash + Drop, V: Clone, C: CacheTypes<K, V>, R: RowStore<K, V>> State<K, V, C, R> {
-    // Runs `f` on the live entry of `key`, and does what it returns, in one turn. The begin keeps a
-    // clone of the live value aside, which an `Op::Nop` returns.
+    // Runs `f` on the live entry of `key`, and does what it returns, in one turn. The begin saves a
+    // clone of the live value, which an `Op::Nop` returns.
     pub(crate) fn compute_with<F: FnOnce(Option<Entry<K, V>>) -> Op<V> + Drop>(
         &mut self,
         key: K,
@@ -57,7 +57,7 @@ impl<K: Hash + Drop, V: Clone, C: CacheTypes<K, V>, R: RowStore<K, V>> State<K, 
     }
 
     // Works like `compute_with`, but always puts the value that `f` returns, and returns its entry.
-    // Keeps no clone aside.
+    // Saves no clone.
     pub(crate) fn upsert_with<F: FnOnce(Option<Entry<K, V>>) -> V + Drop>(
         &mut self,
         key: K,
@@ -69,14 +69,14 @@ impl<K: Hash + Drop, V: Clone, C: CacheTypes<K, V>, R: RowStore<K, V>> State<K, 
         requires keeps { (shown : Option (Entry K V)) (v : V)
             → IfSome shown (EntryKeeps C.keeps key) → F.post f shown v → C.keeps key v }
         ensures form { (shown : Option (Entry K V)) × (given : Option V)
-            × (answer : Result (calls.Answer K V C.Error) Refused)
+            × (reply : Result (calls.Reply K V C.Error) Refused)
             × ⟦<C as StateView<K, V>>⟧.at_each_history self.old (λ settings steps.
             IsComputeForm K.eq V.is_clone V.is_infallible settings steps
             (BeginCompute key false now) now (option_map entry_of shown)
-            (option_map (λ v. Some (Op.Put v)) given) answer
+            (option_map (λ v. Some (Op.Put v)) given) reply
             (λ after. ⟦<C as StateView<K, V>>⟧.stands_for settings self.new after))
-            × IsUpserted answer result × IfSome given (F.post f shown)
-            × IfRefusedUnasked (self.new ≡ self.old) given answer }
+            × IsUpserted reply result × IfSome given (F.post f shown)
+            × IfRefusedUnasked (self.new ≡ self.old) given reply }
         ensures kept { IfOk result (λ entry. C.keeps key (entry_of entry).value) }
         ensures settings { self.new.settings ≡ self.old.settings }
     {
@@ -174,12 +174,12 @@ impl<K: Hash + Drop, V: Clone, C: CacheTypes<K, V>, R: RowStore<K, V>> State<K, 
     fn end_with_put(&mut self, turn: Turn<K>, value: V, now: u64) -> Result<Entry<K, V>, Refused>
         requires compute { turn.key.kind ≡ Kind.Compute }
         requires kept { C.keeps (arc_value turn.key.key) value }
-        ensures ends { (answer : Result (calls.Answer K V C.Error) Refused)
+        ensures ends { (reply : Result (calls.Reply K V C.Error) Refused)
             × ⟦<C as StateView<K, V>>⟧.at_each_history self.old (λ settings steps.
             EndsTurn K.eq V.is_clone V.is_infallible settings steps
-            (turn_name turn) (Outcome.Op (Op.Put value)) now answer
+            (turn_name turn) (Outcome.Op (Op.Put value)) now reply
             (λ after. ⟦<C as StateView<K, V>>⟧.stands_for settings self.new after))
-            × IsUpserted answer result }
+            × IsUpserted reply result }
         ensures kept { IfOk result
             (λ entry. C.keeps (arc_value turn.key.key) (entry_of entry).value) }
         ensures settings { self.new.settings ≡ self.old.settings }

@@ -13,7 +13,7 @@ ghost use Rattle.moka_state.specs.Given.{Gives};
 ghost use Rattle.moka_state.specs.OrInsert.{OrInsertEnds, of_or_default as of_entry};
 
 use crate::answers::{Answer, Begun};
-use crate::get_with::without;
+use crate::get_with::none_like;
 use crate::state::State;
 use moka_expiration::view::StateView;
 use moka_model::entry::Entry;
@@ -44,7 +44,7 @@ impl<K: Hash + Drop, V: Clone, C: CacheTypes<K, V>, R: RowStore<K, V>> State<K, 
         ensures settings { self.new.settings ≡ self.old.settings }
     {
         let hash = self.hash(&key);
-        match self.acceptable_entry(&key, hash, without(|_: &V| false), now) {
+        match self.acceptable_entry(&key, hash, none_like(|_: &V| false), now) {
             Ok(Some(found)) => Ok(found),
             Ok(None) => self.write_default(key, hash, value, now),
             Err(cause) => Err(cause),

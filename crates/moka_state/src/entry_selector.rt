@@ -250,7 +250,7 @@ impl<'a, K: Hash + Drop, V: Clone, C: CacheTypes<K, V>, R: RowStore<K, V>> State
     /// `Op::Put` stores a value, `Op::Remove` removes the entry, and `Op::Nop` leaves it.
     ///
     /// This is a compute: its begin, `f`, and its finish, all at one moment. `f` runs at most once,
-    /// and only if the turn is opened. The begin keeps a clone of the live value aside, which
+    /// and only if the turn is opened. The begin saves a clone of the live value, which
     /// `Op::Nop` returns.
     ///
     /// The prover asks that `f` accepts any entry whose value satisfies the value invariant. It
@@ -295,8 +295,8 @@ impl<'a, K: Hash + Drop, V: Clone, C: CacheTypes<K, V>, R: RowStore<K, V>> State
     /// Runs `f` on the entry of the key's live value, if there is one, and stores the value that it
     /// returns. Returns the new entry, with a clone of that value.
     ///
-    /// Works like [`StateEntrySelector::and_compute_with`] with an `Op::Put`, but keeps no clone of
-    /// the live value aside.
+    /// Works like [`StateEntrySelector::and_compute_with`] with an `Op::Put`, but saves no clone of
+    /// the live value.
     ///
     /// # Errors
     ///
@@ -310,14 +310,14 @@ impl<'a, K: Hash + Drop, V: Clone, C: CacheTypes<K, V>, R: RowStore<K, V>> State
         requires keeps { (shown : Option (Entry K V)) (v : V)
             → IfSome shown (EntryKeeps C.keeps self.key) → F.post f shown v → C.keeps self.key v }
         ensures form { (shown : Option (Entry K V)) × (given : Option V)
-            × (answer : Result (calls.Answer K V C.Error) Refused)
+            × (reply : Result (calls.Reply K V C.Error) Refused)
             × ⟦<C as StateView<K, V>>⟧.at_each_history self.entry.state.now (λ settings steps.
             IsComputeForm K.eq V.is_clone V.is_infallible settings steps
             (BeginCompute self.entry.key false self.entry.at) self.entry.at
-            (option_map entry_of shown) (option_map (λ v. Some (Op.Put v)) given) answer
+            (option_map entry_of shown) (option_map (λ v. Some (Op.Put v)) given) reply
             (λ after. ⟦<C as StateView<K, V>>⟧.stands_for settings self.exit.0.now after))
-            × IsUpserted answer result × IfSome given (F.post f shown)
-            × IfRefusedUnasked (self.exit.0.now ≡ self.entry.state.now) given answer }
+            × IsUpserted reply result × IfSome given (F.post f shown)
+            × IfRefusedUnasked (self.exit.0.now ≡ self.entry.state.now) given reply }
         ensures kept { IfOk result (λ entry. C.keeps self.entry.key (entry_of entry).value) }
         ensures settings { self.exit.0.now.settings ≡ self.entry.state.now.settings }
     {

@@ -35,8 +35,8 @@ use std::sync::Arc;
 #[derive(Drop)]
 struct Copies<K, V> {
     key: Arc<K>,
-    answer: V,
-    kept: Option<V>,
+    reply: V,
+    saved: Option<V>,
 }
 
 impl<K: Drop, V: Clone> Copies<K, V> {
@@ -45,32 +45,32 @@ impl<K: Drop, V: Clone> Copies<K, V> {
         ensures { IfOk result (IsCopiesOf V.is_clone turn.now value.now waiting) }
     {
         let key = turn.shared_key()?;
-        let answer = value.clone()?;
-        let kept = if waiting > 0 {
+        let reply = value.clone()?;
+        let saved = if waiting > 0 {
             Some(value.clone()?)
         } else {
             None
         };
-        Ok(Copies { key, answer, kept })
+        Ok(Copies { key, reply, saved })
     }
 }
 
-// Returns the end of a turn that is kept for the waiting callers, if there is a value for them.
-fn kept_end<V, E>(kept: Option<V>, is_replaced: bool) -> Option<TurnEnd<V, E>>
-    ensures { result ≡ option_map (λ value. TurnEnd.Value value is_replaced) kept }
+// Returns the end of a turn that is saved for the waiting callers, if there is a value for them.
+fn value_end<V, E>(saved: Option<V>, is_replaced: bool) -> Option<TurnEnd<V, E>>
+    ensures { result ≡ option_map (λ value. TurnEnd.Value value is_replaced) saved }
 {
-    match kept {
+    match saved {
         Some(value) => Some(TurnEnd::Value(value, is_replaced)),
         None => None,
     }
 }
 
-// Returns the end with an error that is kept for the waiting callers. May return `None` if nobody
+// Returns the end with an error that is saved for the waiting callers. May return `None` if nobody
 // waits.
 fn failed_end<V, E: Drop>(error: &Arc<E>, waiting: u64) -> Result<Option<TurnEnd<V, E>>, AllocError>
     ensures waited { IfOk result (λ end. 0 < waiting → IsSome end) }
-    ensures kept { IfOk result (λ end. IfSome end
-        (λ kept. end_of kept ≡ turning.Failed (arc_value error.now))) }
+    ensures saved { IfOk result (λ end. IfSome end
+        (λ saved. end_of saved ≡ turning.Failed (arc_value error.now))) }
 {
     if waiting == 0 {
         return Ok(None);
@@ -88,15 +88,15 @@ fn conclude<K: Eq + Drop, V: Clone, E: Drop>(
     copies: Copies<K, V>,
     is_replaced: bool,
 ) -> Answer<K, V, E>
-    requires { IsOpenFor turn.number copies.kept
+    requires { IsOpenFor turn.number copies.saved
         (get ⟦<TurnKey<K> as PartialEq>⟧.eq turns.old.opened turn.key) }
     ensures entry { of_answer result
-        ≡ Entered (fresh_entry (arc_value copies.key) copies.answer is_replaced) }
-    ensures keeps { (hash_of : K → ℕ) (ts : List (turning.Turn K V E)) (value : V)
+        ≡ Entered (fresh_entry (arc_value copies.key) copies.reply is_replaced) }
+    ensures preserves { (hash_of : K → ℕ) (ts : List (turning.Turn K V E)) (value : V)
         → ((a b : K) → K.eq a b ≡ true → hash_of a ≡ hash_of b)
         → turn.key.hash ≡ hash_of (arc_value turn.key.key)
         → AreSound K.eq ts
-        → IfSome copies.kept (V.is_clone value)
+        → IfSome copies.saved (V.is_clone value)
         → Represents K.eq V.is_clone hash_of ts
         (get ⟦<TurnKey<K> as PartialEq>⟧.eq turns.old.opened) (get nat_eq turns.old.ended)
         → Represents K.eq V.is_clone hash_of
@@ -105,16 +105,16 @@ fn conclude<K: Eq + Drop, V: Clone, E: Drop>(
 {
     let Copies {
         key,
-        answer,
-        kept,
+        reply,
+        saved,
         ..
     } = copies;
-    turns.finish(turn, kept_end(kept, is_replaced));
-    Answer::Entry(Entry::new(key, answer, true, is_replaced))
+    turns.finish(turn, value_end(saved, is_replaced));
+    Answer::Entry(Entry::new(key, reply, true, is_replaced))
 }
 
-// Makes room for a write of a turn's key, and returns the place for it.
-pub(crate) fn place_for<K: Eq + Drop, V: Drop, R: RowStore<K, V>>(
+// Makes room for a write of a turn's key, and returns the plan of it.
+pub(crate) fn plan_for<K: Eq + Drop, V: Drop, R: RowStore<K, V>>(
     table: &mut Table<K, V, R>,
     turn: &Turn<K>,
     hash: u64,
@@ -127,7 +127,7 @@ pub(crate) fn place_for<K: Eq + Drop, V: Drop, R: RowStore<K, V>>(
     ensures may_hide { table.new.may_hide ≡ table.old.may_hide }
 {
     let key = turn.shared_key()?;
-    match table.place(key, hash, alloc) {
+    match table.plan_write(key, hash, alloc) {
         Ok(place) => Ok(place),
         Err(_) => Err(AllocError),
     }
@@ -187,7 +187,7 @@ impl<K: Hash + Drop, V: Clone, C: CacheTypes<K, V>, R: RowStore<K, V>> State<K, 
             self.old self.new turn (Outcome.Value value) result }
     {
         let hash = self.behaviour.hash(turn.key());
-        let turn = turn.rehashed(hash);
+        let turn = turn.with_hash(hash);
         let Some(waiting) = self.turns.waiting_for(&turn) else {
             return Err(refusal(turn, value, Refused::UnknownTurn));
         };
@@ -218,7 +218,7 @@ impl<K: Hash + Drop, V: Clone, C: CacheTypes<K, V>, R: RowStore<K, V>> State<K, 
             self.old self.new turn (Outcome.Value value) result }
     {
         let hash = self.behaviour.hash(turn.key());
-        let turn = turn.rehashed(hash);
+        let turn = turn.with_hash(hash);
         let Some(waiting) = self.turns.waiting_for(&turn) else {
             return Err(refusal(turn, value, Refused::UnknownTurn));
         };
@@ -229,7 +229,7 @@ impl<K: Hash + Drop, V: Clone, C: CacheTypes<K, V>, R: RowStore<K, V>> State<K, 
             return Err(refusal(turn, value, Refused::OutOfMemory));
         };
         let weight = self.behaviour.weight(turn.key(), &value);
-        let Ok(place) = place_for(&mut self.table, &turn, hash, self.alloc) else {
+        let Ok(place) = plan_for(&mut self.table, &turn, hash, self.alloc) else {
             return Err(refusal(turn, value, Refused::OutOfMemory));
         };
         let now = self.latest.max(now);
@@ -268,7 +268,7 @@ impl<K: Hash + Drop, V: Clone, C: CacheTypes<K, V>, R: RowStore<K, V>> State<K, 
             self.old self.new turn Outcome.Nothing result }
     {
         let hash = self.behaviour.hash(turn.key());
-        let turn = turn.rehashed(hash);
+        let turn = turn.with_hash(hash);
         let Some(_) = self.turns.waiting_for(&turn) else {
             return Err(FinishRefused {
                 turn,
@@ -298,7 +298,7 @@ impl<K: Hash + Drop, V: Clone, C: CacheTypes<K, V>, R: RowStore<K, V>> State<K, 
             self.old self.new turn (Outcome.Failed error) result }
     {
         let hash = self.behaviour.hash(turn.key());
-        let turn = turn.rehashed(hash);
+        let turn = turn.with_hash(hash);
         let Some(waiting) = self.turns.waiting_for(&turn) else {
             return Err(FinishRefused {
                 turn,
@@ -321,7 +321,7 @@ impl<K: Hash + Drop, V: Clone, C: CacheTypes<K, V>, R: RowStore<K, V>> State<K, 
     /// Ends a turn with an outcome, which must fit the turn's kind, and returns the result.
     ///
     /// A value is stored as by [`State::insert`]. Its entry is fresh, and marked as replacing if a
-    /// live value was stored just before the write. The outcome is kept for the waiting callers
+    /// live value was stored just before the write. The outcome is saved for the waiting callers
     /// until each of them has collected it or left.
     ///
     /// A compute ends with an operation, and only its caller gets the result.
@@ -329,7 +329,7 @@ impl<K: Hash + Drop, V: Clone, C: CacheTypes<K, V>, R: RowStore<K, V>> State<K, 
     /// - `Op::Put` stores a value in the same way. It replaces if the begin found a live value,
     ///   whatever became of that since.
     /// - `Op::Remove` removes the entry, as [`State::remove`].
-    /// - `Op::Nop` returns the clone that was kept aside, if one was. It does not allocate.
+    /// - `Op::Nop` returns the clone that was saved, if one was. It does not allocate.
     ///
     /// # Errors
     ///

@@ -21,7 +21,7 @@ use std::hash::Hash;
 use std::sync::Arc;
 
 // Returns `None`, with the type of an optional closure like this one.
-pub(crate) fn without<F: Drop>(_closure: F) -> Option<F>
+pub(crate) fn none_like<F: Drop>(_closure: F) -> Option<F>
     ensures { result ≡ None }
 {
     None
@@ -56,13 +56,13 @@ impl<K: Hash + Drop, V: Clone, C: CacheTypes<K, V>, R: RowStore<K, V>> State<K, 
     ) -> Result<V, Refused>
         requires asks { F.IsAlwaysCallable init }
         requires keeps { (v : V) → F.post init v → C.keeps key v }
-        ensures form { (given : Option V) × (answer : Result (calls.Answer K V C.Error) Refused)
+        ensures form { (given : Option V) × (reply : Result (calls.Reply K V C.Error) Refused)
             × ⟦<C as StateView<K, V>>⟧.at_each_history self.old (λ settings steps.
             IsForm K.eq V.is_clone V.is_infallible settings steps (Begin key Kind.With None now) now
-            (option_map Outcome.Value given) answer
+            (option_map Outcome.Value given) reply
             (λ after. ⟦<C as StateView<K, V>>⟧.stands_for settings self.new after))
-            × IsValue answer result × IfSome given (F.post init)
-            × IfRefusedUnasked (self.new ≡ self.old) given answer }
+            × IsValue reply result × IfSome given (F.post init)
+            × IfRefusedUnasked (self.new ≡ self.old) given reply }
         ensures kept { IfOk result (C.keeps key) }
         ensures settings { self.new.settings ≡ self.old.settings }
     {
@@ -97,14 +97,14 @@ impl<K: Hash + Drop, V: Clone, C: CacheTypes<K, V>, R: RowStore<K, V>> State<K, 
         requires shows { P.IsAlwaysCallable replace_if }
         requires keeps { (v : V) → F.post init v → C.keeps key v }
         ensures form { (said : Option Bool) × (given : Option V)
-            × (answer : Result (calls.Answer K V C.Error) Refused)
+            × (reply : Result (calls.Reply K V C.Error) Refused)
             × ⟦<C as StateView<K, V>>⟧.at_each_history self.old (λ settings steps.
             IsSaidOf P.FnMut (Some replace_if) (live_at K.eq settings key now (events_in steps)) said
             × IsForm K.eq V.is_clone V.is_infallible settings steps (Begin key Kind.With said now) now
-            (option_map Outcome.Value given) answer
+            (option_map Outcome.Value given) reply
             (λ after. ⟦<C as StateView<K, V>>⟧.stands_for settings self.new after))
-            × IsValue answer result × IfSome given (F.post init)
-            × IfRefusedUnasked (self.new ≡ self.old) given answer }
+            × IsValue reply result × IfSome given (F.post init)
+            × IfRefusedUnasked (self.new ≡ self.old) given reply }
         ensures kept { IfOk result (C.keeps key) }
         ensures settings { self.new.settings ≡ self.old.settings }
     {
@@ -136,13 +136,13 @@ impl<K: Hash + Drop, V: Clone, C: CacheTypes<K, V>, R: RowStore<K, V>> State<K, 
         requires asks { F.IsAlwaysCallable init }
         requires keeps { (o : Option V) → F.post init o → IfSome o (C.keeps key) }
         ensures form { (given : Option (Option V))
-            × (answer : Result (calls.Answer K V C.Error) Refused)
+            × (reply : Result (calls.Reply K V C.Error) Refused)
             × ⟦<C as StateView<K, V>>⟧.at_each_history self.old (λ settings steps.
             IsForm K.eq V.is_clone V.is_infallible settings steps
-            (Begin key Kind.Optionally None now) now (option_map optional_outcome given) answer
+            (Begin key Kind.Optionally None now) now (option_map optional_outcome given) reply
             (λ after. ⟦<C as StateView<K, V>>⟧.stands_for settings self.new after))
-            × IsOptional answer result × IfSome given (F.post init)
-            × IfRefusedUnasked (self.new ≡ self.old) given answer }
+            × IsOptional reply result × IfSome given (F.post init)
+            × IfRefusedUnasked (self.new ≡ self.old) given reply }
         ensures kept { IfOk result (λ found. IfSome found (C.keeps key)) }
         ensures settings { self.new.settings ≡ self.old.settings }
     {
@@ -176,13 +176,13 @@ impl<K: Hash + Drop, V: Clone, C: CacheTypes<K, V>, R: RowStore<K, V>> State<K, 
         requires asks { F.IsAlwaysCallable init }
         requires keeps { (r : Result V C.Error) → F.post init r → IfOk r (C.keeps key) }
         ensures form { (given : Option (Result V C.Error))
-            × (answer : Result (calls.Answer K V C.Error) Refused)
+            × (reply : Result (calls.Reply K V C.Error) Refused)
             × ⟦<C as StateView<K, V>>⟧.at_each_history self.old (λ settings steps.
             IsForm K.eq V.is_clone V.is_infallible settings steps (Begin key Kind.Try None now) now
-            (option_map tried_outcome given) answer
+            (option_map tried_outcome given) reply
             (λ after. ⟦<C as StateView<K, V>>⟧.stands_for settings self.new after))
-            × IsTried answer result × IfSome given (F.post init)
-            × IfRefusedUnasked (self.new ≡ self.old) given answer }
+            × IsTried reply result × IfSome given (F.post init)
+            × IfRefusedUnasked (self.new ≡ self.old) given reply }
         ensures kept { IfOk result (λ tried. IfOk tried (C.keeps key)) }
         ensures settings { self.new.settings ≡ self.old.settings }
     {
@@ -250,7 +250,7 @@ impl<K: Hash + Drop, V: Clone, C: CacheTypes<K, V>, R: RowStore<K, V>> State<K, 
         ensures kept { IfOk result (FoundKeepsFor C.keeps key) }
         ensures settings { self.new.settings ≡ self.old.settings }
     {
-        self.begin_at_once_if(key, kind, without(|_: &V| false), now)
+        self.begin_at_once_if(key, kind, none_like(|_: &V| false), now)
     }
 
     // Moves a value into an `Arc`.
@@ -300,12 +300,12 @@ impl<K: Hash + Drop, V: Clone, C: CacheTypes<K, V>, R: RowStore<K, V>> State<K, 
         requires fits { Fits C.Error turn.key.kind (Outcome.Value value) }
         requires initializer { turn.key.kind ≢ Kind.Compute }
         requires kept { C.keeps (arc_value turn.key.key) value }
-        ensures ends { (answer : Result (calls.Answer K V C.Error) Refused)
+        ensures ends { (reply : Result (calls.Reply K V C.Error) Refused)
             × ⟦<C as StateView<K, V>>⟧.at_each_history self.old (λ settings steps.
             EndsTurn K.eq V.is_clone V.is_infallible settings steps
-            (turn_name turn) (Outcome.Value value) now answer
+            (turn_name turn) (Outcome.Value value) now reply
             (λ after. ⟦<C as StateView<K, V>>⟧.stands_for settings self.new after))
-            × IsValue answer result }
+            × IsValue reply result }
         ensures kept { IfOk result (C.keeps (arc_value turn.key.key)) }
         ensures settings { self.new.settings ≡ self.old.settings }
     {
@@ -326,12 +326,12 @@ impl<K: Hash + Drop, V: Clone, C: CacheTypes<K, V>, R: RowStore<K, V>> State<K, 
     ) -> Result<Option<V>, Refused>
         requires kind { turn.key.kind ≡ Kind.Optionally }
         requires kept { IfSome given (C.keeps (arc_value turn.key.key)) }
-        ensures ends { (answer : Result (calls.Answer K V C.Error) Refused)
+        ensures ends { (reply : Result (calls.Reply K V C.Error) Refused)
             × ⟦<C as StateView<K, V>>⟧.at_each_history self.old (λ settings steps.
             EndsTurn K.eq V.is_clone V.is_infallible settings steps
-            (turn_name turn) (optional_outcome given) now answer
+            (turn_name turn) (optional_outcome given) now reply
             (λ after. ⟦<C as StateView<K, V>>⟧.stands_for settings self.new after))
-            × IsOptional answer result }
+            × IsOptional reply result }
         ensures kept { IfOk result (λ found. IfSome found (C.keeps (arc_value turn.key.key))) }
         ensures settings { self.new.settings ≡ self.old.settings }
     {
@@ -347,12 +347,12 @@ impl<K: Hash + Drop, V: Clone, C: CacheTypes<K, V>, R: RowStore<K, V>> State<K, 
     // Finishes a loader's turn with nothing, and returns `None`.
     pub(crate) fn end_with_none(&mut self, turn: Turn<K>, now: u64) -> Result<Option<V>, Refused>
         requires kind { turn.key.kind ≡ Kind.Optionally }
-        ensures ends { (answer : Result (calls.Answer K V C.Error) Refused)
+        ensures ends { (reply : Result (calls.Reply K V C.Error) Refused)
             × ⟦<C as StateView<K, V>>⟧.at_each_history self.old (λ settings steps.
             EndsTurn K.eq V.is_clone V.is_infallible settings steps
-            (turn_name turn) Outcome.Nothing now answer
+            (turn_name turn) Outcome.Nothing now reply
             (λ after. ⟦<C as StateView<K, V>>⟧.stands_for settings self.new after))
-            × IsOptional answer result }
+            × IsOptional reply result }
         ensures none { IfOk result (λ found. found ≡ None) }
         ensures settings { self.new.settings ≡ self.old.settings }
     {
@@ -372,13 +372,13 @@ impl<K: Hash + Drop, V: Clone, C: CacheTypes<K, V>, R: RowStore<K, V>> State<K, 
         now: u64,
     ) -> Result<Arc<C::Error>, Refused>
         requires kind { turn.key.kind ≡ Kind.Try }
-        ensures ends { (answer : Result (calls.Answer K V C.Error) Refused)
+        ensures ends { (reply : Result (calls.Reply K V C.Error) Refused)
             × ⟦<C as StateView<K, V>>⟧.at_each_history self.old (λ settings steps.
             IsSome (accepted K.eq settings steps (Finish (turn_name turn) (Outcome.Failed error) now))
             → EndsTurn K.eq V.is_clone V.is_infallible settings steps
-            (turn_name turn) (Outcome.Failed error) now answer
+            (turn_name turn) (Outcome.Failed error) now reply
             (λ after. ⟦<C as StateView<K, V>>⟧.stands_for settings self.new after))
-            × IsFailed answer result }
+            × IsFailed reply result }
         ensures settings { self.new.settings ≡ self.old.settings }
     {
         let Ok(error) = self.share(error) else {
@@ -401,13 +401,13 @@ impl<K: Hash + Drop, V: Clone, C: CacheTypes<K, V>, R: RowStore<K, V>> State<K, 
     ) -> Result<Result<V, Arc<C::Error>>, Refused>
         requires kind { turn.key.kind ≡ Kind.Try }
         requires kept { IfOk given (C.keeps (arc_value turn.key.key)) }
-        ensures ends { (answer : Result (calls.Answer K V C.Error) Refused)
+        ensures ends { (reply : Result (calls.Reply K V C.Error) Refused)
             × ⟦<C as StateView<K, V>>⟧.at_each_history self.old (λ settings steps.
             IsSome (accepted K.eq settings steps (Finish (turn_name turn) (tried_outcome given) now))
             → EndsTurn K.eq V.is_clone V.is_infallible settings steps
-            (turn_name turn) (tried_outcome given) now answer
+            (turn_name turn) (tried_outcome given) now reply
             (λ after. ⟦<C as StateView<K, V>>⟧.stands_for settings self.new after))
-            × IsTried answer result }
+            × IsTried reply result }
         ensures kept { IfOk result (λ tried. IfOk tried (C.keeps (arc_value turn.key.key))) }
         ensures settings { self.new.settings ≡ self.old.settings }
     {

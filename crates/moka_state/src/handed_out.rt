@@ -3,7 +3,7 @@ ghost use Rattle.std.specs.Prelude.{◌≡◌, ℕ, Option, Some, None, IfOk, If
 ghost use Rattle.std.specs.Arc.{arc_value};
 ghost use Rattle.moka_model.specs.Turns.{Name, End, found, has_ticket_as, is_open_as};
 ghost use Rattle.moka_model.specs.Steps.{events_in, turns};
-ghost use Rattle.moka_model.specs.Calls.{IsCopyOf, IsCopiedEnd, accepted, answer_of, collected, live_at};
+ghost use Rattle.moka_model.specs.Calls.{IsCopyOf, IsCopiedEnd, accepted, reply_of, collected, live_at};
 ghost use Rattle.moka_model.specs.Calls.{Collect, Finish, OrInsert, TakeNotice, entry_of};
 ghost use Rattle.moka_turns.specs.Handles.{name_by};
 ghost use Rattle.moka_turns.specs.Represents.{end_of};
@@ -42,7 +42,7 @@ pub(crate) struct HandedOut<K, V, E> {
 }
 
 // Makes one with only this value and its key.
-fn pair_out<K, V, E>(key: Arc<K>, value: Option<V>) -> HandedOut<K, V, E>
+fn hand_out_pair<K, V, E>(key: Arc<K>, value: Option<V>) -> HandedOut<K, V, E>
     ensures { result
         ≡ record { value = value; key = Some key; name = None; error = None; notice = None } }
 {
@@ -56,7 +56,7 @@ fn pair_out<K, V, E>(key: Arc<K>, value: Option<V>) -> HandedOut<K, V, E>
 }
 
 // Makes one with only this error.
-fn error_out<K, V, E>(error: Arc<E>) -> HandedOut<K, V, E>
+fn hand_out_error<K, V, E>(error: Arc<E>) -> HandedOut<K, V, E>
     ensures { result
         ≡ record { value = None; key = None; name = None; error = Some error; notice = None } }
 {
@@ -70,7 +70,7 @@ fn error_out<K, V, E>(error: Arc<E>) -> HandedOut<K, V, E>
 }
 
 // Makes one with only this notice, if there is one.
-fn notice_out<K, V, E>(notice: Option<Notice<K, V>>) -> HandedOut<K, V, E>
+fn hand_out_notice<K, V, E>(notice: Option<Notice<K, V>>) -> HandedOut<K, V, E>
     ensures { result
         ≡ record { value = None; key = None; name = None; error = None; notice = notice } }
 {
@@ -84,19 +84,19 @@ fn notice_out<K, V, E>(notice: Option<Notice<K, V>>) -> HandedOut<K, V, E>
 }
 
 // Makes what a ticket gets from this end, if its turn has ended.
-fn end_out<K: Drop, V: Clone, E: Drop>(
+fn hand_out_end<K: Drop, V: Clone, E: Drop>(
     key: Arc<K>,
     end: Option<TurnEnd<V, E>>,
 ) -> HandedOut<K, V, E>
     ensures { (name : Name K) (number : ℕ) (own : Option (End V E)) → arc_value key ≡ name.key
         → IsCopiedEnd V.is_clone own (option_map end_of end)
-        → HandsOut V.is_clone (collected name number own).answer result }
+        → HandsOut V.is_clone (collected name number own).reply result }
 {
     match end {
-        Some(TurnEnd::Value(value, _)) => pair_out(key, Some(value)),
-        Some(TurnEnd::Failed(error)) => error_out(error),
+        Some(TurnEnd::Value(value, _)) => hand_out_pair(key, Some(value)),
+        Some(TurnEnd::Failed(error)) => hand_out_error(error),
         Some(TurnEnd::Nothing) | Some(TurnEnd::Computed) | Some(TurnEnd::Abandoned) | None => {
-            notice_out(None)
+            hand_out_notice(None)
         }
     }
 }
@@ -124,12 +124,12 @@ impl<K: Hash + Drop, V: Clone, C: CacheTypes<K, V>, R: RowStore<K, V>> State<K, 
         Ok(Some((own, value)))
     }
 
-    // Returns a clone of the value that was kept aside for the open turn of a name.
-    fn kept_aside(&self, name: &TurnName<K>) -> Result<Option<V>, AllocError>
-        ensures { IfOk result (λ kept.
+    // Returns a clone of the value that was saved for the open turn of a name.
+    fn saved_value(&self, name: &TurnName<K>) -> Result<Option<V>, AllocError>
+        ensures { IfOk result (λ saved.
             ⟦<C as StateView<K, V>>⟧.at_each_history self.now (λ settings steps.
             IfSome (found (is_open_as K.eq (name_by name.now)) (turns steps))
-            (λ t. IsCopyOf V.is_clone t.kept kept))) }
+            (λ t. IsCopyOf V.is_clone t.kept saved))) }
     {
         let hash = self.behaviour.hash(&*name.key);
         let key = name.key.clone()?;
@@ -138,7 +138,7 @@ impl<K: Hash + Drop, V: Clone, C: CacheTypes<K, V>, R: RowStore<K, V>> State<K, 
             kind: name.kind,
             key,
         };
-        self.turns.kept_copy(&key, name.number)
+        self.turns.copy_saved(&key, name.number)
     }
 
     // Returns a clone of the end of the turn of a name, if it has ended.
@@ -155,11 +155,11 @@ impl<K: Hash + Drop, V: Clone, C: CacheTypes<K, V>, R: RowStore<K, V>> State<K, 
             kind: name.kind,
             key,
         };
-        self.turns.end_copy(&key, name.number)
+        self.turns.copy_end(&key, name.number)
     }
 
     // Clones what a `Get` or a `Remove` returns.
-    fn look_out(&self, key: &K, now: u64) -> Result<HandedOut<K, V, C::Error>, AllocError>
+    fn clones_for_lookup(&self, key: &K, now: u64) -> Result<HandedOut<K, V, C::Error>, AllocError>
         ensures { IfOk result (λ out.
             ⟦<C as StateView<K, V>>⟧.at_each_history self.now (λ settings steps.
             IsCopyOf V.is_clone
@@ -179,7 +179,11 @@ impl<K: Hash + Drop, V: Clone, C: CacheTypes<K, V>, R: RowStore<K, V>> State<K, 
     }
 
     // Clones what a begin may return: the key in the turn's name, and the live entry.
-    fn begin_out(&self, key: &Arc<K>, now: u64) -> Result<HandedOut<K, V, C::Error>, AllocError>
+    fn clones_for_begin(
+        &self,
+        key: &Arc<K>,
+        now: u64,
+    ) -> Result<HandedOut<K, V, C::Error>, AllocError>
         ensures name { IfOk result (HasName (arc_value key.now)) }
         ensures entry { IfOk result (λ out.
             ⟦<C as StateView<K, V>>⟧.at_each_history self.now (λ settings steps.
@@ -207,7 +211,7 @@ impl<K: Hash + Drop, V: Clone, C: CacheTypes<K, V>, R: RowStore<K, V>> State<K, 
 
     // Clones what an `OrInsert` returns: the live entry or, if there is none, the one to be
     // written.
-    fn or_insert_out(
+    fn clones_for_or_insert(
         &self,
         key: &Arc<K>,
         value: &V,
@@ -215,21 +219,21 @@ impl<K: Hash + Drop, V: Clone, C: CacheTypes<K, V>, R: RowStore<K, V>> State<K, 
     ) -> Result<HandedOut<K, V, C::Error>, AllocError>
         ensures { IfOk result (λ out.
             ⟦<C as StateView<K, V>>⟧.at_each_history self.now (λ settings steps.
-            IfSome (answer_of (accepted K.eq settings steps
+            IfSome (reply_of (accepted K.eq settings steps
             (OrInsert (arc_value key.now) value.now now)))
             (λ answer. HandsOut V.is_clone answer out))) }
     {
         match self.live_pair(&**key, now)? {
-            Some((key, value)) => Ok(pair_out(key, Some(value))),
+            Some((key, value)) => Ok(hand_out_pair(key, Some(value))),
             None => {
                 let key = key.clone()?;
-                Ok(pair_out(key, Some(value.clone()?)))
+                Ok(hand_out_pair(key, Some(value.clone()?)))
             }
         }
     }
 
     // Clones what a `Finish` returns.
-    fn finish_out(
+    fn clones_for_finish(
         &self,
         name: &TurnName<K>,
         outcome: &Outcome<V, Arc<C::Error>>,
@@ -237,65 +241,68 @@ impl<K: Hash + Drop, V: Clone, C: CacheTypes<K, V>, R: RowStore<K, V>> State<K, 
     ) -> Result<HandedOut<K, V, C::Error>, AllocError>
         ensures { IfOk result (λ out.
             ⟦<C as StateView<K, V>>⟧.at_each_history self.now (λ settings steps.
-            IfSome (answer_of (accepted K.eq settings steps
+            IfSome (reply_of (accepted K.eq settings steps
             (Finish (name_by name.now) (outcome_of outcome.now) now)))
             (λ answer. HandsOut V.is_clone answer out))) }
     {
         let key = name.key.clone()?;
         match outcome {
-            Outcome::Value(value) => Ok(pair_out(key, Some(value.clone()?))),
-            Outcome::Nothing => Ok(notice_out(None)),
-            Outcome::Failed(error) => Ok(error_out(error.clone()?)),
-            Outcome::Op(Op::Put(value)) => Ok(pair_out(key, Some(value.clone()?))),
+            Outcome::Value(value) => Ok(hand_out_pair(key, Some(value.clone()?))),
+            Outcome::Nothing => Ok(hand_out_notice(None)),
+            Outcome::Failed(error) => Ok(hand_out_error(error.clone()?)),
+            Outcome::Op(Op::Put(value)) => Ok(hand_out_pair(key, Some(value.clone()?))),
             Outcome::Op(Op::Remove) => match self.scan_get(&*name.key, now) {
-                Ok(value) => Ok(pair_out(key, value)),
+                Ok(value) => Ok(hand_out_pair(key, value)),
                 Err(_) => Err(AllocError),
             },
-            Outcome::Op(Op::Nop) => Ok(pair_out(key, self.kept_aside(name)?)),
+            Outcome::Op(Op::Nop) => Ok(hand_out_pair(key, self.saved_value(name)?)),
         }
     }
 
     // Clones what a `Collect` returns.
-    fn collect_out(&self, name: &TurnName<K>) -> Result<HandedOut<K, V, C::Error>, AllocError>
+    fn clones_for_collect(
+        &self,
+        name: &TurnName<K>,
+    ) -> Result<HandedOut<K, V, C::Error>, AllocError>
         ensures { IfOk result (λ out.
             ⟦<C as StateView<K, V>>⟧.at_each_history self.now (λ settings steps.
-            IfSome (answer_of (accepted K.eq settings steps (Collect (name_by name.now))))
+            IfSome (reply_of (accepted K.eq settings steps (Collect (name_by name.now))))
             (λ answer. HandsOut V.is_clone answer out))) }
     {
         let key = name.key.clone()?;
-        Ok(end_out(key, self.end_of_turn(name)?))
+        Ok(hand_out_end(key, self.end_of_turn(name)?))
     }
 
     // Clones the notice that a `TakeNotice` returns.
-    fn notice_taken(&self) -> Result<HandedOut<K, V, C::Error>, AllocError>
+    fn clones_for_take_notice(&self) -> Result<HandedOut<K, V, C::Error>, AllocError>
         ensures { IfOk result (λ out.
             ⟦<C as StateView<K, V>>⟧.at_each_history self.now (λ settings steps.
-            IfSome (answer_of (accepted {E = C.Error} K.eq settings steps TakeNotice))
+            IfSome (reply_of (accepted {E = C.Error} K.eq settings steps TakeNotice))
             (λ answer. HandsOut V.is_clone answer out))) }
     {
-        Ok(notice_out(self.table.notice_copy()?))
+        Ok(hand_out_notice(self.table.copy_notice()?))
     }
 
     /// Clones what a step will hand out. A step that hands nothing out, such as a `Leave`,
     /// allocates nothing here.
-    pub(crate) fn handed_out(
+    pub(crate) fn clones_for_step(
         &self,
         step: &Step<K, V, C>,
     ) -> Result<HandedOut<K, V, C::Error>, AllocError>
         ensures { IfOk result (λ out.
             ⟦<C as StateView<K, V>>⟧.at_each_history self.now (λ settings steps.
-            IfSome (answer_of (accepted K.eq settings steps (call_of C.test step.now)))
+            IfSome (reply_of (accepted K.eq settings steps (call_of C.test step.now)))
             (λ answer. HandsOut V.is_clone answer out))) }
     {
         match step {
-            Step::Get { key, now } => self.look_out(&**key, *now),
-            Step::Remove { key, now } => self.look_out(&**key, *now),
-            Step::OrInsert { key, value, now } => self.or_insert_out(key, value, *now),
-            Step::Begin { key, now, .. } => self.begin_out(key, *now),
-            Step::BeginCompute { key, now, .. } => self.begin_out(key, *now),
-            Step::Finish { name, outcome, now } => self.finish_out(name, outcome, *now),
-            Step::Collect { name } => self.collect_out(name),
-            Step::TakeNotice => self.notice_taken(),
+            Step::Get { key, now } => self.clones_for_lookup(&**key, *now),
+            Step::Remove { key, now } => self.clones_for_lookup(&**key, *now),
+            Step::OrInsert { key, value, now } => self.clones_for_or_insert(key, value, *now),
+            Step::Begin { key, now, .. } => self.clones_for_begin(key, *now),
+            Step::BeginCompute { key, now, .. } => self.clones_for_begin(key, *now),
+            Step::Finish { name, outcome, now } => self.clones_for_finish(name, outcome, *now),
+            Step::Collect { name } => self.clones_for_collect(name),
+            Step::TakeNotice => self.clones_for_take_notice(),
             Step::ContainsKey { .. }
             | Step::Insert { .. }
             | Step::Invalidate { .. }
@@ -306,7 +313,7 @@ impl<K: Hash + Drop, V: Clone, C: CacheTypes<K, V>, R: RowStore<K, V>> State<K, 
             | Step::EntryCount
             | Step::WeightedSize
             | Step::Abandon { .. }
-            | Step::Leave { .. } => Ok(notice_out(None)),
+            | Step::Leave { .. } => Ok(hand_out_notice(None)),
         }
     }
 }

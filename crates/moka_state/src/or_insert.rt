@@ -10,7 +10,7 @@ ghost use Rattle.moka_state.specs.Given.{Gives};
 ghost use Rattle.moka_state.specs.Hashes.{IsHashOf};
 ghost use Rattle.moka_state.specs.OrInsert.{OrInsertEnds, of_or_default, of_or_insert};
 
-use crate::get_with::without;
+use crate::get_with::none_like;
 use crate::state::State;
 use moka_expiration::view::StateView;
 use moka_model::entry::Entry;
@@ -43,7 +43,7 @@ impl<V: Drop> From<OrInsertRefused<V>> for Refused {
 
 // Makes the entry of a value that is to be written, from a share of its key and a clone of the
 // value.
-fn written_entry<K: Drop, V: Clone>(key: &Arc<K>, value: &V) -> Result<Entry<K, V>, AllocError>
+fn make_fresh_entry<K: Drop, V: Clone>(key: &Arc<K>, value: &V) -> Result<Entry<K, V>, AllocError>
     ensures { IfOk result (λ entry. IsCopiedEntry V.is_clone
         (fresh_entry (arc_value key.now) value.now false) (entry_of entry)) }
 {
@@ -120,7 +120,7 @@ impl<K: Hash + Drop, V: Clone, C: CacheTypes<K, V>, R: RowStore<K, V>> State<K, 
         ensures value_back { IfErr result (λ refused. refused.value ≡ value) }
         ensures settings { self.new.settings ≡ self.old.settings }
     {
-        match self.acceptable_entry(&**key, hash, without(|_: &V| false), now) {
+        match self.acceptable_entry(&**key, hash, none_like(|_: &V| false), now) {
             Ok(Some(entry)) => Ok(entry),
             Ok(None) => self.write_missing(key, hash, value, now),
             Err(cause) => Err(OrInsertRefused { value, cause }),
@@ -155,7 +155,7 @@ impl<K: Hash + Drop, V: Clone, C: CacheTypes<K, V>, R: RowStore<K, V>> State<K, 
             let cause = Refused::NumbersUsedUp;
             return Err(OrInsertRefused { value, cause });
         }
-        let Ok(entry) = written_entry(key, &value) else {
+        let Ok(entry) = make_fresh_entry(key, &value) else {
             let cause = Refused::OutOfMemory;
             return Err(OrInsertRefused { value, cause });
         };
@@ -164,7 +164,7 @@ impl<K: Hash + Drop, V: Clone, C: CacheTypes<K, V>, R: RowStore<K, V>> State<K, 
             self.latest = self.latest.max(now);
             return Ok(entry);
         }
-        match self.write_looked(key, hash, value, now) {
+        match self.note_and_write(key, hash, value, now) {
             Ok(()) => Ok(entry),
             Err(refused) => Err(refused),
         }
@@ -212,7 +212,7 @@ impl<K: Hash + Drop, V: Clone, C: CacheTypes<K, V>, R: RowStore<K, V>> State<K, 
     }
 
     // Notes a lookup that found no live value, and then writes. Allocates before anything changes.
-    fn write_looked(
+    fn note_and_write(
         &mut self,
         key: &Arc<K>,
         hash: u64,
@@ -238,7 +238,7 @@ impl<K: Hash + Drop, V: Clone, C: CacheTypes<K, V>, R: RowStore<K, V>> State<K, 
             return Err(OrInsertRefused { value, cause });
         };
         let weight = self.behaviour.weight(&**key, &value);
-        let Ok(place) = self.table.place(share, hash, self.alloc) else {
+        let Ok(place) = self.table.plan_write(share, hash, self.alloc) else {
             return Err(OrInsertRefused { value, cause });
         };
         let now = self.latest.max(now);
@@ -311,7 +311,7 @@ impl<K: Hash + Drop, V: Clone + Default, C: CacheTypes<K, V>, R: RowStore<K, V>>
         ensures settings { self.new.settings ≡ self.old.settings }
     {
         let value = V::default();
-        match self.acceptable_entry(&key, hash, without(|_: &V| false), now) {
+        match self.acceptable_entry(&key, hash, none_like(|_: &V| false), now) {
             Ok(Some(found)) => Ok(found),
             Ok(None) => self.write_default(key, hash, value, now),
             Err(cause) => Err(cause),

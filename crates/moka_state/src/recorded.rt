@@ -62,18 +62,18 @@ impl<K: Hash + Drop, V: Clone, C: CacheTypes<K, V>, R: RowStore<K, V>> State<K, 
         let Ok(second) = step.clone() else {
             return Err(Refused::OutOfMemory);
         };
-        let Ok(one) = self.handed_out(&step) else {
+        let Ok(one) = self.clones_for_step(&step) else {
             return Err(Refused::OutOfMemory);
         };
-        let Ok(other) = self.handed_out(&step) else {
+        let Ok(other) = self.clones_for_step(&step) else {
             return Err(Refused::OutOfMemory);
         };
         let reply = self.step(step);
         if reply.wants_memory() {
             return Err(Refused::OutOfMemory);
         }
-        let first_reply = reply.again(one);
-        let second_reply = reply.again(other);
+        let first_reply = reply.with_clones(one);
+        let second_reply = reply.with_clones(other);
         Ok((reply, (first, first_reply), (second, second_reply)))
     }
 }

@@ -24,7 +24,7 @@ impl<K: Hash + Drop, V: Clone, C: CacheTypes<K, V>, R: RowStore<K, V>> State<K, 
     /// In a `CacheState`, reads no rows but those that have the key's hash.
     pub fn remove(&mut self, key: &K, now: u64) -> Result<Option<V>, Refused>
         ensures reply { IfOk result (λ found.
-            ⟦<C as StateView<K, V>>⟧.answers self.old (Remove key.now now) (Found found)) }
+            ⟦<C as StateView<K, V>>⟧.replies_with self.old (Remove key.now now) (Found found)) }
         ensures stands { OnOk result
             (⟦<C as StateView<K, V>>⟧.follows self.old (Remove key.now now) self.new) }
         ensures kept { IfOk result (λ found. IfSome found (C.keeps key.now)) }

@@ -48,7 +48,7 @@ impl<K: Hash + Drop, V: Clone, C: CacheTypes<K, V>, R: RowStore<K, V>> State<K, 
     /// In a `CacheState`, reads no rows but those that have the key's hash.
     pub fn scan_get(&self, key: &K, now: u64) -> Result<Option<V>, Refused>
         ensures reply { IfOk result (λ found.
-            ⟦<C as StateView<K, V>>⟧.answers self.now (Get key.now now) (Found found)) }
+            ⟦<C as StateView<K, V>>⟧.replies_with self.now (Get key.now now) (Found found)) }
         ensures kept { IfOk result (λ found. IfSome found (C.keeps key.now)) }
         ensures cause { IfErr result (λ cause. cause ≡ Refused.OutOfMemory) }
 

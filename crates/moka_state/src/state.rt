@@ -236,7 +236,7 @@ impl<K: Hash + Drop, V: Clone, C: CacheTypes<K, V>, R: RowStore<K, V>> State<K, 
     /// ```
     pub fn get(&mut self, key: &K, now: u64) -> Result<Option<V>, Refused>
         ensures reply { IfOk result (λ found.
-            ⟦<C as StateView<K, V>>⟧.answers self.old (Get key.now now) (Found found)) }
+            ⟦<C as StateView<K, V>>⟧.replies_with self.old (Get key.now now) (Found found)) }
         ensures stands { OnOk result
             (⟦<C as StateView<K, V>>⟧.follows self.old (Get key.now now) self.new) }
         ensures kept { IfOk result (λ found. IfSome found (C.keeps key.now)) }
@@ -276,7 +276,7 @@ impl<K: Hash + Drop, V: Clone, C: CacheTypes<K, V>, R: RowStore<K, V>> State<K, 
     ///
     /// ```
     /// match pages.insert(number, name, 0) {
-    ///     Ok(()) => delete_those_that_left(rt, pages),
+    ///     Ok(()) => delete_removed(rt, pages),
     ///     Err(refused) => {
     ///         fs::remove_file(rt, &refused.value)?;
     ///         Err(refused.cause.into())
@@ -296,7 +296,7 @@ impl<K: Hash + Drop, V: Clone, C: CacheTypes<K, V>, R: RowStore<K, V>> State<K, 
     /// Checks whether `key` has a live value at the moment `now`. Does not count as an access, and
     /// records nothing.
     pub fn contains_key(&self, key: &K, now: u64) -> bool
-        ensures reply { ⟦<C as StateView<K, V>>⟧.answers self.now
+        ensures reply { ⟦<C as StateView<K, V>>⟧.replies_with self.now
             (ContainsKey key.now now) (Contains result) }
         ensures stands { ⟦<C as StateView<K, V>>⟧.follows self.now
             (ContainsKey key.now now) self.now }
@@ -325,7 +325,7 @@ impl<K: Hash + Drop, V: Clone, C: CacheTypes<K, V>, R: RowStore<K, V>> State<K, 
     /// ```
     #[inline(always)]
     pub fn take_notice(&mut self) -> Option<Notice<K, V>>
-        ensures reply { ⟦<C as StateView<K, V>>⟧.answers self.old TakeNotice
+        ensures reply { ⟦<C as StateView<K, V>>⟧.replies_with self.old TakeNotice
             (Noticed (option_map removal_of result)) }
         ensures stands { ⟦<C as StateView<K, V>>⟧.follows self.old TakeNotice self.new }
         ensures kept { IfSome result (λ notice. C.keeps (arc_value notice.key) notice.value) }
@@ -404,7 +404,7 @@ impl<K: Hash + Drop, V: Clone, C: CacheTypes<K, V>, R: RowStore<K, V>> State<K, 
     /// Visits no more rows than a whole maintenance. The next call visits the pending entries
     /// again, and, if an entry may be marked as invalidated, the live resident ones in front.
     pub fn run_pending_tasks_up_to(&mut self, limit: u64, now: u64) -> bool
-        ensures reply { ⟦<C as StateView<K, V>>⟧.answers self.old
+        ensures reply { ⟦<C as StateView<K, V>>⟧.replies_with self.old
             (RunPendingTasksUpTo limit now) (Left result) }
         ensures stands { ⟦<C as StateView<K, V>>⟧.follows self.old
             (RunPendingTasksUpTo limit now) self.new }
@@ -444,7 +444,7 @@ impl<K: Hash + Drop, V: Clone, C: CacheTypes<K, V>, R: RowStore<K, V>> State<K, 
     /// without a weigher, it is at most the capacity plus 64.
     pub fn entry_count(&self) -> u64
         ensures counted { result ≡ length (all_writes self.now) }
-        ensures reply { ⟦<C as StateView<K, V>>⟧.answers self.now EntryCount (Counted result) }
+        ensures reply { ⟦<C as StateView<K, V>>⟧.replies_with self.now EntryCount (Counted result) }
         ensures stands { ⟦<C as StateView<K, V>>⟧.follows self.now EntryCount self.now }
         ensures bounded { ⟦<C as StateView<K, V>>⟧.at_each_history self.now (λ _ _.
             self.now.settings.behaviour.weigher ≡ None →
@@ -459,7 +459,7 @@ impl<K: Hash + Drop, V: Clone, C: CacheTypes<K, V>, R: RowStore<K, V>> State<K, 
     pub fn weighted_size(&self) -> u64
         ensures counted { result
             ≡ min (total (λ w. w.policy_weight) (all_writes self.now)) greatest_number }
-        ensures reply { ⟦<C as StateView<K, V>>⟧.answers self.now WeightedSize (Counted result) }
+        ensures reply { ⟦<C as StateView<K, V>>⟧.replies_with self.now WeightedSize (Counted result) }
         ensures stands { ⟦<C as StateView<K, V>>⟧.follows self.now WeightedSize self.now }
     {
         self.table.weight().min(u128::from(u64::MAX)) as u64

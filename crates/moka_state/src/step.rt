@@ -3,7 +3,7 @@ ghost use Rattle.std.specs.Prelude.{◌≡◌, ◌+◌, ◌≤◌, ◌++◌, len
 ghost use Rattle.std.specs.List.{AllByRecursion};
 ghost use Rattle.moka_model.specs.Numbers.{flush_point};
 ghost use Rattle.moka_model.specs.Steps.{events_in};
-ghost use Rattle.moka_conserved.specs.Conserved.{given_out, IsConserved};
+ghost use Rattle.moka_model.specs.Conserved.{given_out, IsConserved};
 ghost use Rattle.moka_state.specs.State.{all_writes};
 ghost use Rattle.moka_state.specs.Hashes.{IsHashOfStep};
 ghost use Rattle.moka_state.specs.Noticed.{noticed_in};
@@ -92,7 +92,7 @@ pub enum Step<K: Eq, V: Clone, C: CacheTypes<K, V>> {
         now: u64,
     },
     /// [`State::begin_compute`]: the begin of a compute. `keep` is whether a clone of the live
-    /// value is kept aside.
+    /// value is saved.
     BeginCompute {
         key: Arc<K>,
         keep: bool,
@@ -163,7 +163,7 @@ impl<K: Hash + Drop, V: Clone, C: CacheTypes<K, V>, R: RowStore<K, V>> State<K, 
     /// Does one step, and returns the result of its call.
     ///
     /// An `or_default` is an `OrInsert` of the default value. A `Begin` of kind `Compute` is a
-    /// `BeginCompute` that keeps no clone.
+    /// `BeginCompute` that saves no clone.
     ///
     /// # Errors
     ///

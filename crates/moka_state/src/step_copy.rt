@@ -11,7 +11,7 @@ use std::alloc::AllocError;
 use std::sync::Arc;
 
 // Clones a name, which shares the key.
-fn name_copy<K: Drop>(name: &TurnName<K>) -> Result<TurnName<K>, AllocError>
+fn copy_name<K: Drop>(name: &TurnName<K>) -> Result<TurnName<K>, AllocError>
     ensures { IfOk result (λ copy. name_by copy ≡ name_by name.now) }
 {
     let key = name.key.clone()?;
@@ -23,7 +23,7 @@ fn name_copy<K: Drop>(name: &TurnName<K>) -> Result<TurnName<K>, AllocError>
 }
 
 // Clones an outcome, which shares the error.
-fn outcome_copy<V: Clone, E: Drop>(
+fn copy_outcome<V: Clone, E: Drop>(
     outcome: &Outcome<V, Arc<E>>,
 ) -> Result<Outcome<V, Arc<E>>, AllocError>
     ensures { IfOk result (IsOutcomeCopy V.is_clone outcome.now) }
@@ -100,18 +100,18 @@ impl<K: Eq + Drop, V: Clone, C: CacheTypes<K, V>> Clone for Step<K, V, C> {
                 now: *now,
             },
             Step::Finish { name, outcome, now } => Step::Finish {
-                name: name_copy(name)?,
-                outcome: outcome_copy(outcome)?,
+                name: copy_name(name)?,
+                outcome: copy_outcome(outcome)?,
                 now: *now,
             },
             Step::Abandon { name } => Step::Abandon {
-                name: name_copy(name)?,
+                name: copy_name(name)?,
             },
             Step::Collect { name } => Step::Collect {
-                name: name_copy(name)?,
+                name: copy_name(name)?,
             },
             Step::Leave { name } => Step::Leave {
-                name: name_copy(name)?,
+                name: copy_name(name)?,
             },
         })
     }

@@ -3,7 +3,7 @@ ghost use Rattle.std.specs.Prelude.{Ok, IfOk, IsErr};
 ghost use Rattle.moka_state.specs.Begin.{FoundKeeps};
 ghost use Rattle.moka_state.specs.Compute.{ShownKeeps};
 ghost use Rattle.moka_state.specs.Given.{of_answer, of_begin, of_begin_compute, of_collect, of_done, of_finish};
-ghost use Rattle.moka_state.specs.Replies.{EntryKeeps, HasNoNotice, IsRefusal, Leaves, Says};
+ghost use Rattle.moka_state.specs.Replies.{HasNoNotice, IsRefusal, Leaves, ReplyEntryKeeps, Says};
 
 use crate::answers::{
     Answer, Begun, BegunCompute, CollectRefused, Collected, FinishRefused, Finished,
@@ -13,13 +13,13 @@ use moka_policy::policy::{CacheTypes, Refused};
 use moka_turns::by_name::{name_of_ticket, name_of_turn};
 
 /// Converts the result of a begin into a reply.
-pub(crate) fn begun_reply<K: Eq + Drop, V: Clone, C: CacheTypes<K, V>>(
+pub(crate) fn begin_reply<K: Eq + Drop, V: Clone, C: CacheTypes<K, V>>(
     begun: Result<Begun<K, V>, Refused>,
 ) -> Reply<K, V, C>
     ensures says { Says K.eq V.is_clone V.is_infallible (of_begin begun) result }
     ensures leaves { Leaves K.eq begun result }
     ensures refused { IsRefusal result → IsErr begun }
-    ensures kept { IfOk begun (FoundKeeps C.keeps) → EntryKeeps C.keeps result }
+    ensures kept { IfOk begun (FoundKeeps C.keeps) → ReplyEntryKeeps C.keeps result }
 {
     match begun {
         Ok(Begun::Found(entry)) => Reply::Entered(entry),
@@ -36,7 +36,7 @@ pub(crate) fn compute_reply<K: Eq + Drop, V: Clone, C: CacheTypes<K, V>>(
     ensures says { Says K.eq V.is_clone V.is_infallible (of_begin_compute begun) result }
     ensures leaves { Leaves K.eq begun result }
     ensures refused { IsRefusal result → IsErr begun }
-    ensures kept { IfOk begun (ShownKeeps C.keeps) → EntryKeeps C.keeps result }
+    ensures kept { IfOk begun (ShownKeeps C.keeps) → ReplyEntryKeeps C.keeps result }
 {
     match begun {
         Ok(BegunCompute::Run(turn, entry)) => Reply::Run(name_of_turn(turn), entry),
@@ -52,7 +52,7 @@ fn answer_reply<K: Eq + Drop, V: Clone, C: CacheTypes<K, V>>(
     ensures says { Says K.eq V.is_clone V.is_infallible (Ok (of_answer answer)) result }
     ensures leaves { Leaves {B = Unit {0}} K.eq (Ok answer) result }
     ensures accepted { ¬ (IsRefusal result) }
-    ensures kept { HasNoNotice result }
+    ensures no_notice { HasNoNotice result }
 {
     match answer {
         Answer::Entry(entry) => Reply::Entered(entry),
@@ -68,7 +68,7 @@ pub(crate) fn finish_reply<K: Eq + Drop, V: Clone, C: CacheTypes<K, V>>(
     ensures says { Says K.eq V.is_clone V.is_infallible (of_finish finished) result }
     ensures leaves { Leaves K.eq finished result }
     ensures refused { IsRefusal result → IsErr finished }
-    ensures kept { HasNoNotice result }
+    ensures no_notice { HasNoNotice result }
 {
     match finished {
         Ok(Finished::Answer(answer)) => answer_reply(answer),
@@ -93,7 +93,7 @@ pub(crate) fn collect_reply<K: Eq + Drop, V: Clone, C: CacheTypes<K, V>>(
     ensures says { Says K.eq V.is_clone V.is_infallible (of_collect collected) result }
     ensures leaves { Leaves K.eq collected result }
     ensures refused { IsRefusal result → IsErr collected }
-    ensures kept { HasNoNotice result }
+    ensures no_notice { HasNoNotice result }
 {
     match collected {
         Ok(Collected::Ready(answer)) => answer_reply(answer),
@@ -117,7 +117,7 @@ pub(crate) fn done_reply<K: Eq + Drop, V: Clone, C: CacheTypes<K, V>>(
     ensures says { Says K.eq V.is_clone V.is_infallible (of_done done) result }
     ensures leaves { Leaves K.eq done result }
     ensures refused { IsRefusal result → IsErr done }
-    ensures kept { HasNoNotice result }
+    ensures no_notice { HasNoNotice result }
 {
     match done {
         Ok(()) => Reply::Done,

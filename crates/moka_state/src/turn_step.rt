@@ -7,13 +7,13 @@ ghost use Rattle.moka_turns.specs.Handles.{name_by};
 ghost use Rattle.moka_state.specs.Begin.{FoundKeeps};
 ghost use Rattle.moka_state.specs.Finish.{OutcomeKeeps, outcome_of};
 ghost use Rattle.moka_state.specs.Given.{Gives, of_begin};
-ghost use Rattle.moka_state.specs.Replies.{EntryKeeps, HasNoNotice, IsRefusal};
+ghost use Rattle.moka_state.specs.Replies.{HasNoNotice, IsRefusal, ReplyEntryKeeps};
 ghost use Rattle.moka_state.specs.Step.{IsReplyTo, after_reply};
 
 use crate::answers::Begun;
 use crate::state::State;
 use crate::step::Reply;
-use crate::turn_replies::{begun_reply, collect_reply, compute_reply, done_reply, finish_reply};
+use crate::turn_replies::{begin_reply, collect_reply, compute_reply, done_reply, finish_reply};
 use moka_expiration::view::StateView;
 use moka_model::turns::{Kind, Outcome};
 use moka_policy::policy::{CacheTypes, Refused};
@@ -26,7 +26,7 @@ use std::sync::Arc;
 impl<K: Hash + Drop, V: Clone, C: CacheTypes<K, V>, R: RowStore<K, V>> State<K, V, C, R> {
     // Does a begin with a `replace_if` that returns `replace` for any value, or without it for
     // `None`.
-    fn begin_asked<F: FnMut(&V) -> bool + Drop>(
+    fn begin_for_step<F: FnMut(&V) -> bool + Drop>(
         &mut self,
         key: &Arc<K>,
         kind: Kind,
@@ -53,7 +53,7 @@ impl<K: Hash + Drop, V: Clone, C: CacheTypes<K, V>, R: RowStore<K, V>> State<K, 
         }
     }
 
-    /// Does a `Begin`. One of kind `Compute` keeps no clone.
+    /// Does a `Begin`. One of kind `Compute` saves no clone.
     pub(crate) fn step_begin(
         &mut self,
         key: Arc<K>,
@@ -67,7 +67,7 @@ impl<K: Hash + Drop, V: Clone, C: CacheTypes<K, V>, R: RowStore<K, V>> State<K, 
         ensures stands { ⟦<C as StateView<K, V>>⟧.at_each_history self.old (λ settings steps.
             ⟦<C as StateView<K, V>>⟧.stands_for settings self.new
             (after_reply K.eq settings (Begin (arc_value key) kind replace now) result steps)) }
-        ensures kept { EntryKeeps C.keeps result }
+        ensures kept { ReplyEntryKeeps C.keeps result }
         ensures refused { IsRefusal result → self.new ≡ self.old }
         ensures settings { self.new.settings ≡ self.old.settings }
     {
@@ -75,7 +75,7 @@ impl<K: Hash + Drop, V: Clone, C: CacheTypes<K, V>, R: RowStore<K, V>> State<K, 
             return compute_reply(self.begin_compute(&key, false, now));
         }
         let replaces = replace.unwrap_or(false);
-        begun_reply(self.begin_asked(&key, kind, replace, |_: &V| replaces, now))
+        begin_reply(self.begin_for_step(&key, kind, replace, |_: &V| replaces, now))
     }
 
     /// Does a `BeginCompute`.
@@ -86,7 +86,7 @@ impl<K: Hash + Drop, V: Clone, C: CacheTypes<K, V>, R: RowStore<K, V>> State<K, 
         ensures stands { ⟦<C as StateView<K, V>>⟧.at_each_history self.old (λ settings steps.
             ⟦<C as StateView<K, V>>⟧.stands_for settings self.new
             (after_reply K.eq settings (BeginCompute (arc_value key) keep now) result steps)) }
-        ensures kept { EntryKeeps C.keeps result }
+        ensures kept { ReplyEntryKeeps C.keeps result }
         ensures refused { IsRefusal result → self.new ≡ self.old }
         ensures settings { self.new.settings ≡ self.old.settings }
     {
@@ -107,7 +107,7 @@ impl<K: Hash + Drop, V: Clone, C: CacheTypes<K, V>, R: RowStore<K, V>> State<K, 
         ensures stands { ⟦<C as StateView<K, V>>⟧.at_each_history self.old (λ settings steps.
             ⟦<C as StateView<K, V>>⟧.stands_for settings self.new
             (after_reply K.eq settings (Finish (name_by name) (outcome_of outcome) now) result steps)) }
-        ensures kept { HasNoNotice result }
+        ensures no_notice { HasNoNotice result }
         ensures refused { IsRefusal result → self.new ≡ self.old }
         ensures settings { self.new.settings ≡ self.old.settings }
     {
@@ -125,7 +125,7 @@ impl<K: Hash + Drop, V: Clone, C: CacheTypes<K, V>, R: RowStore<K, V>> State<K, 
         ensures stands { ⟦<C as StateView<K, V>>⟧.at_each_history self.old (λ settings steps.
             ⟦<C as StateView<K, V>>⟧.stands_for settings self.new
             (after_reply K.eq settings (Abandon (name_by name)) result steps)) }
-        ensures kept { HasNoNotice result }
+        ensures no_notice { HasNoNotice result }
         ensures refused { IsRefusal result → self.new ≡ self.old }
         ensures settings { self.new.settings ≡ self.old.settings }
     {
@@ -141,7 +141,7 @@ impl<K: Hash + Drop, V: Clone, C: CacheTypes<K, V>, R: RowStore<K, V>> State<K, 
         ensures stands { ⟦<C as StateView<K, V>>⟧.at_each_history self.old (λ settings steps.
             ⟦<C as StateView<K, V>>⟧.stands_for settings self.new
             (after_reply K.eq settings (Collect (name_by name)) result steps)) }
-        ensures kept { HasNoNotice result }
+        ensures no_notice { HasNoNotice result }
         ensures refused { IsRefusal result → self.new ≡ self.old }
         ensures settings { self.new.settings ≡ self.old.settings }
     {
@@ -156,7 +156,7 @@ impl<K: Hash + Drop, V: Clone, C: CacheTypes<K, V>, R: RowStore<K, V>> State<K, 
         ensures stands { ⟦<C as StateView<K, V>>⟧.at_each_history self.old (λ settings steps.
             ⟦<C as StateView<K, V>>⟧.stands_for settings self.new
             (after_reply K.eq settings (Leave (name_by name)) result steps)) }
-        ensures kept { HasNoNotice result }
+        ensures no_notice { HasNoNotice result }
         ensures refused { IsRefusal result → self.new ≡ self.old }
         ensures settings { self.new.settings ≡ self.old.settings }
     {

@@ -5,7 +5,7 @@ ghost use Rattle.moka_model.specs.Calls.{Abandon, Collect, Leave};
 ghost use Rattle.moka_turns.specs.Handles.{turn_name, ticket_name};
 ghost use Rattle.moka_state.specs.Given.{Gives, IfUnspent, of_done, of_collect};
 
-use crate::answers::{CollectRefused, Collected, told_to_caller};
+use crate::answers::{CollectRefused, Collected, into_collected};
 use crate::state::State;
 use moka_expiration::view::StateView;
 use moka_policy::policy::{CacheTypes, Refused};
@@ -37,7 +37,7 @@ impl<K: Hash + Drop, V: Clone, C: CacheTypes<K, V>, R: RowStore<K, V>> State<K, 
         ensures settings { self.new.settings ≡ self.old.settings }
     {
         let hash = self.behaviour.hash(turn.key());
-        if !self.turns.abandon(turn.rehashed(hash)) {
+        if !self.turns.abandon(turn.with_hash(hash)) {
             return Err(Refused::UnknownTurn);
         }
         Ok(())
@@ -65,7 +65,7 @@ impl<K: Hash + Drop, V: Clone, C: CacheTypes<K, V>, R: RowStore<K, V>> State<K, 
         ensures settings { self.new.settings ≡ self.old.settings }
     {
         let hash = self.behaviour.hash(ticket.key());
-        if !self.turns.leave(ticket.rehashed(hash)) {
+        if !self.turns.leave(ticket.with_hash(hash)) {
             return Err(Refused::UnknownTicket);
         }
         Ok(())
@@ -101,10 +101,10 @@ impl<K: Hash + Drop, V: Clone, C: CacheTypes<K, V>, R: RowStore<K, V>> State<K, 
         ensures settings { self.new.settings ≡ self.old.settings }
     {
         let hash = self.behaviour.hash(ticket.key());
-        let told = match self.turns.collect(ticket.rehashed(hash)) {
-            Ok(told) => told,
+        let found = match self.turns.collect(ticket.with_hash(hash)) {
+            Ok(found) => found,
             Err(refused) => return Err(refused),
         };
-        Ok(told_to_caller(told))
+        Ok(into_collected(found))
     }
 }

@@ -9,7 +9,7 @@ use Rattle.moka_model.specs.Lives.{Settings, Write}
 use Rattle.moka_model.specs.Steps.{AcceptedStep, events_in}
 use Rattle.moka_model.specs.Calls.{IsCopyOf, live_at}
 use Rattle.moka_model.specs.StandsFor.{Books, books_of}
-use Rattle.moka_iter.specs.Walks.{Cursor, Advance, answered, Ending, Yielded, KeyRefused, SegmentRefused, Finished, AllStand, IsEnding, Advances}
+use Rattle.moka_iter.specs.Walks.{Cursor, Advance, reply_of, Ending, Yielded, KeyRefused, SegmentRefused, Finished, AllStand, IsEnding, Advances}
 use Rattle.moka_iter.specs.Histories.{History, AllStandFor, keys_of, standing_in, value_of, StandsIn, FindsIn}
 use Rattle.moka_iter.specs.Cursors.{key_list, with_key}
 use Rattle.moka_state_iter.specs.States.{WalksTo, StateStands, StateFinds}
@@ -41,18 +41,18 @@ no-ok T e is = let no : false ≡ true = is in cc
 
 module _ {K V E S : Type 0} (eq : K → K → Bool) (is_clone : V → V → Type 0) (is_infallible : V → Type 0)
     (stands_for : Settings K V → S → List (AcceptedStep K V E) → Type 0) (states : List S) (now : ℕ) where
-  -- the answer of a state that is asked for its keys
-  pub stands-kept : (i : ℕ) (state : S) → slice_get states i ≡ Some state → (books : Books K V) → ((settings : Settings K V) (steps : List (AcceptedStep K V E)) → stands_for settings state steps → books ≡ books_of eq settings (events_in steps))
+  -- the reply of a state that is asked for its keys
+  pub stands-stored : (i : ℕ) (state : S) → slice_get states i ≡ Some state → (books : Books K V) → ((settings : Settings K V) (steps : List (AcceptedStep K V E)) → stands_for settings state steps → books ≡ books_of eq settings (events_in steps))
       → (result : Result (List K) Refused) → IfOk result (λ keys. keys ≡ map (λ (w : Write K V). w.key) (books.orders.admitted ++ books.orders.waiting)) → IfErr result (λ e. e ≡ OutOfMemory)
       → StateStands eq is_clone is_infallible stands_for states now i result
-  stands-kept i state there books are (Ok keys) is cause = record {
+  stands-stored i state there books are (Ok keys) is cause = record {
     stood = λ histories stand.
         let it = zip-at (λ (s : S) (h : History K V E). stands_for h.settings s h.steps) states histories stand i state there in
         let same : standing_in eq histories i ≡ keys = ap (keys_of eq) it.1 ∙ sym (is ∙ ap (λ (b : Books K V). map (λ (w : Write K V). w.key) (b.orders.admitted ++ b.orders.waiting)) (are it.0.settings it.0.steps it.2)) in
         subst (IsPermutation (standing_in eq histories i)) same (IsPermutation-refl (standing_in eq histories i));
     cause = tt;
   }
-  stands-kept i state there books are (Err e) is cause = record { stood = λ histories stand. cause; cause = cause }
+  stands-stored i state there books are (Err e) is cause = record { stood = λ histories stand. cause; cause = cause }
 
   -- where there is no state nothing is live
   pub finds-none : (keeps : K → V → Type 0) (i : ℕ) (k : K) → slice_get states i ≡ None → StateFinds eq is_clone is_infallible stands_for states now keeps i k (Ok None)
@@ -62,7 +62,7 @@ module _ {K V E S : Type 0} (eq : K → K → Bool) (is_clone : V → V → Type
     cause = tt;
   }
 
-  -- the answer of a state that is asked for a key's live value
+  -- the reply of a state that is asked for a key's live value
   live-copied : (o : Option (Write K V)) (e : Refused) → (o ≡ None → IsOk {T = Option V} (Err e)) → IfSome o (λ (w : Write K V). is_infallible w.value → IsOk {T = Option V} (Err e)) → IsSomeAnd (option_map (λ (w : Write K V). w.value) o) (λ v. ¬ (is_infallible v))
   live-copied None e miss copied = absurd (no-ok (Option V) e (miss refl))
   live-copied (Some w) e miss copied = λ sure. no-ok (Option V) e (copied sure)
@@ -124,19 +124,19 @@ module _ {K V E S : Type 0} (eq : K → K → Bool) (is_clone : V → V → Type
         once = advances.once;
       }
 
-    pub walks-to : (old new : Cursor K) (result : Option (Result (K × V) Refused)) → (it : Advance K V Refused) × Advance-of old it new × (result ≡ answered it.ending) → WalksTo eq is_clone is_infallible stands_for states now old result new
+    pub walks-to : (old new : Cursor K) (result : Option (Result (K × V) Refused)) → (it : Advance K V Refused) × Advance-of old it new × (result ≡ reply_of it.ending) → WalksTo eq is_clone is_infallible stands_for states now old result new
     walks-to old new result does histories stand = (does.0, over-histories histories stand old does.0 new does.1, does.2)
 
     -- What it returns satisfies `keeps`,
     ends-kept : (reached : ℕ) (how : Ending K V Refused) (new : Cursor K) → IsEnding (length states) (StateStands eq is_clone is_infallible stands_for states now) (StateFinds eq is_clone is_infallible stands_for states now keeps) reached how new
-        → IfSome (answered how) (λ pair. IfOk pair (λ (p : K × V). keeps p.0 p.1)) × IfSome (answered how) (λ pair. IfErr pair (λ e. e ≡ OutOfMemory))
+        → IfSome (reply_of how) (λ pair. IfOk pair (λ (p : K × V). keeps p.0 p.1)) × IfSome (reply_of how) (λ pair. IfErr pair (λ e. e ≡ OutOfMemory))
     ends-kept reached (Yielded i k v) new ends = (ends.0.kept, tt)
     ends-kept reached (KeyRefused i k e) new ends = (tt, ends.0.cause)
     ends-kept reached (SegmentRefused e) new ends = (tt, ends.0.cause)
     ends-kept reached Finished new ends = (tt, tt)
 
     -- and it fails only with `OutOfMemory`.
-    pub hands-out : (old new : Cursor K) (result : Option (Result (K × V) Refused)) → (it : Advance K V Refused) × Advance-of old it new × (result ≡ answered it.ending)
+    pub hands-out : (old new : Cursor K) (result : Option (Result (K × V) Refused)) → (it : Advance K V Refused) × Advance-of old it new × (result ≡ reply_of it.ending)
         → IfSome result (λ pair. IfOk pair (λ (p : K × V). keeps p.0 p.1)) × IfSome result (λ pair. IfErr pair (λ e. e ≡ OutOfMemory))
     hands-out old new result does =
         subst (λ r. IfSome r (λ pair. IfOk pair (λ (p : K × V). keeps p.0 p.1)) × IfSome r (λ pair. IfErr pair (λ e. e ≡ OutOfMemory))) (sym does.2)
@@ -144,12 +144,12 @@ module _ {K V E S : Type 0} (eq : K → K → Bool) (is_clone : V → V → Type
 
 module _ {K V E S Q : Type 0} (eq : K → K → Bool) (is_clone : V → V → Type 0) (is_infallible : V → Type 0)
     (stands_for : Settings K V → S → List (AcceptedStep K V E) → Type 0) (states : List S) (now : ℕ) where
-  -- the answer of a state that is asked for its keys, as it is handed out
+  -- the reply of a state that is asked for its keys, as it is handed out
   pub stands-shown : (keys : Q → List K) (i : ℕ) (state : S) → slice_get states i ≡ Some state → (books : Books K V) → ((settings : Settings K V) (steps : List (AcceptedStep K V E)) → stands_for settings state steps → books ≡ books_of eq settings (events_in steps))
       → (result : Result Q Refused) → IfOk result (λ q. keys q ≡ map (λ (w : Write K V). w.key) (books.orders.admitted ++ books.orders.waiting)) → IfErr result (λ e. e ≡ OutOfMemory)
       → StateStands eq is_clone is_infallible stands_for states now i (key_list keys result)
-  stands-shown keys i state there books are (Ok q) is cause = stands-kept eq is_clone is_infallible stands_for states now i state there books are (Ok (keys q)) is cause
-  stands-shown keys i state there books are (Err e) is cause = stands-kept eq is_clone is_infallible stands_for states now i state there books are (Err e) is cause
+  stands-shown keys i state there books are (Ok q) is cause = stands-stored eq is_clone is_infallible stands_for states now i state there books are (Ok (keys q)) is cause
+  stands-shown keys i state there books are (Err e) is cause = stands-stored eq is_clone is_infallible stands_for states now i state there books are (Err e) is cause
 
 -- what holds of the keys themselves holds of what is handed out
 pub kept-shown : {A K V : Type 0} (value : A → K) (P : K → V → Type 0) (r : Option (Result (A × V) Refused)) → IfSome (option_map (with_key value) r) (λ pair. IfOk pair (λ p. P p.0 p.1)) → IfSome r (λ pair. IfOk pair (λ p. P (value p.0) p.1))

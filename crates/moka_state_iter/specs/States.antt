@@ -5,7 +5,7 @@ use Rattle.moka_policy.specs.declared.policy.Refused.TheVariants.{OutOfMemory}
 use Rattle.moka_model.specs.Lives.{Settings}
 use Rattle.moka_model.specs.Steps.{AcceptedStep}
 use Rattle.moka_iter.specs.Walks.{Cursor}
-use Rattle.moka_iter.specs.Histories.{History, AllStandFor, StandsIn, FindsIn, AnswersNext}
+use Rattle.moka_iter.specs.Histories.{History, AllStandFor, StandsIn, FindsIn, RepliesNext}
 
 -- The values' type says what a clone is, and clones of which values never fail. The states' type says which histories a
 -- state could have come from.
@@ -15,7 +15,7 @@ module _ {K V E S : Type 0} (eq : K → K → Bool) (is_clone : V → V → Type
   -- from the old cursor to the new one.
   abbrev pub WalksTo : Cursor K → Option (Result (K × V) Refused) → Cursor K → Type 0
   WalksTo old result new = (histories : List (History K V E)) → AllStandFor stands_for states histories
-      → AnswersNext eq is_clone is_infallible histories now old result new
+      → RepliesNext eq is_clone is_infallible histories now old result new
 
   -- What a state returns when it is asked for its keys.
   pub record StateStands (i : ℕ) (result : Result (List K) Refused) : Type 0 where

@@ -5,7 +5,7 @@ use Rattle.moka_model.specs.declared.turns.Kind.{Kind}
 use Rattle.moka_model.specs.declared.turns.Kind.TheVariants.{Compute}
 use Rattle.moka_single_flight.specs.declared.replies.Begun.{Begun}
 use Rattle.moka_single_flight.specs.declared.replies.Collected.{Collected}
-use Rattle.moka_single_flight.specs.declared.replies.Collected.TheVariants.{Ready, NotYet, Again}
+use Rattle.moka_single_flight.specs.declared.replies.Collected.TheVariants.{Ready, NotYet, Retry}
 use Rattle.moka_single_flight.specs.declared.replies.Joined.{Joined}
 use Rattle.moka_single_flight.specs.Holds.{HoldsOfCollected, HoldsOfJoined}
 use Rattle.moka_single_flight.specs.Rounds.{Ends}
@@ -14,7 +14,7 @@ use Rattle.moka_turns.specs.declared.handles.Turn.{Turn}
 use Rattle.moka_turns.specs.declared.handles.Ticket.{Ticket}
 use Rattle.moka_state.specs.declared.answers.Answer.{Answer}
 use Rattle.moka_sync.specs.declared.value_initializer.ShownTurn.{ShownTurn}
-use Rattle.moka_sync.specs.Waiting.{InitializerData, ComputerData, IsTurnFor, IsTicketFor, IsSameTicket, IsGivenTo, IsShownTurn, BeginTells, CollectTells, ComputeTells, ComputeEnds}
+use Rattle.moka_sync.specs.Waiting.{InitializerData, ComputerData, IsTurnFor, IsTicketFor, IsSameTicket, IsGivenTo, IsShownTurn, BeginReturns, CollectReturns, BeginComputeReturns, CollectComputeReturns}
 
 -- a ticket that comes back is for the same kind and key
 same-ticket : {K : Type 0} (kind : Kind) (key : K) (ticket same : Ticket K) → IsTicketFor kind key ticket → IsSameTicket ticket same → IsTicketFor kind key same
@@ -22,40 +22,40 @@ same-ticket kind key ticket same of is = (ap (λ name. name.kind) is ∙ of.0, a
 
 module _ {K V E : Type 0} (keeps : K → V → Type 0) where
   abbrev pub BeginsAs : InitializerData K → Begun (Answer K V E) (Turn K) (Ticket K) → InitializerData K → Type 0
-  BeginsAs old told new = (new ≡ old) × BeginTells keeps old told
+  BeginsAs old reply new = (new ≡ old) × BeginReturns keeps old reply
 
   abbrev pub CollectsAs : InitializerData K → Ticket K → Collected (Answer K V E) (Ticket K) → InitializerData K → Type 0
-  CollectsAs old ticket told new = (new ≡ old) × CollectTells keeps ticket told
+  CollectsAs old ticket reply new = (new ≡ old) × CollectReturns keeps ticket reply
 
-  given-for : (kind : Kind) (key : K) (ticket : Ticket K) (told : Collected (Answer K V E) (Ticket K)) → IsTicketFor kind key ticket → CollectTells keeps ticket told → HoldsOfCollected (IsGivenTo keeps kind key) (IsTicketFor kind key) told
+  given-for : (kind : Kind) (key : K) (ticket : Ticket K) (reply : Collected (Answer K V E) (Ticket K)) → IsTicketFor kind key ticket → CollectReturns keeps ticket reply → HoldsOfCollected (IsGivenTo keeps kind key) (IsTicketFor kind key) reply
   given-for kind key ticket (Ready answer) of tells = subst (λ k. IsGivenTo keeps kind k answer) of.1 (subst (λ it. IsGivenTo keeps it (arc_value ticket.key.key) answer) of.0 tells)
   given-for kind key ticket (NotYet same) of tells = same-ticket kind key ticket same of tells
-  given-for kind key ticket Again of tells = tt
+  given-for kind key ticket Retry of tells = tt
 
   -- an initializer gets an answer or the turn, for its kind and key
   pub asked : (most : Option ℕ) (caller : InitializerData K) (waited : Joined (Answer K V E) (Turn K)) (then : InitializerData K) → Ends BeginsAs CollectsAs most caller waited then → HoldsOfJoined (IsGivenTo keeps caller.kind caller.key) (IsTurnFor caller.kind caller.key) waited
   asked most caller waited then ends =
       (ends-hold BeginsAs CollectsAs (λ it. it ≡ caller) (IsGivenTo keeps caller.kind caller.key) (IsTurnFor caller.kind caller.key) (IsTicketFor caller.kind caller.key)
-      (λ old told new is begun. (begun.0 ∙ is, subst (λ (it : InitializerData K). BeginTells keeps it told) is begun.1))
-      (λ old ticket told new is of collected. (collected.0 ∙ is, given-for caller.kind caller.key ticket told of collected.1))
+      (λ old reply new is begun. (begun.0 ∙ is, subst (λ (it : InitializerData K). BeginReturns keeps it reply) is begun.1))
+      (λ old ticket reply new is of collected. (collected.0 ∙ is, given-for caller.kind caller.key ticket reply of collected.1))
       most caller waited then refl ends).1
 
 module _ {K V : Type 0} (keeps : K → V → Type 0) where
   abbrev pub BeginsComputing : ComputerData K → Begun (Unit {0}) (ShownTurn K V) (Ticket K) → ComputerData K → Type 0
-  BeginsComputing old told new = (new ≡ old) × ComputeTells keeps old told
+  BeginsComputing old reply new = (new ≡ old) × BeginComputeReturns keeps old reply
 
   abbrev pub CollectsComputing : ComputerData K → Ticket K → Collected (Unit {0}) (Ticket K) → ComputerData K → Type 0
-  CollectsComputing old ticket told new = (new ≡ old) × (ticket.key.kind ≡ Compute → ComputeEnds ticket told)
+  CollectsComputing old ticket reply new = (new ≡ old) × (ticket.key.kind ≡ Compute → CollectComputeReturns ticket reply)
 
-  ended-for : (key : K) (ticket : Ticket K) (told : Collected (Unit {0}) (Ticket K)) → IsTicketFor Compute key ticket → ComputeEnds ticket told → HoldsOfCollected (λ value. ⊥) (IsTicketFor Compute key) told
+  ended-for : (key : K) (ticket : Ticket K) (reply : Collected (Unit {0}) (Ticket K)) → IsTicketFor Compute key ticket → CollectComputeReturns ticket reply → HoldsOfCollected (λ value. ⊥) (IsTicketFor Compute key) reply
   ended-for key ticket (Ready value) of ends = ends
   ended-for key ticket (NotYet same) of ends = same-ticket Compute key ticket same of ends
-  ended-for key ticket Again of ends = tt
+  ended-for key ticket Retry of ends = tt
 
   -- a compute gets the turn of a compute of its key
   pub computes : (most : Option ℕ) (caller : ComputerData K) (waited : Joined (Unit {0}) (ShownTurn K V)) (then : ComputerData K) → Ends BeginsComputing CollectsComputing most caller waited then → HoldsOfJoined (λ value. ⊥) (IsShownTurn keeps caller.key) waited
   computes most caller waited then ends =
       (ends-hold BeginsComputing CollectsComputing (λ it. it ≡ caller) (λ value. ⊥) (IsShownTurn keeps caller.key) (IsTicketFor Compute caller.key)
-      (λ old told new is begun. (begun.0 ∙ is, subst (λ (it : ComputerData K). ComputeTells keeps it told) is begun.1))
-      (λ old ticket told new is of collected. (collected.0 ∙ is, ended-for caller.key ticket told of (collected.1 of.0)))
+      (λ old reply new is begun. (begun.0 ∙ is, subst (λ (it : ComputerData K). BeginComputeReturns keeps it reply) is begun.1))
+      (λ old ticket reply new is of collected. (collected.0 ∙ is, ended-for caller.key ticket reply of (collected.1 of.0)))
       most caller waited then refl ends).1

@@ -49,19 +49,19 @@ segments_refused count =
 
 -- The error of building, if it fails: a lifetime that is too long, else what is wrong with the flush limit.
 abbrev pub build_refused : {W X L : Type 0} → BuilderData W X L → Option BuildError
-build_refused told =
-    option_or (too_long_of (option_map as_nanos told.time_to_live) (option_map as_nanos told.time_to_idle))
-    (flush_refused_of told.flush_limit (is_some told.weigher))
+build_refused builder =
+    option_or (too_long_of (option_map as_nanos builder.time_to_live) (option_map as_nanos builder.time_to_idle))
+    (flush_refused_of builder.flush_limit (is_some builder.weigher))
 
 -- The settings of a state that a builder with these settings makes, with this hasher.
 abbrev pub settings_built : {H W X L : Type 0} → BuilderData W X L → H → SettingsData H W X
-settings_built told hasher = record {
-  name = told.name;
-  time_to_live = option_map as_nanos told.time_to_live;
-  time_to_idle = option_map as_nanos told.time_to_idle;
-  max_capacity = told.max_capacity;
-  first_number = told.first_number;
-  supports_closures = told.closures;
-  flush_limit = told.flush_limit;
-  behaviour = record { is_lru = told.is_lru; hasher = hasher; weigher = told.weigher; expiry = told.expiry };
+settings_built builder hasher = record {
+  name = builder.name;
+  time_to_live = option_map as_nanos builder.time_to_live;
+  time_to_idle = option_map as_nanos builder.time_to_idle;
+  max_capacity = builder.max_capacity;
+  first_number = builder.first_number;
+  supports_closures = builder.closures;
+  flush_limit = builder.flush_limit;
+  behaviour = record { is_lru = builder.is_lru; hasher = hasher; weigher = builder.weigher; expiry = builder.expiry };
 }

@@ -20,7 +20,7 @@ IsMadeOf settings clock listener cache = (cache.opening.settings ≡ settings) �
 
 -- The cache is what a builder with these settings makes, with this hasher and this clock.
 abbrev pub IsBuilt : {K V H W X F E L T : Type 0} → BuilderData W X L → H → T → CacheData K V H W X F E L T → Type 0
-IsBuilt told hasher clock cache = IsMadeOf (settings_built told hasher) clock told.listener cache
+IsBuilt builder hasher clock cache = IsMadeOf (settings_built builder hasher) clock builder.listener cache
 
 -- A name and a policy show these settings.
 abbrev pub Shows : {H W X : Type 0} → SettingsData H W X → Option (String Global) → Policy → Type 0

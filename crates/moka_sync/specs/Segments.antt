@@ -24,9 +24,9 @@ AreMadeOf bits whole clock listener segments =
 
 -- The cache is what a builder with these settings makes, with this hasher and this clock.
 abbrev pub IsBuiltInSegments : {K V H W X F E L T : Type 0} → BuilderData W X L → H → T → SegmentedCacheData K V H W X F E L T → Type 0
-IsBuiltInSegments told hasher clock cache =
-    (cache.bits ≡ bits_for told.num_segments) × (cache.settings ≡ settings_built told hasher)
-    × AreMadeOf (bits_for told.num_segments) (settings_built told hasher) clock told.listener cache.segments
+IsBuiltInSegments builder hasher clock cache =
+    (cache.bits ≡ bits_for builder.num_segments) × (cache.settings ≡ settings_built builder hasher)
+    × AreMadeOf (bits_for builder.num_segments) (settings_built builder hasher) clock builder.listener cache.segments
 
 -- This is the segment that the highest bits of a hash choose.
 abbrev pub IsSegmentOf : {S : Type 0} → ℕ → ℕ → List S → S → Type 0

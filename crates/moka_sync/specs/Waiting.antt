@@ -12,8 +12,8 @@ use Rattle.moka_turns.specs.Handles.{ticket_name}
 use Rattle.moka_state.specs.Begin.{EntryKeeps}
 use Rattle.moka_state.specs.declared.answers.Answer.{Answer}
 use Rattle.moka_guarded.specs.Kept.{GivenKeeps, AnswerFits}
-use Rattle.moka_sync.specs.declared.value_initializer.Asked.{Asked}
-use Rattle.moka_sync.specs.declared.value_initializer.Asked.TheVariants as asked
+use Rattle.moka_sync.specs.declared.value_initializer.InitializerReply.{InitializerReply}
+use Rattle.moka_sync.specs.declared.value_initializer.InitializerReply.TheVariants as replies
 use Rattle.moka_sync.specs.declared.value_initializer.ShownTurn.{ShownTurn}
 
 -- A caller that asks for a key as an initializer of some kind.
@@ -43,17 +43,17 @@ module _ {K V E : Type 0} (keeps : K → V → Type 0) where
   IsGivenTo kind key answer = GivenKeeps keeps key answer × AnswerFits kind answer
 
   -- What a begin returns to an initializer: an answer, a turn or a ticket, each for its kind and key.
-  abbrev pub BeginTells : InitializerData K → Begun (Answer K V E) (Turn K) (Ticket K) → Type 0
-  BeginTells it told = HoldsOfBegun (IsGivenTo it.kind it.key) (IsTurnFor it.kind it.key) (IsTicketFor it.kind it.key) told
+  abbrev pub BeginReturns : InitializerData K → Begun (Answer K V E) (Turn K) (Ticket K) → Type 0
+  BeginReturns it reply = HoldsOfBegun (IsGivenTo it.kind it.key) (IsTurnFor it.kind it.key) (IsTicketFor it.kind it.key) reply
 
   -- What a collect returns: an answer for the kind and the key of the ticket, or the ticket itself.
-  abbrev pub CollectTells : Ticket K → Collected (Answer K V E) (Ticket K) → Type 0
-  CollectTells ticket told = HoldsOfCollected (IsGivenTo ticket.key.kind (arc_value ticket.key.key)) (IsSameTicket ticket) told
+  abbrev pub CollectReturns : Ticket K → Collected (Answer K V E) (Ticket K) → Type 0
+  CollectReturns ticket reply = HoldsOfCollected (IsGivenTo ticket.key.kind (arc_value ticket.key.key)) (IsSameTicket ticket) reply
 
   -- What a caller with an initializer gets in the end: an answer or a turn, each for its kind and key.
-  abbrev pub AskedKeeps : Kind → K → Asked K V E → Type 0
-  AskedKeeps kind key (asked.Answer answer) = IsGivenTo kind key answer
-  AskedKeeps kind key (asked.Turn turn) = IsTurnFor kind key turn
+  abbrev pub InitializerReplyKeeps : Kind → K → InitializerReply K V E → Type 0
+  InitializerReplyKeeps kind key (replies.Answer answer) = IsGivenTo kind key answer
+  InitializerReplyKeeps kind key (replies.Turn turn) = IsTurnFor kind key turn
 
 module _ {K V : Type 0} (keeps : K → V → Type 0) where
   -- The turn of a compute of a key. The value that it was shown, if any, satisfies `keeps`.
@@ -61,9 +61,9 @@ module _ {K V : Type 0} (keeps : K → V → Type 0) where
   IsShownTurn key it = IsTurnFor Compute key it.turn × IfSome it.shown (EntryKeeps keeps key)
 
   -- What a begin returns to a compute: a turn or a ticket, but never a value without a turn.
-  abbrev pub ComputeTells : ComputerData K → Begun (Unit {0}) (ShownTurn K V) (Ticket K) → Type 0
-  ComputeTells it told = HoldsOfBegun (λ value. ⊥) (IsShownTurn it.key) (IsTicketFor Compute it.key) told
+  abbrev pub BeginComputeReturns : ComputerData K → Begun (Unit {0}) (ShownTurn K V) (Ticket K) → Type 0
+  BeginComputeReturns it reply = HoldsOfBegun (λ value. ⊥) (IsShownTurn it.key) (IsTicketFor Compute it.key) reply
 
 -- What a collect returns to a compute: the ticket itself, or that the turn has ended, but never a value.
-abbrev pub ComputeEnds : {K : Type 0} → Ticket K → Collected (Unit {0}) (Ticket K) → Type 0
-ComputeEnds ticket told = HoldsOfCollected (λ value. ⊥) (IsSameTicket ticket) told
+abbrev pub CollectComputeReturns : {K : Type 0} → Ticket K → Collected (Unit {0}) (Ticket K) → Type 0
+CollectComputeReturns ticket reply = HoldsOfCollected (λ value. ⊥) (IsSameTicket ticket) reply

@@ -78,7 +78,7 @@ pub(crate) struct CacheParts<K: Hash + Drop, V: Clone, C: CacheTypes<K, V>> {
 
 impl<K: Hash + Drop, V: Clone, C: CacheTypes<K, V>, T> CacheBuilder<K, V, C, T> {
     // Makes the parts of a cache with this hasher and this clock. Fails only with `OutOfMemory`.
-    pub(crate) fn parts(
+    pub(crate) fn into_parts(
         self,
         alloc: Global,
         hasher: C::Hasher,
@@ -142,8 +142,8 @@ impl<K: Hash + Drop, V: Clone, C: CacheTypes<K, V>> CacheBuilder<K, V, C, Segmen
             cause ≡ unwrap_or (build_refused self) BuildError.OutOfMemory) }
     {
         let bits = bits_for(self.num_segments);
-        let told = self.validate()?;
-        let parts = told.parts(alloc, hasher, clock)?;
+        let builder = self.validate()?;
+        let parts = builder.into_parts(alloc, hasher, clock)?;
         let segments = segments_of(
             alloc,
             &parts.settings,
@@ -232,13 +232,13 @@ fn segments_of<K: Hash + Drop, V: Clone, C: CacheTypes<K, V>, W: Clone + Drop>(
         return Err(BuildError::OutOfMemory);
     };
     for _ in 0..count {
-        segments.push_reserved(one_of(alloc, settings, count, clock, listener, waits)?);
+        segments.push_reserved(build_segment(alloc, settings, count, clock, listener, waits)?);
     }
     Ok(segments)
 }
 
 // Creates one of `count` segments, with its share of the capacities.
-fn one_of<K: Hash + Drop, V: Clone, C: CacheTypes<K, V>, W: Clone + Drop>(
+fn build_segment<K: Hash + Drop, V: Clone, C: CacheTypes<K, V>, W: Clone + Drop>(
     alloc: Global,
     settings: &Settings<K, V, C>,
     count: usize,

@@ -121,7 +121,7 @@ impl<K: Hash + Drop, V: Clone, C: CacheTypes<K, V>, T> CacheBuilder<K, V, C, T> 
     ///
     /// - `OutOfMemory`: copying the name failed. The builder is dropped.
     pub fn name(self, alloc: Global, name: &str) -> Result<Self, BuildError>
-        ensures told { IfOk result (λ builder. builder ≡ record self { name = Some name.now }) }
+        ensures settings { IfOk result (λ builder. builder ≡ record self { name = Some name.now }) }
         ensures cause { IfErr result (λ cause. cause ≡ BuildError.OutOfMemory) }
     {
         let Ok(name) = String::from_str(alloc, name) else {
@@ -307,7 +307,8 @@ impl<K: Hash + Drop, V: Clone, C: CacheTypes<K, V>> CacheBuilder<K, V, C, Single
         self,
         num_segments: usize,
     ) -> Result<CacheBuilder<K, V, C, Segmented>, BuildError>
-        ensures told { IfOk result (λ builder. builder ≡ record self { num_segments = num_segments }) }
+        ensures settings { IfOk result
+            (λ builder. builder ≡ record self { num_segments = num_segments }) }
         ensures accepted { OnOk result (segments_refused num_segments ≡ None) }
         ensures refused { IfErr result (λ cause. segments_refused num_segments ≡ Some cause) }
     {
@@ -389,9 +390,9 @@ impl<K: Hash + Drop, V: Clone, C: CacheTypes<K, V>> CacheBuilder<K, V, C, Single
         ensures refused { IfErr result (λ cause.
             cause ≡ unwrap_or (build_refused self) BuildError.OutOfMemory) }
     {
-        let told = self.validate()?;
-        let name = copy_name(alloc, told.name.as_deref())?;
-        let parts = told.parts(alloc, hasher, clock)?;
+        let builder = self.validate()?;
+        let name = copy_name(alloc, builder.name.as_deref())?;
+        let parts = builder.into_parts(alloc, hasher, clock)?;
         cache_of(
             alloc,
             parts.settings,

@@ -7,7 +7,7 @@ ghost use Rattle.moka_state.specs.Finish.{Fits, IsGiven, OutcomeKeeps, outcome_o
 ghost use Rattle.moka_guarded.specs.Kept.{AnswerFits, GivenKeeps};
 
 use crate::cache::Cache;
-use crate::value_initializer::Asked;
+use crate::value_initializer::InitializerReply;
 use moka_model::entry::Entry;
 use moka_model::turns::{Kind, Outcome};
 use moka_policy::policy::{CacheTypes, Refused};
@@ -17,7 +17,7 @@ use std::hash::Hash;
 use std::sync::{Arc, Wait};
 
 // Returns `None`, in place of a closure of this type.
-pub(crate) fn without<F: Drop>(_closure: F) -> Option<F> {
+pub(crate) fn none_like<F: Drop>(_closure: F) -> Option<F> {
     None
 }
 
@@ -55,11 +55,11 @@ impl<K: Hash + Drop, V: Clone, C: CacheTypes<K, V>, W: Wait> Cache<K, V, C, W> {
         requires keeps { (v : V) → F.post init v → C.keeps key v }
         ensures { IfOk result (λ entry. C.keeps key (entry_of entry).value) }
     {
-        if let Some(found) = self.find_acceptable(&key, without(|_: &V| false))? {
+        if let Some(found) = self.find_acceptable(&key, none_like(|_: &V| false))? {
             return Ok(found);
         }
         let key = self.share(key)?;
-        self.value_entry_shared(key, init, without(|_: &V| false))
+        self.value_entry_shared(key, init, none_like(|_: &V| false))
     }
 
     // Does what `value_entry` does, but `replace_if` may ask to replace a live value. Shares the
@@ -92,8 +92,8 @@ impl<K: Hash + Drop, V: Clone, C: CacheTypes<K, V>, W: Wait> Cache<K, V, C, W> {
         ensures { IfOk result (λ entry. C.keeps (arc_value key) (entry_of entry).value) }
     {
         match self.ask(key, Kind::With, replace_if)? {
-            Asked::Answer(answer) => Ok(entry_in(answer)),
-            Asked::Turn(turn) => self.end_with_value(turn, init()),
+            InitializerReply::Answer(answer) => Ok(entry_in(answer)),
+            InitializerReply::Turn(turn) => self.end_with_value(turn, init()),
         }
     }
 
@@ -108,7 +108,7 @@ impl<K: Hash + Drop, V: Clone, C: CacheTypes<K, V>, W: Wait> Cache<K, V, C, W> {
         requires keeps { (o : Option V) → F.post init o → IfSome o (C.keeps key) }
         ensures { IfOk result (λ found. IfSome found (λ entry. C.keeps key (entry_of entry).value)) }
     {
-        if let Some(found) = self.find_acceptable(&key, without(|_: &V| false))? {
+        if let Some(found) = self.find_acceptable(&key, none_like(|_: &V| false))? {
             return Ok(Some(found));
         }
         let key = self.share(key)?;
@@ -126,9 +126,9 @@ impl<K: Hash + Drop, V: Clone, C: CacheTypes<K, V>, W: Wait> Cache<K, V, C, W> {
         ensures { IfOk result (λ found.
             IfSome found (λ entry. C.keeps (arc_value key) (entry_of entry).value)) }
     {
-        match self.ask(key, Kind::Optionally, without(|_: &V| false))? {
-            Asked::Answer(answer) => Ok(optional_in(answer)),
-            Asked::Turn(turn) => match init() {
+        match self.ask(key, Kind::Optionally, none_like(|_: &V| false))? {
+            InitializerReply::Answer(answer) => Ok(optional_entry_in(answer)),
+            InitializerReply::Turn(turn) => match init() {
                 Some(value) => Ok(Some(self.end_with_value(turn, value)?)),
                 None => {
                     self.end_turn(turn, Outcome::Nothing)?;
@@ -149,7 +149,7 @@ impl<K: Hash + Drop, V: Clone, C: CacheTypes<K, V>, W: Wait> Cache<K, V, C, W> {
         requires keeps { (r : Result V C.Error) → F.post init r → IfOk r (C.keeps key) }
         ensures { IfOk result (λ tried. IfOk tried (λ entry. C.keeps key (entry_of entry).value)) }
     {
-        if let Some(found) = self.find_acceptable(&key, without(|_: &V| false))? {
+        if let Some(found) = self.find_acceptable(&key, none_like(|_: &V| false))? {
             return Ok(Ok(found));
         }
         let key = self.share(key)?;
@@ -167,9 +167,9 @@ impl<K: Hash + Drop, V: Clone, C: CacheTypes<K, V>, W: Wait> Cache<K, V, C, W> {
         ensures { IfOk result (λ tried.
             IfOk tried (λ entry. C.keeps (arc_value key) (entry_of entry).value)) }
     {
-        match self.ask(key, Kind::Try, without(|_: &V| false))? {
-            Asked::Answer(answer) => Ok(tried_in(answer)),
-            Asked::Turn(turn) => match init() {
+        match self.ask(key, Kind::Try, none_like(|_: &V| false))? {
+            InitializerReply::Answer(answer) => Ok(tried_entry_in(answer)),
+            InitializerReply::Turn(turn) => match init() {
                 Ok(value) => Ok(Ok(self.end_with_value(turn, value)?)),
                 Err(error) => Ok(Err(self.end_with_error(turn, error)?)),
             },
@@ -255,11 +255,11 @@ impl<K: Hash + Clone + Drop, V: Clone, C: CacheTypes<K, V>, W: Wait> Cache<K, V,
         requires keeps { (v : V) → F.post init v → C.keeps key.now v }
         ensures { IfOk result (λ entry. C.keeps key.now (entry_of entry).value) }
     {
-        if let Some(found) = self.find_acceptable(key, without(|_: &V| false))? {
+        if let Some(found) = self.find_acceptable(key, none_like(|_: &V| false))? {
             return Ok(found);
         }
         let copy = self.share_copy(key)?;
-        self.value_entry_shared(copy, init, without(|_: &V| false))
+        self.value_entry_shared(copy, init, none_like(|_: &V| false))
     }
 
     // Does what `value_entry_if` does, for a key by reference.
@@ -291,7 +291,7 @@ impl<K: Hash + Clone + Drop, V: Clone, C: CacheTypes<K, V>, W: Wait> Cache<K, V,
         ensures { IfOk result (λ found.
             IfSome found (λ entry. C.keeps key.now (entry_of entry).value)) }
     {
-        if let Some(found) = self.find_acceptable(key, without(|_: &V| false))? {
+        if let Some(found) = self.find_acceptable(key, none_like(|_: &V| false))? {
             return Ok(Some(found));
         }
         let copy = self.share_copy(key)?;
@@ -310,7 +310,7 @@ impl<K: Hash + Clone + Drop, V: Clone, C: CacheTypes<K, V>, W: Wait> Cache<K, V,
         ensures { IfOk result (λ tried.
             IfOk tried (λ entry. C.keeps key.now (entry_of entry).value)) }
     {
-        if let Some(found) = self.find_acceptable(key, without(|_: &V| false))? {
+        if let Some(found) = self.find_acceptable(key, none_like(|_: &V| false))? {
             return Ok(Ok(found));
         }
         let copy = self.share_copy(key)?;
@@ -331,7 +331,7 @@ fn entry_in<K: Drop, V: Drop, E: Drop>(answer: Answer<K, V, E>) -> Entry<K, V>
 }
 
 // Returns the entry, if any, in the answer to an initializer of the kind `Optionally`.
-fn optional_in<K: Drop, V: Drop, E: Drop>(answer: Answer<K, V, E>) -> Option<Entry<K, V>>
+fn optional_entry_in<K: Drop, V: Drop, E: Drop>(answer: Answer<K, V, E>) -> Option<Entry<K, V>>
     requires { AnswerFits Kind.Optionally answer }
     ensures { MatchOption result (answer ≡ Answer.Nothing) (λ entry. answer ≡ Answer.Entry entry) }
 {
@@ -343,7 +343,7 @@ fn optional_in<K: Drop, V: Drop, E: Drop>(answer: Answer<K, V, E>) -> Option<Ent
 }
 
 // Returns the entry or the error in the answer to an initializer of the kind `Try`.
-fn tried_in<K: Drop, V: Drop, E: Drop>(answer: Answer<K, V, E>) -> Result<Entry<K, V>, Arc<E>>
+fn tried_entry_in<K: Drop, V: Drop, E: Drop>(answer: Answer<K, V, E>) -> Result<Entry<K, V>, Arc<E>>
     requires { AnswerFits Kind.Try answer }
     ensures { MatchResult result (λ entry. answer ≡ Answer.Entry entry)
         (λ error. answer ≡ Answer.Failed error) }

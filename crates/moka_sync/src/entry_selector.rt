@@ -34,7 +34,7 @@ impl<K: Hash + Drop, V: Clone, C: CacheTypes<K, V>, W: Wait> Cache<K, V, C, W> {
     /// Selects a key, for one call.
     ///
     /// ```
-    /// let count = cache.entry(page).and_upsert_with(one_more)?;
+    /// let count = cache.entry(page).and_upsert_with(next_count)?;
     /// ```
     pub fn entry(&self, key: K) -> OwnedKeyEntrySelector<'_, K, V, C, W>
         ensures { result.key ≡ key }

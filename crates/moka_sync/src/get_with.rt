@@ -4,7 +4,7 @@
 ghost use Rattle.std.specs.Prelude.{◌≡◌, Option, Result, true, IfOk, IfSome};
 
 use crate::cache::Cache;
-use crate::entry_forms::without;
+use crate::entry_forms::none_like;
 use moka_policy::policy::{CacheTypes, Refused};
 use std::hash::Hash;
 use std::sync::{Arc, Wait};

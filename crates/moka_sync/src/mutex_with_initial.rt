@@ -1,22 +1,22 @@
-//! A lock whose contents contracts see as they were when the lock was made.
+//! A mutex whose initial value contracts see.
 ghost use Rattle.std.specs.Prelude.{◌≡◌};
 
 use moka_ghost::snapshot::SharedSnapshot;
 use std::marker::Model;
 use std::sync::{Mutex, MutexGuard, Wait};
 
-/// A value under a lock. Contracts see the value as it was when the lock was made. What is under
-/// the lock later they do not know.
+/// A mutex. Contracts see its initial value: the value as it was when the mutex was made. What is
+/// under the lock later they do not know.
 #[derive(Drop)]
 pub(crate) struct MutexWithInitial<T> {
     mutex: Mutex<T>,
-    opening: SharedSnapshot<T>,
+    initial: SharedSnapshot<T>,
 }
 
 impl<T> Model for MutexWithInitial<T> {
     ghost Value = { T };
 
-    ghost view = { λ opened. opened.opening.value };
+    ghost view = { λ mutex. mutex.initial.value };
 }
 
 impl<T> MutexWithInitial<T> {
@@ -26,7 +26,7 @@ impl<T> MutexWithInitial<T> {
         ensures { result ≡ value }
     {
         MutexWithInitial {
-            opening: SharedSnapshot::of(&value),
+            initial: SharedSnapshot::of(&value),
             mutex: Mutex::new(value),
         }
     }

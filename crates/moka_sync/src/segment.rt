@@ -96,7 +96,7 @@ impl<K: Hash + Drop, V: Clone, C: CacheTypes<K, V>, W> SegmentedCache<K, V, C, W
     /// - `NoSegments`: the number is 0.
     /// - `TooManySegments`: the number is greater than 2^63.
     pub fn builder(num_segments: usize) -> Result<CacheBuilder<K, V, C, Segmented>, BuildError>
-        ensures told { IfOk result
+        ensures settings { IfOk result
             (λ builder. builder ≡ record default_settings { num_segments = num_segments }) }
         ensures refused { IfErr result (λ cause. segments_refused num_segments ≡ Some cause) }
     {

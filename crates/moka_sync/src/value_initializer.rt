@@ -1,4 +1,4 @@
-//! Callers that wait for each other's turns.
+//! The participants of single flight on a shared cache: callers that wait for each other's turns.
 //!
 //! A caller whose value another one computes sleeps until that one has ended, and gets a clone of
 //! the outcome. If the other one gave up, it begins again, and computes the value itself if nobody
@@ -9,10 +9,10 @@ ghost use Rattle.moka_turns.specs.Handles.{ticket_name};
 ghost use Rattle.moka_state.specs.Begin.{FoundKeeps, FoundKeepsFor, IsNamed};
 ghost use Rattle.moka_state.specs.Given.{IfUnspent};
 ghost use Rattle.moka_guarded.specs.Kept.{CollectedFits, CollectedKeeps};
-ghost use Rattle.moka_sync.specs.Waiting.{AskedKeeps, IsShownTurn};
+ghost use Rattle.moka_sync.specs.Waiting.{InitializerReplyKeeps, IsShownTurn};
 
 use crate::cache::Cache;
-use crate::entry_forms::without;
+use crate::entry_forms::none_like;
 use moka_model::entry::Entry;
 use moka_model::turns::Kind;
 use moka_policy::policy::{CacheTypes, Refused};
@@ -27,7 +27,7 @@ use std::marker::{Model, PhantomData};
 use std::sync::{Arc, Wait};
 
 /// What a caller with an initializer gets.
-pub(crate) enum Asked<K, V, E> {
+pub(crate) enum InitializerReply<K, V, E> {
     /// The live entry, or the outcome of another caller's initializer.
     Answer(Answer<K, V, E>),
     /// The turn to compute the value.
@@ -102,7 +102,7 @@ impl<
     P: FnMut(&V) -> bool + Drop,
 > Participant<Cache<K, V, C, W>, Answer<K, V, C::Error>> for Initializer<K, V, P> {
     ghost use Rattle.std.specs.Prelude.{◌≡◌, ⊤};
-    ghost use Rattle.moka_sync.specs.Waiting.{BeginTells, CollectTells};
+    ghost use Rattle.moka_sync.specs.Waiting.{BeginReturns, CollectReturns};
 
     type Turn = Turn<K>;
 
@@ -112,9 +112,10 @@ impl<
 
     ghost ready = { λ _. (state : P) → P.IsAlwaysCallable state };
 
-    ghost begun = { λ _ old told new. (new ≡ old) × BeginTells C.keeps old told };
+    ghost begun = { λ _ old reply new. (new ≡ old) × BeginReturns C.keeps old reply };
 
-    ghost collected = { λ _ old ticket told new. (new ≡ old) × CollectTells C.keeps ticket told };
+    ghost collected = { λ _ old ticket reply new. (new ≡ old)
+        × CollectReturns C.keeps ticket reply };
 
     ghost begin_refused = { λ _ _ _ _. ⊤ };
 
@@ -130,7 +131,7 @@ impl<
                 self.replace_if = Some(replace_if);
                 begun
             }
-            None => at.begin(&self.key, self.kind, without(|_: &V| false)),
+            None => at.begin(&self.key, self.kind, none_like(|_: &V| false)),
         };
         match begun {
             Ok(Begun::Found(entry)) => Ok(waiting::Begun::Found(Answer::Entry(entry))),
@@ -148,8 +149,8 @@ impl<
         match at.collect_or_sleep(ticket) {
             Ok(Collected::Ready(answer)) => Ok(waiting::Collected::Ready(answer)),
             Ok(Collected::NotYet(ticket)) => Ok(waiting::Collected::NotYet(ticket)),
-            Ok(Collected::Abandoned) => Ok(waiting::Collected::Again),
-            Ok(Collected::Ended) => Ok(waiting::Collected::Again),
+            Ok(Collected::Abandoned) => Ok(waiting::Collected::Retry),
+            Ok(Collected::Ended) => Ok(waiting::Collected::Retry),
             Err(cause) => Err(cause),
         }
     }
@@ -159,7 +160,7 @@ impl<K: Hash + Drop, V: Clone, C: CacheTypes<K, V>, W: Wait> Participant<Cache<K
     for Computer<K> {
     ghost use Rattle.std.specs.Prelude.{◌≡◌, ⊤};
     ghost use Rattle.moka_model.specs.declared.turns.Kind.TheVariants.{Compute};
-    ghost use Rattle.moka_sync.specs.Waiting.{ComputeTells, ComputeEnds};
+    ghost use Rattle.moka_sync.specs.Waiting.{BeginComputeReturns, CollectComputeReturns};
 
     type Turn = ShownTurn<K, V>;
 
@@ -167,10 +168,10 @@ impl<K: Hash + Drop, V: Clone, C: CacheTypes<K, V>, W: Wait> Participant<Cache<K
 
     type Refused = Refused;
 
-    ghost begun = { λ _ old told new. (new ≡ old) × ComputeTells C.keeps old told };
+    ghost begun = { λ _ old reply new. (new ≡ old) × BeginComputeReturns C.keeps old reply };
 
-    ghost collected = { λ _ old ticket told new. (new ≡ old)
-        × (ticket.key.kind ≡ Compute → ComputeEnds ticket told) };
+    ghost collected = { λ _ old ticket reply new. (new ≡ old)
+        × (ticket.key.kind ≡ Compute → CollectComputeReturns ticket reply) };
 
     ghost begin_refused = { λ _ _ _ _. ⊤ };
 
@@ -197,8 +198,8 @@ impl<K: Hash + Drop, V: Clone, C: CacheTypes<K, V>, W: Wait> Participant<Cache<K
         match at.collect_or_sleep(ticket) {
             Ok(Collected::Ready(_)) => Ok(waiting::Collected::Ready(())),
             Ok(Collected::NotYet(ticket)) => Ok(waiting::Collected::NotYet(ticket)),
-            Ok(Collected::Abandoned) => Ok(waiting::Collected::Again),
-            Ok(Collected::Ended) => Ok(waiting::Collected::Again),
+            Ok(Collected::Abandoned) => Ok(waiting::Collected::Retry),
+            Ok(Collected::Ended) => Ok(waiting::Collected::Retry),
             Err(cause) => Err(cause),
         }
     }
@@ -254,15 +255,15 @@ impl<K: Hash + Drop, V: Clone, C: CacheTypes<K, V>, W: Wait> Cache<K, V, C, W> {
         key: Arc<K>,
         kind: Kind,
         replace_if: Option<P>,
-    ) -> Result<Asked<K, V, C::Error>, Refused>
+    ) -> Result<InitializerReply<K, V, C::Error>, Refused>
         requires initializer { kind ≢ Kind.Compute }
         requires shows { (state : P) → P.IsAlwaysCallable state }
-        ensures { IfOk result (AskedKeeps C.keeps kind (arc_value key)) }
+        ensures { IfOk result (InitializerReplyKeeps C.keeps kind (arc_value key)) }
     {
         let mut caller = Initializer::new(key, kind, replace_if);
         match wait_for(&self.inner.waits, &mut caller, self, Some(MAX_RETRIES)) {
-            Ok(Joined::Value(answer)) => Ok(Asked::Answer(answer)),
-            Ok(Joined::Turn(turn)) => Ok(Asked::Turn(turn)),
+            Ok(Joined::Value(answer)) => Ok(InitializerReply::Answer(answer)),
+            Ok(Joined::Turn(turn)) => Ok(InitializerReply::Turn(turn)),
             Ok(Joined::TooMany) => Err(Refused::WaitsAbandoned),
             Err(cause) => Err(cause),
         }

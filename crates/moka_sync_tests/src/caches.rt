@@ -71,7 +71,7 @@ pub(crate) type Numbers<W> = Cache<u64, u64, Types<W>, W>;
 pub(crate) type Builder<W> = CacheBuilder<u64, u64, Types<W>, Single>;
 
 /// Wraps a value in an `Arc`. Retries once if the allocation fails.
-pub(crate) fn shared<T: Drop>(alloc: Global, value: T) -> Result<Arc<T>, AllocError> {
+pub(crate) fn share<T: Drop>(alloc: Global, value: T) -> Result<Arc<T>, AllocError> {
     match Arc::new(alloc, value) {
         Ok(value) => Ok(value),
         Err(failed) => Ok(Arc::new(alloc, failed.value)?),
@@ -89,6 +89,6 @@ pub(crate) fn builder<W: Wait + Drop>(capacity: u64) -> Builder<W> {
 
 /// Builds a cache with a capacity of 100, at moment 0.
 pub(crate) fn cache<W: Wait + Drop>(rt: W, alloc: Global) -> Result<Numbers<W>, Fail> {
-    let clock = shared(alloc, ManualClock::new(0))?;
+    let clock = share(alloc, ManualClock::new(0))?;
     Ok(builder(100).build_with_hasher(alloc, FoldState::default(), clock, rt)?)
 }

@@ -1,7 +1,7 @@
 //! The calls of a shared cache that may allocate, with their results.
 use crate::caches::{Numbers, Odd};
-use crate::told::{
-    Told, computed_of, entry_of, option_of, optional_entry_of, or_insert_of, parts,
+use crate::returned::{
+    Returned, computed_of, entry_of, option_of, optional_entry_of, or_insert_of, parts,
     tried_compute_of, tried_entry_of, tried_of, value_of,
 };
 use moka::common::entry::Entry;
@@ -45,24 +45,28 @@ pub(crate) fn leave<W: Wait + Drop>(cache: &Numbers<W>, ticket: Ticket<u64>) -> 
     cache.leave(ticket).is_ok()
 }
 
-pub(crate) fn or_insert<W: Wait + Drop>(cache: &Numbers<W>, key: &Arc<u64>, value: u64) -> Told {
+pub(crate) fn or_insert<W: Wait + Drop>(
+    cache: &Numbers<W>,
+    key: &Arc<u64>,
+    value: u64,
+) -> Returned {
     or_insert_of(cache.or_insert(key, value))
 }
 
-pub(crate) fn or_default<W: Wait + Drop>(cache: &Numbers<W>, key: u64) -> Told {
+pub(crate) fn or_default<W: Wait + Drop>(cache: &Numbers<W>, key: u64) -> Returned {
     entry_of(cache.or_default(key))
 }
 
 /// Invalidates the odd values. Drops the id, since each id is new.
-pub(crate) fn hide_odd<W: Wait + Drop>(cache: &Numbers<W>) -> Told {
+pub(crate) fn hide_odd<W: Wait + Drop>(cache: &Numbers<W>) -> Returned {
     let mut generator = SplitMix64::seed_from_u64(7);
     match cache.invalidate_entries_if(Odd, &mut generator) {
-        Ok(_) => Told::Done,
-        Err(_) => Told::Refused(Refused::OutOfMemory),
+        Ok(_) => Returned::Done,
+        Err(_) => Returned::Refused(Refused::OutOfMemory),
     }
 }
 
-pub(crate) fn get_with<W: Wait + Drop>(cache: &Numbers<W>, key: u64, value: u64) -> Told {
+pub(crate) fn get_with<W: Wait + Drop>(cache: &Numbers<W>, key: u64, value: u64) -> Returned {
     value_of(cache.get_with(key, move || value))
 }
 
@@ -72,15 +76,23 @@ pub(crate) fn get_with_if<W: Wait + Drop>(
     key: u64,
     value: u64,
     unwanted: u64,
-) -> Told {
+) -> Returned {
     value_of(cache.get_with_if(key, move || value, move |live| *live == unwanted))
 }
 
-pub(crate) fn get_with_by_ref<W: Wait + Drop>(cache: &Numbers<W>, key: u64, value: u64) -> Told {
+pub(crate) fn get_with_by_ref<W: Wait + Drop>(
+    cache: &Numbers<W>,
+    key: u64,
+    value: u64,
+) -> Returned {
     value_of(cache.get_with_by_ref(&key, move || value))
 }
 
-pub(crate) fn optionally<W: Wait + Drop>(cache: &Numbers<W>, key: u64, value: Option<u64>) -> Told {
+pub(crate) fn optionally<W: Wait + Drop>(
+    cache: &Numbers<W>,
+    key: u64,
+    value: Option<u64>,
+) -> Returned {
     option_of(cache.optionally_get_with(key, move || value))
 }
 
@@ -88,7 +100,7 @@ pub(crate) fn optionally_by_ref<W: Wait + Drop>(
     cache: &Numbers<W>,
     key: u64,
     value: Option<u64>,
-) -> Told {
+) -> Returned {
     option_of(cache.optionally_get_with_by_ref(&key, move || value))
 }
 
@@ -96,7 +108,7 @@ pub(crate) fn try_get_with<W: Wait + Drop>(
     cache: &Numbers<W>,
     key: u64,
     value: Result<u64, u64>,
-) -> Told {
+) -> Returned {
     tried_of(cache.try_get_with(key, move || value))
 }
 
@@ -104,7 +116,7 @@ pub(crate) fn try_by_ref<W: Wait + Drop>(
     cache: &Numbers<W>,
     key: u64,
     value: Result<u64, u64>,
-) -> Told {
+) -> Returned {
     tried_of(cache.try_get_with_by_ref(&key, move || value))
 }
 
@@ -166,21 +178,25 @@ pub(crate) fn try_op_of(
     }
 }
 
-pub(crate) fn entry_or_insert<W: Wait + Drop>(cache: &Numbers<W>, key: Key, value: u64) -> Told {
+pub(crate) fn entry_or_insert<W: Wait + Drop>(
+    cache: &Numbers<W>,
+    key: Key,
+    value: u64,
+) -> Returned {
     entry_of(match key {
         Key::Owned(key) => cache.entry(key).or_insert(value),
         Key::Lent(key) => cache.entry_by_ref(&key).or_insert(value),
     })
 }
 
-pub(crate) fn entry_or_default<W: Wait + Drop>(cache: &Numbers<W>, key: Key) -> Told {
+pub(crate) fn entry_or_default<W: Wait + Drop>(cache: &Numbers<W>, key: Key) -> Returned {
     entry_of(match key {
         Key::Owned(key) => cache.entry(key).or_default(),
         Key::Lent(key) => cache.entry_by_ref(&key).or_default(),
     })
 }
 
-pub(crate) fn or_insert_with<W: Wait + Drop>(cache: &Numbers<W>, key: Key, value: u64) -> Told {
+pub(crate) fn or_insert_with<W: Wait + Drop>(cache: &Numbers<W>, key: Key, value: u64) -> Returned {
     entry_of(match key {
         Key::Owned(key) => cache.entry(key).or_insert_with(move || value),
         Key::Lent(key) => cache.entry_by_ref(&key).or_insert_with(move || value),
@@ -193,7 +209,7 @@ pub(crate) fn or_insert_with_if<W: Wait + Drop>(
     key: Key,
     value: u64,
     unwanted: u64,
-) -> Told {
+) -> Returned {
     entry_of(match key {
         Key::Owned(key) => {
             let selector = cache.entry(key);
@@ -210,7 +226,7 @@ pub(crate) fn or_optionally_insert_with<W: Wait + Drop>(
     cache: &Numbers<W>,
     key: Key,
     value: Option<u64>,
-) -> Told {
+) -> Returned {
     optional_entry_of(match key {
         Key::Owned(key) => cache.entry(key).or_optionally_insert_with(move || value),
         Key::Lent(key) => cache
@@ -223,14 +239,18 @@ pub(crate) fn or_try_insert_with<W: Wait + Drop>(
     cache: &Numbers<W>,
     key: Key,
     value: Result<u64, u64>,
-) -> Told {
+) -> Returned {
     tried_entry_of(match key {
         Key::Owned(key) => cache.entry(key).or_try_insert_with(move || value),
         Key::Lent(key) => cache.entry_by_ref(&key).or_try_insert_with(move || value),
     })
 }
 
-pub(crate) fn and_compute_with<W: Wait + Drop>(cache: &Numbers<W>, key: Key, doing: Doing) -> Told {
+pub(crate) fn and_compute_with<W: Wait + Drop>(
+    cache: &Numbers<W>,
+    key: Key,
+    doing: Doing,
+) -> Returned {
     computed_of(match key {
         Key::Owned(key) => {
             let selector = cache.entry(key);
@@ -247,7 +267,7 @@ pub(crate) fn and_try_compute_with<W: Wait + Drop>(
     cache: &Numbers<W>,
     key: Key,
     doing: Result<Doing, u64>,
-) -> Told {
+) -> Returned {
     tried_compute_of(match key {
         Key::Owned(key) => {
             let selector = cache.entry(key);
@@ -260,7 +280,7 @@ pub(crate) fn and_try_compute_with<W: Wait + Drop>(
     })
 }
 
-pub(crate) fn and_upsert_with<W: Wait + Drop>(cache: &Numbers<W>, key: Key) -> Told {
+pub(crate) fn and_upsert_with<W: Wait + Drop>(cache: &Numbers<W>, key: Key) -> Returned {
     entry_of(match key {
         Key::Owned(key) => cache
             .entry(key)
@@ -277,50 +297,53 @@ pub(crate) type Begins = Result<Begun<u64, u64>, Refused>;
 pub(crate) type BeginsCompute = Result<BegunCompute<u64, u64>, Refused>;
 
 /// Consumes what a begin returned, and returns what it was.
-pub(crate) fn spent<W: Wait + Drop>(cache: &Numbers<W>, begun: Begins) -> Told {
+pub(crate) fn consume_begun<W: Wait + Drop>(cache: &Numbers<W>, begun: Begins) -> Returned {
     match begun {
-        Ok(Begun::Found(entry)) => Told::Entry(parts(&entry)),
+        Ok(Begun::Found(entry)) => Returned::Entry(parts(&entry)),
         Ok(Begun::Run(turn)) => {
             abandon(cache, turn);
-            Told::Runs
+            Returned::Runs
         }
         Ok(Begun::Wait(ticket)) => {
             leave(cache, ticket);
-            Told::Waits
+            Returned::Waits
         }
-        Err(cause) => Told::Refused(cause),
+        Err(cause) => Returned::Refused(cause),
     }
 }
 
 /// Consumes what the begin of a compute returned, and returns what it was.
-pub(crate) fn spent_compute<W: Wait + Drop>(cache: &Numbers<W>, begun: BeginsCompute) -> Told {
+pub(crate) fn consume_begun_compute<W: Wait + Drop>(
+    cache: &Numbers<W>,
+    begun: BeginsCompute,
+) -> Returned {
     match begun {
         Ok(BegunCompute::Run(turn, _)) => {
             abandon(cache, turn);
-            Told::Runs
+            Returned::Runs
         }
         Ok(BegunCompute::Wait(ticket)) => {
             leave(cache, ticket);
-            Told::Waits
+            Returned::Waits
         }
-        Err(cause) => Told::Refused(cause),
+        Err(cause) => Returned::Refused(cause),
     }
 }
 
 /// Begins a turn that replaces a live value equal to `unwanted`. Consumes what it returns.
-pub(crate) fn begin<W: Wait + Drop>(cache: &Numbers<W>, key: &Arc<u64>, unwanted: u64) -> Told {
+pub(crate) fn begin<W: Wait + Drop>(cache: &Numbers<W>, key: &Arc<u64>, unwanted: u64) -> Returned {
     let begun = cache.begin(key, Kind::With, Some(|live: &u64| *live == unwanted));
-    spent(cache, begun)
+    consume_begun(cache, begun)
 }
 
 /// Begins a turn with the key by reference. Consumes what it returns.
-pub(crate) fn begin_by_ref<W: Wait + Drop>(cache: &Numbers<W>, key: u64) -> Told {
+pub(crate) fn begin_by_ref<W: Wait + Drop>(cache: &Numbers<W>, key: u64) -> Returned {
     let begun = cache.begin_by_ref(&key, Kind::With, None::<fn(&u64) -> bool>);
-    spent(cache, begun)
+    consume_begun(cache, begun)
 }
 
 /// Begins a compute. Consumes what it returns.
-pub(crate) fn begin_compute<W: Wait + Drop>(cache: &Numbers<W>, key: &Arc<u64>) -> Told {
+pub(crate) fn begin_compute<W: Wait + Drop>(cache: &Numbers<W>, key: &Arc<u64>) -> Returned {
     let begun = cache.begin_compute(key, true);
-    spent_compute(cache, begun)
+    consume_begun_compute(cache, begun)
 }

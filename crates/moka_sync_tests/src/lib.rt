@@ -10,6 +10,6 @@ mod marks;
 #[cfg(test)]
 mod replies;
 #[cfg(test)]
-mod told;
+mod returned;
 #[cfg(test)]
 mod waiting;

@@ -1,7 +1,7 @@
 //! Counts by which the threads of a test wait for each other. A thread gives up after a while, so
 //! that the test fails if another never comes.
 
-use crate::caches::shared;
+use crate::caches::share;
 use std::alloc::{AllocError, Global};
 use std::rt::Clock;
 use std::sync::Arc;
@@ -24,7 +24,7 @@ pub(crate) struct Marks {
 
 /// Creates counts of 0. Retries once if the allocation fails.
 pub(crate) fn new_marks(alloc: Global) -> Result<Arc<Marks>, AllocError> {
-    shared(
+    share(
         alloc,
         Marks {
             arrived: AtomicU64::new(0),
@@ -41,7 +41,7 @@ pub(crate) fn mark(count: &AtomicU64) {
 }
 
 /// Returns a count.
-pub(crate) fn so_far(count: &AtomicU64) -> u64 {
+pub(crate) fn count_so_far(count: &AtomicU64) -> u64 {
     count.load(Ordering::SeqCst)
 }
 
@@ -49,9 +49,9 @@ pub(crate) fn so_far(count: &AtomicU64) -> u64 {
 const TURNS: u64 = 10_000;
 
 /// Waits until a count has reached `wanted`, for about ten seconds at most. Returns whether it has.
-pub(crate) fn come(rt: &impl Clock, count: &AtomicU64, wanted: u64) -> bool {
+pub(crate) fn reaches(rt: &impl Clock, count: &AtomicU64, wanted: u64) -> bool {
     for _ in 0..TURNS {
-        if so_far(count) >= wanted {
+        if count_so_far(count) >= wanted {
             return true;
         }
         thread::sleep(rt, Duration::from_millis(1));

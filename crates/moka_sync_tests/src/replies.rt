@@ -1,26 +1,26 @@
 //! The results of the calls of a shared cache, one after another on one cache.
 
-use crate::caches::{Numbers, cache, shared};
+use crate::caches::{Numbers, cache, share};
 use crate::calls;
 use crate::calls::{Doing, Key};
-use crate::told::{Told, insert_of, option_of};
+use crate::returned::{Returned, insert_of, option_of};
 use moka::sync::ConcurrentCacheExt;
 use std::process::Abort;
 use std::sync::{Arc, Wait};
 use std::test::Fail;
 
-fn is(rt: &impl Abort, call: &str, told: Told, wanted: Told) {
-    assert_eq!(rt; told, wanted, "{call}");
+fn check_reply(rt: &impl Abort, call: &str, returned: Returned, wanted: Returned) {
+    assert_eq!(rt; returned, wanted, "{call}");
 }
 
-const fn entry(key: u64, value: u64, is_fresh: bool) -> Told {
-    Told::Entry((key, value, is_fresh, false))
+const fn entry(key: u64, value: u64, is_fresh: bool) -> Returned {
+    Returned::Entry((key, value, is_fresh, false))
 }
 
 /// Inserts return the live or the new entry, and removals leave nothing behind.
 #[test]
 fn writes_and_removals_answer(rt: HostRuntime) -> Result<(), Fail> {
-    let key = shared(rt.alloc(), 1)?;
+    let key = share(rt.alloc(), 1)?;
     let cache = cache(rt, rt.alloc())?;
     writes(&rt, &cache, &key);
     removals(&rt, &cache);
@@ -28,53 +28,53 @@ fn writes_and_removals_answer(rt: HostRuntime) -> Result<(), Fail> {
 }
 
 fn writes<W: Wait + Drop>(rt: &impl Abort, cache: &Numbers<W>, key: &Arc<u64>) {
-    is(
+    check_reply(
         rt,
         "or_insert",
         calls::or_insert(cache, key, 10),
         entry(1, 10, true),
     );
-    is(
+    check_reply(
         rt,
         "or_insert",
         calls::or_insert(cache, key, 11),
         entry(1, 10, false),
     );
-    is(
+    check_reply(
         rt,
         "or_default",
         calls::or_default(cache, 2),
         entry(2, 0, true),
     );
-    is(rt, "insert", insert(cache, 3, 31), Told::Done);
-    is(rt, "get", get(cache, 3), Told::Value(31));
+    check_reply(rt, "insert", insert(cache, 3, 31), Returned::Done);
+    check_reply(rt, "get", get(cache, 3), Returned::Value(31));
 }
 
 fn removals<W: Wait + Drop>(rt: &impl Abort, cache: &Numbers<W>) {
     assert_eq!(rt; cache.entry_count(), 3);
-    is(
+    check_reply(
         rt,
         "invalidate_entries_if",
         calls::hide_odd(cache),
-        Told::Done,
+        Returned::Done,
     );
-    is(rt, "get", get(cache, 3), Told::Nothing);
-    is(rt, "remove", remove(cache, 2), Told::Value(0));
-    is(rt, "remove", remove(cache, 2), Told::Nothing);
+    check_reply(rt, "get", get(cache, 3), Returned::Nothing);
+    check_reply(rt, "remove", remove(cache, 2), Returned::Value(0));
+    check_reply(rt, "remove", remove(cache, 2), Returned::Nothing);
     cache.invalidate(&1);
     cache.sync();
     assert_eq!(rt; cache.weighted_size(), 0);
 }
 
-fn insert<W: Wait + Drop>(cache: &Numbers<W>, key: u64, value: u64) -> Told {
+fn insert<W: Wait + Drop>(cache: &Numbers<W>, key: u64, value: u64) -> Returned {
     insert_of(calls::insert(cache, key, value))
 }
 
-fn get<W: Wait + Drop>(cache: &Numbers<W>, key: u64) -> Told {
+fn get<W: Wait + Drop>(cache: &Numbers<W>, key: u64) -> Returned {
     option_of(calls::get(cache, key))
 }
 
-fn remove<W: Wait + Drop>(cache: &Numbers<W>, key: u64) -> Told {
+fn remove<W: Wait + Drop>(cache: &Numbers<W>, key: u64) -> Returned {
     option_of(cache.remove(&key))
 }
 
@@ -88,92 +88,92 @@ fn initializers_answer(rt: HostRuntime) -> Result<(), Fail> {
 }
 
 fn initializers<W: Wait + Drop>(rt: &impl Abort, cache: &Numbers<W>) {
-    is(
+    check_reply(
         rt,
         "get_with",
         calls::get_with(cache, 1, 10),
-        Told::Value(10),
+        Returned::Value(10),
     );
-    is(
+    check_reply(
         rt,
         "get_with",
         calls::get_with(cache, 1, 11),
-        Told::Value(10),
+        Returned::Value(10),
     );
-    is(
+    check_reply(
         rt,
         "get_with_if",
         calls::get_with_if(cache, 1, 12, 11),
-        Told::Value(10),
+        Returned::Value(10),
     );
-    is(
+    check_reply(
         rt,
         "get_with_if",
         calls::get_with_if(cache, 1, 12, 10),
-        Told::Value(12),
+        Returned::Value(12),
     );
-    is(
+    check_reply(
         rt,
         "optionally_get_with",
         calls::optionally(cache, 2, None),
-        Told::Nothing,
+        Returned::Nothing,
     );
-    is(
+    check_reply(
         rt,
         "optionally_get_with",
         calls::optionally(cache, 2, Some(20)),
-        Told::Value(20),
+        Returned::Value(20),
     );
-    is(
+    check_reply(
         rt,
         "try_get_with",
         calls::try_get_with(cache, 3, Err(9)),
-        Told::Failed(9),
+        Returned::Failed(9),
     );
-    is(
+    check_reply(
         rt,
         "try_get_with",
         calls::try_get_with(cache, 3, Ok(30)),
-        Told::Value(30),
+        Returned::Value(30),
     );
 }
 
 fn by_reference<W: Wait + Drop>(rt: &impl Abort, cache: &Numbers<W>) {
-    is(
+    check_reply(
         rt,
         "get_with_by_ref",
         calls::get_with_by_ref(cache, 4, 40),
-        Told::Value(40),
+        Returned::Value(40),
     );
-    is(
+    check_reply(
         rt,
         "get_with_by_ref",
         calls::get_with_by_ref(cache, 4, 41),
-        Told::Value(40),
+        Returned::Value(40),
     );
-    is(
+    check_reply(
         rt,
         "optionally_by_ref",
         calls::optionally_by_ref(cache, 5, None),
-        Told::Nothing,
+        Returned::Nothing,
     );
-    is(
+    check_reply(
         rt,
         "optionally_by_ref",
         calls::optionally_by_ref(cache, 5, Some(50)),
-        Told::Value(50),
+        Returned::Value(50),
     );
-    is(
+    check_reply(
         rt,
         "try_by_ref",
         calls::try_by_ref(cache, 6, Err(9)),
-        Told::Failed(9),
+        Returned::Failed(9),
     );
-    is(
+    check_reply(
         rt,
         "try_by_ref",
         calls::try_by_ref(cache, 6, Ok(60)),
-        Told::Value(60),
+        Returned::Value(60),
     );
 }
 
@@ -194,86 +194,86 @@ fn selectors_of<W: Wait + Drop>(rt: &impl Abort, cache: &Numbers<W>, is_lent: bo
 
 fn selectors<W: Wait + Drop>(rt: &impl Abort, cache: &Numbers<W>, is_lent: bool) {
     let key = |number| Key::new(number, is_lent);
-    is(
+    check_reply(
         rt,
         "or_insert",
         calls::entry_or_insert(cache, key(1), 10),
         entry(1, 10, true),
     );
-    is(
+    check_reply(
         rt,
         "or_default",
         calls::entry_or_default(cache, key(2)),
         entry(2, 0, true),
     );
-    is(
+    check_reply(
         rt,
         "or_insert_with",
         calls::or_insert_with(cache, key(1), 11),
         entry(1, 10, false),
     );
-    is(
+    check_reply(
         rt,
         "or_optionally_insert_with",
         calls::or_optionally_insert_with(cache, key(3), None),
-        Told::Nothing,
+        Returned::Nothing,
     );
-    is(
+    check_reply(
         rt,
         "or_try_insert_with",
         calls::or_try_insert_with(cache, key(3), Err(9)),
-        Told::Failed(9),
+        Returned::Failed(9),
     );
 }
 
 fn computes<W: Wait + Drop>(rt: &impl Abort, cache: &Numbers<W>, is_lent: bool) {
     let key = |number| Key::new(number, is_lent);
-    is(
+    check_reply(
         rt,
         "and_upsert_with",
         calls::and_upsert_with(cache, key(4)),
         entry(4, 1, true),
     );
     let counted = calls::and_compute_with(cache, key(4), Doing::Count);
-    assert!(rt; matches!(counted, Told::Became(_, Some((4, 2, true, true)))));
+    assert!(rt; matches!(counted, Returned::Became(_, Some((4, 2, true, true)))));
     let removed = calls::and_compute_with(cache, key(4), Doing::Remove);
-    assert!(rt; matches!(removed, Told::Became(_, Some((4, 2, false, false)))));
-    is(
+    assert!(rt; matches!(removed, Returned::Became(_, Some((4, 2, false, false)))));
+    check_reply(
         rt,
         "and_try_compute_with",
         calls::and_try_compute_with(cache, key(4), Err(9)),
-        Told::Failed(9),
+        Returned::Failed(9),
     );
 }
 
 /// Each begin returns a turn, which leaves nothing behind once it is abandoned.
 #[test]
 fn turns_answer(rt: HostRuntime) -> Result<(), Fail> {
-    let key = shared(rt.alloc(), 1)?;
+    let key = share(rt.alloc(), 1)?;
     let cache = cache(rt, rt.alloc())?;
     turns(&rt, &cache, &key);
     Ok(())
 }
 
 fn turns<W: Wait + Drop>(rt: &impl Abort, cache: &Numbers<W>, key: &Arc<u64>) {
-    is(rt, "begin", calls::begin(cache, key, 0), Told::Runs);
-    is(
+    check_reply(rt, "begin", calls::begin(cache, key, 0), Returned::Runs);
+    check_reply(
         rt,
         "begin_by_ref",
         calls::begin_by_ref(cache, 1),
-        Told::Runs,
+        Returned::Runs,
     );
-    is(
+    check_reply(
         rt,
         "begin_compute",
         calls::begin_compute(cache, key),
-        Told::Runs,
+        Returned::Runs,
     );
-    is(rt, "get", get(cache, 1), Told::Nothing);
-    is(
+    check_reply(rt, "get", get(cache, 1), Returned::Nothing);
+    check_reply(
         rt,
         "get_with",
         calls::get_with(cache, 1, 10),
-        Told::Value(10),
+        Returned::Value(10),
     );
 }

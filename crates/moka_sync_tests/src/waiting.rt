@@ -3,9 +3,9 @@
 ghost use Rattle.std.specs.Prelude.{◌≡◌, ◌≢◌};
 ghost use Rattle.moka_model.specs.declared.turns.Kind.{Kind};
 
-use crate::caches::{Numbers, cache, shared};
+use crate::caches::{Numbers, cache, share};
 use crate::calls::{abandon, clone, get, insert, leave, next_of};
-use crate::marks::{Marks, come, mark, new_marks, pause, so_far};
+use crate::marks::{Marks, count_so_far, mark, new_marks, pause, reaches};
 use moka::notification::RemovalCause;
 use moka::ops::compute::Op;
 use moka::policy::{Listener, ManualClock, NoExpiry, NoPredicate, NoWeigher, Refused};
@@ -24,8 +24,8 @@ use std::time::Duration;
 /// Counts itself as arrived, and waits until another thread is done. Returns how many are.
 fn inside_until_done(rt: &impl Clock, marks: &Marks) -> u64 {
     mark(&marks.arrived);
-    come(rt, &marks.done, 1);
-    so_far(&marks.done)
+    reaches(rt, &marks.done, 1);
+    count_so_far(&marks.done)
 }
 
 /// The result of a lookup.
@@ -38,7 +38,7 @@ fn gets_once_one_is_inside<W: Wait + Clock + Drop>(
     marks: &Marks,
     key: u64,
 ) -> Found {
-    come(rt, &marks.arrived, 1);
+    reaches(rt, &marks.arrived, 1);
     let found = get(cache, key);
     mark(&marks.done);
     found
@@ -65,7 +65,12 @@ const FORMS: [Form; 6] = [
 ];
 
 /// Makes a call about key 1, whose closure waits until another thread is done.
-fn made_by<W: Wait + Clock + Drop>(rt: &W, cache: &Numbers<W>, marks: &Marks, form: Form) -> bool {
+fn make_call<W: Wait + Clock + Drop>(
+    rt: &W,
+    cache: &Numbers<W>,
+    marks: &Marks,
+    form: Form,
+) -> bool {
     match form {
         Form::With => gives(rt, cache, marks),
         Form::Optionally => may_give(rt, cache, marks),
@@ -117,28 +122,28 @@ fn tries_to_compute<W: Wait + Clock + Drop>(rt: &W, cache: &Numbers<W>, marks: &
 #[test]
 fn a_get_answers_while_a_closure_runs(rt: HostRuntime) -> Result<(), Fail> {
     for form in FORMS {
-        a_get_answers_within(rt, rt.alloc(), form)?;
+        a_get_replies_within(rt, rt.alloc(), form)?;
     }
     Ok(())
 }
 
-fn a_get_answers_within<W>(rt: W, alloc: Global, form: Form) -> Result<(), Fail>
+fn a_get_replies_within<W>(rt: W, alloc: Global, form: Form) -> Result<(), Fail>
 where
     W: Wait + Clock + Threads + Abort + Copy + Drop + Send + Sync + 'static,
 {
     let marks = new_marks(alloc)?;
     let cache = cache(rt, alloc)?;
-    a_get_answers(&rt, &cache, &marks, form)
+    a_get_replies(&rt, &cache, &marks, form)
 }
 
-fn a_get_answers<W>(rt: &W, cache: &Numbers<W>, marks: &Arc<Marks>, form: Form) -> Result<(), Fail>
+fn a_get_replies<W>(rt: &W, cache: &Numbers<W>, marks: &Arc<Marks>, form: Form) -> Result<(), Fail>
 where
     W: Wait + Clock + Threads + Abort + Copy + Drop + Send + Sync + 'static,
 {
     insert(cache, 2, 20)?;
     let child = gets_beside(rt, cache, marks)?;
-    assert!(rt; made_by(rt, cache, marks, form), "{form:?}");
-    has_answered(rt, cache, child.join(rt), form);
+    assert!(rt; make_call(rt, cache, marks, form), "{form:?}");
+    has_replied(rt, cache, child.join(rt), form);
     Ok(())
 }
 
@@ -155,7 +160,7 @@ where
 }
 
 /// Checks that the lookup found its value, and that the closure saw that it was done.
-fn has_answered<W: Wait + Abort + Drop>(rt: &W, cache: &Numbers<W>, found: Found, form: Form) {
+fn has_replied<W: Wait + Abort + Drop>(rt: &W, cache: &Numbers<W>, found: Found, form: Form) {
     assert_eq!(rt;
         get(cache, 1),
         Ok(Some(1)),
@@ -246,20 +251,20 @@ fn lets_one_leave<W: Wait + Clock + Drop>(cache: &Heard<W>, key: &Arc<u64>, call
 #[test]
 fn a_get_answers_while_the_listener_runs(rt: HostRuntime) -> Result<(), Fail> {
     for call in LEAVES {
-        heard_slowly(rt, rt.alloc(), call)?;
+        hear_slowly(rt, rt.alloc(), call)?;
     }
     Ok(())
 }
 
-fn heard_slowly<W>(rt: W, alloc: Global, call: Leaves) -> Result<(), Fail>
+fn hear_slowly<W>(rt: W, alloc: Global, call: Leaves) -> Result<(), Fail>
 where
     W: Wait + Clock + Threads + Abort + Copy + Drop + Send + Sync + 'static,
 {
-    let key = shared(alloc, 1)?;
+    let key = share(alloc, 1)?;
     let marks = new_marks(alloc)?;
-    let clock = shared(alloc, ManualClock::new(0))?;
+    let clock = share(alloc, ManualClock::new(0))?;
     let cache = slow_cache(rt, alloc, &clock, &marks)?;
-    a_get_answers_in_between(&rt, &cache, &clock, (&key, &marks), call)
+    a_get_replies_in_between(&rt, &cache, &clock, (&key, &marks), call)
 }
 
 /// Builds a cache with a time to live of one second and the slow listener.
@@ -290,7 +295,7 @@ fn let_one_expire<W: Wait + Clock + Drop>(
     Ok(())
 }
 
-fn a_get_answers_in_between<W>(
+fn a_get_replies_in_between<W>(
     rt: &W,
     cache: &Heard<W>,
     clock: &ManualClock,
@@ -324,14 +329,14 @@ where
 fn was_in_time(rt: &impl Abort, marks: &Marks, found: Found, call: Leaves) {
     assert_eq!(rt; found, Ok(Some(20)));
     assert_eq!(rt;
-        so_far(&marks.in_time),
+        count_so_far(&marks.in_time),
         1,
         "it was answered while the listener ran: {call:?}"
     );
 }
 
 fn gets_once_it_hears<W: Wait + Clock + Drop>(rt: &W, cache: &Heard<W>, marks: &Marks) -> Found {
-    come(rt, &marks.arrived, 1);
+    reaches(rt, &marks.arrived, 1);
     let found = cache.get(&2);
     mark(&marks.done);
     found
@@ -346,7 +351,7 @@ const THREADS: u64 = 4;
 /// The initializer. It returns its value once all threads have arrived and had time to wait.
 fn works_it_out(rt: &impl Clock, marks: &Marks) -> u64 {
     mark(&marks.asks);
-    come(rt, &marks.arrived, THREADS);
+    reaches(rt, &marks.arrived, THREADS);
     pause(rt);
     7
 }
@@ -412,11 +417,11 @@ fn all_are_given<W>(rt: &W, marks: &Marks, children: Vec<JoinHandle<Given>>)
 where
     W: Clock + Threads + Abort,
 {
-    assert!(rt; come(rt, &marks.done, THREADS), "all are answered");
+    assert!(rt; reaches(rt, &marks.done, THREADS), "all are answered");
     for child in children {
         assert_eq!(rt; child.join(rt), Ok(7));
     }
-    assert_eq!(rt; so_far(&marks.asks), 1, "one initializer ran");
+    assert_eq!(rt; count_so_far(&marks.asks), 1, "one initializer ran");
 }
 
 /// How a caller loads that is to wait for a turn.
@@ -430,7 +435,7 @@ enum Way {
 }
 
 /// Counts a call of the caller's own initializer, and returns its value.
-fn own(marks: &Marks) -> u64 {
+fn count_own(marks: &Marks) -> u64 {
     mark(&marks.asks);
     12
 }
@@ -451,15 +456,20 @@ fn asks<W: Wait + Drop>(cache: &Numbers<W>, marks: &Marks, way: Way) -> Given {
 
 fn asks_for_any<W: Wait + Drop>(cache: &Numbers<W>, marks: &Marks) -> Given {
     mark(&marks.arrived);
-    cache.get_with(1, || own(marks))
+    cache.get_with(1, || count_own(marks))
 }
 
 fn asks_for_another<W: Wait + Drop>(cache: &Numbers<W>, marks: &Marks) -> Given {
-    cache.get_with_if(1, || own(marks), |_| turns_it_down(marks))
+    cache.get_with_if(1, || count_own(marks), |_| turns_it_down(marks))
 }
 
 /// Returns a turn of a kind, whatever is live.
-fn ran<W: Wait + Drop>(rt: &impl Abort, cache: &Numbers<W>, key: &Arc<u64>, kind: Kind) -> Turn<u64>
+fn begin_running<W: Wait + Drop>(
+    rt: &impl Abort,
+    cache: &Numbers<W>,
+    key: &Arc<u64>,
+    kind: Kind,
+) -> Turn<u64>
     requires { kind ≢ Kind.Compute }
     ensures { result.key.kind ≡ kind }
 {
@@ -526,13 +536,13 @@ fn waits_for_a_turn<W>(rt: W, alloc: Global, way: Way, end: End) -> Result<(), F
 where
     W: Wait + Clock + Threads + Abort + Copy + Drop + Send + Sync + 'static,
 {
-    let key = shared(alloc, 1)?;
+    let key = share(alloc, 1)?;
     let marks = new_marks(alloc)?;
     let cache = cache(rt, alloc)?;
-    is_answered(&rt, &cache, (&key, &marks), way, end)
+    gets_reply(&rt, &cache, (&key, &marks), way, end)
 }
 
-fn is_answered<W>(
+fn gets_reply<W>(
     rt: &W,
     cache: &Numbers<W>,
     shared: (&Arc<u64>, &Arc<Marks>),
@@ -547,20 +557,20 @@ where
         insert(cache, 1, 10)?;
     }
     let (theirs, others) = (clone(cache)?, marks.clone()?);
-    let turn = ran(rt, cache, key, Kind::With);
+    let turn = begin_running(rt, cache, key, Kind::With);
     let child = thread::spawn(rt, move || asks(&theirs, &others, way));
     waits_still(rt, marks);
     ends(rt, cache, turn, end);
-    assert!(rt; come(rt, &marks.done, 1), "the other is answered");
-    is_given(rt, child?.join(rt), so_far(&marks.asks), end);
+    assert!(rt; reaches(rt, &marks.done, 1), "the other is answered");
+    is_given(rt, child?.join(rt), count_so_far(&marks.asks), end);
     Ok(())
 }
 
 /// Checks that one caller has arrived, and is still waiting after a pause.
 fn waits_still(rt: &(impl Clock + Abort), marks: &Marks) {
-    assert!(rt; come(rt, &marks.arrived, 1), "the other waits");
+    assert!(rt; reaches(rt, &marks.arrived, 1), "the other waits");
     pause(rt);
-    assert_eq!(rt; so_far(&marks.done), 0, "the other waits");
+    assert_eq!(rt; count_so_far(&marks.done), 0, "the other waits");
 }
 
 /// Checks that the waiting caller got the turn's value, or computed its own.
@@ -645,7 +655,7 @@ fn all_have_counted<W>(rt: &W, marks: &Marks, children: Vec<JoinHandle<Given>>)
 where
     W: Clock + Threads + Abort,
 {
-    assert!(rt; come(rt, &marks.done, THREADS), "all have counted");
+    assert!(rt; reaches(rt, &marks.done, THREADS), "all have counted");
     for child in children {
         assert!(rt; child.join(rt).is_ok());
     }
@@ -701,8 +711,8 @@ fn has_waited<W>(rt: W, alloc: Global) -> Result<bool, Fail>
 where
     W: Wait + Clock + Threads + Abort + Copy + Drop + Send + Sync + 'static,
 {
-    let key = shared(alloc, 1)?;
-    let error = shared(alloc, 9)?;
+    let key = share(alloc, 1)?;
+    let error = share(alloc, 9)?;
     let marks = new_marks(alloc)?;
     let cache = cache(rt, alloc)?;
     is_given_the_error(&rt, &cache, (&key, &error), &marks)
@@ -719,12 +729,12 @@ where
 {
     let (key, error) = numbers;
     let (theirs, others, outcome) = (clone(cache)?, marks.clone()?, error.clone()?);
-    let turn = ran(rt, cache, key, Kind::Try);
+    let turn = begin_running(rt, cache, key, Kind::Try);
     let child = thread::spawn(rt, move || fails(&theirs, &others));
-    come(rt, &marks.arrived, 1);
+    reaches(rt, &marks.arrived, 1);
     pause(rt);
     finishes_with(rt, cache, turn, outcome);
-    assert!(rt; come(rt, &marks.done, 1), "the other is answered");
+    assert!(rt; reaches(rt, &marks.done, 1), "the other is answered");
     is_shared(rt, marks, child?.join(rt), error)
 }
 
@@ -736,7 +746,7 @@ fn is_shared(
     error: &Arc<u64>,
 ) -> Result<bool, Fail> {
     let given = given.ok_or("an error")?;
-    if so_far(&marks.asks) > 0 {
+    if count_so_far(&marks.asks) > 0 {
         return Ok(false);
     }
     assert_eq!(rt; *given, 9);

@@ -9,7 +9,7 @@ use Rattle.moka_table.specs.declared.table.Weights.{Weights}
 use Rattle.moka_rows.specs.Rows.{row_under, with_row, without_row, hidden, other, IsOrderOf, NumbersDiffer}
 use Rattle.moka_rows.specs.declared.rows.Order.{Order}
 use Rattle.moka_rows.specs.declared.rows.Order.TheVariants.{Admitted, Waiting}
-use Rattle.moka_table.specs.Table.{Contents, entries, weight_of, weight_in, AreShown, UsesRow, TakesRow, IsKept}
+use Rattle.moka_table.specs.Table.{Contents, entries, weight_of, weight_in, AreShown, UsesRow, TakesRow, IsConsistent}
 use Rattle.moka_rows.proofs.Callers.{all-append, all-front, all-back, absent-before, row_under-at, row_under-append_left, row_under-append_right, split_at_row, length-changed, each-admitted, each-added}
 use Rattle.moka_table.proofs.Each.{of-row, of-used, of-taken}
 
@@ -176,12 +176,12 @@ module _ {K V : Type 0} where
   abbrev IsShown : ℕ × Row K V → Type 0
   IsShown p = p.1.info.is_hidden ≡ false
 
-  module _ (admitted waiting : List (ℕ × Row K V)) (weights : Weights) (may_hide : Bool) (notices places : ℕ) (kept : IsKept admitted waiting weights may_hide notices places)
+  module _ (admitted waiting : List (ℕ × Row K V)) (weights : Weights) (may_hide : Bool) (notices places : ℕ) (kept : IsConsistent admitted waiting weights may_hide notices places)
       (admitted' waiting' : List (ℕ × Row K V)) (weights' : Weights) (notices' places' : ℕ) (few : length (admitted' ++ waiting') + notices' ≤ places') where
-    -- What a table keeps to stays so: after a use of a row,
-    pub kept-used : (n : ℕ) (change : Row K V → Row K V) (row : Row K V) (weight : ℕ) → row_under n (admitted ++ waiting) ≡ Some row → (change row).info.policy_weight ≡ weight → weight < 2 ^ 32
-        → (row.info.is_hidden ≡ false → (change row).info.is_hidden ≡ false) → UsesRow n change (rows admitted waiting) (rows admitted' waiting') → AreWeightsWith n weight admitted waiting weights' → IsKept admitted' waiting' weights' may_hide notices' places'
-    kept-used n change row weight found changed_weight is_light stays_shown used are =
+    -- A table stays consistent: after a use of a row,
+    pub consistent-used : (n : ℕ) (change : Row K V → Row K V) (row : Row K V) (weight : ℕ) → row_under n (admitted ++ waiting) ≡ Some row → (change row).info.policy_weight ≡ weight → weight < 2 ^ 32
+        → (row.info.is_hidden ≡ false → (change row).info.is_hidden ≡ false) → UsesRow n change (rows admitted waiting) (rows admitted' waiting') → AreWeightsWith n weight admitted waiting weights' → IsConsistent admitted' waiting' weights' may_hide notices' places'
+    consistent-used n change row weight found changed_weight is_light stays_shown used are =
         let after = weights-used n change row (rows admitted waiting) (rows admitted' waiting') weight weights' found changed_weight used are in
         record {
           few = few;
@@ -192,8 +192,8 @@ module _ {K V : Type 0} where
         }
 
     -- after a removal,
-    pub kept-taken : (n : ℕ) (row : Row K V) → row_under n (admitted ++ waiting) ≡ Some row → TakesRow n (rows admitted waiting) (rows admitted' waiting') → AreWeightsWith n 0 admitted waiting weights' → IsKept admitted' waiting' weights' may_hide notices' places'
-    kept-taken n row found taken are =
+    pub consistent-taken : (n : ℕ) (row : Row K V) → row_under n (admitted ++ waiting) ≡ Some row → TakesRow n (rows admitted waiting) (rows admitted' waiting') → AreWeightsWith n 0 admitted waiting weights' → IsConsistent admitted' waiting' weights' may_hide notices' places'
+    consistent-taken n row found taken are =
         let after = weights-taken n row (rows admitted waiting) (rows admitted' waiting') weights' found taken are in
         record {
           few = few;
@@ -204,9 +204,9 @@ module _ {K V : Type 0} where
         }
 
     -- after an admission,
-    pub kept-admitted : (n : ℕ) (row : Row K V) → row_under n waiting ≡ Some row → admitted' ≡ admitted ++ (n, row) ∷ [] → waiting' ≡ without_row n waiting
-        → weights'.admitted ≡ weights.admitted + row.info.policy_weight → weights'.waiting + row.info.policy_weight ≡ weights.waiting → IsKept admitted' waiting' weights' may_hide notices' places'
-    kept-admitted n row found a w more less =
+    pub consistent-admitted : (n : ℕ) (row : Row K V) → row_under n waiting ≡ Some row → admitted' ≡ admitted ++ (n, row) ∷ [] → waiting' ≡ without_row n waiting
+        → weights'.admitted ≡ weights.admitted + row.info.policy_weight → weights'.waiting + row.info.policy_weight ≡ weights.waiting → IsConsistent admitted' waiting' weights' may_hide notices' places'
+    consistent-admitted n row found a w more less =
         let last = total-append weight_of admitted ((n, row) ∷ []) in
         let left = total-without_row n row waiting found in
         record {
@@ -218,9 +218,9 @@ module _ {K V : Type 0} where
         }
 
     -- and after a row was added
-    pub kept-added : (n : ℕ) (row : Row K V) → row.info.policy_weight < 2 ^ 32 → row.info.is_hidden ≡ false → admitted' ≡ admitted → waiting' ≡ waiting ++ (n, row) ∷ []
-        → weights'.admitted ≡ weights.admitted → weights'.waiting ≡ weights.waiting + row.info.policy_weight → IsKept admitted' waiting' weights' may_hide notices' places'
-    kept-added n row is_light is_shown a w same more =
+    pub consistent-added : (n : ℕ) (row : Row K V) → row.info.policy_weight < 2 ^ 32 → row.info.is_hidden ≡ false → admitted' ≡ admitted → waiting' ≡ waiting ++ (n, row) ∷ []
+        → weights'.admitted ≡ weights.admitted → weights'.waiting ≡ weights.waiting + row.info.policy_weight → IsConsistent admitted' waiting' weights' may_hide notices' places'
+    consistent-added n row is_light is_shown a w same more =
         let last = total-append weight_of waiting ((n, row) ∷ []) in
         record {
           few = few;
@@ -231,9 +231,9 @@ module _ {K V : Type 0} where
         }
 
     -- after the first admitted row left,
-    pub kept-first : (n : ℕ) (row : Row K V) → admitted ≡ (n, row) ∷ admitted' → waiting' ≡ waiting → weights'.admitted + row.info.policy_weight ≡ weights.admitted → weights'.waiting ≡ weights.waiting
-        → IsKept admitted' waiting' weights' may_hide notices' places'
-    kept-first n row a w less same =
+    pub consistent-first : (n : ℕ) (row : Row K V) → admitted ≡ (n, row) ∷ admitted' → waiting' ≡ waiting → weights'.admitted + row.info.policy_weight ≡ weights.admitted → weights'.waiting ≡ weights.waiting
+        → IsConsistent admitted' waiting' weights' may_hide notices' places'
+    consistent-first n row a w less same =
         let sum : total weight_of admitted ≡ row.info.policy_weight + total weight_of admitted' = ap (total weight_of) a in
         let rest : (P : ℕ × Row K V → Type 0) → AllByRecursion P (admitted ++ waiting) → AllByRecursion P (admitted' ++ waiting) = λ P all. (subst (λ l. AllByRecursion P (l ++ waiting)) a all).1 in
         record {
@@ -262,10 +262,10 @@ module _ {K V : Type 0} (n : ℕ) where
       go true rest = (light.0, light.1)
       go false rest = (light.0, rest)
 
-  -- so a table keeps to what it does where one is hidden, and none need be shown from then on
-  pub kept-hidden : (admitted waiting admitted' waiting' : List (ℕ × Row K V)) (weights : Weights) (may_hide : Bool) (notices places : ℕ) → IsKept admitted waiting weights may_hide notices places
-      → admitted' ≡ with_row n hidden admitted → waiting' ≡ with_row n hidden waiting → IsKept admitted' waiting' weights true notices places
-  kept-hidden admitted waiting admitted' waiting' weights may_hide notices places kept a w =
+  -- so a table stays consistent where one is hidden, and none need be shown from then on
+  pub consistent-hidden : (admitted waiting admitted' waiting' : List (ℕ × Row K V)) (weights : Weights) (may_hide : Bool) (notices places : ℕ) → IsConsistent admitted waiting weights may_hide notices places
+      → admitted' ≡ with_row n hidden admitted → waiting' ≡ with_row n hidden waiting → IsConsistent admitted' waiting' weights true notices places
+  consistent-hidden admitted waiting admitted' waiting' weights may_hide notices places kept a w =
       record {
         few = omega (arith, kept.few, length-changed n hidden admitted waiting admitted' waiting' a w);
         light = rw (a, w) (all-append IsLight (with_row n hidden admitted) (with_row n hidden waiting) (light-hidden admitted (all-front IsLight admitted waiting kept.light)) (light-hidden waiting (all-back IsLight admitted waiting kept.light)));
@@ -274,10 +274,10 @@ module _ {K V : Type 0} (n : ℕ) where
         shown = λ (no : true ≡ false). cc;
       }
 
--- where none is hidden, it keeps to that too
-pub kept-shown : {K V : Type 0} (admitted waiting : List (ℕ × Row K V)) (weights : Weights) (may_hide : Bool) (notices places : ℕ) → IsKept admitted waiting weights may_hide notices places → AreShown (admitted ++ waiting)
-    → IsKept admitted waiting weights false notices places
-kept-shown admitted waiting weights may_hide notices places kept shown = record {
+-- where none is hidden, it is consistent with that too
+pub consistent-shown : {K V : Type 0} (admitted waiting : List (ℕ × Row K V)) (weights : Weights) (may_hide : Bool) (notices places : ℕ) → IsConsistent admitted waiting weights may_hide notices places → AreShown (admitted ++ waiting)
+    → IsConsistent admitted waiting weights false notices places
+consistent-shown admitted waiting weights may_hide notices places kept shown = record {
   few = kept.few;
   light = kept.light;
   admitted_weight = kept.admitted_weight;

@@ -105,7 +105,7 @@ module _ {K V : Type 0} where
 
   -- The invariant of a table. It has a place for a notice of each row, and each weight fits in 32 bits. The sums of the
   -- weights are right, and no row is invalidated if none may be.
-  pub record IsKept (admitted waiting : List (ℕ × Row K V)) (weights : Weights) (may_hide : Bool) (notices places : ℕ) : Type 0 where
+  pub record IsConsistent (admitted waiting : List (ℕ × Row K V)) (weights : Weights) (may_hide : Bool) (notices places : ℕ) : Type 0 where
     pub few : length (admitted ++ waiting) + notices ≤ places
     pub light : AllByRecursion (λ p. weight_of p < 2 ^ 32) (admitted ++ waiting)
     pub admitted_weight : weights.admitted ≡ total weight_of admitted

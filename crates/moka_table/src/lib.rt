@@ -1,4 +1,4 @@
-//! The table of a cache: its rows with the queue of notices, and the targets of writes.
+//! The table of a cache: its rows with the queue of notices, and the slots of writes.
 #![tactic(auto)]
 
 pub mod into_arc;

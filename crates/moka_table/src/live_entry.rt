@@ -29,7 +29,7 @@ impl<K: Eq + Drop, V: Clone, R: RowStore<K, V>> Table<K, V, R> {
     ///
     /// A value is acceptable unless `replace_if` returns `true` for it. `replace_if` is called only
     /// with a live value.
-    pub fn acceptable<F: FnMut(&V) -> bool + Drop>(
+    pub fn find_acceptable<F: FnMut(&V) -> bool + Drop>(
         &self,
         key: &K,
         hash: u64,
@@ -72,7 +72,7 @@ impl<K: Eq + Drop, V: Clone, R: RowStore<K, V>> Table<K, V, R> {
     /// # Errors
     ///
     /// - `AllocError`: an allocation failed.
-    pub fn notice_copy(&self) -> Result<Option<Notice<K, V>>, AllocError>
+    pub fn copy_notice(&self) -> Result<Option<Notice<K, V>>, AllocError>
         ensures { IfOk result (IsNoticeOf V.is_clone
             (option_map removal_of (slice_get self.now.notices 0))) }
     {

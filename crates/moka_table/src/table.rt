@@ -6,7 +6,7 @@ ghost use Rattle.moka_model.specs.Maintenance.{total};
 ghost use Rattle.moka_rows.specs.Rows.{row_under, with_row, without_row, other, touched, overwritten, hidden, cause_at, first_number, number_after, expired_at, IsRowOf, NoneIsRowOf, NumbersDiffer};
 ghost use Rattle.moka_rows.specs.Visits.{one_more};
 ghost use Rattle.moka_table.specs.Lookup.{IsLookupOf};
-ghost use Rattle.moka_table.specs.Table.{Contents, entries, weight_of, weight_in, AreShown, SameRows, UsesRow, TakesRow, EvictsOne, IsKept};
+ghost use Rattle.moka_table.specs.Table.{Contents, entries, weight_of, weight_in, AreShown, SameRows, UsesRow, TakesRow, EvictsOne, IsConsistent};
 
 use moka_model::notification::{Notice, RemovalCause};
 use moka_rows::rows::{Access, EntryInfo, Order, Previous, Row, RowStore};
@@ -34,7 +34,7 @@ struct Weights {
 impl Weights {
     /// Returns the weights after a row of an order changed its weight from `before` to `after`.
     #[inline(always)]
-    fn with(self, order: Order, before: u32, after: u32) -> Weights
+    fn with_weight(self, order: Order, before: u32, after: u32) -> Weights
         requires before { before ≤ weight_in order self }
         requires fits { weight_in order self + after < 2 ^ 128 }
         ensures changed { weight_in order result + before ≡ weight_in order self + after }
@@ -80,7 +80,7 @@ impl<K: Eq + Drop, V: Drop, R: RowStore<K, V>> Model for Table<K, V, R> {
       room = table.sure;
     } };
 
-    ghost invariant = { λ table. IsKept (R.admitted table.rows) (R.waiting table.rows) table.weights
+    ghost invariant = { λ table. IsConsistent (R.admitted table.rows) (R.waiting table.rows) table.weights
         table.may_hide (deque_len table.notices + table.sure) (deque_capacity table.notices)
         × (table.sure ≤ R.room table.rows) };
 }
@@ -348,7 +348,9 @@ impl<K: Eq + Drop, V: Drop, R: RowStore<K, V>> Table<K, V, R> {
     {
         let before = self.rows.overwrite(number, value, info);
         let (was, weight) = (before.info, info.policy_weight);
-        self.weights = self.weights.with(before.order, was.policy_weight, weight);
+        self.weights = self
+            .weights
+            .with_weight(before.order, was.policy_weight, weight);
         let replaced = Notice {
             key,
             value: before.value,
@@ -385,7 +387,7 @@ impl<K: Eq + Drop, V: Drop, R: RowStore<K, V>> Table<K, V, R> {
 
     /// Records that no row is invalidated. Changes no row.
     #[inline(always)]
-    pub fn hides_nothing(&mut self)
+    pub fn clear_may_hide(&mut self)
         requires { AreShown (entries self.old) }
         ensures same { SameRows self.old self.new }
         ensures room { self.new.room ≡ self.old.room }
@@ -424,7 +426,7 @@ impl<K: Eq + Drop, V: Drop, R: RowStore<K, V>> Table<K, V, R> {
         ensures may_hide { self.new.may_hide ≡ self.old.may_hide }
     {
         let (row, order) = self.rows.remove(number);
-        self.weights = self.weights.with(order, row.info().policy_weight, 0);
+        self.weights = self.weights.with_weight(order, row.info().policy_weight, 0);
         let Row { key, value, .. } = row;
         match self.notices.push_back(Notice { key, value, cause }) {
             Ok(()) => {}
@@ -445,7 +447,7 @@ impl<K: Eq + Drop, V: Drop, R: RowStore<K, V>> Table<K, V, R> {
             unreachable!()
         };
         let weight = row.info().policy_weight;
-        self.weights = self.weights.with(Order::Admitted, weight, 0);
+        self.weights = self.weights.with_weight(Order::Admitted, weight, 0);
         let Row { key, value, .. } = row;
         let notice = Notice { key, value, cause };
         match self.notices.push_back(notice) {

@@ -1,4 +1,4 @@
-//! The targets of writes. What a write allocates is allocated before it changes anything.
+//! The slots of writes. What a write allocates is allocated before it changes anything.
 ghost use Rattle.std.specs.Prelude.{◌≡◌, ◌<◌, false, IfOk, IfErr, OnOk};
 ghost use Rattle.moka_table.specs.WriteSlot.{IsSlotFor, IsSlotNow, HasSlot, IsInfoOf, Puts, IsPlanOf, Writes, is_over_live};
 ghost use Rattle.moka_expiration.specs.ExpirationPolicy.{IsDated};
@@ -28,7 +28,7 @@ pub enum WriteSlot<K> {
 /// Where a write puts its value, as found before the flush that may come first.
 #[derive(Drop)]
 pub enum WritePlan<K> {
-    /// At this target. No flush comes first.
+    /// At this slot. No flush comes first.
     Now(WriteSlot<K>),
     /// Where the written `key` belongs after a flush. `lookup` is where its row was before.
     AfterFlush { lookup: Lookup<K>, key: Arc<K> },
@@ -51,7 +51,7 @@ pub struct NewValue<V> {
 const FLUSH_POINT: usize = 64;
 
 impl<K: Drop> Lookup<K> {
-    /// Returns the target of a write of a key, given where its row is. A key without a row is put
+    /// Returns the slot of a write of a key, given where its row is. A key without a row is put
     /// into an `Arc`.
     ///
     /// # Errors
@@ -73,7 +73,7 @@ impl<K: Drop> Lookup<K> {
 }
 
 impl<K: Eq + Drop, V: Drop, R: RowStore<K, V>> Table<K, V, R> {
-    /// Returns the target of a write of a key that was looked up before some rows were removed. Its
+    /// Returns the slot of a write of a key that was looked up before some rows were removed. Its
     /// own row may be one of them. Does not allocate.
     #[inline(always)]
     pub fn slot_now(&self, lookup: Lookup<K>, key: Arc<K>, hash: u64) -> WriteSlot<K>
@@ -91,20 +91,20 @@ impl<K: Eq + Drop, V: Drop, R: RowStore<K, V>> Table<K, V, R> {
         }
     }
 
-    /// Makes room for a write of a key, and returns its place. All rows and notices stay as they
+    /// Makes room for a write of a key, and returns its plan. All rows and notices stay as they
     /// were, also if it fails.
     ///
     /// # Errors
     ///
     /// - The key itself: an allocation failed, or the store cannot number more rows.
     #[inline(always)]
-    pub fn place<S: IntoArc<K>>(
+    pub fn plan_write<S: IntoArc<K>>(
         &mut self,
         key: S,
         hash: u64,
         alloc: Global,
     ) -> Result<WritePlan<K>, S>
-        ensures place { IfOk result (IsPlanOf K.eq (S.key_of key) hash self.new) }
+        ensures plan { IfOk result (IsPlanOf K.eq (S.key_of key) hash self.new) }
         ensures handed_back { IfErr result (λ back. back ≡ key) }
         ensures room { OnOk result (0 < self.new.room) }
         ensures same { SameRows self.old self.new }
@@ -126,7 +126,7 @@ impl<K: Eq + Drop, V: Drop, R: RowStore<K, V>> Table<K, V, R> {
         }
     }
 
-    // Returns whether a target is over a value that is live at `now`.
+    // Returns whether a slot is over a value that is live at `now`.
     #[inline(always)]
     fn is_over_live(&self, slot: &WriteSlot<K>, now: u64) -> bool
         requires { HasSlot slot.now self.now }
@@ -138,7 +138,7 @@ impl<K: Eq + Drop, V: Drop, R: RowStore<K, V>> Table<K, V, R> {
         }
     }
 
-    /// Writes a value and its metadata to a target, and adds a notice of the value that it
+    /// Writes a value and its metadata to a slot, and adds a notice of the value that it
     /// replaces.
     ///
     /// It uses the room that was made and does not allocate. The value is not invalidated.
@@ -163,7 +163,7 @@ impl<K: Eq + Drop, V: Drop, R: RowStore<K, V>> Table<K, V, R> {
 }
 
 impl<K: Hash + Drop, V: Clone, R: RowStore<K, V>> Table<K, V, R> {
-    /// Returns the metadata, with the deadline, of a value that is written to a target at `now`.
+    /// Returns the metadata, with the deadline, of a value that is written to a slot at `now`.
     /// Calls the expiry for the entry's own lifetime.
     #[inline(always)]
     pub fn info_of<C: CacheTypes<K, V>>(
@@ -183,7 +183,7 @@ impl<K: Hash + Drop, V: Clone, R: RowStore<K, V>> Table<K, V, R> {
         let own_life = match slot {
             WriteSlot::Occupied { number, key } => {
                 let was = self.row(*number).info();
-                behaviour.life_over(key, value, was, !was.is_dead(now), now)
+                behaviour.life_of_overwrite(key, value, was, !was.is_dead(now), now)
             }
             WriteSlot::Vacant { key } => behaviour.life_of_new(key, value, now),
         };
@@ -198,7 +198,7 @@ impl<K: Hash + Drop, V: Clone, R: RowStore<K, V>> Table<K, V, R> {
         lives.with_deadline(info)
     }
 
-    /// Writes a value to a target, and returns whether a live value was there. It uses the room
+    /// Writes a value to a slot, and returns whether a live value was there. It uses the room
     /// that was made and does not allocate.
     #[inline(always)]
     pub fn write<C: CacheTypes<K, V>>(

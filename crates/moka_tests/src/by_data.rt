@@ -133,7 +133,7 @@ fn settings(
     })
 }
 
-fn opened(alloc: Global, scale: u32, seconds: u64) -> Result<Cache, Fail> {
+fn open_cache(alloc: Global, scale: u32, seconds: u64) -> Result<Cache, Fail> {
     Ok(CacheState::new(alloc, settings(alloc, scale, seconds)?)?)
 }
 
@@ -159,7 +159,13 @@ fn weighs_and_expires_by_data_of_the_run(rt: HostRuntime) -> Result<(), Fail> {
 
 fn opens_and_weighs(rt: &impl Abort, alloc: Global, case: Case) -> Result<(), Fail> {
     let (scale, seconds, last, written, kept) = case;
-    weighs(rt, &mut opened(alloc, scale, seconds)?, last, written, kept);
+    weighs(
+        rt,
+        &mut open_cache(alloc, scale, seconds)?,
+        last,
+        written,
+        kept,
+    );
     Ok(())
 }
 

@@ -2,13 +2,13 @@
 ghost use Rattle.std.specs.Prelude.{IfSome, IfOk};
 ghost use Rattle.moka_state.specs.Step.{StepKeeps};
 
-use crate::by_call::{found, noticed, refused_predicate};
+use crate::by_call::{reply_of_notice, reply_of_predicate_error, reply_of_value};
 use crate::keys::Key;
-use crate::subject::{Answer, Call, Subject, shared};
-use crate::values::{EitherText, Given, Types, Value, heavy, plain};
+use crate::subject::{Call, Reply, Subject, share};
+use crate::values::{EitherText, Given, Types, Value, heavy_value, plain_value};
 use moka_base::policy::{CacheTypes, Predicate};
 use moka_state::rows::RowStore;
-use moka_state::step::{Reply, Step};
+use moka_state::step::{Reply as StateReply, Step};
 use std::alloc::AllocError;
 use std::hash::BuildHasher;
 use std::process::Abort;
@@ -18,7 +18,7 @@ use std::test::Fail;
 impl<K: Key, H: BuildHasher + Default + Drop, R: RowStore<K, Value>> Subject<K, H, R> {
     /// Creates a key for a step, and keeps a share.
     fn key(&mut self, number: u64) -> Result<Arc<K>, AllocError> {
-        let key = shared(self.alloc, K::of(number))?;
+        let key = share(self.alloc, K::of(number))?;
         self.keys.push(key.clone()?)?;
         Ok(key)
     }
@@ -35,8 +35,8 @@ impl<K: Key, H: BuildHasher + Default + Drop, R: RowStore<K, Value>> Subject<K, 
             ⟦<Types<H> as CacheTypes<K, Value>>⟧.test)) }
     {
         match call {
-            Call::Insert(number, text) => self.write_step(number, plain(text), now),
-            Call::InsertHeavy(number, weight) => self.write_step(number, heavy(weight), now),
+            Call::Insert(number, text) => self.write_step(number, plain_value(text), now),
+            Call::InsertHeavy(number, weight) => self.write_step(number, heavy_value(weight), now),
             Call::InsertGiven(number, given) => self.write_step(number, given, now),
             Call::InvalidateIf(one, other) => self.hide_step(one, other),
             Call::Get(number)
@@ -101,14 +101,9 @@ impl<K: Key, H: BuildHasher + Default + Drop, R: RowStore<K, Value>> Subject<K, 
     }
 
     /// Makes a call as a step if it has one, and as a call otherwise.
-    pub(crate) fn by_step(
-        &mut self,
-        rt: &impl Abort,
-        call: Call,
-        now: u64,
-    ) -> Result<Answer, Fail> {
+    pub(crate) fn by_step(&mut self, rt: &impl Abort, call: Call, now: u64) -> Result<Reply, Fail> {
         match self.step_of(call, now)? {
-            Some(step) => Ok(said(self.cache.step(step))),
+            Some(step) => Ok(reply_of(self.cache.step(step))),
             None => self.by_call(rt, call, now),
         }
     }
@@ -150,27 +145,27 @@ pub(crate) fn is_step(call: Call) -> bool {
 }
 
 /// Appends the results in the replies to other results.
-pub(crate) fn all_said<K: Key, C: CacheTypes<K, Value>>(
-    mut answers: Vec<Answer>,
-    replies: Vec<Reply<K, Value, C>>,
-) -> Result<Vec<Answer>, AllocError> {
+pub(crate) fn append_replies<K: Key, C: CacheTypes<K, Value>>(
+    mut found: Vec<Reply>,
+    replies: Vec<StateReply<K, Value, C>>,
+) -> Result<Vec<Reply>, AllocError> {
     for reply in replies {
-        answers.push(said(reply))?;
+        found.push(reply_of(reply))?;
     }
-    Ok(answers)
+    Ok(found)
 }
 
 /// Returns the result in a reply.
-fn said<K: Key, C: CacheTypes<K, Value>>(reply: Reply<K, Value, C>) -> Answer {
+fn reply_of<K: Key, C: CacheTypes<K, Value>>(reply: StateReply<K, Value, C>) -> Reply {
     match reply {
-        Reply::Found(value) => found(value),
-        Reply::Contains(found) => Answer::Contains(found),
-        Reply::Done => Answer::Done,
-        Reply::Counted(count) => Answer::Counted(count),
-        Reply::Left(is_left) => Answer::Left(is_left),
-        Reply::Noticed(notice) => noticed(notice),
-        Reply::Refused(refused) => Answer::Refused(refused),
-        Reply::PredicateRefused(refused) => refused_predicate(refused),
-        _ => Answer::OfTurn,
+        StateReply::Found(value) => reply_of_value(value),
+        StateReply::Contains(found) => Reply::Contains(found),
+        StateReply::Done => Reply::Done,
+        StateReply::Counted(count) => Reply::Counted(count),
+        StateReply::Left(is_left) => Reply::Left(is_left),
+        StateReply::Noticed(notice) => reply_of_notice(notice),
+        StateReply::Refused(refused) => Reply::Refused(refused),
+        StateReply::PredicateRefused(refused) => reply_of_predicate_error(refused),
+        _ => Reply::OfTurn,
     }
 }

@@ -72,7 +72,7 @@ enum Use {
 }
 
 #[derive(Clone, Copy, Debug, PartialEq)]
-enum Answer {
+enum Reply {
     Done,
     Counted(usize),
     Is(bool),
@@ -99,65 +99,65 @@ fn first_waiting<R: RowStore<u64, &'static str>>(rows: &R) -> Option<usize>
 }
 
 /// Returns the key of a row number, by the row numbers and keys that were added.
-fn row_of(keys: &[(usize, u64)], number: Option<usize>) -> Answer {
+fn row_of(keys: &[(usize, u64)], number: Option<usize>) -> Reply {
     for (given, key) in keys {
         if number == Some(*given) {
-            return Answer::Key(*key);
+            return Reply::Key(*key);
         }
     }
-    Answer::Absent
+    Reply::Absent
 }
 
 /// Returns the value of a row with its moments.
-fn value_of(row: &Row<u64, &'static str>) -> Answer {
-    Answer::Value(row.value, row.info())
+fn value_of(row: &Row<u64, &'static str>) -> Reply {
+    Reply::Value(row.value, row.info())
 }
 
 /// Does something with the row of a number.
-fn used<R: RowStore<u64, &'static str>>(
+fn use_row<R: RowStore<u64, &'static str>>(
     rows: &mut R,
     keys: &[(usize, u64)],
     number: usize,
     what: Use,
-) -> Answer
+) -> Reply
     requires { IsSome (row_under number (R.admitted rows.old ++ R.waiting rows.old)) }
 {
     match what {
         Use::Find => row_of(keys, Some(number)),
         Use::Read => value_of(rows.row(number)),
-        Use::IsAdmitted => Answer::Is(rows.is_admitted(number)),
+        Use::IsAdmitted => Reply::Is(rows.is_admitted(number)),
         Use::Next => row_of(keys, rows.next(number, &mut 0)),
         Use::Access => {
             rows.touch(number, AT_LATER);
-            Answer::Done
+            Reply::Done
         }
-        Use::Overwrite(value) => Answer::Previous(rows.overwrite(number, value, LATER).value),
+        Use::Overwrite(value) => Reply::Previous(rows.overwrite(number, value, LATER).value),
         Use::Remove => value_of(&rows.remove(number).0),
     }
 }
 
 /// Does something with the row of a key, if there is one.
-fn used_of<R: RowStore<u64, &'static str>>(
+fn use_row_of<R: RowStore<u64, &'static str>>(
     rows: &mut R,
     keys: &[(usize, u64)],
     key: u64,
     hash: u64,
     what: Use,
-) -> Answer {
+) -> Reply {
     match number_of(rows, key, hash) {
-        Some(number) => used(rows, keys, number, what),
-        None => Answer::Absent,
+        Some(number) => use_row(rows, keys, number, what),
+        None => Reply::Absent,
     }
 }
 
 /// Admits the row that has been pending longest.
-fn admit_first<R: RowStore<u64, &'static str>>(rows: &mut R) -> Answer {
+fn admit_first<R: RowStore<u64, &'static str>>(rows: &mut R) -> Reply {
     match first_waiting(rows) {
         Some(number) => {
             rows.admit(number);
-            Answer::Done
+            Reply::Done
         }
-        None => Answer::Absent,
+        None => Reply::Absent,
     }
 }
 
@@ -180,119 +180,119 @@ fn add<R: RowStore<u64, &'static str>>(
 }
 
 /// Makes a call and returns its result.
-fn made<R: RowStore<u64, &'static str>>(
+fn make_call<R: RowStore<u64, &'static str>>(
     alloc: Global,
     rows: &mut R,
     keys: &mut Vec<(usize, u64)>,
     call: Call,
-) -> Result<Answer, AllocError> {
+) -> Result<Reply, AllocError> {
     Ok(match call {
-        Call::Len => Answer::Counted(rows.len()),
-        Call::WaitingLen => Answer::Counted(rows.waiting_len()),
+        Call::Len => Reply::Counted(rows.len()),
+        Call::WaitingLen => Reply::Counted(rows.waiting_len()),
         Call::FirstAdmitted => row_of(keys.as_slice(), rows.first_admitted()),
         Call::FirstWaiting => row_of(keys.as_slice(), rows.first_waiting()),
         Call::AdmitFirst => admit_first(rows),
         Call::Add(key, hash, value) => {
             let number = add(alloc, rows, key, hash, value)?;
             keys.push((number, key))?;
-            Answer::Done
+            Reply::Done
         }
-        Call::Of(key, hash, what) => used_of(rows, keys.as_slice(), key, hash, what),
+        Call::Of(key, hash, what) => use_row_of(rows, keys.as_slice(), key, hash, what),
     })
 }
 
 /// Checks that each call returns what the table says.
-fn answers<R: RowStore<u64, &'static str>>(
+fn check_table<R: RowStore<u64, &'static str>>(
     rt: &impl Abort,
     alloc: Global,
-    table: &[(Call, Answer)],
+    table: &[(Call, Reply)],
 ) -> Result<(), Fail> {
     let mut rows: R = R::new(alloc);
     let mut keys = room(alloc, table.len())?;
-    answers_all(rt, alloc, &mut rows, &mut keys, table)
+    check_all(rt, alloc, &mut rows, &mut keys, table)
 }
 
-fn answers_all<R: RowStore<u64, &'static str>>(
+fn check_all<R: RowStore<u64, &'static str>>(
     rt: &impl Abort,
     alloc: Global,
     rows: &mut R,
     keys: &mut Vec<(usize, u64)>,
-    table: &[(Call, Answer)],
+    table: &[(Call, Reply)],
 ) -> Result<(), Fail> {
     for (place, (call, expected)) in table.iter().enumerate() {
-        let found = made(alloc, rows, keys, *call)?;
+        let found = make_call(alloc, rows, keys, *call)?;
         assert_eq!(rt; found, *expected, "row {place}");
     }
     Ok(())
 }
 
-const KEPT: [(Call, Answer); 21] = [
-    (Call::Add(1, 7, "one"), Answer::Done),
-    (Call::Add(2, 7, "two"), Answer::Done),
-    (Call::Add(3, 9, "three"), Answer::Done),
-    (Call::Len, Answer::Counted(3)),
-    (Call::Of(1, 7, Use::Find), Answer::Key(1)),
-    (Call::Of(2, 7, Use::Find), Answer::Key(2)),
-    (Call::Of(3, 9, Use::Find), Answer::Key(3)),
-    (Call::Of(4, 7, Use::Find), Answer::Absent),
-    (Call::Of(2, 7, Use::Read), Answer::Value("two", FIRST)),
+const STORED: [(Call, Reply); 21] = [
+    (Call::Add(1, 7, "one"), Reply::Done),
+    (Call::Add(2, 7, "two"), Reply::Done),
+    (Call::Add(3, 9, "three"), Reply::Done),
+    (Call::Len, Reply::Counted(3)),
+    (Call::Of(1, 7, Use::Find), Reply::Key(1)),
+    (Call::Of(2, 7, Use::Find), Reply::Key(2)),
+    (Call::Of(3, 9, Use::Find), Reply::Key(3)),
+    (Call::Of(4, 7, Use::Find), Reply::Absent),
+    (Call::Of(2, 7, Use::Read), Reply::Value("two", FIRST)),
     (
         Call::Of(2, 7, Use::Overwrite("two again")),
-        Answer::Previous("two"),
+        Reply::Previous("two"),
     ),
-    (Call::Of(2, 7, Use::Read), Answer::Value("two again", LATER)),
-    (Call::Of(1, 7, Use::Access), Answer::Done),
-    (Call::Of(1, 7, Use::Read), Answer::Value("one", USED)),
+    (Call::Of(2, 7, Use::Read), Reply::Value("two again", LATER)),
+    (Call::Of(1, 7, Use::Access), Reply::Done),
+    (Call::Of(1, 7, Use::Read), Reply::Value("one", USED)),
     (
         Call::Of(2, 7, Use::Remove),
-        Answer::Value("two again", LATER),
+        Reply::Value("two again", LATER),
     ),
-    (Call::Len, Answer::Counted(2)),
-    (Call::Of(2, 7, Use::Find), Answer::Absent),
-    (Call::Of(1, 7, Use::Read), Answer::Value("one", USED)),
-    (Call::Of(3, 9, Use::Read), Answer::Value("three", FIRST)),
-    (Call::Of(1, 7, Use::Remove), Answer::Value("one", USED)),
-    (Call::Of(3, 9, Use::Remove), Answer::Value("three", FIRST)),
-    (Call::Len, Answer::Counted(0)),
+    (Call::Len, Reply::Counted(2)),
+    (Call::Of(2, 7, Use::Find), Reply::Absent),
+    (Call::Of(1, 7, Use::Read), Reply::Value("one", USED)),
+    (Call::Of(3, 9, Use::Read), Reply::Value("three", FIRST)),
+    (Call::Of(1, 7, Use::Remove), Reply::Value("one", USED)),
+    (Call::Of(3, 9, Use::Remove), Reply::Value("three", FIRST)),
+    (Call::Len, Reply::Counted(0)),
 ];
 
 /// The store finds, reads, overwrites, touches and removes rows.
 #[test]
 fn keeps_rows_in_lists(rt: HostRuntime) -> Result<(), Fail> {
-    answers::<ListRows<u64, &'static str>>(&rt, rt.alloc(), &KEPT)
+    check_table::<ListRows<u64, &'static str>>(&rt, rt.alloc(), &STORED)
 }
 
-const ADMITTED: [(Call, Answer); 22] = [
-    (Call::AdmitFirst, Answer::Absent),
-    (Call::FirstWaiting, Answer::Absent),
-    (Call::Add(1, 7, "one"), Answer::Done),
-    (Call::Add(2, 7, "two"), Answer::Done),
-    (Call::Add(3, 9, "three"), Answer::Done),
-    (Call::WaitingLen, Answer::Counted(3)),
-    (Call::FirstAdmitted, Answer::Absent),
-    (Call::Of(2, 7, Use::Next), Answer::Key(3)),
-    (Call::Of(2, 7, Use::IsAdmitted), Answer::Is(false)),
-    (Call::AdmitFirst, Answer::Done),
-    (Call::AdmitFirst, Answer::Done),
-    (Call::Len, Answer::Counted(3)),
-    (Call::WaitingLen, Answer::Counted(1)),
-    (Call::FirstAdmitted, Answer::Key(1)),
-    (Call::FirstWaiting, Answer::Key(3)),
-    (Call::Of(1, 7, Use::Next), Answer::Key(2)),
-    (Call::Of(2, 7, Use::Next), Answer::Absent),
-    (Call::Of(2, 7, Use::IsAdmitted), Answer::Is(true)),
+const ADMITTED: [(Call, Reply); 22] = [
+    (Call::AdmitFirst, Reply::Absent),
+    (Call::FirstWaiting, Reply::Absent),
+    (Call::Add(1, 7, "one"), Reply::Done),
+    (Call::Add(2, 7, "two"), Reply::Done),
+    (Call::Add(3, 9, "three"), Reply::Done),
+    (Call::WaitingLen, Reply::Counted(3)),
+    (Call::FirstAdmitted, Reply::Absent),
+    (Call::Of(2, 7, Use::Next), Reply::Key(3)),
+    (Call::Of(2, 7, Use::IsAdmitted), Reply::Is(false)),
+    (Call::AdmitFirst, Reply::Done),
+    (Call::AdmitFirst, Reply::Done),
+    (Call::Len, Reply::Counted(3)),
+    (Call::WaitingLen, Reply::Counted(1)),
+    (Call::FirstAdmitted, Reply::Key(1)),
+    (Call::FirstWaiting, Reply::Key(3)),
+    (Call::Of(1, 7, Use::Next), Reply::Key(2)),
+    (Call::Of(2, 7, Use::Next), Reply::Absent),
+    (Call::Of(2, 7, Use::IsAdmitted), Reply::Is(true)),
     // An access makes a resident row the most recently used.
-    (Call::Of(1, 7, Use::Access), Answer::Done),
-    (Call::FirstAdmitted, Answer::Key(2)),
+    (Call::Of(1, 7, Use::Access), Reply::Done),
+    (Call::FirstAdmitted, Reply::Key(2)),
     (
         Call::Of(2, 7, Use::Overwrite("again")),
-        Answer::Previous("two"),
+        Reply::Previous("two"),
     ),
-    (Call::FirstAdmitted, Answer::Key(1)),
+    (Call::FirstAdmitted, Reply::Key(1)),
 ];
 
 /// The store keeps pending rows in arrival order and resident rows in access order.
 #[test]
 fn admits_rows_in_lists(rt: HostRuntime) -> Result<(), Fail> {
-    answers::<ListRows<u64, &'static str>>(&rt, rt.alloc(), &ADMITTED)
+    check_table::<ListRows<u64, &'static str>>(&rt, rt.alloc(), &ADMITTED)
 }

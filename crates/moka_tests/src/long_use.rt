@@ -1,11 +1,11 @@
 //! Thousands of calls, none of which fails, by generated tables.
 use crate::keys::ByNumber;
 use crate::subject::{
-    Answer, CacheRows, Call, Row, Rules, UNLIMITED, answered_alike, answers, answers_as_its_twin,
-    answers_over, room,
+    CacheRows, Call, Reply, Row, Rules, UNLIMITED, check_table, check_table_over,
+    replies_as_its_twin, room, stores_reply_alike,
 };
 use crate::tables::add_notices;
-use crate::values::{Given, Value, plain};
+use crate::values::{Given, Value, plain_value};
 use moka_base::notification::RemovalCause;
 use moka_state::list_rows::ListRows;
 use std::alloc::{AllocError, Global};
@@ -56,13 +56,13 @@ impl Numbers {
         }
     }
 
-    fn given(&mut self) -> Given {
+    fn next_given(&mut self) -> Given {
         let text = if self.is_even() { "any" } else { "odd" };
         Given {
             weight: u32::try_from(self.below(5)).unwrap_or(0),
             life: self.life(),
             life_after_look: self.life(),
-            ..plain(text)
+            ..plain_value(text)
         }
     }
 
@@ -78,7 +78,7 @@ impl Numbers {
             5..=10 => Call::Get(key),
             11 => self.look_or_maintenance(key),
             12 => self.removal(key),
-            _ => Call::InsertGiven(key, self.given()),
+            _ => Call::InsertGiven(key, self.next_given()),
         }
     }
 
@@ -113,14 +113,14 @@ fn calls(alloc: Global, len: usize, keys: u64) -> Result<Vec<Row>, AllocError> {
         } else {
             now.wrapping_add(numbers.below(1_000_000_000))
         };
-        rows.push((numbers.call(keys), now, Answer::Accepted))?;
+        rows.push((numbers.call(keys), now, Reply::Accepted))?;
     }
     Ok(rows)
 }
 
 /// Checks a table over the store of the caches, which is fast enough for long tables.
 fn in_a_slab(rt: &impl Abort, alloc: Global, rules: Rules, rows: &[Row]) -> Result<(), Fail> {
-    answers_over::<u64, ByNumber, CacheRows<u64, Value>>(rt, alloc, rules, rows)
+    check_table_over::<u64, ByNumber, CacheRows<u64, Value>>(rt, alloc, rules, rows)
 }
 
 /// A capacity with either policy, with or without weights and with all kinds of lifetimes, and none
@@ -183,13 +183,13 @@ fn both_stores_answer_alike(rt: HostRuntime) -> Result<(), Fail> {
     for (len, keys) in [(1000, 3), (1000, 200)] {
         let rows = calls(rt.alloc(), len, keys)?;
         for rules in ALL_RULES {
-            answered_alike::<u64, ByNumber, CacheRows<u64, Value>, ListRows<u64, Value>>(
+            stores_reply_alike::<u64, ByNumber, CacheRows<u64, Value>, ListRows<u64, Value>>(
                 &rt,
                 rt.alloc(),
                 rules,
                 rows.as_slice(),
             )?;
-            answers(&rt, rt.alloc(), rules, rows.as_slice())?;
+            check_table(&rt, rt.alloc(), rules, rows.as_slice())?;
         }
     }
     Ok(())
@@ -208,14 +208,14 @@ const FEW: Rules = Rules {
 #[test]
 fn a_slab_answers_as_its_twin(rt: HostRuntime) -> Result<(), Fail> {
     let rows = calls(rt.alloc(), 60, 30)?;
-    answers_as_its_twin::<CacheRows<u64, Value>>(&rt, rt.alloc(), FEW, rows.as_slice())
+    replies_as_its_twin::<CacheRows<u64, Value>>(&rt, rt.alloc(), FEW, rows.as_slice())
 }
 
 /// The same over the plain row store.
 #[test]
 fn lists_answer_as_their_twin(rt: HostRuntime) -> Result<(), Fail> {
     let rows = calls(rt.alloc(), 60, 30)?;
-    answers_as_its_twin::<ListRows<u64, Value>>(&rt, rt.alloc(), FEW, rows.as_slice())
+    replies_as_its_twin::<ListRows<u64, Value>>(&rt, rt.alloc(), FEW, rows.as_slice())
 }
 
 /// The number of keys that are written one after another.
@@ -224,22 +224,22 @@ const MANY: u64 = 3000;
 /// Adds an insert of each key, and a lookup after it.
 fn add_writes_and_looks(rows: &mut Vec<Row>) -> Result<(), AllocError> {
     for key in 0..MANY {
-        rows.push((Call::Insert(key, "any"), key, Answer::Done))?;
-        rows.push((Call::Get(key), key, Answer::Found("any")))?;
+        rows.push((Call::Insert(key, "any"), key, Reply::Done))?;
+        rows.push((Call::Get(key), key, Reply::Found("any")))?;
     }
-    rows.push((Call::EntryCount, MANY, Answer::Counted(MANY)))?;
+    rows.push((Call::EntryCount, MANY, Reply::Counted(MANY)))?;
     Ok(())
 }
 
 /// Adds an invalidation of each key, with one maintenance among them.
 fn add_removals(rows: &mut Vec<Row>) -> Result<(), AllocError> {
     for key in 0..MANY {
-        rows.push((Call::Invalidate(key), MANY, Answer::Done))?;
+        rows.push((Call::Invalidate(key), MANY, Reply::Done))?;
         if key == 1000 {
-            rows.push((Call::RunPendingTasks, u64::MAX, Answer::Done))?;
+            rows.push((Call::RunPendingTasks, u64::MAX, Reply::Done))?;
         }
     }
-    rows.push((Call::EntryCount, 0, Answer::Counted(0)))?;
+    rows.push((Call::EntryCount, 0, Reply::Counted(0)))?;
     Ok(())
 }
 
@@ -250,16 +250,16 @@ fn refuses_no_write_at_any_length(rt: HostRuntime) -> Result<(), Fail> {
     add_writes_and_looks(&mut rows)?;
     add_removals(&mut rows)?;
     add_notices(&mut rows, 0..MANY, "any", RemovalCause::Explicit)?;
-    rows.push((Call::TakeNotice, 0, Answer::NoNotice))?;
+    rows.push((Call::TakeNotice, 0, Reply::NoNotice))?;
     in_a_slab(&rt, rt.alloc(), UNLIMITED, rows.as_slice())
 }
 
 const FEW_CALLS: [Row; 5] = [
-    (Call::Insert(1, "one"), 0, Answer::Done),
-    (Call::Insert(2, "two"), u64::MAX, Answer::Done),
-    (Call::Get(3), u64::MAX, Answer::Absent),
-    (Call::RunPendingTasks, u64::MAX, Answer::Done),
-    (Call::EntryCount, u64::MAX, Answer::Accepted),
+    (Call::Insert(1, "one"), 0, Reply::Done),
+    (Call::Insert(2, "two"), u64::MAX, Reply::Done),
+    (Call::Get(3), u64::MAX, Reply::Absent),
+    (Call::RunPendingTasks, u64::MAX, Reply::Done),
+    (Call::EntryCount, u64::MAX, Reply::Accepted),
 ];
 
 /// Caches with settings of all sizes work, up to `u64::MAX`.
@@ -268,7 +268,7 @@ fn opens_with_all_settings(rt: HostRuntime) -> Result<(), Fail> {
     let mut numbers = Numbers { last: 0 };
     for greatest in [3, 100, 5_000_000, u64::MAX] {
         for _ in 0..50 {
-            answers(&rt, rt.alloc(), numbers.rules(greatest), &FEW_CALLS)?;
+            check_table(&rt, rt.alloc(), numbers.rules(greatest), &FEW_CALLS)?;
         }
     }
     Ok(())

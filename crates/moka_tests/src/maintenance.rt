@@ -1,6 +1,6 @@
 //! Maintenance, by tables.
 use crate::subject::{
-    Answer, CacheRows, Call, Row, Rules, UNLIMITED, answers, answers_patiently, room,
+    CacheRows, Call, Reply, Row, Rules, UNLIMITED, check_patiently, check_table, room,
 };
 use crate::tables::{add_all, add_notices, add_writes};
 use crate::values::Value;
@@ -10,47 +10,47 @@ use std::alloc::{AllocError, Global};
 use std::test::Fail;
 
 const IN_ORDER_OF_USE: [Row; 17] = [
-    (Call::Insert(1, "alice"), 0, Answer::Done),
-    (Call::Insert(2, "bob"), 0, Answer::Done),
-    (Call::Get(1), 0, Answer::Found("alice")),
-    (Call::Get(2), 0, Answer::Found("bob")),
-    (Call::RunPendingTasks, 0, Answer::Done),
-    (Call::Insert(3, "cindy"), 0, Answer::Done),
-    (Call::Get(3), 0, Answer::Found("cindy")),
-    (Call::RunPendingTasks, 0, Answer::Done),
-    (Call::Get(1), 0, Answer::Found("alice")),
-    (Call::Get(2), 0, Answer::Found("bob")),
-    (Call::RunPendingTasks, 0, Answer::Done),
-    (Call::Insert(4, "david"), 0, Answer::Done),
-    (Call::RunPendingTasks, 0, Answer::Done),
+    (Call::Insert(1, "alice"), 0, Reply::Done),
+    (Call::Insert(2, "bob"), 0, Reply::Done),
+    (Call::Get(1), 0, Reply::Found("alice")),
+    (Call::Get(2), 0, Reply::Found("bob")),
+    (Call::RunPendingTasks, 0, Reply::Done),
+    (Call::Insert(3, "cindy"), 0, Reply::Done),
+    (Call::Get(3), 0, Reply::Found("cindy")),
+    (Call::RunPendingTasks, 0, Reply::Done),
+    (Call::Get(1), 0, Reply::Found("alice")),
+    (Call::Get(2), 0, Reply::Found("bob")),
+    (Call::RunPendingTasks, 0, Reply::Done),
+    (Call::Insert(4, "david"), 0, Reply::Done),
+    (Call::RunPendingTasks, 0, Reply::Done),
     (
         Call::TakeNotice,
         0,
-        Answer::Noticed(3, "cindy", RemovalCause::Size),
+        Reply::Noticed(3, "cindy", RemovalCause::Size),
     ),
-    (Call::TakeNotice, 0, Answer::NoNotice),
-    (Call::Get(4), 0, Answer::Found("david")),
-    (Call::EntryCount, 0, Answer::Counted(3)),
+    (Call::TakeNotice, 0, Reply::NoNotice),
+    (Call::Get(4), 0, Reply::Found("david")),
+    (Call::EntryCount, 0, Reply::Counted(3)),
 ];
 
 /// An overwrite is an access, too.
 const OVERWRITTEN: [Row; 9] = [
-    (Call::Insert(1, "one"), 0, Answer::Done),
-    (Call::Insert(2, "two"), 0, Answer::Done),
-    (Call::Insert(3, "three"), 0, Answer::Done),
-    (Call::RunPendingTasks, 0, Answer::Done),
-    (Call::Insert(1, "again"), 0, Answer::Done),
-    (Call::Insert(4, "four"), 0, Answer::Done),
-    (Call::RunPendingTasks, 0, Answer::Done),
+    (Call::Insert(1, "one"), 0, Reply::Done),
+    (Call::Insert(2, "two"), 0, Reply::Done),
+    (Call::Insert(3, "three"), 0, Reply::Done),
+    (Call::RunPendingTasks, 0, Reply::Done),
+    (Call::Insert(1, "again"), 0, Reply::Done),
+    (Call::Insert(4, "four"), 0, Reply::Done),
+    (Call::RunPendingTasks, 0, Reply::Done),
     (
         Call::TakeNotice,
         0,
-        Answer::Noticed(1, "one", RemovalCause::Replaced),
+        Reply::Noticed(1, "one", RemovalCause::Replaced),
     ),
     (
         Call::TakeNotice,
         0,
-        Answer::Noticed(2, "two", RemovalCause::Size),
+        Reply::Noticed(2, "two", RemovalCause::Size),
     ),
 ];
 
@@ -61,37 +61,37 @@ fn lets_the_least_recently_used_leave(rt: HostRuntime) -> Result<(), Fail> {
         max_capacity: Some(3),
         ..UNLIMITED
     };
-    answers(&rt, rt.alloc(), rules, &IN_ORDER_OF_USE)?;
-    answers(&rt, rt.alloc(), rules, &OVERWRITTEN)
+    check_table(&rt, rt.alloc(), rules, &IN_ORDER_OF_USE)?;
+    check_table(&rt, rt.alloc(), rules, &OVERWRITTEN)
 }
 
 const EXPIRED: [Row; 10] = [
-    (Call::Insert(1, "one"), 0, Answer::Done),
-    (Call::Get(1), 9_999_999_999, Answer::Found("one")),
-    (Call::RunPendingTasks, 9_999_999_999, Answer::Done),
-    (Call::Insert(2, "two"), 9_999_999_999, Answer::Done),
-    (Call::Get(1), 10_000_000_000, Answer::Absent),
-    (Call::EntryCount, 0, Answer::Counted(2)),
-    (Call::RunPendingTasks, 9_000_000_000, Answer::Done),
-    (Call::EntryCount, 0, Answer::Counted(1)),
+    (Call::Insert(1, "one"), 0, Reply::Done),
+    (Call::Get(1), 9_999_999_999, Reply::Found("one")),
+    (Call::RunPendingTasks, 9_999_999_999, Reply::Done),
+    (Call::Insert(2, "two"), 9_999_999_999, Reply::Done),
+    (Call::Get(1), 10_000_000_000, Reply::Absent),
+    (Call::EntryCount, 0, Reply::Counted(2)),
+    (Call::RunPendingTasks, 9_000_000_000, Reply::Done),
+    (Call::EntryCount, 0, Reply::Counted(1)),
     (
         Call::TakeNotice,
         0,
-        Answer::Noticed(1, "one", RemovalCause::Expired),
+        Reply::Noticed(1, "one", RemovalCause::Expired),
     ),
-    (Call::TakeNotice, 0, Answer::NoNotice),
+    (Call::TakeNotice, 0, Reply::NoNotice),
 ];
 
 const EXPIRED_WAITING: [Row; 5] = [
-    (Call::Insert(1, "one"), 0, Answer::Done),
-    (Call::RunPendingTasks, 10_000_000_000, Answer::Done),
-    (Call::EntryCount, 0, Answer::Counted(0)),
+    (Call::Insert(1, "one"), 0, Reply::Done),
+    (Call::RunPendingTasks, 10_000_000_000, Reply::Done),
+    (Call::EntryCount, 0, Reply::Counted(0)),
     (
         Call::TakeNotice,
         0,
-        Answer::Noticed(1, "one", RemovalCause::Expired),
+        Reply::Noticed(1, "one", RemovalCause::Expired),
     ),
-    (Call::TakeNotice, 0, Answer::NoNotice),
+    (Call::TakeNotice, 0, Reply::NoNotice),
 ];
 
 /// Maintenance evicts expired entries, resident or pending.
@@ -102,8 +102,8 @@ fn lets_the_expired_leave(rt: HostRuntime) -> Result<(), Fail> {
         time_to_live: Some(10),
         ..UNLIMITED
     };
-    answers(&rt, rt.alloc(), rules, &EXPIRED)?;
-    answers(&rt, rt.alloc(), rules, &EXPIRED_WAITING)
+    check_table(&rt, rt.alloc(), rules, &EXPIRED)?;
+    check_table(&rt, rt.alloc(), rules, &EXPIRED_WAITING)
 }
 
 /// A capacity of 10.
@@ -113,7 +113,7 @@ const TEN: Rules = Rules {
 };
 
 /// Returns inserts of the keys 1 to 64, all of which are then pending, and room for `more` rows.
-fn filled(alloc: Global, more: usize) -> Result<Vec<Row>, AllocError> {
+fn fill_pending(alloc: Global, more: usize) -> Result<Vec<Row>, AllocError> {
     let mut rows = room(alloc, more.saturating_add(66))?;
     add_writes(&mut rows, 1..65, "first", 0)?;
     add_all(&mut rows, &ALL_WAIT)?;
@@ -121,138 +121,138 @@ fn filled(alloc: Global, more: usize) -> Result<Vec<Row>, AllocError> {
 }
 
 const ALL_WAIT: [Row; 2] = [
-    (Call::EntryCount, 0, Answer::Counted(64)),
-    (Call::NoticeCount, 0, Answer::Counted(0)),
+    (Call::EntryCount, 0, Reply::Counted(64)),
+    (Call::NoticeCount, 0, Reply::Counted(0)),
 ];
 
 /// One more key. The flush before it keeps only as many entries as fit.
 const ONE_MORE: [Row; 3] = [
-    (Call::Insert(65, "first"), 0, Answer::Done),
-    (Call::EntryCount, 0, Answer::Counted(11)),
-    (Call::NoticeCount, 0, Answer::Counted(54)),
+    (Call::Insert(65, "first"), 0, Reply::Done),
+    (Call::EntryCount, 0, Reply::Counted(11)),
+    (Call::NoticeCount, 0, Reply::Counted(54)),
 ];
 
 /// An insert that finds 64 pending entries flushes first, also if any one allocation fails.
 #[test]
 fn flushes_before_a_write_that_finds_64_keys_waiting(rt: HostRuntime) -> Result<(), Fail> {
-    let mut rows = filled(rt.alloc(), 57)?;
+    let mut rows = fill_pending(rt.alloc(), 57)?;
     add_all(&mut rows, &ONE_MORE)?;
     add_notices(&mut rows, 1..55, "first", RemovalCause::Size)?;
-    answers_patiently::<CacheRows<u64, Value>>(&rt, rt.alloc(), TEN, rows.as_slice())
+    check_patiently::<CacheRows<u64, Value>>(&rt, rt.alloc(), TEN, rows.as_slice())
 }
 
 /// The flush before the write evicts the entry of its key, so the write finds it not stored.
 const OVER_A_VALUE_THAT_LEAVES: [Row; 4] = [
-    (Call::Insert(1, "again"), 0, Answer::Done),
-    (Call::EntryCount, 0, Answer::Counted(11)),
+    (Call::Insert(1, "again"), 0, Reply::Done),
+    (Call::EntryCount, 0, Reply::Counted(11)),
     (
         Call::TakeNotice,
         0,
-        Answer::Noticed(1, "first", RemovalCause::Size),
+        Reply::Noticed(1, "first", RemovalCause::Size),
     ),
-    (Call::ContainsKey(1), 0, Answer::Contains(true)),
+    (Call::ContainsKey(1), 0, Reply::Contains(true)),
 ];
 
 /// An overwrite flushes first, too, also if any one allocation fails.
 #[test]
 fn flushes_before_an_overwrite(rt: HostRuntime) -> Result<(), Fail> {
-    let mut rows = filled(rt.alloc(), 4)?;
+    let mut rows = fill_pending(rt.alloc(), 4)?;
     add_all(&mut rows, &OVER_A_VALUE_THAT_LEAVES)?;
-    answers_patiently::<CacheRows<u64, Value>>(&rt, rt.alloc(), TEN, rows.as_slice())
+    check_patiently::<CacheRows<u64, Value>>(&rt, rt.alloc(), TEN, rows.as_slice())
 }
 
 const REFUSED: [Row; 3] = [
     (
         Call::Insert(65, "not written"),
         0,
-        Answer::Refused(Refused::NumbersUsedUp),
+        Reply::Refused(Refused::NumbersUsedUp),
     ),
-    (Call::EntryCount, 0, Answer::Counted(64)),
-    (Call::NoticeCount, 0, Answer::Counted(0)),
+    (Call::EntryCount, 0, Reply::Counted(64)),
+    (Call::NoticeCount, 0, Reply::Counted(0)),
 ];
 
 /// An insert that fails for lack of a sequence number does not flush.
 #[test]
 fn does_not_flush_before_a_refused_write(rt: HostRuntime) -> Result<(), Fail> {
-    let mut rows = filled(rt.alloc(), 3)?;
+    let mut rows = fill_pending(rt.alloc(), 3)?;
     add_all(&mut rows, &REFUSED)?;
     let rules = Rules {
         first_number: u64::MAX - 64,
         ..TEN
     };
-    answers(&rt, rt.alloc(), rules, rows.as_slice())
+    check_table(&rt, rt.alloc(), rules, rows.as_slice())
 }
 
 /// Three entries are resident. Their access order is 3, 1, 2, and they were looked up 1, 2 and 2
 /// times. A fourth key is inserted three times: after no lookup, after one, and after two.
 const ADMISSIONS: [Row; 22] = [
-    (Call::Insert(1, "one"), 0, Answer::Done),
-    (Call::Insert(2, "two"), 0, Answer::Done),
-    (Call::Insert(3, "three"), 0, Answer::Done),
-    (Call::RunPendingTasks, 0, Answer::Done),
-    (Call::Get(1), 0, Answer::Found("one")),
-    (Call::Get(2), 0, Answer::Found("two")),
-    (Call::Get(3), 0, Answer::Found("three")),
-    (Call::Get(1), 0, Answer::Found("one")),
-    (Call::Get(2), 0, Answer::Found("two")),
-    (Call::Insert(4, "four"), 0, Answer::Done),
-    (Call::RunPendingTasks, 0, Answer::Done),
+    (Call::Insert(1, "one"), 0, Reply::Done),
+    (Call::Insert(2, "two"), 0, Reply::Done),
+    (Call::Insert(3, "three"), 0, Reply::Done),
+    (Call::RunPendingTasks, 0, Reply::Done),
+    (Call::Get(1), 0, Reply::Found("one")),
+    (Call::Get(2), 0, Reply::Found("two")),
+    (Call::Get(3), 0, Reply::Found("three")),
+    (Call::Get(1), 0, Reply::Found("one")),
+    (Call::Get(2), 0, Reply::Found("two")),
+    (Call::Insert(4, "four"), 0, Reply::Done),
+    (Call::RunPendingTasks, 0, Reply::Done),
     (
         Call::TakeNotice,
         0,
-        Answer::Noticed(4, "four", RemovalCause::Size),
+        Reply::Noticed(4, "four", RemovalCause::Size),
     ),
-    (Call::Get(4), 0, Answer::Absent),
-    (Call::Insert(4, "four"), 0, Answer::Done),
-    (Call::RunPendingTasks, 0, Answer::Done),
+    (Call::Get(4), 0, Reply::Absent),
+    (Call::Insert(4, "four"), 0, Reply::Done),
+    (Call::RunPendingTasks, 0, Reply::Done),
     (
         Call::TakeNotice,
         0,
-        Answer::Noticed(4, "four", RemovalCause::Size),
+        Reply::Noticed(4, "four", RemovalCause::Size),
     ),
-    (Call::Get(4), 0, Answer::Absent),
-    (Call::Insert(4, "four"), 0, Answer::Done),
-    (Call::RunPendingTasks, 0, Answer::Done),
+    (Call::Get(4), 0, Reply::Absent),
+    (Call::Insert(4, "four"), 0, Reply::Done),
+    (Call::RunPendingTasks, 0, Reply::Done),
     (
         Call::TakeNotice,
         0,
-        Answer::Noticed(3, "three", RemovalCause::Size),
+        Reply::Noticed(3, "three", RemovalCause::Size),
     ),
-    (Call::TakeNotice, 0, Answer::NoNotice),
-    (Call::ContainsKey(4), 0, Answer::Contains(true)),
+    (Call::TakeNotice, 0, Reply::NoNotice),
+    (Call::ContainsKey(4), 0, Reply::Contains(true)),
 ];
 
 /// Two entries are resident, and were looked up 2 and 3 times. Of two pending ones the first was
 /// looked up once and loses against key 1. The second was looked up 3 times and wins against it.
 const CONTENDERS: [Row; 20] = [
-    (Call::Insert(1, "one"), 0, Answer::Done),
-    (Call::Insert(2, "two"), 0, Answer::Done),
-    (Call::RunPendingTasks, 0, Answer::Done),
-    (Call::Get(1), 0, Answer::Found("one")),
-    (Call::Get(1), 0, Answer::Found("one")),
-    (Call::Get(2), 0, Answer::Found("two")),
-    (Call::Get(2), 0, Answer::Found("two")),
-    (Call::Get(2), 0, Answer::Found("two")),
-    (Call::Get(3), 0, Answer::Absent),
-    (Call::Get(4), 0, Answer::Absent),
-    (Call::Get(4), 0, Answer::Absent),
-    (Call::Get(4), 0, Answer::Absent),
-    (Call::Insert(3, "three"), 0, Answer::Done),
-    (Call::Insert(4, "four"), 0, Answer::Done),
-    (Call::RunPendingTasks, 0, Answer::Done),
+    (Call::Insert(1, "one"), 0, Reply::Done),
+    (Call::Insert(2, "two"), 0, Reply::Done),
+    (Call::RunPendingTasks, 0, Reply::Done),
+    (Call::Get(1), 0, Reply::Found("one")),
+    (Call::Get(1), 0, Reply::Found("one")),
+    (Call::Get(2), 0, Reply::Found("two")),
+    (Call::Get(2), 0, Reply::Found("two")),
+    (Call::Get(2), 0, Reply::Found("two")),
+    (Call::Get(3), 0, Reply::Absent),
+    (Call::Get(4), 0, Reply::Absent),
+    (Call::Get(4), 0, Reply::Absent),
+    (Call::Get(4), 0, Reply::Absent),
+    (Call::Insert(3, "three"), 0, Reply::Done),
+    (Call::Insert(4, "four"), 0, Reply::Done),
+    (Call::RunPendingTasks, 0, Reply::Done),
     (
         Call::TakeNotice,
         0,
-        Answer::Noticed(3, "three", RemovalCause::Size),
+        Reply::Noticed(3, "three", RemovalCause::Size),
     ),
     (
         Call::TakeNotice,
         0,
-        Answer::Noticed(1, "one", RemovalCause::Size),
+        Reply::Noticed(1, "one", RemovalCause::Size),
     ),
-    (Call::TakeNotice, 0, Answer::NoNotice),
-    (Call::ContainsKey(2), 0, Answer::Contains(true)),
-    (Call::ContainsKey(4), 0, Answer::Contains(true)),
+    (Call::TakeNotice, 0, Reply::NoNotice),
+    (Call::ContainsKey(2), 0, Reply::Contains(true)),
+    (Call::ContainsKey(4), 0, Reply::Contains(true)),
 ];
 
 /// TinyLFU admits an entry only if it was looked up more often than its victim.
@@ -263,10 +263,10 @@ fn admits_what_is_looked_for_more_often(rt: HostRuntime) -> Result<(), Fail> {
         is_tiny_lfu: true,
         ..UNLIMITED
     };
-    answers(&rt, rt.alloc(), rules, &ADMISSIONS)?;
+    check_table(&rt, rt.alloc(), rules, &ADMISSIONS)?;
     let rules = Rules {
         max_capacity: Some(2),
         ..rules
     };
-    answers(&rt, rt.alloc(), rules, &CONTENDERS)
+    check_table(&rt, rt.alloc(), rules, &CONTENDERS)
 }

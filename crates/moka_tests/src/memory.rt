@@ -5,8 +5,8 @@
 //! just after the calls that do not. So it fails at some N for lack of the first of these, and at N
 //! + 1 for lack of the second.
 use crate::subject::{
-    Answer, CacheRows, Call, Row, Rules, UNLIMITED, answers, answers_between_requests,
-    answers_patiently,
+    CacheRows, Call, Reply, Row, Rules, UNLIMITED, check_between_requests, check_patiently,
+    check_table,
 };
 use crate::values::Value;
 use moka_base::notification::RemovalCause;
@@ -16,45 +16,45 @@ use std::test::Fail;
 /// An entry is removed in each way, and its notice is taken. What is kept is counted after each
 /// call of a table; here it is nothing in the end.
 const ALL_LEAVE: [Row; 19] = [
-    (Call::Insert(1, "replaced"), 0, Answer::Done),
-    (Call::Insert(1, "removed"), 0, Answer::Done),
-    (Call::Get(1), 0, Answer::Found("removed")),
-    (Call::Invalidate(1), 0, Answer::Done),
-    (Call::Insert(2, "for size"), 0, Answer::Done),
-    (Call::RunPendingTasks, 0, Answer::Done),
-    (Call::Get(2), 0, Answer::Found("for size")),
-    (Call::Insert(3, "expired"), 0, Answer::Done),
-    (Call::RunPendingTasks, 0, Answer::Done),
-    (Call::Insert(4, "expired"), 0, Answer::Done),
-    (Call::RunPendingTasks, 10_000_000_000, Answer::Done),
+    (Call::Insert(1, "replaced"), 0, Reply::Done),
+    (Call::Insert(1, "removed"), 0, Reply::Done),
+    (Call::Get(1), 0, Reply::Found("removed")),
+    (Call::Invalidate(1), 0, Reply::Done),
+    (Call::Insert(2, "for size"), 0, Reply::Done),
+    (Call::RunPendingTasks, 0, Reply::Done),
+    (Call::Get(2), 0, Reply::Found("for size")),
+    (Call::Insert(3, "expired"), 0, Reply::Done),
+    (Call::RunPendingTasks, 0, Reply::Done),
+    (Call::Insert(4, "expired"), 0, Reply::Done),
+    (Call::RunPendingTasks, 10_000_000_000, Reply::Done),
     (
         Call::TakeNotice,
         0,
-        Answer::Noticed(1, "replaced", RemovalCause::Replaced),
+        Reply::Noticed(1, "replaced", RemovalCause::Replaced),
     ),
     (
         Call::TakeNotice,
         0,
-        Answer::Noticed(1, "removed", RemovalCause::Explicit),
+        Reply::Noticed(1, "removed", RemovalCause::Explicit),
     ),
     (
         Call::TakeNotice,
         0,
-        Answer::Noticed(2, "for size", RemovalCause::Size),
+        Reply::Noticed(2, "for size", RemovalCause::Size),
     ),
     (
         Call::TakeNotice,
         0,
-        Answer::Noticed(3, "expired", RemovalCause::Expired),
+        Reply::Noticed(3, "expired", RemovalCause::Expired),
     ),
     (
         Call::TakeNotice,
         0,
-        Answer::Noticed(4, "expired", RemovalCause::Expired),
+        Reply::Noticed(4, "expired", RemovalCause::Expired),
     ),
-    (Call::TakeNotice, 0, Answer::NoNotice),
-    (Call::EntryCount, 0, Answer::Counted(0)),
-    (Call::NoticeCount, 0, Answer::Counted(0)),
+    (Call::TakeNotice, 0, Reply::NoNotice),
+    (Call::EntryCount, 0, Reply::Counted(0)),
+    (Call::NoticeCount, 0, Reply::Counted(0)),
 ];
 
 /// Nothing is kept of an entry that was removed and whose notice was taken.
@@ -65,64 +65,64 @@ fn keeps_nothing_that_left(rt: HostRuntime) -> Result<(), Fail> {
         time_to_live: Some(10),
         ..UNLIMITED
     };
-    answers(&rt, rt.alloc(), rules, &ALL_LEAVE)
+    check_table(&rt, rt.alloc(), rules, &ALL_LEAVE)
 }
 
 const BEFORE: [Row; 6] = [
-    (Call::Insert(1, "one"), 0, Answer::Done),
-    (Call::Insert(2, "two"), 0, Answer::Done),
-    (Call::RunPendingTasks, 0, Answer::Done),
-    (Call::Insert(3, "three"), 5_000_000_000, Answer::Done),
-    (Call::Insert(4, "four"), 5_000_000_000, Answer::Done),
-    (Call::Insert(1, "again"), 5_000_000_000, Answer::Done),
+    (Call::Insert(1, "one"), 0, Reply::Done),
+    (Call::Insert(2, "two"), 0, Reply::Done),
+    (Call::RunPendingTasks, 0, Reply::Done),
+    (Call::Insert(3, "three"), 5_000_000_000, Reply::Done),
+    (Call::Insert(4, "four"), 5_000_000_000, Reply::Done),
+    (Call::Insert(1, "again"), 5_000_000_000, Reply::Done),
 ];
 
 /// Of the resident entries 2 was used first, so it is evicted for 3, and then 1 for 4.
 const WITHOUT_MEMORY: [Row; 24] = [
-    (Call::Get(3), 5_000_000_000, Answer::Found("three")),
-    (Call::Get(5), 5_000_000_000, Answer::Absent),
-    (Call::ContainsKey(1), 5_000_000_000, Answer::Contains(true)),
-    (Call::ContainsKey(5), 5_000_000_000, Answer::Contains(false)),
-    (Call::EntryCount, 0, Answer::Counted(4)),
-    (Call::WeightedSize, 0, Answer::Counted(4)),
-    (Call::NoticeCount, 0, Answer::Counted(1)),
-    (Call::Invalidate(5), 0, Answer::Done),
-    (Call::RunPendingTasks, 5_000_000_000, Answer::Done),
-    (Call::EntryCount, 0, Answer::Counted(2)),
-    (Call::WeightedSize, 0, Answer::Counted(2)),
-    (Call::NoticeCount, 0, Answer::Counted(3)),
+    (Call::Get(3), 5_000_000_000, Reply::Found("three")),
+    (Call::Get(5), 5_000_000_000, Reply::Absent),
+    (Call::ContainsKey(1), 5_000_000_000, Reply::Contains(true)),
+    (Call::ContainsKey(5), 5_000_000_000, Reply::Contains(false)),
+    (Call::EntryCount, 0, Reply::Counted(4)),
+    (Call::WeightedSize, 0, Reply::Counted(4)),
+    (Call::NoticeCount, 0, Reply::Counted(1)),
+    (Call::Invalidate(5), 0, Reply::Done),
+    (Call::RunPendingTasks, 5_000_000_000, Reply::Done),
+    (Call::EntryCount, 0, Reply::Counted(2)),
+    (Call::WeightedSize, 0, Reply::Counted(2)),
+    (Call::NoticeCount, 0, Reply::Counted(3)),
     (
         Call::TakeNotice,
         0,
-        Answer::Noticed(1, "one", RemovalCause::Replaced),
+        Reply::Noticed(1, "one", RemovalCause::Replaced),
     ),
     (
         Call::TakeNotice,
         0,
-        Answer::Noticed(2, "two", RemovalCause::Size),
+        Reply::Noticed(2, "two", RemovalCause::Size),
     ),
     (
         Call::TakeNotice,
         0,
-        Answer::Noticed(1, "again", RemovalCause::Size),
+        Reply::Noticed(1, "again", RemovalCause::Size),
     ),
-    (Call::TakeNotice, 0, Answer::NoNotice),
-    (Call::Invalidate(3), 0, Answer::Done),
-    (Call::RunPendingTasks, 15_000_000_000, Answer::Done),
-    (Call::EntryCount, 0, Answer::Counted(0)),
-    (Call::Get(1), 0, Answer::Absent),
+    (Call::TakeNotice, 0, Reply::NoNotice),
+    (Call::Invalidate(3), 0, Reply::Done),
+    (Call::RunPendingTasks, 15_000_000_000, Reply::Done),
+    (Call::EntryCount, 0, Reply::Counted(0)),
+    (Call::Get(1), 0, Reply::Absent),
     (
         Call::TakeNotice,
         0,
-        Answer::Noticed(3, "three", RemovalCause::Explicit),
+        Reply::Noticed(3, "three", RemovalCause::Explicit),
     ),
     (
         Call::TakeNotice,
         0,
-        Answer::Noticed(4, "four", RemovalCause::Expired),
+        Reply::Noticed(4, "four", RemovalCause::Expired),
     ),
-    (Call::TakeNotice, 0, Answer::NoNotice),
-    (Call::NoticeCount, 0, Answer::Counted(0)),
+    (Call::TakeNotice, 0, Reply::NoNotice),
+    (Call::NoticeCount, 0, Reply::Counted(0)),
 ];
 
 /// Calls other than inserts do not allocate, beyond clones of values.
@@ -133,7 +133,7 @@ fn takes_no_memory_but_for_writes(rt: HostRuntime) -> Result<(), Fail> {
         time_to_live: Some(10),
         ..UNLIMITED
     };
-    answers_between_requests::<CacheRows<u64, Value>>(
+    check_between_requests::<CacheRows<u64, Value>>(
         &rt,
         rt.alloc(),
         rules,
@@ -144,25 +144,25 @@ fn takes_no_memory_but_for_writes(rt: HostRuntime) -> Result<(), Fail> {
 
 /// Key 3 was looked up once. Key 4 was not, and neither were the resident keys.
 const BY_FREQUENCY: [Row; 7] = [
-    (Call::Get(3), 5_000_000_000, Answer::Found("three")),
-    (Call::RunPendingTasks, 5_000_000_000, Answer::Done),
+    (Call::Get(3), 5_000_000_000, Reply::Found("three")),
+    (Call::RunPendingTasks, 5_000_000_000, Reply::Done),
     (
         Call::TakeNotice,
         0,
-        Answer::Noticed(1, "one", RemovalCause::Replaced),
+        Reply::Noticed(1, "one", RemovalCause::Replaced),
     ),
     (
         Call::TakeNotice,
         0,
-        Answer::Noticed(2, "two", RemovalCause::Size),
+        Reply::Noticed(2, "two", RemovalCause::Size),
     ),
     (
         Call::TakeNotice,
         0,
-        Answer::Noticed(4, "four", RemovalCause::Size),
+        Reply::Noticed(4, "four", RemovalCause::Size),
     ),
-    (Call::TakeNotice, 0, Answer::NoNotice),
-    (Call::EntryCount, 0, Answer::Counted(2)),
+    (Call::TakeNotice, 0, Reply::NoNotice),
+    (Call::EntryCount, 0, Reply::Counted(2)),
 ];
 
 /// Admission by frequency does not allocate.
@@ -173,24 +173,18 @@ fn takes_no_memory_to_judge_by_frequency(rt: HostRuntime) -> Result<(), Fail> {
         is_tiny_lfu: true,
         ..UNLIMITED
     };
-    answers_between_requests::<CacheRows<u64, Value>>(
-        &rt,
-        rt.alloc(),
-        rules,
-        &BEFORE,
-        &BY_FREQUENCY,
-    )
+    check_between_requests::<CacheRows<u64, Value>>(&rt, rt.alloc(), rules, &BEFORE, &BY_FREQUENCY)
 }
 
 const AT_A_CAPACITY_OF_0: [Row; 8] = [
-    (Call::Insert(1, "one"), 0, Answer::Done),
-    (Call::Insert(2, "two"), 0, Answer::Done),
-    (Call::Get(1), 0, Answer::Absent),
-    (Call::ContainsKey(1), 0, Answer::Contains(false)),
-    (Call::Invalidate(1), 0, Answer::Done),
-    (Call::RunPendingTasks, 0, Answer::Done),
-    (Call::WeightedSize, 0, Answer::Counted(0)),
-    (Call::TakeNotice, 0, Answer::NoNotice),
+    (Call::Insert(1, "one"), 0, Reply::Done),
+    (Call::Insert(2, "two"), 0, Reply::Done),
+    (Call::Get(1), 0, Reply::Absent),
+    (Call::ContainsKey(1), 0, Reply::Contains(false)),
+    (Call::Invalidate(1), 0, Reply::Done),
+    (Call::RunPendingTasks, 0, Reply::Done),
+    (Call::WeightedSize, 0, Reply::Counted(0)),
+    (Call::TakeNotice, 0, Reply::NoNotice),
 ];
 
 /// An insert at a capacity of 0 does not allocate.
@@ -200,7 +194,7 @@ fn takes_no_memory_to_write_at_a_capacity_of_0(rt: HostRuntime) -> Result<(), Fa
         max_capacity: Some(0),
         ..UNLIMITED
     };
-    answers_between_requests::<CacheRows<u64, Value>>(
+    check_between_requests::<CacheRows<u64, Value>>(
         &rt,
         rt.alloc(),
         rules,
@@ -210,18 +204,18 @@ fn takes_no_memory_to_write_at_a_capacity_of_0(rt: HostRuntime) -> Result<(), Fa
 }
 
 const OPENED: [Row; 8] = [
-    (Call::EntryCount, 0, Answer::Counted(0)),
-    (Call::Insert(1, "one"), 0, Answer::Done),
-    (Call::Insert(2, "two"), 0, Answer::Done),
-    (Call::RunPendingTasks, 0, Answer::Done),
-    (Call::Get(1), 0, Answer::Absent),
-    (Call::Get(2), 0, Answer::Found("two")),
+    (Call::EntryCount, 0, Reply::Counted(0)),
+    (Call::Insert(1, "one"), 0, Reply::Done),
+    (Call::Insert(2, "two"), 0, Reply::Done),
+    (Call::RunPendingTasks, 0, Reply::Done),
+    (Call::Get(1), 0, Reply::Absent),
+    (Call::Get(2), 0, Reply::Found("two")),
     (
         Call::TakeNotice,
         0,
-        Answer::Noticed(1, "one", RemovalCause::Size),
+        Reply::Noticed(1, "one", RemovalCause::Size),
     ),
-    (Call::TakeNotice, 0, Answer::NoNotice),
+    (Call::TakeNotice, 0, Reply::NoNotice),
 ];
 
 /// Opening with an initial capacity fails only with `OutOfMemory`; a second attempt then works.
@@ -234,6 +228,6 @@ fn opens_with_room_from_the_start(rt: HostRuntime) -> Result<(), Fail> {
         may_expire: true,
         ..UNLIMITED
     };
-    answers_patiently::<CacheRows<u64, Value>>(&rt, rt.alloc(), rules, &OPENED)?;
-    answers_patiently::<ListRows<u64, Value>>(&rt, rt.alloc(), rules, &OPENED)
+    check_patiently::<CacheRows<u64, Value>>(&rt, rt.alloc(), rules, &OPENED)?;
+    check_patiently::<ListRows<u64, Value>>(&rt, rt.alloc(), rules, &OPENED)
 }

@@ -1,7 +1,7 @@
 //! `or_insert` if an allocation or a clone fails.
 use crate::keys::ByNumber;
-use crate::subject::{CacheRows, UNLIMITED, opened, shared};
-use crate::values::{Types, Value, Watch, plain};
+use crate::subject::{CacheRows, UNLIMITED, open_cache, share};
+use crate::values::{Types, Value, Watch, plain_value};
 use moka_base::common::entry::Entry;
 use moka_base::policy::Refused;
 use moka_state::or_insert::OrInsertRefused;
@@ -19,52 +19,56 @@ fn sizes(cache: &Cache) -> (u64, usize) {
 }
 
 /// The text of the returned entry, and whether the entry is fresh.
-type Answered = (&'static str, bool);
+type Reply = (&'static str, bool);
 
 /// Calls `or_insert` and returns its result. A failed call changed nothing, handed back its value,
 /// and is repeated.
-fn or_inserted(rt: &impl Abort, cache: &mut Cache, key: &Arc<u64>, value: Value) -> Answered {
+fn call_or_insert(rt: &impl Abort, cache: &mut Cache, key: &Arc<u64>, value: Value) -> Reply {
     let before = sizes(cache);
     let text = value.given.text;
     match cache.or_insert(key, value, 0) {
-        Ok(entry) => answered(&entry),
+        Ok(entry) => reply_of(&entry),
         Err(refused) => {
             assert_eq!(rt; sizes(cache), before);
-            let value = handed_back(rt, refused, text);
-            or_inserted_again(rt, cache, key, value)
+            let value = value_handed_back(rt, refused, text);
+            call_or_insert_again(rt, cache, key, value)
         }
     }
 }
 
-fn answered(entry: &Entry<u64, Value>) -> Answered {
+fn reply_of(entry: &Entry<u64, Value>) -> Reply {
     (entry.value().given.text, entry.is_fresh())
 }
 
 /// Returns the value that a failed call handed back. Checks that it failed with `OutOfMemory`.
-fn handed_back(rt: &impl Abort, refused: OrInsertRefused<Value>, text: &'static str) -> Value {
+fn value_handed_back(
+    rt: &impl Abort,
+    refused: OrInsertRefused<Value>,
+    text: &'static str,
+) -> Value {
     let OrInsertRefused { value, cause } = refused;
     assert_eq!(rt; (cause, value.given.text), (Refused::OutOfMemory, text));
     value
 }
 
-fn or_inserted_again(rt: &impl Abort, cache: &mut Cache, key: &Arc<u64>, value: Value) -> Answered {
+fn call_or_insert_again(rt: &impl Abort, cache: &mut Cache, key: &Arc<u64>, value: Value) -> Reply {
     match cache.or_insert(key, value, 0) {
-        Ok(entry) => answered(&entry),
+        Ok(entry) => reply_of(&entry),
         Err(_) => panic!(rt; "it is refused once more"),
     }
 }
 
 /// Checks the result of an `or_insert` of this text.
-fn answers(
+fn check_reply(
     rt: &impl Abort,
     cache: &mut Cache,
     watch: &Arc<Watch>,
     key: &Arc<u64>,
     text: &'static str,
-    expected: Answered,
+    expected: Reply,
 ) -> Result<(), Fail> {
-    let value = Value::new(plain(text), watch)?;
-    assert_eq!(rt; or_inserted(rt, cache, key, value), expected);
+    let value = Value::new(plain_value(text), watch)?;
+    assert_eq!(rt; call_or_insert(rt, cache, key, value), expected);
     Ok(())
 }
 
@@ -76,9 +80,9 @@ fn writes_one(
     watch: &Arc<Watch>,
     number: u64,
 ) -> Result<(), Fail> {
-    let key = shared(alloc, number)?;
-    answers(rt, cache, watch, &key, "one", ("one", true))?;
-    answers(rt, cache, watch, &key, "two", ("one", false))
+    let key = share(alloc, number)?;
+    check_reply(rt, cache, watch, &key, "one", ("one", true))?;
+    check_reply(rt, cache, watch, &key, "two", ("one", false))
 }
 
 fn writes_all(
@@ -97,7 +101,7 @@ fn writes_all(
 /// `or_insert` stores a value once, also if any one allocation fails.
 #[test]
 fn answers_where_memory_is_refused(rt: HostRuntime) -> Result<(), Fail> {
-    let watch = shared(rt.alloc(), Watch::new())?;
-    let mut cache = opened(rt.alloc(), UNLIMITED, true, &watch)?;
+    let watch = share(rt.alloc(), Watch::new())?;
+    let mut cache = open_cache(rt.alloc(), UNLIMITED, true, &watch)?;
     writes_all(&rt, rt.alloc(), &mut cache, &watch)
 }

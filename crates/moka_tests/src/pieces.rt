@@ -58,7 +58,7 @@ fn says_why_a_value_left(rt: &impl Abort, alloc: Global) -> Result<(), Fail> {
 }
 
 /// Checks the weight of a value under the key 3.
-fn weighed<W: Weigher<u64, u64>>(rt: &impl Abort, weigher: &W, expected: u32)
+fn check_weight<W: Weigher<u64, u64>>(rt: &impl Abort, weigher: &W, expected: u32)
     requires { (weight : _) × W.weighs weigher.now weight }
 {
     assert_eq!(rt; weigher.weigh(&3, &10), expected);
@@ -68,13 +68,13 @@ fn weighed<W: Weigher<u64, u64>>(rt: &impl Abort, weigher: &W, expected: u32)
 #[test]
 fn a_closure_weighs(rt: HostRuntime) -> Result<(), Fail> {
     let weigher = WeighBy::new(|key: &u64, _value: &u64| if *key == 3 { 2 } else { 1 });
-    weighed(&rt, &weigher, 2);
-    weighed(&rt, &NoWeigher, 1);
+    check_weight(&rt, &weigher, 2);
+    check_weight(&rt, &NoWeigher, 1);
     Ok(())
 }
 
 /// Checks which of the keys 3 and 4 a predicate holds of.
-fn tested<P: Predicate<u64, u64>>(rt: &impl Abort, predicate: &P, expected: [bool; 2])
+fn check_predicate<P: Predicate<u64, u64>>(rt: &impl Abort, predicate: &P, expected: [bool; 2])
     requires { (test : _) × P.tests predicate.now test }
 {
     assert_eq!(rt; predicate.holds(&3, &0), expected[0]);
@@ -84,7 +84,7 @@ fn tested<P: Predicate<u64, u64>>(rt: &impl Abort, predicate: &P, expected: [boo
 /// `NoPredicate` holds of nothing.
 #[test]
 fn no_predicate_holds_of_nothing(rt: HostRuntime) -> Result<(), Fail> {
-    tested(&rt, &NoPredicate, [false, false]);
+    check_predicate(&rt, &NoPredicate, [false, false]);
     Ok(())
 }
 
@@ -105,7 +105,11 @@ fn tells_evictions(rt: HostRuntime) -> Result<(), Fail> {
 
 /// Checks the lifetimes that an expiry gives after a creation, an access and an update. The last
 /// two have 3 seconds left.
-fn lived<E: Expiry<u64, u64>>(rt: &impl Abort, expiry: &E, expected: [Option<Duration>; 3])
+fn check_lifetimes<E: Expiry<u64, u64>>(
+    rt: &impl Abort,
+    expiry: &E,
+    expected: [Option<Duration>; 3],
+)
     requires { (lives : _) × E.gives expiry.now lives }
 {
     let rest = Some(Duration::from_secs(3));
@@ -123,7 +127,7 @@ fn closures_give_lives(rt: HostRuntime) -> Result<(), Fail> {
         |_key: &u64, _value: &u64, _at: u64, rest: Option<Duration>, _written_at: u64| rest,
         |_key: &u64, _value: &u64, _at: u64, _rest: Option<Duration>| None,
     );
-    lived(
+    check_lifetimes(
         &rt,
         &expiry,
         [Some(life), Some(Duration::from_secs(3)), None],
@@ -135,12 +139,12 @@ fn closures_give_lives(rt: HostRuntime) -> Result<(), Fail> {
 #[test]
 fn without_an_expiry_the_rest_stays(rt: HostRuntime) -> Result<(), Fail> {
     let rest = Some(Duration::from_secs(3));
-    lived(&rt, &NoExpiry, [None, rest, rest]);
+    check_lifetimes(&rt, &NoExpiry, [None, rest, rest]);
     Ok(())
 }
 
 /// Creates an empty frequency source. Retries once if an allocation fails.
-fn opened<F: FrequencySource>(rt: &impl Abort, alloc: Global) -> Result<F, Refused> {
+fn open_source<F: FrequencySource>(rt: &impl Abort, alloc: Global) -> Result<F, Refused> {
     match F::opening(alloc) {
         Ok(source) => Ok(source),
         Err(refused) => {
@@ -157,7 +161,7 @@ fn estimates<F: FrequencySource>(
     notes: &[(u64, u64)],
     expected: &[(u64, u8)],
 ) -> Result<(), Fail> {
-    let mut source: F = opened(rt, alloc)?;
+    let mut source: F = open_source(rt, alloc)?;
     note_all(&mut source, notes);
     estimates_all(rt, &source, notes, expected);
     Ok(())

@@ -10,7 +10,7 @@ ghost use Rattle.std.specs.Prelude.{◌≡◌, ◌≢◌, false, Some, None, IsS
 ghost use Rattle.std.specs.List.{AllByRecursion};
 ghost use Rattle.moka_state.specs.Step.{StepKeeps};
 
-use crate::by_step::{all_said, is_step};
+use crate::by_step::{append_replies, is_step};
 use crate::keys::{ByNumber, Collides, Key};
 use crate::values::{Counts, EitherText, Given, Types, Value, Watch};
 use moka_base::notification::RemovalCause;
@@ -121,7 +121,7 @@ pub(crate) enum Call {
 
 /// The result of a call.
 #[derive(Clone, Copy, Debug, PartialEq)]
-pub(crate) enum Answer {
+pub(crate) enum Reply {
     Found(&'static str),
     Absent,
     Contains(bool),
@@ -143,7 +143,7 @@ pub(crate) enum Answer {
 }
 
 /// A row of a table: a call, its moment in nanoseconds, and its expected result.
-pub(crate) type Row = (Call, u64, Answer);
+pub(crate) type Row = (Call, u64, Reply);
 
 /// How the calls of a table are made.
 #[derive(Clone, Copy)]
@@ -171,7 +171,7 @@ pub(crate) struct Subject<K: Key, H: BuildHasher + Drop, R: RowStore<K, Value>> 
 }
 
 /// Wraps a value in an `Arc`. Retries once if the allocation fails, as each helper below does.
-pub(crate) fn shared<T: Drop>(alloc: Global, value: T) -> Result<Arc<T>, AllocError> {
+pub(crate) fn share<T: Drop>(alloc: Global, value: T) -> Result<Arc<T>, AllocError> {
     match Arc::new(alloc, value) {
         Ok(value) => Ok(value),
         Err(failed) => match Arc::new(alloc, failed.value) {
@@ -225,12 +225,12 @@ pub(crate) fn settings<K: Key, H: BuildHasher + Default + Drop>(
         closures: rules.closures,
         flush_limit: rules.limit(),
         first_number: rules.first_number,
-        hasher: shared(alloc, H::default())?,
+        hasher: share(alloc, H::default())?,
     })
 }
 
 /// Creates a cache with these rules. Retries once if an allocation fails and `is_patient` is set.
-pub(crate) fn opened<K: Key, H: BuildHasher + Default + Drop, R: RowStore<K, Value>>(
+pub(crate) fn open_cache<K: Key, H: BuildHasher + Default + Drop, R: RowStore<K, Value>>(
     alloc: Global,
     rules: Rules,
     is_patient: bool,
@@ -248,8 +248,8 @@ pub(crate) fn opened<K: Key, H: BuildHasher + Default + Drop, R: RowStore<K, Val
 impl<K: Key, H: BuildHasher + Default + Drop, R: RowStore<K, Value>> Subject<K, H, R> {
     /// Creates a cache and room for the keys of so many rows.
     fn new(alloc: Global, rules: Rules, is_patient: bool, rows: usize) -> Result<Self, Fail> {
-        let watch = shared(alloc, Watch::new())?;
-        let cache = opened(alloc, rules, is_patient, &watch)?;
+        let watch = share(alloc, Watch::new())?;
+        let cache = open_cache(alloc, rules, is_patient, &watch)?;
         let watchers = Arc::strong_count(&watch);
         let keys = room(alloc, rows.saturating_mul(2))?;
         Ok(Subject {
@@ -275,7 +275,7 @@ impl<K: Key, H: BuildHasher + Default + Drop, R: RowStore<K, Value>> Subject<K, 
 
     /// Runs a row by a call or a step, and checks its result.
     fn row(&mut self, rt: &impl Abort, way: Way, row: Row, place: usize) -> Result<(), Fail> {
-        let found = self.answer(rt, way, row)?;
+        let found = self.reply(rt, way, row)?;
         fits(rt, found, row.2, place);
         self.holds(rt);
         Ok(())
@@ -283,15 +283,15 @@ impl<K: Key, H: BuildHasher + Default + Drop, R: RowStore<K, Value>> Subject<K, 
 
     /// Returns the result of a row. Repeats its call if it failed with `OutOfMemory` and one
     /// failure is allowed.
-    fn answer(&mut self, rt: &impl Abort, way: Way, row: Row) -> Result<Answer, Fail> {
+    fn reply(&mut self, rt: &impl Abort, way: Way, row: Row) -> Result<Reply, Fail> {
         let (call, now, expected) = row;
         let before = (self.sizes(), self.watch.counts());
-        let found = self.by(rt, way, call, now)?;
+        let found = self.by_way(rt, way, call, now)?;
         if self.is_done(rt, found, expected, before) {
             return Ok(found);
         }
         self.watch.set_back(before.1);
-        self.by(rt, way, call, now)
+        self.by_way(rt, way, call, now)
     }
 
     /// Returns whether the result is final, so that its call is not repeated. Checks that a failed
@@ -299,18 +299,18 @@ impl<K: Key, H: BuildHasher + Default + Drop, R: RowStore<K, Value>> Subject<K, 
     fn is_done(
         &self,
         rt: &impl Abort,
-        found: Answer,
-        expected: Answer,
+        found: Reply,
+        expected: Reply,
         before: ([u64; 3], Counts),
     ) -> bool {
-        let Answer::Refused(refused) = found else {
+        let Reply::Refused(refused) = found else {
             return true;
         };
         self.is_unchanged(rt, before);
         !self.is_patient || refused != Refused::OutOfMemory || found == expected
     }
 
-    fn by(&mut self, rt: &impl Abort, way: Way, call: Call, now: u64) -> Result<Answer, Fail> {
+    fn by_way(&mut self, rt: &impl Abort, way: Way, call: Call, now: u64) -> Result<Reply, Fail> {
         match way {
             Way::Calls => self.by_call(rt, call, now),
             Way::Steps | Way::Runs => self.by_step(rt, call, now),
@@ -322,7 +322,7 @@ impl<K: Key, H: BuildHasher + Default + Drop, R: RowStore<K, Value>> Subject<K, 
         let (sizes, counts) = before;
         assert!(rt; self.sizes() == sizes, "the sizes after a refusal");
         assert!(rt;
-            asked_no_more(counts, self.watch.counts()),
+            is_expiry_uncalled(counts, self.watch.counts()),
             "the expiry before a refusal"
         );
     }
@@ -345,24 +345,24 @@ impl<K: Key, H: BuildHasher + Default + Drop, R: RowStore<K, Value>> Subject<K, 
     }
 
     /// Makes one run of rows, all of them steps, and returns the results.
-    fn answers(&mut self, rows: &[Row]) -> Result<Result<Vec<Answer>, Refused>, AllocError> {
+    fn replies(&mut self, rows: &[Row]) -> Result<Result<Vec<Reply>, Refused>, AllocError> {
         let steps = self.steps(rows)?;
-        let answers = room(self.alloc, rows.len())?;
+        let found = room(self.alloc, rows.len())?;
         match self.cache.run(steps) {
-            Ok(replies) => Ok(Ok(all_said(answers, replies)?)),
+            Ok(replies) => Ok(Ok(append_replies(found, replies)?)),
             Err(refused) => Ok(Err(refused)),
         }
     }
 
     /// Does the same, and repeats the run if it failed and one failure is allowed.
-    fn answers_patiently(&mut self, rt: &impl Abort, rows: &[Row]) -> Result<Vec<Answer>, Fail> {
+    fn replies_patiently(&mut self, rt: &impl Abort, rows: &[Row]) -> Result<Vec<Reply>, Fail> {
         let before = (self.sizes(), self.watch.counts());
-        match self.answers(rows)? {
-            Ok(answers) => Ok(answers),
+        match self.replies(rows)? {
+            Ok(replies) => Ok(replies),
             Err(refused) if !self.is_patient => Err(Fail::from(refused)),
             Err(_) => {
                 self.is_unchanged(rt, before);
-                Ok(self.answers(rows)??)
+                Ok(self.replies(rows)??)
             }
         }
     }
@@ -370,8 +370,8 @@ impl<K: Key, H: BuildHasher + Default + Drop, R: RowStore<K, Value>> Subject<K, 
     /// Makes one run of rows, all of them steps. Returns false if a step failed with an allowed
     /// `OutOfMemory`.
     fn run(&mut self, rt: &impl Abort, rows: &[Row], place: usize) -> Result<bool, Fail> {
-        let answers = self.answers_patiently(rt, rows)?;
-        if !fit(rt, answers.as_slice(), rows, self.is_patient, place) {
+        let replies = self.replies_patiently(rt, rows)?;
+        if !fit(rt, replies.as_slice(), rows, self.is_patient, place) {
             return Ok(false);
         }
         self.holds(rt);
@@ -417,7 +417,7 @@ impl<K: Key, H: BuildHasher + Default + Drop, R: RowStore<K, Value>> Subject<K, 
             }
             Way::Calls | Way::Steps => self.rows(rt, way, rows)?,
         }
-        self.keeps_no_more_keys(rt, way);
+        self.has_no_more_keys(rt, way);
         Ok(true)
     }
 
@@ -431,10 +431,10 @@ impl<K: Key, H: BuildHasher + Default + Drop, R: RowStore<K, Value>> Subject<K, 
 
     /// Checks that the keys of steps still alive are those of stored entries and queued notices.
     /// Calls make none.
-    fn keeps_no_more_keys(&self, rt: &impl Abort, way: Way) {
+    fn has_no_more_keys(&self, rt: &impl Abort, way: Way) {
         let is_by_calls = matches!(way, Way::Calls);
         assert!(rt;
-            is_by_calls || self.keys_alive() == self.values_kept(),
+            is_by_calls || self.keys_alive() == self.values_stored(),
             "keys that are kept alive"
         );
     }
@@ -449,7 +449,7 @@ impl<K: Key, H: BuildHasher + Default + Drop, R: RowStore<K, Value>> Subject<K, 
     }
 
     /// Returns how many values are stored or queued in notices.
-    fn values_kept(&self) -> u64 {
+    fn values_stored(&self) -> u64 {
         let [entries, notices, _] = self.sizes();
         entries.wrapping_add(notices)
     }
@@ -457,7 +457,7 @@ impl<K: Key, H: BuildHasher + Default + Drop, R: RowStore<K, Value>> Subject<K, 
     /// Checks what holds after each call: the number of values alive, and the capacity.
     fn holds(&self, rt: &impl Abort) {
         let values = Arc::strong_count(&self.watch).wrapping_sub(self.watchers) as u64;
-        assert_eq!(rt; values, self.values_kept(), "values that are kept alive");
+        assert_eq!(rt; values, self.values_stored(), "values that are kept alive");
         assert!(rt; self.is_within_its_capacity(), "keys that are stored");
     }
 
@@ -514,14 +514,14 @@ impl<K: Key, H: BuildHasher + Default + Drop, R: RowStore<K, Value>> Subject<K, 
     }
 
     /// Runs rows by calls and returns their results.
-    fn all_answers(&mut self, rt: &impl Abort, rows: &[Row]) -> Result<Vec<Answer>, Fail> {
-        let mut answers = room(self.alloc, rows.len())?;
+    fn all_replies(&mut self, rt: &impl Abort, rows: &[Row]) -> Result<Vec<Reply>, Fail> {
+        let mut replies = room(self.alloc, rows.len())?;
         for row in rows {
-            let found = self.answer(rt, Way::Calls, *row)?;
+            let found = self.reply(rt, Way::Calls, *row)?;
             self.holds(rt);
-            answers.push(found)?;
+            replies.push(found)?;
         }
-        Ok(answers)
+        Ok(replies)
     }
 }
 
@@ -531,17 +531,17 @@ fn takes_memory(rt: &impl Abort, alloc: Global, otherwise: &str) {
 }
 
 /// Returns whether the expiry was not called between two counts.
-fn asked_no_more(before: Counts, now: Counts) -> bool {
+fn is_expiry_uncalled(before: Counts, now: Counts) -> bool {
     let [_, created, looked_at, updated, _] = before;
     let [_, created_now, looked_at_now, updated_now, _] = now;
     created_now == created && looked_at_now == looked_at && updated_now == updated
 }
 
 /// Checks a result against the expected one.
-fn fits(rt: &impl Abort, found: Answer, expected: Answer, place: usize) {
-    if expected == Answer::Accepted {
+fn fits(rt: &impl Abort, found: Reply, expected: Reply, place: usize) {
+    if expected == Reply::Accepted {
         assert!(rt;
-            !matches!(found, Answer::Refused(_)),
+            !matches!(found, Reply::Refused(_)),
             "row {place}: {found:?}"
         );
     } else {
@@ -551,10 +551,10 @@ fn fits(rt: &impl Abort, found: Answer, expected: Answer, place: usize) {
 
 /// Checks results against the expected ones. Returns false if a step failed with an allowed
 /// `OutOfMemory`.
-fn fit(rt: &impl Abort, answers: &[Answer], rows: &[Row], is_patient: bool, place: usize) -> bool {
-    assert!(rt; answers.len() == rows.len(), "as many replies as steps");
-    for (found, (_, _, expected)) in answers.iter().zip(rows) {
-        if is_patient && *found == Answer::Refused(Refused::OutOfMemory) && found != expected {
+fn fit(rt: &impl Abort, replies: &[Reply], rows: &[Row], is_patient: bool, place: usize) -> bool {
+    assert!(rt; replies.len() == rows.len(), "as many replies as steps");
+    for (found, (_, _, expected)) in replies.iter().zip(rows) {
+        if is_patient && *found == Reply::Refused(Refused::OutOfMemory) && found != expected {
             return false;
         }
         fits(rt, *found, *expected, place);
@@ -563,7 +563,7 @@ fn fit(rt: &impl Abort, answers: &[Answer], rows: &[Row], is_patient: bool, plac
 }
 
 /// Runs a table once, over a row store. Returns whether it was completed.
-fn done<K: Key, H: BuildHasher + Default + Drop, R: RowStore<K, Value>>(
+fn run_table<K: Key, H: BuildHasher + Default + Drop, R: RowStore<K, Value>>(
     rt: &impl Abort,
     alloc: Global,
     rules: Rules,
@@ -577,42 +577,42 @@ fn done<K: Key, H: BuildHasher + Default + Drop, R: RowStore<K, Value>>(
 
 /// Checks a table by calls, by steps and by runs, with these keys and this hasher, over one row
 /// store.
-pub(crate) fn answers_over<K: Key, H: BuildHasher + Default + Drop, R: RowStore<K, Value>>(
+pub(crate) fn check_table_over<K: Key, H: BuildHasher + Default + Drop, R: RowStore<K, Value>>(
     rt: &impl Abort,
     alloc: Global,
     rules: Rules,
     rows: &[Row],
 ) -> Result<(), Fail> {
     for way in [Way::Calls, Way::Steps, Way::Runs] {
-        assert!(rt; done::<K, H, R>(rt, alloc, rules, false, way, rows)?);
+        assert!(rt; run_table::<K, H, R>(rt, alloc, rules, false, way, rows)?);
     }
     Ok(())
 }
 
 /// Does the same over both row stores.
-pub(crate) fn answers_by<K: Key, H: BuildHasher + Default + Drop>(
+pub(crate) fn check_table_by<K: Key, H: BuildHasher + Default + Drop>(
     rt: &impl Abort,
     alloc: Global,
     rules: Rules,
     rows: &[Row],
 ) -> Result<(), Fail> {
-    answers_over::<K, H, CacheRows<K, Value>>(rt, alloc, rules, rows)?;
-    answers_over::<K, H, ListRows<K, Value>>(rt, alloc, rules, rows)
+    check_table_over::<K, H, CacheRows<K, Value>>(rt, alloc, rules, rows)?;
+    check_table_over::<K, H, ListRows<K, Value>>(rt, alloc, rules, rows)
 }
 
 /// Checks that two row stores give the same results for a table, with these keys and this hasher.
-pub(crate) fn answered_alike<
+pub(crate) fn stores_reply_alike<
     K: Key,
     H: BuildHasher + Default + Drop,
     R: RowStore<K, Value>,
     S: RowStore<K, Value>,
 >(rt: &impl Abort, alloc: Global, rules: Rules, rows: &[Row]) -> Result<(), Fail> {
     let mut one: Subject<K, H, R> = Subject::new(alloc, rules, false, 0)?;
-    answers_as::<K, H, R, S>(rt, alloc, rules, &mut one, rows)
+    replies_as::<K, H, R, S>(rt, alloc, rules, &mut one, rows)
 }
 
 /// Runs the table in a second cache and compares the results with those of the first.
-fn answers_as<
+fn replies_as<
     K: Key,
     H: BuildHasher + Default + Drop,
     R: RowStore<K, Value>,
@@ -630,14 +630,14 @@ fn answers_as<
 
 /// Checks a table over both row stores, with number keys that are their own hashes. Also checks
 /// that both stores agree if all keys have one hash.
-pub(crate) fn answers(
+pub(crate) fn check_table(
     rt: &impl Abort,
     alloc: Global,
     rules: Rules,
     rows: &[Row],
 ) -> Result<(), Fail> {
-    answers_by::<u64, ByNumber>(rt, alloc, rules, rows)?;
-    answered_alike::<
+    check_table_by::<u64, ByNumber>(rt, alloc, rules, rows)?;
+    stores_reply_alike::<
         u64,
         BuildHasherDefault<Collides>,
         CacheRows<u64, Value>,
@@ -646,15 +646,15 @@ pub(crate) fn answers(
 }
 
 /// Checks a table over one row store while any one allocation may fail. What failed is repeated.
-pub(crate) fn answers_patiently<R: RowStore<u64, Value>>(
+pub(crate) fn check_patiently<R: RowStore<u64, Value>>(
     rt: &impl Abort,
     alloc: Global,
     rules: Rules,
     rows: &[Row],
 ) -> Result<(), Fail> {
     for way in [Way::Runs, Way::Steps, Way::Calls] {
-        if !done::<u64, ByNumber, R>(rt, alloc, rules, true, way, rows)? {
-            assert!(rt; done::<u64, ByNumber, R>(rt, alloc, rules, false, way, rows)?);
+        if !run_table::<u64, ByNumber, R>(rt, alloc, rules, true, way, rows)? {
+            assert!(rt; run_table::<u64, ByNumber, R>(rt, alloc, rules, false, way, rows)?);
         }
     }
     Ok(())
@@ -664,7 +664,7 @@ pub(crate) fn answers_patiently<R: RowStore<u64, Value>>(
 ///
 /// If the last allocation before those calls is the one that fails, the next one of all is the
 /// allocation after them, unless they allocate.
-pub(crate) fn answers_between_requests<R: RowStore<u64, Value>>(
+pub(crate) fn check_between_requests<R: RowStore<u64, Value>>(
     rt: &impl Abort,
     alloc: Global,
     rules: Rules,
@@ -677,28 +677,28 @@ pub(crate) fn answers_between_requests<R: RowStore<u64, Value>>(
 
 /// Returns the results of a table while any one allocation may fail. A failed call changed nothing
 /// and is repeated.
-fn answers_of<R: RowStore<u64, Value>>(
+fn replies_of<R: RowStore<u64, Value>>(
     rt: &impl Abort,
     alloc: Global,
     rules: Rules,
     rows: &[Row],
-) -> Result<Vec<Answer>, Fail> {
+) -> Result<Vec<Reply>, Fail> {
     let mut subject: Subject<u64, ByNumber, R> = Subject::new(alloc, rules, true, 0)?;
-    subject.all_answers(rt, rows)
+    subject.all_replies(rt, rows)
 }
 
 /// Checks that two caches over this store give the same results if an allocation fails in one.
-pub(crate) fn answers_as_its_twin<R: RowStore<u64, Value>>(
+pub(crate) fn replies_as_its_twin<R: RowStore<u64, Value>>(
     rt: &impl Abort,
     alloc: Global,
     rules: Rules,
     rows: &[Row],
 ) -> Result<(), Fail> {
-    let answers = answers_of::<R>(rt, alloc, rules, rows)?;
-    let twin = answers_of::<R>(rt, alloc, rules, rows)?;
-    for (place, answer) in answers.iter().enumerate() {
-        assert_eq!(rt; twin.get(place), Some(answer), "row {place}");
-        assert!(rt; !matches!(answer, Answer::Refused(_)), "row {place}");
+    let replies = replies_of::<R>(rt, alloc, rules, rows)?;
+    let twin = replies_of::<R>(rt, alloc, rules, rows)?;
+    for (place, reply) in replies.iter().enumerate() {
+        assert_eq!(rt; twin.get(place), Some(reply), "row {place}");
+        assert!(rt; !matches!(reply, Reply::Refused(_)), "row {place}");
     }
     Ok(())
 }

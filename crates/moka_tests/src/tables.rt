@@ -1,5 +1,5 @@
 //! Builds tables, row by row.
-use crate::subject::{Answer, Call, Row};
+use crate::subject::{Call, Reply, Row};
 use moka_base::notification::RemovalCause;
 use std::alloc::AllocError;
 use std::ops::Range;
@@ -20,7 +20,7 @@ pub(crate) fn add_writes(
     now: u64,
 ) -> Result<(), AllocError> {
     for key in keys {
-        table.push((Call::Insert(key, text), now, Answer::Done))?;
+        table.push((Call::Insert(key, text), now, Reply::Done))?;
     }
     Ok(())
 }
@@ -33,7 +33,7 @@ pub(crate) fn add_notices(
     cause: RemovalCause,
 ) -> Result<(), AllocError> {
     for key in keys {
-        table.push((Call::TakeNotice, 0, Answer::Noticed(key, text, cause)))?;
+        table.push((Call::TakeNotice, 0, Reply::Noticed(key, text, cause)))?;
     }
     Ok(())
 }

@@ -30,7 +30,7 @@ pub(crate) struct Given {
 }
 
 /// Returns a value that weighs 1 and has no lifetime of its own.
-pub(crate) const fn plain(text: &'static str) -> Given {
+pub(crate) const fn plain_value(text: &'static str) -> Given {
     Given {
         text,
         weight: 1,
@@ -41,7 +41,7 @@ pub(crate) const fn plain(text: &'static str) -> Given {
 }
 
 /// Returns a value of this weight.
-pub(crate) const fn heavy(weight: u32) -> Given {
+pub(crate) const fn heavy_value(weight: u32) -> Given {
     Given {
         text: "heavy",
         weight,
@@ -92,7 +92,7 @@ impl Watch {
     }
 
     /// Returns how often predicates were called.
-    pub(crate) fn tested(&self) -> u64 {
+    pub(crate) fn test_count(&self) -> u64 {
         self.tested.get()
     }
 

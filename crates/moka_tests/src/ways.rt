@@ -1,5 +1,5 @@
 //! Weights and lifetimes of single entries, by tables.
-use crate::subject::{Answer, Call, Row, Rules, UNLIMITED, answers, room};
+use crate::subject::{Call, Reply, Row, Rules, UNLIMITED, check_table, room};
 use crate::values::Given;
 use moka_base::notification::RemovalCause;
 use moka_base::policy::Refused;
@@ -36,18 +36,18 @@ const WEIGHTS: [Write; 7] = [
 
 fn add_write(rows: &mut Vec<Row>, write: Write) -> Result<(), AllocError> {
     let (key, weight, left, total) = write;
-    rows.push((Call::InsertHeavy(key, weight), 0, Answer::Done))?;
-    rows.push((Call::RunPendingTasks, 0, Answer::Done))?;
+    rows.push((Call::InsertHeavy(key, weight), 0, Reply::Done))?;
+    rows.push((Call::RunPendingTasks, 0, Reply::Done))?;
     add_notices_of(rows, left)?;
-    rows.push((Call::NoticeCount, 0, Answer::Counted(0)))?;
-    rows.push((Call::WeightedSize, 0, Answer::Counted(total)))?;
+    rows.push((Call::NoticeCount, 0, Reply::Counted(0)))?;
+    rows.push((Call::WeightedSize, 0, Reply::Counted(total)))?;
     Ok(())
 }
 
 /// Adds a `take_notice` for each of these keys.
 fn add_notices_of(rows: &mut Vec<Row>, left: &[(u64, RemovalCause)]) -> Result<(), AllocError> {
     for (key, cause) in left {
-        let noticed = Answer::Noticed(*key, "heavy", *cause);
+        let noticed = Reply::Noticed(*key, "heavy", *cause);
         rows.push((Call::TakeNotice, 0, noticed))?;
     }
     Ok(())
@@ -64,22 +64,22 @@ fn keeps_the_weight_within_the_capacity(rt: HostRuntime) -> Result<(), Fail> {
         max_capacity: Some(10),
         ..WEIGHED
     };
-    answers(&rt, rt.alloc(), rules, rows.as_slice())
+    check_table(&rt, rt.alloc(), rules, rows.as_slice())
 }
 
 const GREATEST_WEIGHTS: [Row; 6] = [
-    (Call::InsertHeavy(1, u32::MAX), 0, Answer::Done),
-    (Call::InsertHeavy(2, u32::MAX), 0, Answer::Done),
-    (Call::EntryCount, 0, Answer::Counted(2)),
-    (Call::WeightedSize, 0, Answer::Counted(8_589_934_590)),
-    (Call::RunPendingTasks, 0, Answer::Done),
-    (Call::NoticeCount, 0, Answer::Counted(0)),
+    (Call::InsertHeavy(1, u32::MAX), 0, Reply::Done),
+    (Call::InsertHeavy(2, u32::MAX), 0, Reply::Done),
+    (Call::EntryCount, 0, Reply::Counted(2)),
+    (Call::WeightedSize, 0, Reply::Counted(8_589_934_590)),
+    (Call::RunPendingTasks, 0, Reply::Done),
+    (Call::NoticeCount, 0, Reply::Counted(0)),
 ];
 
 /// The greatest weights add up.
 #[test]
 fn adds_the_greatest_weights(rt: HostRuntime) -> Result<(), Fail> {
-    answers(&rt, rt.alloc(), WEIGHED, &GREATEST_WEIGHTS)
+    check_table(&rt, rt.alloc(), WEIGHED, &GREATEST_WEIGHTS)
 }
 
 /// It lives 5 seconds from its write, and 3 seconds from each access.
@@ -107,22 +107,18 @@ const DOUBLED: Given = Given {
 };
 
 const OWN_LIVES: [Row; 12] = [
-    (Call::InsertGiven(1, LOOKED_AT), 0, Answer::Done),
-    (Call::InsertGiven(2, LEFT_ALONE), 0, Answer::Done),
-    (Call::Get(1), 4_000_000_000, Answer::Found("looked at")),
-    (Call::Get(2), 4_000_000_000, Answer::Found("left alone")),
-    (Call::Get(2), 5_000_000_000, Answer::Absent),
-    (Call::Get(1), 6_000_000_000, Answer::Found("looked at")),
-    (Call::Get(1), 9_000_000_000, Answer::Absent),
-    (Call::InsertGiven(3, DOUBLED), 11_000_000_000, Answer::Done),
-    (Call::Get(3), 13_000_000_000, Answer::Found("doubled")),
-    (Call::ContainsKey(3), 14_999_999_999, Answer::Contains(true)),
-    (
-        Call::ContainsKey(3),
-        15_000_000_000,
-        Answer::Contains(false),
-    ),
-    (Call::Get(3), 15_000_000_000, Answer::Absent),
+    (Call::InsertGiven(1, LOOKED_AT), 0, Reply::Done),
+    (Call::InsertGiven(2, LEFT_ALONE), 0, Reply::Done),
+    (Call::Get(1), 4_000_000_000, Reply::Found("looked at")),
+    (Call::Get(2), 4_000_000_000, Reply::Found("left alone")),
+    (Call::Get(2), 5_000_000_000, Reply::Absent),
+    (Call::Get(1), 6_000_000_000, Reply::Found("looked at")),
+    (Call::Get(1), 9_000_000_000, Reply::Absent),
+    (Call::InsertGiven(3, DOUBLED), 11_000_000_000, Reply::Done),
+    (Call::Get(3), 13_000_000_000, Reply::Found("doubled")),
+    (Call::ContainsKey(3), 14_999_999_999, Reply::Contains(true)),
+    (Call::ContainsKey(3), 15_000_000_000, Reply::Contains(false)),
+    (Call::Get(3), 15_000_000_000, Reply::Absent),
 ];
 
 /// An expiry gives single entries lifetimes of their own.
@@ -133,72 +129,68 @@ fn gives_values_lives_of_their_own(rt: HostRuntime) -> Result<(), Fail> {
         may_expire: true,
         ..UNLIMITED
     };
-    answers(&rt, rt.alloc(), rules, &OWN_LIVES)
+    check_table(&rt, rt.alloc(), rules, &OWN_LIVES)
 }
 
 /// The counts are those of the weigher; of the expiry after a creation, an access and an update;
 /// and of clones of values.
 const QUESTIONS: [Row; 38] = [
-    (Call::Asked, 0, Answer::Asked([0, 0, 0, 0, 0])),
-    (Call::Insert(1, "one"), 0, Answer::Done),
-    (Call::Asked, 0, Answer::Asked([1, 1, 0, 0, 0])),
-    (Call::Get(1), 1, Answer::Found("one")),
-    (Call::Asked, 1, Answer::Asked([1, 1, 1, 0, 1])),
-    (Call::Insert(1, "again"), 2, Answer::Done),
-    (Call::Asked, 2, Answer::Asked([2, 1, 1, 1, 1])),
+    (Call::Asked, 0, Reply::Asked([0, 0, 0, 0, 0])),
+    (Call::Insert(1, "one"), 0, Reply::Done),
+    (Call::Asked, 0, Reply::Asked([1, 1, 0, 0, 0])),
+    (Call::Get(1), 1, Reply::Found("one")),
+    (Call::Asked, 1, Reply::Asked([1, 1, 1, 0, 1])),
+    (Call::Insert(1, "again"), 2, Reply::Done),
+    (Call::Asked, 2, Reply::Asked([2, 1, 1, 1, 1])),
     // None is called by `contains_key`, nor if there is no value.
-    (Call::ContainsKey(1), 3, Answer::Contains(true)),
-    (Call::ContainsKey(2), 3, Answer::Contains(false)),
-    (Call::Get(2), 3, Answer::Absent),
-    (Call::EntryCount, 3, Answer::Counted(1)),
-    (Call::WeightedSize, 3, Answer::Counted(1)),
-    (Call::NoticeCount, 3, Answer::Counted(1)),
+    (Call::ContainsKey(1), 3, Reply::Contains(true)),
+    (Call::ContainsKey(2), 3, Reply::Contains(false)),
+    (Call::Get(2), 3, Reply::Absent),
+    (Call::EntryCount, 3, Reply::Counted(1)),
+    (Call::WeightedSize, 3, Reply::Counted(1)),
+    (Call::NoticeCount, 3, Reply::Counted(1)),
     (
         Call::TakeNotice,
         3,
-        Answer::Noticed(1, "one", RemovalCause::Replaced),
+        Reply::Noticed(1, "one", RemovalCause::Replaced),
     ),
-    (Call::Invalidate(2), 3, Answer::Done),
-    (Call::RunPendingTasks, 3, Answer::Done),
-    (Call::Asked, 3, Answer::Asked([2, 1, 1, 1, 1])),
+    (Call::Invalidate(2), 3, Reply::Done),
+    (Call::RunPendingTasks, 3, Reply::Done),
+    (Call::Asked, 3, Reply::Asked([2, 1, 1, 1, 1])),
     // Nor for an expired value.
-    (
-        Call::ContainsKey(1),
-        10_000_000_002,
-        Answer::Contains(false),
-    ),
-    (Call::Get(1), 10_000_000_002, Answer::Absent),
-    (Call::Asked, 0, Answer::Asked([2, 1, 1, 1, 1])),
+    (Call::ContainsKey(1), 10_000_000_002, Reply::Contains(false)),
+    (Call::Get(1), 10_000_000_002, Reply::Absent),
+    (Call::Asked, 0, Reply::Asked([2, 1, 1, 1, 1])),
     // An insert over an expired entry is a creation.
-    (Call::Insert(1, "anew"), 0, Answer::Done),
-    (Call::Asked, 0, Answer::Asked([3, 2, 1, 1, 1])),
+    (Call::Insert(1, "anew"), 0, Reply::Done),
+    (Call::Asked, 0, Reply::Asked([3, 2, 1, 1, 1])),
     // A lookup whose clone fails calls `Clone`, and not the expiry.
-    (Call::RefuseCopies(true), 0, Answer::Done),
-    (Call::Get(1), 0, Answer::Refused(Refused::OutOfMemory)),
-    (Call::RefuseCopies(false), 0, Answer::Done),
-    (Call::Asked, 0, Answer::Asked([3, 2, 1, 1, 2])),
+    (Call::RefuseCopies(true), 0, Reply::Done),
+    (Call::Get(1), 0, Reply::Refused(Refused::OutOfMemory)),
+    (Call::RefuseCopies(false), 0, Reply::Done),
+    (Call::Asked, 0, Reply::Asked([3, 2, 1, 1, 2])),
     // Neither removals nor admissions call any.
-    (Call::Invalidate(1), 0, Answer::Done),
-    (Call::Insert(2, "two"), 0, Answer::Done),
-    (Call::Insert(3, "three"), 0, Answer::Done),
-    (Call::RunPendingTasks, 0, Answer::Done),
-    (Call::NoticeCount, 0, Answer::Counted(3)),
-    (Call::Asked, 0, Answer::Asked([5, 4, 1, 1, 2])),
-    (Call::Get(3), 0, Answer::Found("three")),
-    (Call::Asked, 0, Answer::Asked([5, 4, 2, 1, 3])),
+    (Call::Invalidate(1), 0, Reply::Done),
+    (Call::Insert(2, "two"), 0, Reply::Done),
+    (Call::Insert(3, "three"), 0, Reply::Done),
+    (Call::RunPendingTasks, 0, Reply::Done),
+    (Call::NoticeCount, 0, Reply::Counted(3)),
+    (Call::Asked, 0, Reply::Asked([5, 4, 1, 1, 2])),
+    (Call::Get(3), 0, Reply::Found("three")),
+    (Call::Asked, 0, Reply::Asked([5, 4, 2, 1, 3])),
     // No sequence number is left: the insert fails before any is called.
     (
         Call::Insert(4, "four"),
         0,
-        Answer::Refused(Refused::NumbersUsedUp),
+        Reply::Refused(Refused::NumbersUsedUp),
     ),
     (
         Call::Insert(3, "again"),
         0,
-        Answer::Refused(Refused::NumbersUsedUp),
+        Reply::Refused(Refused::NumbersUsedUp),
     ),
-    (Call::Asked, 0, Answer::Asked([5, 4, 2, 1, 3])),
-    (Call::EntryCount, 0, Answer::Counted(1)),
+    (Call::Asked, 0, Reply::Asked([5, 4, 2, 1, 3])),
+    (Call::EntryCount, 0, Reply::Counted(1)),
 ];
 
 /// The weigher, the expiry and `Clone` are called no more often than needed.
@@ -212,16 +204,16 @@ fn asks_no_more_than_it_says(rt: HostRuntime) -> Result<(), Fail> {
         may_expire: true,
         ..UNLIMITED
     };
-    answers(&rt, rt.alloc(), rules, &QUESTIONS)
+    check_table(&rt, rt.alloc(), rules, &QUESTIONS)
 }
 
 const UNASKED: [Row; 6] = [
-    (Call::Insert(1, "one"), 0, Answer::Done),
-    (Call::InsertHeavy(1, 7), 0, Answer::Done),
-    (Call::Get(1), 0, Answer::Absent),
-    (Call::ContainsKey(1), 0, Answer::Contains(false)),
-    (Call::RunPendingTasks, 0, Answer::Done),
-    (Call::Asked, 0, Answer::Asked([0, 0, 0, 0, 0])),
+    (Call::Insert(1, "one"), 0, Reply::Done),
+    (Call::InsertHeavy(1, 7), 0, Reply::Done),
+    (Call::Get(1), 0, Reply::Absent),
+    (Call::ContainsKey(1), 0, Reply::Contains(false)),
+    (Call::RunPendingTasks, 0, Reply::Done),
+    (Call::Asked, 0, Reply::Asked([0, 0, 0, 0, 0])),
 ];
 
 /// At a capacity of 0 neither the weigher nor the expiry is called.
@@ -233,5 +225,5 @@ fn asks_nothing_at_a_capacity_of_0(rt: HostRuntime) -> Result<(), Fail> {
         may_expire: true,
         ..UNLIMITED
     };
-    answers(&rt, rt.alloc(), rules, &UNASKED)
+    check_table(&rt, rt.alloc(), rules, &UNASKED)
 }

@@ -173,11 +173,11 @@ module _ {K V E : Type 0} (eq : K → K → Bool) (laws : IsEquivalence eq) (is_
   abbrev pub is_awaited : OpenTurn V → Bool
   is_awaited row = row.number == number && nat_le 1 row.unspent
 
-  abbrev pub is_its : EndedTurn K V E → Bool
-  is_its row = same_kind row.key.kind q.kind && eq (arc_value row.key.key) (arc_value q.key)
+  abbrev pub is_ended_for : EndedTurn K V E → Bool
+  is_ended_for row = same_kind row.key.kind q.kind && eq (arc_value row.key.key) (arc_value q.key)
 
   -- without either, no turn with an unspent ticket has the name
-  pub no-ticket : (a : Bool) → TellsOf is_awaited (opened q) a → a ≡ false → (b : Bool) → TellsOf is_its (ended number) b → b ≡ false → found (has_ticket_as eq (name_of q number)) ts ≡ None
+  pub no-ticket : (a : Bool) → TellsOf is_awaited (opened q) a → a ≡ false → (b : Bool) → TellsOf is_ended_for (ended number) b → b ≡ false → found (has_ticket_as eq (name_of q number)) ts ≡ None
   no-ticket a tells_a not_a b tells_b not_b = found-none (has_ticket_as eq (name_of q number)) ts (λ u is. go u is (has_ticket_as eq (name_of q number) u) refl)
     where
       go : (u : Turn K V E) → IsIn u ts → (c : Bool) → has_ticket_as eq (name_of q number) u ≡ c → has_ticket_as eq (name_of q number) u ≡ false
@@ -200,5 +200,5 @@ module _ {K V E : Type 0} (eq : K → K → Bool) (laws : IsEquivalence eq) (is_
               let row = some-agree (IsEndedRow eq is_clone) (found (is_ended_as number) ts) (ended number) u (keeps.ended_is number) first in
               let both = and_parts (same_kind u.name.kind q.kind) (eq u.name.key (arc_value q.key)) its.2 in
               let keys : eq (arc_value row.0.key.key) (arc_value q.key) ≡ true = sym (laws.congr u.name.key (arc_value row.0.key.key) (arc_value q.key) row.2.key) ∙ both.1 in
-              let yes : is_its row.0 ≡ true = and_from (same_kind row.0.key.kind q.kind) (eq (arc_value row.0.key.key) (arc_value q.key)) (subst (λ k. same_kind k q.kind ≡ true) (sym row.2.kind) both.0) keys in
-              let off : true ≡ false = sym yes ∙ fails-there is_its (ended number) b tells_b not_b row.0 row.1 in cc
+              let yes : is_ended_for row.0 ≡ true = and_from (same_kind row.0.key.kind q.kind) (eq (arc_value row.0.key.key) (arc_value q.key)) (subst (λ k. same_kind k q.kind ≡ true) (sym row.2.kind) both.0) keys in
+              let off : true ≡ false = sym yes ∙ fails-there is_ended_for (ended number) b tells_b not_b row.0 row.1 in cc

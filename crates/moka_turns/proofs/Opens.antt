@@ -37,7 +37,7 @@ module _ {K V E : Type 0} where
 
 module _ {K V E : Type 0} (eq : K → K → Bool) (laws : IsEquivalence eq) (is_clone : V → V → Type 0) (hash_of : K → ℕ) (respects : (a b : K) → eq a b ≡ true → hash_of a ≡ hash_of b)
     (ts : List (Turn K V E)) (old_open new_open : TurnKey K → Option (OpenTurn V)) (ended : ℕ → Option (EndedTurn K V E)) (keeps : Represents eq is_clone hash_of ts old_open ended)
-    (q : TurnKey K) (hashed : q.hash ≡ hash_of (arc_value q.key)) (absent : old_open q ≡ None) (row : OpenTurn V) (kept : Option V) (copy : IsCopyOf is_clone kept row.kept) (none_waits : row.unspent ≡ 0)
+    (q : TurnKey K) (hashed : q.hash ≡ hash_of (arc_value q.key)) (absent : old_open q ≡ None) (row : OpenTurn V) (kept : Option V) (copy : IsCopyOf is_clone kept row.saved) (none_waits : row.unspent ≡ 0)
     (opened : (p : TurnKey K) → new_open p ≡ cond (same_key eq q p) (Some row) (old_open p)) where
   abbrev t : Turn K V E
   t = opening (name_of q row.number) row.shown kept
@@ -49,7 +49,7 @@ module _ {K V E : Type 0} (eq : K → K → Bool) (laws : IsEquivalence eq) (is_
   no_turn = none-agree (IsOpenRow eq is_clone) (found (is_open_for eq q.kind (arc_value q.key)) ts) (old_open q) (keeps.opened_is q hashed) absent
 
   is_row : IsOpenRow eq is_clone t row
-  is_row = record { number = refl; shown = refl; kept = copy; unspent = none_waits }
+  is_row = record { number = refl; shown = refl; saved = copy; unspent = none_waits }
 
   opened_after : (p : TurnKey K) → p.hash ≡ hash_of (arc_value p.key) → Agree (IsOpenRow eq is_clone) (found (is_open_for eq p.kind (arc_value p.key)) with_opened) (new_open p)
   opened_after p hashed_p = go (same_key eq q p) refl

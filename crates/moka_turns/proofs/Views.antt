@@ -44,7 +44,7 @@ by-false false b = refl
 
 -- the table entry of an open turn
 abbrev row_of : {K V E : Type 0} → Turn K V E → OpenTurn V
-row_of t = record { number = t.name.number; shown = t.shown; kept = t.kept; unspent = t.unspent }
+row_of t = record { number = t.name.number; shown = t.shown; saved = t.kept; unspent = t.unspent }
 
 module _ {K V : Type 0} (E : Type 0) (eq : K → K → Bool) (laws : IsEquivalence eq) (hash_of : K → ℕ) (respects : (a b : K) → eq a b ≡ true → hash_of a ≡ hash_of b) where
   module _ (q : TurnKey K) (hashed : q.hash ≡ hash_of (arc_value q.key)) where
@@ -125,13 +125,13 @@ module _ {K V E : Type 0} (eq : K → K → Bool) (laws : IsEquivalence eq) (is_
   by-row None None is = tt
   by-row None (Some b) is = absurd is
   by-row (Some a) None is = absurd is
-  by-row (Some a) (Some b) is = record { number = is.number; shown = is.shown; kept = is.kept; unspent = is.unspent }
+  by-row (Some a) (Some b) is = record { number = is.number; shown = is.shown; kept = is.saved; unspent = is.unspent }
 
   by-turn : (a b : Option (Turn K V E)) → Agree (IsOpenTurnOf is_clone) a b → Agree (IsOpenRow eq is_clone) a (option_map row_of b)
   by-turn None None is = tt
   by-turn None (Some b) is = absurd is
   by-turn (Some a) None is = absurd is
-  by-turn (Some a) (Some b) is = record { number = is.number; shown = is.shown; kept = is.kept; unspent = is.unspent }
+  by-turn (Some a) (Some b) is = record { number = is.number; shown = is.shown; saved = is.kept; unspent = is.unspent }
 
   by-ended-row : (m : ℕ) (a : Option (Turn K V E)) (b : Option (EndedTurn K V E)) → Agree (IsEndedRow eq is_clone) a b → Agree (IsEndedTurnOf eq is_clone) a (option_map (λ (row : EndedTurn K V E). ended_turn (m, row)) b)
   by-ended-row m None None is = tt

@@ -10,6 +10,6 @@ IsOpenAs number o = IsSome o × IfSome o (λ row. row.number ≡ number)
 abbrev pub IsOpenWith : {V : Type 0} → ℕ → ℕ → Option (OpenTurn V) → Type 0
 IsOpenWith number waiting o = IsSome o × IfSome o (λ row. (row.number ≡ number) × (row.unspent ≡ waiting))
 
--- There is an open turn, and it has this number. If it has unspent tickets, there is an end to keep for them.
+-- There is an open turn, and it has this number. If it has unspent tickets, there is an end to retain for them.
 abbrev pub IsOpenFor : {V A : Type 0} → ℕ → Option A → Option (OpenTurn V) → Type 0
 IsOpenFor number end o = IsSome o × IfSome o (λ row. (row.number ≡ number) × (0 < row.unspent → IsSome end))

@@ -1,4 +1,4 @@
--- When a table keeps some turns.
+-- When a table represents some turns.
 use Rattle.std.specs.Prelude.{◌≡◌, ◌≤◌, ◌==◌, ℕ, Bool, true, false, Option, Some, None, List, ◌++◌, length, map, filter}
 use Rattle.std.specs.Arc.{arc_value}
 use Rattle.moka_model.specs.declared.turns.Kind.{Kind}
@@ -26,7 +26,7 @@ name_of q number = record { number = number; kind = q.kind; key = arc_value q.ke
 
 -- The turn of an open entry of a table.
 abbrev pub open_turn : {K V E : Type 0} → TurnKey K × OpenTurn V → Turn K V E
-open_turn e = record { name = name_of e.0 e.1.number; shown = e.1.shown; kept = e.1.kept; end = None; unspent = e.1.unspent }
+open_turn e = record { name = name_of e.0 e.1.number; shown = e.1.shown; kept = e.1.saved; end = None; unspent = e.1.unspent }
 
 -- The turn of an ended entry of a table.
 abbrev pub ended_turn : {K V E : Type 0} → ℕ × EndedTurn K V E → Turn K V E
@@ -41,11 +41,11 @@ abbrev pub turns_in : {K V E : Type 0} → (K → ℕ) → List (TurnKey K × Op
 turns_in hash_of opened ended = map open_turn (filter (is_hashed hash_of) opened) ++ map ended_turn ended
 
 module _ {K V E : Type 0} (eq : K → K → Bool) (is_clone : V → V → Type 0) where
-  -- An open entry has the number and the tickets of a turn, and a clone of the value that was kept aside.
+  -- An open entry has the number and the tickets of a turn, and a clone of its saved value.
   pub record IsOpenRow (t : Turn K V E) (row : OpenTurn V) : Type 0 where
     pub number : row.number ≡ t.name.number
     pub shown : row.shown ≡ t.shown
-    pub kept : IsCopyOf is_clone t.kept row.kept
+    pub saved : IsCopyOf is_clone t.kept row.saved
     pub unspent : row.unspent ≡ t.unspent
 
   -- An ended entry has the kind, an equal key and the tickets of a turn, and a clone of its end.
@@ -55,7 +55,7 @@ module _ {K V E : Type 0} (eq : K → K → Bool) (is_clone : V → V → Type 0
     pub end : IsCopiedEnd is_clone t.end (Some (end_of row.end))
     pub unspent : row.unspent ≡ t.unspent
 
-  -- A table keeps what has to be kept of these turns. For each kind and key that is the open turn, if its hash is the
+  -- A table stores what has to be stored of these turns. For each kind and key that is the open turn, if its hash is the
   -- one of the key. For each number it is the ended turn that has unspent tickets.
   pub record Represents (hash_of : K → ℕ) (ts : List (Turn K V E)) (opened : TurnKey K → Option (OpenTurn V))
       (ended : ℕ → Option (EndedTurn K V E)) : Type 0 where

@@ -18,6 +18,6 @@ module _ {K V E : Type 0} where
   abbrev pub one_less : EndedTurn K V E → EndedTurn K V E
   one_less turn = record turn { unspent = turn.unspent - 1 }
 
-  -- An ended entry is kept while it has unspent tickets.
+  -- An ended entry is retained while it has unspent tickets.
   abbrev pub retained_ended : EndedTurn K V E → Option (EndedTurn K V E)
   retained_ended turn = if nat_lt 0 turn.unspent then Some turn else None

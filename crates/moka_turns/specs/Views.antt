@@ -1,4 +1,4 @@
--- The turns that a table keeps.
+-- The turns that a table stores.
 use Rattle.std.specs.Prelude.{ℕ, List}
 use Rattle.std.specs.declared.cmp.PartialEq.{Ghosts}
 use Rattle.moka_model.specs.Turns.{Turn}

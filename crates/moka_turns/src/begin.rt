@@ -162,8 +162,8 @@ impl<K: Eq + Drop, V: Clone, E: Drop> TurnTable<K, V, E> {
     /// Opens a turn of a kind and key with this sequence number. None of that kind and key may be
     /// open.
     ///
-    /// `shown` is whether the turn's lookup found a live value. `kept` is the clone of that value
-    /// that is kept aside, if one is.
+    /// `shown` is whether the turn's lookup found a live value. `saved` is the saved clone of
+    /// that value, if one was saved.
     ///
     /// # Errors
     ///
@@ -173,14 +173,14 @@ impl<K: Eq + Drop, V: Clone, E: Drop> TurnTable<K, V, E> {
         key: TurnKey<K>,
         number: u64,
         shown: bool,
-        kept: Option<V>,
+        saved: Option<V>,
     ) -> Result<Turn<K>, Refused>
         requires { get ⟦<TurnKey<K> as PartialEq>⟧.eq self.old.opened key ≡ None }
         ensures opens { IfOk result (λ turn.
             (hash_of : K → ℕ) (ts : List (turning.Turn K V E)) (value : Option V)
             → ((a b : K) → K.eq a b ≡ true → hash_of a ≡ hash_of b)
             → key.hash ≡ hash_of (arc_value key.key)
-            → IsCopyOf V.is_clone value kept
+            → IsCopyOf V.is_clone value saved
             → Represents K.eq V.is_clone hash_of ts
             (get ⟦<TurnKey<K> as PartialEq>⟧.eq self.old.opened) (get nat_eq self.old.ended)
             → Represents K.eq V.is_clone hash_of (moved (Opened (name_of key number) shown value) ts)
@@ -204,7 +204,7 @@ impl<K: Eq + Drop, V: Clone, E: Drop> TurnTable<K, V, E> {
         let turn = OpenTurn {
             number,
             shown,
-            kept,
+            saved,
             unspent: 0,
         };
         self.add(key, turn);

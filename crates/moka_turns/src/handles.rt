@@ -53,7 +53,7 @@ impl<K> Turn<K> {
     }
 
     /// Returns the same turn with this hash of its key, by which it is found.
-    pub fn rehashed(self, hash: u64) -> Turn<K>
+    pub fn with_hash(self, hash: u64) -> Turn<K>
         ensures hash { result.key.hash ≡ hash }
         ensures name { name_of result.key result.number ≡ name_of self.key self.number }
     {
@@ -102,7 +102,7 @@ impl<K> Ticket<K> {
     }
 
     /// Returns the same ticket with this hash of its key, by which its turn is found.
-    pub fn rehashed(self, hash: u64) -> Ticket<K>
+    pub fn with_hash(self, hash: u64) -> Ticket<K>
         ensures hash { result.key.hash ≡ hash }
         ensures name { name_of result.key result.number ≡ name_of self.key self.number }
     {

@@ -15,9 +15,9 @@ ghost use Rattle.moka_turns.specs.Table.{with_unspent, one_less, retained_ended,
 use crate::handles::{CollectRefused, Ticket, Turn};
 use crate::turn_key::TurnKey;
 use indexmap::IndexMap;
+use moka_index::identity_hasher::IdentityHasher;
 use moka_model::turns::Kind;
 use moka_policy::policy::Refused;
-use moka_row_index::identity_hasher::IdentityHasher;
 use std::alloc::{AllocError, Global};
 use std::hash::BuildHasherDefault;
 use std::sync::Arc;
@@ -29,8 +29,8 @@ pub struct OpenTurn<V> {
     pub number: u64,
     /// Whether its lookup found a live value.
     pub shown: bool,
-    /// The clone of that value that was kept aside, if one was.
-    pub kept: Option<V>,
+    /// The saved clone of that value, if one was saved.
+    pub saved: Option<V>,
     /// How many of its tickets are unspent.
     pub unspent: u64,
 }
@@ -73,7 +73,7 @@ pub enum CollectState<K, V, E> {
     Ended(Arc<K>, TurnEnd<V, E>),
 }
 
-/// The turns that a cache keeps. An open or ended one is found by its hash, without visiting
+/// The turns that a cache stores. An open or ended one is found by its hash, without visiting
 /// others.
 ///
 /// Each open turn has the room that it needs once it has ended. So the table grows in `reserve`
@@ -128,7 +128,7 @@ impl<K: Eq + Drop, V: Drop, E: Drop> TurnTable<K, V, E> {
 
     // Gives out one more ticket of an open turn, and returns its number, or `None` at the greatest
     // count.
-    fn one_more(&mut self, key: &TurnKey<K>) -> Option<u64>
+    fn issue_ticket(&mut self, key: &TurnKey<K>) -> Option<u64>
         requires { IsSome (get ⟦<TurnKey<K> as PartialEq>⟧.eq self.old.opened key.now) }
         ensures number { IfSome result (λ number. IfSome (get ⟦<TurnKey<K> as PartialEq>⟧.eq self.old.opened key.now)
             (λ turn. (turn.number ≡ number) × (turn.unspent < 2 ^ 64 - 1)
@@ -147,7 +147,7 @@ impl<K: Eq + Drop, V: Drop, E: Drop> TurnTable<K, V, E> {
 
     /// Ends the open turn of a kind and key, and returns it. There has to be one.
     ///
-    /// While it has unspent tickets, the turn is kept with its end. Does not allocate.
+    /// While it has unspent tickets, the turn is retained with its end. Does not allocate.
     pub fn end(&mut self, key: TurnKey<K>, end: TurnEnd<V, E>) -> OpenTurn<V>
         requires { IsSome (get ⟦<TurnKey<K> as PartialEq>⟧.eq self.old.opened key) }
         ensures turn { Some result ≡ get ⟦<TurnKey<K> as PartialEq>⟧.eq self.old.opened key }
@@ -225,7 +225,7 @@ impl<K: Eq + Drop, V: Drop, E: Drop> TurnTable<K, V, E> {
     }
 
     // Returns whether the ended turn with this number is of a kind and key.
-    fn is_its(&self, key: &TurnKey<K>, number: u64) -> bool
+    fn is_ended_for(&self, key: &TurnKey<K>, number: u64) -> bool
         ensures { MatchOption (get nat_eq self.now.ended number) (result ≡ false)
             (λ turn. result ≡ (⟦<Kind as PartialEq>⟧.eq turn.key.kind key.now.kind && K.eq (arc_value turn.key.key) (arc_value key.now.key))) }
     {
@@ -253,13 +253,13 @@ impl<K: Eq + Drop, V: Clone, E: Drop> TurnTable<K, V, E> {
         requires room { HasRoom self.old.opened self.old.ended }
         ensures opened { Updates ⟦<TurnKey<K> as PartialEq>⟧.eq self.old.opened self.new.opened key (Some turn) }
         ensures ended { self.new.ended ≡ self.old.ended }
-        ensures keeps { (hash_of : K → ℕ) (ts : List (turning.Turn K V E)) (kept : Option V)
+        ensures represents { (hash_of : K → ℕ) (ts : List (turning.Turn K V E)) (saved : Option V)
             → ((a b : K) → K.eq a b ≡ true → hash_of a ≡ hash_of b)
             → key.hash ≡ hash_of (arc_value key.key)
-            → IsCopyOf V.is_clone kept turn.kept
+            → IsCopyOf V.is_clone saved turn.saved
             → turn.unspent ≡ 0
             → Represents K.eq V.is_clone hash_of ts (get ⟦<TurnKey<K> as PartialEq>⟧.eq self.old.opened) (get nat_eq self.old.ended)
-            → Represents K.eq V.is_clone hash_of (moved (Opened (name_of key turn.number) turn.shown kept) ts)
+            → Represents K.eq V.is_clone hash_of (moved (Opened (name_of key turn.number) turn.shown saved) ts)
             (get ⟦<TurnKey<K> as PartialEq>⟧.eq self.new.opened) (get nat_eq self.new.ended) }
     {
         match self.opened.insert(key, turn) {
@@ -296,7 +296,7 @@ impl<K: Eq + Drop, V: Clone, E: Drop> TurnTable<K, V, E> {
     /// not allocate.
     pub fn wait(&mut self, key: &TurnKey<K>) -> Option<u64>
         requires { IsSome (get ⟦<TurnKey<K> as PartialEq>⟧.eq self.old.opened key.now) }
-        ensures keeps { IfSome result (λ number. (hash_of : K → ℕ) (ts : List (turning.Turn K V E))
+        ensures represents { IfSome result (λ number. (hash_of : K → ℕ) (ts : List (turning.Turn K V E))
             → ((a b : K) → K.eq a b ≡ true → hash_of a ≡ hash_of b)
             → key.now.hash ≡ hash_of (arc_value key.now.key)
             → AreSound K.eq ts
@@ -310,7 +310,7 @@ impl<K: Eq + Drop, V: Clone, E: Drop> TurnTable<K, V, E> {
         ensures unchanged { IfNone result (IsUnchanged self.old.opened self.new.opened) }
         ensures ended { self.new.ended ≡ self.old.ended }
     {
-        match self.one_more(key) {
+        match self.issue_ticket(key) {
             Some(number) => Some(number),
             None => None,
         }
@@ -336,7 +336,7 @@ impl<K: Eq + Drop, V: Clone, E: Drop> TurnTable<K, V, E> {
             self.leave_open(&key);
             return true;
         }
-        if self.is_its(&key, number) {
+        if self.is_ended_for(&key, number) {
             self.leave_ended(number);
             return true;
         }
@@ -363,7 +363,7 @@ impl<K: Eq + Drop, V: Clone, E: Drop> TurnTable<K, V, E> {
     /// # Errors
     ///
     /// - `AllocError`: an allocation failed.
-    pub fn end_copy(
+    pub fn copy_end(
         &self,
         key: &TurnKey<K>,
         number: u64,
@@ -380,7 +380,7 @@ impl<K: Eq + Drop, V: Clone, E: Drop> TurnTable<K, V, E> {
         if self.is_awaited(key, number) {
             return Ok(None);
         }
-        if !self.is_its(key, number) {
+        if !self.is_ended_for(key, number) {
             return Ok(None);
         }
         match self.copy_of(number) {
@@ -389,13 +389,13 @@ impl<K: Eq + Drop, V: Clone, E: Drop> TurnTable<K, V, E> {
         }
     }
 
-    /// Returns a clone of the value that was kept aside for the open turn with this key and number.
+    /// Returns a clone of the saved value of the open turn with this key and number.
     /// Returns `None` if there is no such turn or no such value.
     ///
     /// # Errors
     ///
     /// - `AllocError`: an allocation failed.
-    pub fn kept_copy(&self, key: &TurnKey<K>, number: u64) -> Result<Option<V>, AllocError>
+    pub fn copy_saved(&self, key: &TurnKey<K>, number: u64) -> Result<Option<V>, AllocError>
         ensures { IfOk result (λ copy. (hash_of : K → ℕ) (ts : List (turning.Turn K V E))
             → ((a b : K) → K.eq a b ≡ true → hash_of a ≡ hash_of b)
             → ((u v w : V) → V.is_clone u v → V.is_clone v w → V.is_clone u w)
@@ -411,7 +411,7 @@ impl<K: Eq + Drop, V: Clone, E: Drop> TurnTable<K, V, E> {
         if row.number != number {
             return Ok(None);
         }
-        row.kept_copy()
+        row.copy_saved()
     }
 
     /// Spends a ticket of an ended turn, and returns a clone of what the turn ended with.
@@ -442,7 +442,7 @@ impl<K: Eq + Drop, V: Clone, E: Drop> TurnTable<K, V, E> {
         if self.is_awaited(&ticket.key, ticket.number) {
             return Ok(CollectState::NotYet(ticket));
         }
-        if !self.is_its(&ticket.key, ticket.number) {
+        if !self.is_ended_for(&ticket.key, ticket.number) {
             let cause = Refused::UnknownTicket;
             return Err(CollectRefused { ticket, cause });
         }
@@ -494,7 +494,7 @@ impl<K: Eq + Drop, V: Clone, E: Drop> TurnTable<K, V, E> {
 
     /// Ends an open turn, and returns its entry in the table. Does not allocate.
     ///
-    /// `end` is kept for the callers that wait. It may be `None` only if no ticket is unspent.
+    /// `end` is retained for the callers that wait. It may be `None` only if no ticket is unspent.
     pub fn finish(&mut self, turn: Turn<K>, end: Option<TurnEnd<V, E>>) -> OpenTurn<V>
         requires { IsOpenFor turn.number end
             (get ⟦<TurnKey<K> as PartialEq>⟧.eq self.old.opened turn.key) }
@@ -518,7 +518,7 @@ impl<K: Eq + Drop, V: Clone, E: Drop> TurnTable<K, V, E> {
         }
     }
 
-    // Ends the open turn of a kind and key as a compute. While it has unspent tickets it is kept,
+    // Ends the open turn of a kind and key as a compute. While it has unspent tickets it is retained,
     // under the key with which it was opened.
     fn end_computed(&mut self, key: &TurnKey<K>) -> OpenTurn<V>
         requires { IsSome (get ⟦<TurnKey<K> as PartialEq>⟧.eq self.old.opened key.now) }
@@ -563,7 +563,7 @@ impl<K: Eq + Drop, V: Clone, E: Drop> TurnTable<K, V, E> {
             → Represents K.eq V.is_clone hash_of ts
             (get ⟦<TurnKey<K> as PartialEq>⟧.eq self.old.opened) (get nat_eq self.old.ended)
             → IfSome (found (is_open_as K.eq (name_of turn.key turn.number)) ts) (λ t.
-            (result.1.shown ≡ t.shown) × IsCopyOf V.is_clone t.kept result.1.kept
+            (result.1.shown ≡ t.shown) × IsCopyOf V.is_clone t.kept result.1.saved
             × Represents K.eq V.is_clone hash_of (moved (Ended t.name.number turning.Computed) ts)
             (get ⟦<TurnKey<K> as PartialEq>⟧.eq self.new.opened) (get nat_eq self.new.ended)) }
     {
@@ -575,11 +575,11 @@ impl<K: Eq + Drop, V: Clone, E: Drop> TurnTable<K, V, E> {
 }
 
 impl<V: Clone> OpenTurn<V> {
-    // Returns a clone of the value that was kept aside, if one was. Fails only if cloning it does.
-    fn kept_copy(&self) -> Result<Option<V>, AllocError>
-        ensures { IfOk result (IsCopyOf V.is_clone self.now.kept) }
+    // Returns a clone of the saved value, if one was saved. Fails only if cloning it does.
+    fn copy_saved(&self) -> Result<Option<V>, AllocError>
+        ensures { IfOk result (IsCopyOf V.is_clone self.now.saved) }
     {
-        match &self.kept {
+        match &self.saved {
             Some(value) => match value.clone() {
                 Ok(copy) => Ok(Some(copy)),
                 Err(refused) => Err(refused),

@@ -39,7 +39,7 @@ pub enum Reply {
     Open(u64, u64),
     /// An ended turn: its kind and key, what it ended with, and how many of its tickets are neither
     /// collected nor left.
-    Kept(Kind, u64, Final, u64),
+    Retained(Kind, u64, Final, u64),
 }
 
 /// Creates the key of a turn. All even keys have one hash, and all odd ones another.
@@ -51,7 +51,7 @@ pub fn key_of(alloc: Global, kind: Kind, key: u64) -> Result<TurnKey<u64>, Alloc
     })
 }
 
-/// Creates an end as a table keeps it.
+/// Creates an end as a table stores it.
 pub fn end_of(alloc: Global, end: Final) -> Result<TurnEnd<u64, u64>, AllocError> {
     Ok(match end {
         Final::Value(value, replaced) => TurnEnd::Value(value, replaced),
@@ -78,7 +78,7 @@ pub fn new_turn<V>(number: u64) -> OpenTurn<V> {
     OpenTurn {
         number,
         shown: false,
-        kept: None,
+        saved: None,
         unspent: 0,
     }
 }
@@ -143,16 +143,16 @@ pub fn leave_ended<V: Clone, E: Drop>(
     turns.leave_ended(number)
 }
 
-fn opened(turn: Option<&OpenTurn<u64>>) -> Reply {
+fn reply_of_open(turn: Option<&OpenTurn<u64>>) -> Reply {
     match turn {
         Some(turn) => Reply::Open(turn.number, turn.unspent),
         None => Reply::Absent,
     }
 }
 
-fn kept(turn: Option<&EndedTurn<u64, u64, u64>>) -> Reply {
+fn reply_of_ended(turn: Option<&EndedTurn<u64, u64, u64>>) -> Reply {
     match turn {
-        Some(turn) => Reply::Kept(
+        Some(turn) => Reply::Retained(
             turn.key.kind,
             *turn.key.key,
             final_of(&turn.end),
@@ -162,30 +162,34 @@ fn kept(turn: Option<&EndedTurn<u64, u64, u64>>) -> Reply {
     }
 }
 
-fn done(done: bool) -> Reply {
+fn reply_of_done(done: bool) -> Reply {
     if done { Reply::Done } else { Reply::Absent }
 }
 
 /// Makes a call and returns its result.
-fn made(
+fn make_call(
     alloc: Global,
     turns: &mut TurnTable<u64, u64, u64>,
     call: Call,
 ) -> Result<Reply, AllocError> {
     Ok(match call {
-        Call::Find(kind, key) => opened(turns.find(&key_of(alloc, kind, key)?)),
-        Call::Ended(number) => kept(turns.ended(number)),
-        Call::Open(kind, key, number) => done(open(turns, key_of(alloc, kind, key)?, number)?),
+        Call::Find(kind, key) => reply_of_open(turns.find(&key_of(alloc, kind, key)?)),
+        Call::Ended(number) => reply_of_ended(turns.ended(number)),
+        Call::Open(kind, key, number) => reply_of_done(open(
+            turns,
+            key_of(alloc, kind, key)?,
+            number,
+        )?),
         Call::Wait(kind, key) => match wait(turns, &key_of(alloc, kind, key)?) {
             Some(number) => Reply::Number(number),
             None => Reply::Absent,
         },
         Call::End(kind, key, last) => {
             let key = key_of(alloc, kind, key)?;
-            opened(end(turns, key, end_of(alloc, last)?).as_ref())
+            reply_of_open(end(turns, key, end_of(alloc, last)?).as_ref())
         }
-        Call::LeaveOpen(kind, key) => done(leave_open(turns, &key_of(alloc, kind, key)?)),
-        Call::LeaveEnded(number) => kept(leave_ended(turns, number).as_ref()),
+        Call::LeaveOpen(kind, key) => reply_of_done(leave_open(turns, &key_of(alloc, kind, key)?)),
+        Call::LeaveEnded(number) => reply_of_ended(leave_ended(turns, number).as_ref()),
     })
 }
 
@@ -194,7 +198,7 @@ pub fn replies(alloc: Global, calls: &[Call]) -> Result<Vec<Reply>, AllocError> 
     let mut turns = TurnTable::new(alloc);
     let mut found = Vec::new(alloc);
     for call in calls {
-        found.push(made(alloc, &mut turns, *call)?)?;
+        found.push(make_call(alloc, &mut turns, *call)?)?;
     }
     Ok(found)
 }

@@ -13,7 +13,7 @@ use std::test::Fail;
 type Texts = TurnTable<u64, String, u64>;
 
 /// Creates the key of a turn. Retries once if an allocation fails.
-fn given(alloc: Global, key: u64) -> Result<TurnKey<u64>, AllocError> {
+fn create_key(alloc: Global, key: u64) -> Result<TurnKey<u64>, AllocError> {
     match key_of(alloc, Kind::With, key) {
         Ok(key) => Ok(key),
         Err(_) => key_of(alloc, Kind::With, key),
@@ -22,9 +22,9 @@ fn given(alloc: Global, key: u64) -> Result<TurnKey<u64>, AllocError> {
 
 /// Opens a turn. Retries once if an allocation fails.
 fn opens(alloc: Global, turns: &mut Texts, key: u64, number: u64) -> Result<bool, AllocError> {
-    match open(turns, given(alloc, key)?, number) {
+    match open(turns, create_key(alloc, key)?, number) {
         Ok(opened) => Ok(opened),
-        Err(_) => open(turns, given(alloc, key)?, number),
+        Err(_) => open(turns, create_key(alloc, key)?, number),
     }
 }
 
@@ -41,7 +41,7 @@ fn open_all(rt: &impl Abort, alloc: Global, turns: &mut Texts) -> Result<(), Fai
 
 fn find_all(rt: &impl Abort, alloc: Global, turns: &Texts) -> Result<(), Fail> {
     for key in 0..TURNS {
-        let number = turns.find(&given(alloc, key)?).map(|turn| turn.number);
+        let number = turns.find(&create_key(alloc, key)?).map(|turn| turn.number);
         assert_eq!(rt; number, Some(key + 100));
     }
     Ok(())
@@ -49,7 +49,7 @@ fn find_all(rt: &impl Abort, alloc: Global, turns: &Texts) -> Result<(), Fail> {
 
 fn end_all(rt: &impl Abort, alloc: Global, turns: &mut Texts) -> Result<(), Fail> {
     for key in 0..TURNS {
-        let key = given(alloc, key)?;
+        let key = create_key(alloc, key)?;
         let number = wait(turns, &key);
         let last = end(turns, key, TurnEnd::Nothing).map(|turn| turn.number);
         assert_eq!(rt; number, last);
@@ -57,29 +57,29 @@ fn end_all(rt: &impl Abort, alloc: Global, turns: &mut Texts) -> Result<(), Fail
     Ok(())
 }
 
-fn each_is_kept(rt: &impl Abort, turns: &Texts) {
+fn each_is_retained(rt: &impl Abort, turns: &Texts) {
     for number in 100..100 + TURNS {
         assert_eq!(rt; turns.ended(number).map(|turn| turn.unspent), Some(1));
     }
 }
 
-fn keeps_all(rt: &impl Abort, alloc: Global, turns: &mut Texts) -> Result<(), Fail> {
+fn retains_all(rt: &impl Abort, alloc: Global, turns: &mut Texts) -> Result<(), Fail> {
     open_all(rt, alloc, turns)?;
     find_all(rt, alloc, turns)?;
     end_all(rt, alloc, turns)?;
-    each_is_kept(rt, turns);
+    each_is_retained(rt, turns);
     Ok(())
 }
 
-/// Every turn is kept, also if any one allocation fails.
+/// Every turn is retained, also if any one allocation fails.
 #[test]
 fn every_turn_is_kept_where_memory_is_refused(rt: HostRuntime) -> Result<(), Fail> {
     let mut turns = Texts::new(rt.alloc());
-    keeps_all(&rt, rt.alloc(), &mut turns)
+    retains_all(&rt, rt.alloc(), &mut turns)
 }
 
 /// Returns the text in a clone of an end.
-fn copied(end: &TurnEnd<String, u64>) -> Result<Option<String>, AllocError> {
+fn copy_text(end: &TurnEnd<String, u64>) -> Result<Option<String>, AllocError> {
     Ok(match end.copy()? {
         TurnEnd::Value(text, _) => Some(text),
         _ => None,
@@ -98,9 +98,9 @@ fn text(alloc: Global, it: &str) -> Result<String, AllocError> {
 #[test]
 fn an_end_is_copied_where_memory_is_refused(rt: HostRuntime) -> Result<(), Fail> {
     let last = TurnEnd::Value(text(rt.alloc(), "worked out")?, false);
-    let copy = match copied(&last) {
+    let copy = match copy_text(&last) {
         Ok(copy) => copy,
-        Err(_) => copied(&last)?,
+        Err(_) => copy_text(&last)?,
     };
     assert_eq!(rt; copy.as_deref(), Some("worked out"));
     Ok(())
@@ -123,7 +123,7 @@ fn end_in_room(rt: &impl Abort, turns: &mut Texts, same: TurnKey<u64>) {
 }
 
 fn takes_none_in_room(rt: &impl Abort, alloc: Global, turns: &mut Texts) -> Result<(), Fail> {
-    let (key, same) = (given(alloc, 1)?, given(alloc, 1)?);
+    let (key, same) = (create_key(alloc, 1)?, create_key(alloc, 1)?);
     turns.reserve()?;
     Arc::new(alloc, 0_u64).map_err(|_| "refused before the calls")?;
     assert!(rt; open(turns, key, 10)?);

@@ -6,7 +6,7 @@ use std::process::Abort;
 use std::test::Fail;
 
 /// Checks that each call returns what the table says.
-fn answers_table(rt: &impl Abort, alloc: Global, table: &[(Call, Reply)]) -> Result<(), Fail> {
+fn check_table(rt: &impl Abort, alloc: Global, table: &[(Call, Reply)]) -> Result<(), Fail> {
     let mut calls = Vec::new(alloc);
     for (call, _) in table {
         calls.push(*call)?;
@@ -44,10 +44,10 @@ const OPEN: [(Call, Reply); 21] = [
     (Call::Ended(10), Reply::Absent),
 ];
 
-/// What is kept of turn 10 of key 1 once it has ended: two of its tickets are open, and then one.
-const TWICE: Reply = Reply::Kept(Kind::With, 1, Final::Value(5, true), 2);
+/// What is retained of turn 10 of key 1 once it has ended: two of its tickets are open, and then one.
+const TWICE: Reply = Reply::Retained(Kind::With, 1, Final::Value(5, true), 2);
 
-const ONCE: Reply = Reply::Kept(Kind::With, 1, Final::Value(5, true), 1);
+const ONCE: Reply = Reply::Retained(Kind::With, 1, Final::Value(5, true), 1);
 
 /// Turns that end: one with two tickets, one with none left, and one that is abandoned.
 const ENDED: [(Call, Reply); 23] = [
@@ -78,7 +78,7 @@ const ENDED: [(Call, Reply); 23] = [
     (Call::Ended(10), ONCE),
     (
         Call::LeaveEnded(12),
-        Reply::Kept(Kind::Try, 2, Final::Abandoned, 1),
+        Reply::Retained(Kind::Try, 2, Final::Abandoned, 1),
     ),
     (Call::Ended(12), Reply::Absent),
     (Call::Ended(10), ONCE),
@@ -90,13 +90,13 @@ const ENDED: [(Call, Reply); 23] = [
 /// Calls about open turns return what the table says.
 #[test]
 fn open_turns_answer_the_table(rt: HostRuntime) -> Result<(), Fail> {
-    answers_table(&rt, rt.alloc(), &OPEN)
+    check_table(&rt, rt.alloc(), &OPEN)
 }
 
 /// Calls about ended turns return what the table says.
 #[test]
 fn ended_turns_answer_the_table(rt: HostRuntime) -> Result<(), Fail> {
-    answers_table(&rt, rt.alloc(), &ENDED)
+    check_table(&rt, rt.alloc(), &ENDED)
 }
 
 /// A clone of an end equals the end.

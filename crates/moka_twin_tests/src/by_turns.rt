@@ -4,61 +4,67 @@ ghost use Rattle.moka_model.specs.declared.turns.Kind.{Kind};
 ghost use Rattle.moka_state.specs.Finish.{Fits, outcome_of};
 
 use crate::calls::{Doing, Selected, Write, op_of};
-use crate::told::{NO_MEMORY, Told};
-use crate::turns::{Given, NONE, Turns, finished, spent, spent_compute};
+use crate::returned::{NO_MEMORY, Returned};
+use crate::turns::{Given, NONE, Turns, consume_begun, consume_begun_compute, finish_turn};
 use moka::sync::value_initializer::{Begun, BegunCompute, Kind, Outcome};
 use std::alloc::Global;
 use std::sync::Arc;
 
 /// Returns the result of a call.
-pub(crate) fn told_by_turns<S: Turns>(
+pub(crate) fn reply_by_turns<S: Turns>(
     subject: &mut S,
     alloc: Global,
     key: &Arc<u64>,
     call: Selected,
-) -> Told {
+) -> Returned {
     match call {
         Selected::OrDefault => subject.write(Write::OrDefault, **key),
         Selected::OrInsert(value) => subject.write(Write::OrInsert(value), **key),
         Selected::OrInsertWith(value) => {
-            entered(subject, key, Kind::With, NONE, Outcome::Value(value))
+            call_initializer(subject, key, Kind::With, NONE, Outcome::Value(value))
         }
         Selected::OrInsertWithIf(value, unwanted) => {
-            entered(subject, key, Kind::With, unwanted, Outcome::Value(value))
+            call_initializer(subject, key, Kind::With, unwanted, Outcome::Value(value))
         }
         Selected::OrOptionallyInsertWith(value) => may_enter(subject, key, value),
         Selected::OrTryInsertWith(value) => tries_to_enter(subject, alloc, key, value),
-        Selected::AndComputeWith(doing) => computed(subject, key, Ok(doing)),
-        Selected::AndTryComputeWith(doing) => computed(subject, key, doing),
-        Selected::AndUpsertWith => match computed(subject, key, Ok(Doing::Count)) {
-            Told::Became(_, Some(parts)) => Told::Entry(parts),
-            told => told,
+        Selected::AndComputeWith(doing) => call_compute(subject, key, Ok(doing)),
+        Selected::AndTryComputeWith(doing) => call_compute(subject, key, doing),
+        Selected::AndUpsertWith => match call_compute(subject, key, Ok(Doing::Count)) {
+            Returned::Became(_, Some(parts)) => Returned::Entry(parts),
+            returned => returned,
         },
     }
 }
 
 /// Returns the entry of a live value that is not `unwanted`, or what comes of a turn that is
 /// finished with this outcome.
-fn entered<S: Turns>(
+fn call_initializer<S: Turns>(
     subject: &mut S,
     key: &Arc<u64>,
     kind: Kind,
     unwanted: u64,
     outcome: Given,
-) -> Told
+) -> Returned
     requires initializer { kind ≢ Kind.Compute }
     requires fits { Fits ℕ kind (outcome_of outcome) }
 {
     match subject.begin(key, kind, unwanted) {
-        Ok(Begun::Run(turn)) => finished(subject, turn, outcome),
-        begun => spent(subject, begun),
+        Ok(Begun::Run(turn)) => finish_turn(subject, turn, outcome),
+        begun => consume_begun(subject, begun),
     }
 }
 
-fn may_enter<S: Turns>(subject: &mut S, key: &Arc<u64>, value: Option<u64>) -> Told {
+fn may_enter<S: Turns>(subject: &mut S, key: &Arc<u64>, value: Option<u64>) -> Returned {
     match value {
-        Some(value) => entered(subject, key, Kind::Optionally, NONE, Outcome::Value(value)),
-        None => entered(subject, key, Kind::Optionally, NONE, Outcome::Nothing),
+        Some(value) => call_initializer(
+            subject,
+            key,
+            Kind::Optionally,
+            NONE,
+            Outcome::Value(value),
+        ),
+        None => call_initializer(subject, key, Kind::Optionally, NONE, Outcome::Nothing),
     }
 }
 
@@ -67,11 +73,11 @@ fn tries_to_enter<S: Turns>(
     alloc: Global,
     key: &Arc<u64>,
     value: Result<u64, u64>,
-) -> Told {
+) -> Returned {
     match value {
-        Ok(value) => entered(subject, key, Kind::Try, NONE, Outcome::Value(value)),
+        Ok(value) => call_initializer(subject, key, Kind::Try, NONE, Outcome::Value(value)),
         Err(error) => match Arc::new(alloc, error) {
-            Ok(error) => entered(subject, key, Kind::Try, NONE, Outcome::Failed(error)),
+            Ok(error) => call_initializer(subject, key, Kind::Try, NONE, Outcome::Failed(error)),
             Err(_) => NO_MEMORY,
         },
     }
@@ -79,15 +85,15 @@ fn tries_to_enter<S: Turns>(
 
 /// Returns the result of a compute. If there is an error instead of an operation, abandons the turn
 /// and returns the error.
-fn computed<S: Turns>(subject: &mut S, key: &Arc<u64>, doing: Result<Doing, u64>) -> Told {
+fn call_compute<S: Turns>(subject: &mut S, key: &Arc<u64>, doing: Result<Doing, u64>) -> Returned {
     match subject.begin_compute(key) {
         Ok(BegunCompute::Run(turn, shown)) => match doing {
-            Ok(doing) => finished(subject, turn, Outcome::Op(op_of(doing, shown))),
+            Ok(doing) => finish_turn(subject, turn, Outcome::Op(op_of(doing, shown))),
             Err(error) => {
                 let _ = subject.abandon(turn);
-                Told::Failed(error)
+                Returned::Failed(error)
             }
         },
-        begun => spent_compute(subject, begun),
+        begun => consume_begun_compute(subject, begun),
     }
 }

@@ -161,7 +161,7 @@ pub(crate) struct SegmentedTwin {
 }
 
 /// Wraps a value in an `Arc`. Retries once if the allocation fails.
-pub(crate) fn shared<T: Drop>(alloc: Global, value: T) -> Result<Arc<T>, AllocError> {
+pub(crate) fn share<T: Drop>(alloc: Global, value: T) -> Result<Arc<T>, AllocError> {
     match Arc::new(alloc, value) {
         Ok(value) => Ok(value),
         Err(failed) => Ok(Arc::new(alloc, failed.value)?),
@@ -183,8 +183,8 @@ impl<W: Wait + Copy + Drop> Heard<W> {
     /// Creates a clock at moment 0 and an empty queue.
     fn new(waits: W, alloc: Global) -> Result<Self, AllocError> {
         Ok(Heard {
-            clock: shared(alloc, ManualClock::new(0))?,
-            queue: shared(alloc, Mutex::new(room(alloc)?))?,
+            clock: share(alloc, ManualClock::new(0))?,
+            queue: share(alloc, Mutex::new(room(alloc)?))?,
             waits,
             alloc,
         })
@@ -222,7 +222,7 @@ pub(crate) const NAME: &str = "twins";
 pub(crate) const CAPACITY: u64 = 4;
 
 /// Returns a builder of caches with a time to live of ten seconds, which accept predicates.
-fn told<C: CacheTypes<u64, u64>>(
+fn create_builder<C: CacheTypes<u64, u64>>(
     alloc: Global,
     capacity: u64,
 ) -> Result<CacheBuilder<u64, u64, C, Single>, BuildError> {
@@ -233,11 +233,11 @@ fn told<C: CacheTypes<u64, u64>>(
         .name(alloc, NAME)
 }
 
-fn cache_by<W: Wait + Copy + Drop>(heard: &Heard<W>) -> Result<Numbers<W>, BuildError> {
+fn create_cache<W: Wait + Copy + Drop>(heard: &Heard<W>) -> Result<Numbers<W>, BuildError> {
     let (Ok(notes), Ok(clock)) = (heard.notes(), heard.clock()) else {
         return Err(BuildError::OutOfMemory);
     };
-    told(heard.alloc, CAPACITY)?
+    create_builder(heard.alloc, CAPACITY)?
         .eviction_listener(notes)
         .build_with_hasher(heard.alloc, Hasher::default(), clock, heard.waits)
 }
@@ -245,20 +245,20 @@ fn cache_by<W: Wait + Copy + Drop>(heard: &Heard<W>) -> Result<Numbers<W>, Build
 /// Builds a shared cache. Retries once if an allocation fails.
 pub(crate) fn cache<W: Wait + Copy + Drop>(rt: W, alloc: Global) -> Result<SharedNumbers<W>, Fail> {
     let heard = Heard::new(rt, alloc)?;
-    let cache = match cache_by(&heard) {
-        Err(BuildError::OutOfMemory) => cache_by(&heard)?,
+    let cache = match create_cache(&heard) {
+        Err(BuildError::OutOfMemory) => create_cache(&heard)?,
         built => built?,
     };
     Ok(SharedNumbers { cache, heard })
 }
 
-fn segmented_cache_by<W: Wait + Copy + Drop>(
+fn create_segmented_cache<W: Wait + Copy + Drop>(
     heard: &Heard<W>,
 ) -> Result<SegmentedNumbers<W>, BuildError> {
     let (Ok(notes), Ok(clock)) = (heard.notes(), heard.clock()) else {
         return Err(BuildError::OutOfMemory);
     };
-    told(heard.alloc, 4 * CAPACITY)?
+    create_builder(heard.alloc, 4 * CAPACITY)?
         .eviction_listener(notes)
         .segments(4)?
         .build_with_hasher(heard.alloc, Hasher::default(), clock, heard.waits)
@@ -270,21 +270,21 @@ pub(crate) fn segmented_cache<W: Wait + Copy + Drop>(
     alloc: Global,
 ) -> Result<SharedSegments<W>, Fail> {
     let heard = Heard::new(rt, alloc)?;
-    let cache = match segmented_cache_by(&heard) {
-        Err(BuildError::OutOfMemory) => segmented_cache_by(&heard)?,
+    let cache = match create_segmented_cache(&heard) {
+        Err(BuildError::OutOfMemory) => create_segmented_cache(&heard)?,
         built => built?,
     };
     Ok(SharedSegments { cache, heard })
 }
 
-fn state_by(alloc: Global) -> Result<PlainState, BuildError> {
-    told(alloc, CAPACITY)?.build_state(alloc, Hasher::default())
+fn create_state(alloc: Global) -> Result<PlainState, BuildError> {
+    create_builder(alloc, CAPACITY)?.build_state(alloc, Hasher::default())
 }
 
 /// Builds the twin of a shared cache. Retries once if an allocation fails.
 pub(crate) fn state(alloc: Global) -> Result<Twin, Fail> {
-    let state = match state_by(alloc) {
-        Err(BuildError::OutOfMemory) => state_by(alloc)?,
+    let state = match create_state(alloc) {
+        Err(BuildError::OutOfMemory) => create_state(alloc)?,
         built => built?,
     };
     Ok(Twin {
@@ -294,16 +294,16 @@ pub(crate) fn state(alloc: Global) -> Result<Twin, Fail> {
     })
 }
 
-fn segments_by(alloc: Global) -> Result<PlainSegments, BuildError> {
-    told(alloc, 4 * CAPACITY)?
+fn create_segments(alloc: Global) -> Result<PlainSegments, BuildError> {
+    create_builder(alloc, 4 * CAPACITY)?
         .segments(4)?
         .build_segmented_state(alloc, Hasher::default())
 }
 
 /// Builds the twin of a shared cache with four segments. Retries once if an allocation fails.
 pub(crate) fn segmented_state(alloc: Global) -> Result<SegmentedTwin, Fail> {
-    let state = match segments_by(alloc) {
-        Err(BuildError::OutOfMemory) => segments_by(alloc)?,
+    let state = match create_segments(alloc) {
+        Err(BuildError::OutOfMemory) => create_segments(alloc)?,
         built => built?,
     };
     Ok(SegmentedTwin {

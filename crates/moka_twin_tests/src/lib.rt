@@ -21,13 +21,13 @@ mod on_state;
 #[cfg(test)]
 mod refusals;
 #[cfg(test)]
+mod returned;
+#[cfg(test)]
 mod selectors;
 #[cfg(test)]
 mod side_by_side;
 #[cfg(test)]
 mod subject;
-#[cfg(test)]
-mod told;
 #[cfg(test)]
 mod turns;
 #[cfg(test)]

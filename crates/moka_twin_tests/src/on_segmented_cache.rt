@@ -3,11 +3,12 @@ ghost use Rattle.std.specs.Prelude.{◌≡◌, ◌≢◌, ℕ, IfOk};
 
 use crate::caches::{Left, NAME, Odd, SegmentedNumbers, SharedSegments};
 use crate::calls::{All, Form, Key, Look, Selected, Write};
-use crate::selectors::{Selector, told_by_selector};
-use crate::subject::{Pairs, Subject};
-use crate::told::{
-    NO_MEMORY, Told, entry_of, hidden_of, insert_of, option_of, or_insert_of, tried_of, value_of,
+use crate::returned::{
+    NO_MEMORY, Returned, entry_of, hidden_of, insert_of, option_of, or_insert_of, tried_of,
+    value_of,
 };
+use crate::selectors::{Selector, reply_of_selector};
+use crate::subject::{Pairs, Subject};
 use crate::turns::{Begins, BeginsCompute, Collects, Finishes, Given, Turns};
 use moka::policy::Refused;
 use moka::sync::ConcurrentCacheExt;
@@ -16,31 +17,31 @@ use std::alloc::Global;
 use std::sync::{Arc, Wait};
 
 impl<W: Wait + Drop> Subject for SharedSegments<W> {
-    fn at(&mut self, now: u64) {
+    fn set_moment(&mut self, now: u64) {
         self.heard.set(now);
         if let Ok(clone) = self.cache.clone() {
             self.cache = clone;
         }
     }
 
-    fn left(&mut self) -> Option<Left> {
+    fn next_removal(&mut self) -> Option<Left> {
         self.heard.take()
     }
 
-    fn look(&mut self, call: Look, key: u64) -> Told {
+    fn look(&mut self, call: Look, key: u64) -> Returned {
         let cache = &self.cache;
         match call {
             Look::Get => option_of(cache.get(&key)),
-            Look::ContainsKey => Told::Is(cache.contains_key(&key)),
+            Look::ContainsKey => Returned::Is(cache.contains_key(&key)),
             Look::Invalidate => {
                 cache.invalidate(&key);
-                Told::Done
+                Returned::Done
             }
             Look::Remove => option_of(cache.remove(&key)),
         }
     }
 
-    fn all(&mut self, call: All) -> Told {
+    fn call_all(&mut self, call: All) -> Returned {
         let cache = &self.cache;
         match call {
             All::InvalidateAll => cache.invalidate_all(),
@@ -48,33 +49,36 @@ impl<W: Wait + Drop> Subject for SharedSegments<W> {
             All::HideOddShared => return hide_odd_shared(cache, self.heard.alloc),
             All::RunPendingTasks => cache.run_pending_tasks(),
             All::RunPendingTasksUpTo(limit) => {
-                return Told::Is(cache.run_pending_tasks_up_to(limit));
+                return Returned::Is(cache.run_pending_tasks_up_to(limit));
             }
             All::Sync => cache.sync(),
-            All::EntryCount => return Told::Counts(cache.entry_count()),
-            All::WeightedSize => return Told::Counts(cache.weighted_size()),
-            All::Name => return Told::Is(cache.name() == Some(NAME)),
-            All::Policy => return Told::Policy(cache.policy()),
+            All::EntryCount => return Returned::Counts(cache.entry_count()),
+            All::WeightedSize => return Returned::Counts(cache.weighted_size()),
+            All::Name => return Returned::Is(cache.name() == Some(NAME)),
+            All::Policy => return Returned::Policy(cache.policy()),
         }
-        Told::Done
+        Returned::Done
     }
 
-    fn form(&mut self, form: Form, key: Key) -> Told {
+    fn call_form(&mut self, form: Form, key: Key) -> Returned {
         let cache = &self.cache;
         match form {
             Form::With(value) => with(cache, key, value),
             Form::WithIf(value, unwanted) => with_if(cache, key.number(), value, unwanted),
             Form::Optionally(value) => optionally(cache, key, value),
             Form::Try(value) => tries(cache, key, value),
-            Form::OlderWith(value) => older_with(cache, key.number(), value),
-            Form::OlderTry(value) => older_try(cache, key.number(), value),
+            Form::OlderWith(value) => get_or_insert_with(cache, key.number(), value),
+            Form::OlderTry(value) => get_or_try_insert_with(cache, key.number(), value),
         }
     }
 
-    fn selected(&mut self, call: Selected, key: Key) -> Told {
+    fn call_selector(&mut self, call: Selected, key: Key) -> Returned {
         match key {
-            Key::Owned(key) => told_by_selector(Selector::Owned(self.cache.entry(key)), call),
-            Key::Lent(key) => told_by_selector(Selector::Lent(self.cache.entry_by_ref(&key)), call),
+            Key::Owned(key) => reply_of_selector(Selector::Owned(self.cache.entry(key)), call),
+            Key::Lent(key) => reply_of_selector(
+                Selector::Lent(self.cache.entry_by_ref(&key)),
+                call,
+            ),
         }
     }
 
@@ -98,7 +102,7 @@ impl<W: Wait + Drop> Turns for SharedSegments<W> {
     ghost use Rattle.moka_state.specs.Compute.{IsCompute};
     ghost use Rattle.moka_state.specs.Finish.{Fits, outcome_of};
 
-    fn write(&mut self, call: Write, key: u64) -> Told {
+    fn write(&mut self, call: Write, key: u64) -> Returned {
         let cache = &self.cache;
         match call {
             Write::Insert(value) => insert_of(cache.insert(key, value), (key, value)),
@@ -150,14 +154,14 @@ impl<W: Wait + Drop> Turns for SharedSegments<W> {
     }
 }
 
-fn hide_odd_shared<W: Wait + Drop>(cache: &SegmentedNumbers<W>, alloc: Global) -> Told {
+fn hide_odd_shared<W: Wait + Drop>(cache: &SegmentedNumbers<W>, alloc: Global) -> Returned {
     match Arc::new(alloc, Odd) {
         Ok(odd) => hidden_of(cache.invalidate_entries_with_arc_fun(odd)),
         Err(_) => NO_MEMORY,
     }
 }
 
-fn with<W: Wait + Drop>(cache: &SegmentedNumbers<W>, key: Key, value: u64) -> Told {
+fn with<W: Wait + Drop>(cache: &SegmentedNumbers<W>, key: Key, value: u64) -> Returned {
     value_of(match key {
         Key::Owned(key) => cache.get_with(key, move || value),
         Key::Lent(key) => cache.get_with_by_ref(&key, move || value),
@@ -169,32 +173,44 @@ fn with_if<W: Wait + Drop>(
     key: u64,
     value: u64,
     unwanted: u64,
-) -> Told {
+) -> Returned {
     value_of(cache.get_with_if(key, move || value, move |live| *live == unwanted))
 }
 
-fn optionally<W: Wait + Drop>(cache: &SegmentedNumbers<W>, key: Key, value: Option<u64>) -> Told {
+fn optionally<W: Wait + Drop>(
+    cache: &SegmentedNumbers<W>,
+    key: Key,
+    value: Option<u64>,
+) -> Returned {
     option_of(match key {
         Key::Owned(key) => cache.optionally_get_with(key, move || value),
         Key::Lent(key) => cache.optionally_get_with_by_ref(&key, move || value),
     })
 }
 
-fn tries<W: Wait + Drop>(cache: &SegmentedNumbers<W>, key: Key, value: Result<u64, u64>) -> Told {
+fn tries<W: Wait + Drop>(
+    cache: &SegmentedNumbers<W>,
+    key: Key,
+    value: Result<u64, u64>,
+) -> Returned {
     tried_of(match key {
         Key::Owned(key) => cache.try_get_with(key, move || value),
         Key::Lent(key) => cache.try_get_with_by_ref(&key, move || value),
     })
 }
 
-fn older_with<W: Wait + Drop>(cache: &SegmentedNumbers<W>, key: u64, value: u64) -> Told {
+fn get_or_insert_with<W: Wait + Drop>(
+    cache: &SegmentedNumbers<W>,
+    key: u64,
+    value: u64,
+) -> Returned {
     value_of(cache.get_or_insert_with(key, move || value))
 }
 
-fn older_try<W: Wait + Drop>(
+fn get_or_try_insert_with<W: Wait + Drop>(
     cache: &SegmentedNumbers<W>,
     key: u64,
     value: Result<u64, u64>,
-) -> Told {
+) -> Returned {
     tried_of(cache.get_or_try_insert_with(key, move || value))
 }

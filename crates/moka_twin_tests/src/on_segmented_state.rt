@@ -1,12 +1,13 @@
 //! Makes the calls on an owned cache with several segments, the twin of such a shared cache.
 
-use crate::by_turns::told_by_turns;
+use crate::by_turns::reply_by_turns;
 use crate::caches::{Left, NAME, Odd, PlainSegments, ROOM, SegmentedTwin};
 use crate::calls::{All, Form, Key, Look, Selected, Write};
-use crate::subject::{Pairs, Subject};
-use crate::told::{
-    NO_MEMORY, Told, entry_of, hidden_of, insert_of, option_of, or_insert_of, tried_of, value_of,
+use crate::returned::{
+    NO_MEMORY, Returned, entry_of, hidden_of, insert_of, option_of, or_insert_of, tried_of,
+    value_of,
 };
+use crate::subject::{Pairs, Subject};
 use crate::turns::{Begins, BeginsCompute, Collects, Finishes, Given, Turns};
 use moka::common::iter::WalkCursor;
 use moka::policy::Refused;
@@ -15,29 +16,29 @@ use std::alloc::Global;
 use std::sync::Arc;
 
 impl Subject for SegmentedTwin {
-    fn at(&mut self, now: u64) {
+    fn set_moment(&mut self, now: u64) {
         self.now = now;
     }
 
-    fn left(&mut self) -> Option<Left> {
+    fn next_removal(&mut self) -> Option<Left> {
         let notice = self.state.take_notice()?;
         Some((*notice.key, notice.value, notice.cause))
     }
 
-    fn look(&mut self, call: Look, key: u64) -> Told {
+    fn look(&mut self, call: Look, key: u64) -> Returned {
         let now = self.now;
         match call {
             Look::Get => option_of(self.state.get(&key, now)),
-            Look::ContainsKey => Told::Is(self.state.contains_key(&key, now)),
+            Look::ContainsKey => Returned::Is(self.state.contains_key(&key, now)),
             Look::Invalidate => {
                 self.state.invalidate(&key, now);
-                Told::Done
+                Returned::Done
             }
             Look::Remove => option_of(self.state.remove(&key, now)),
         }
     }
 
-    fn all(&mut self, call: All) -> Told {
+    fn call_all(&mut self, call: All) -> Returned {
         let (state, now) = (&mut self.state, self.now);
         match call {
             All::InvalidateAll => state.invalidate_all(),
@@ -45,17 +46,17 @@ impl Subject for SegmentedTwin {
             All::HideOddShared => return hide_odd_shared(state, self.alloc),
             All::RunPendingTasks | All::Sync => state.run_pending_tasks(now),
             All::RunPendingTasksUpTo(limit) => {
-                return Told::Is(state.run_pending_tasks_up_to(limit, now));
+                return Returned::Is(state.run_pending_tasks_up_to(limit, now));
             }
-            All::EntryCount => return Told::Counts(state.entry_count()),
-            All::WeightedSize => return Told::Counts(state.weighted_size()),
-            All::Name => return Told::Is(state.name() == Some(NAME)),
-            All::Policy => return Told::Policy(state.policy()),
+            All::EntryCount => return Returned::Counts(state.entry_count()),
+            All::WeightedSize => return Returned::Counts(state.weighted_size()),
+            All::Name => return Returned::Is(state.name() == Some(NAME)),
+            All::Policy => return Returned::Policy(state.policy()),
         }
-        Told::Done
+        Returned::Done
     }
 
-    fn form(&mut self, form: Form, key: Key) -> Told {
+    fn call_form(&mut self, form: Form, key: Key) -> Returned {
         let (state, now) = (&mut self.state, self.now);
         match form {
             Form::With(value) | Form::OlderWith(value) => with(state, key, value, now),
@@ -66,10 +67,10 @@ impl Subject for SegmentedTwin {
     }
 
     /// Makes the calls of a selector by turns, since this cache has no selectors.
-    fn selected(&mut self, call: Selected, key: Key) -> Told {
+    fn call_selector(&mut self, call: Selected, key: Key) -> Returned {
         let alloc = self.alloc;
         match Arc::new(alloc, key.number()) {
-            Ok(key) => told_by_turns(self, alloc, &key, call),
+            Ok(key) => reply_by_turns(self, alloc, &key, call),
             Err(_) => NO_MEMORY,
         }
     }
@@ -98,7 +99,7 @@ impl Turns for SegmentedTwin {
     ghost use Rattle.moka_state.specs.Compute.{IsCompute};
     ghost use Rattle.moka_state.specs.Finish.{Fits, outcome_of};
 
-    fn write(&mut self, call: Write, key: u64) -> Told {
+    fn write(&mut self, call: Write, key: u64) -> Returned {
         let now = self.now;
         match call {
             Write::Insert(value) => insert_of(self.state.insert(key, value, now), (key, value)),
@@ -151,32 +152,32 @@ impl Turns for SegmentedTwin {
     }
 }
 
-fn hide_odd_shared(state: &mut PlainSegments, alloc: Global) -> Told {
+fn hide_odd_shared(state: &mut PlainSegments, alloc: Global) -> Returned {
     match Arc::new(alloc, Odd) {
         Ok(odd) => hidden_of(state.invalidate_entries_with_arc_fun(odd)),
         Err(_) => NO_MEMORY,
     }
 }
 
-fn with(state: &mut PlainSegments, key: Key, value: u64, now: u64) -> Told {
+fn with(state: &mut PlainSegments, key: Key, value: u64, now: u64) -> Returned {
     value_of(match key {
         Key::Owned(key) => state.get_with(key, move || value, now),
         Key::Lent(key) => state.get_with_by_ref(&key, move || value, now),
     })
 }
 
-fn with_if(state: &mut PlainSegments, key: u64, value: u64, unwanted: u64, now: u64) -> Told {
+fn with_if(state: &mut PlainSegments, key: u64, value: u64, unwanted: u64, now: u64) -> Returned {
     value_of(state.get_with_if(key, move || value, move |live| *live == unwanted, now))
 }
 
-fn optionally(state: &mut PlainSegments, key: Key, value: Option<u64>, now: u64) -> Told {
+fn optionally(state: &mut PlainSegments, key: Key, value: Option<u64>, now: u64) -> Returned {
     option_of(match key {
         Key::Owned(key) => state.optionally_get_with(key, move || value, now),
         Key::Lent(key) => state.optionally_get_with_by_ref(&key, move || value, now),
     })
 }
 
-fn tries(state: &mut PlainSegments, key: Key, value: Result<u64, u64>, now: u64) -> Told {
+fn tries(state: &mut PlainSegments, key: Key, value: Result<u64, u64>, now: u64) -> Returned {
     tried_of(match key {
         Key::Owned(key) => state.try_get_with(key, move || value, now),
         Key::Lent(key) => state.try_get_with_by_ref(&key, move || value, now),

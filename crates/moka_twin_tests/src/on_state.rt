@@ -2,11 +2,11 @@
 
 use crate::caches::{Left, NAME, Odd, PlainState, PlainTypes, ROOM, Twin};
 use crate::calls::{All, Doing, Form, Key, Look, Selected, Write, next_of, op_of, try_op_of};
-use crate::subject::{Pairs, Subject};
-use crate::told::{
-    NO_MEMORY, Told, computed_of, entry_of, hidden_of, insert_of, option_of, optional_entry_of,
+use crate::returned::{
+    NO_MEMORY, Returned, computed_of, entry_of, hidden_of, insert_of, option_of, optional_entry_of,
     or_insert_of, tried_compute_of, tried_entry_of, tried_of, value_of,
 };
+use crate::subject::{Pairs, Subject};
 use crate::turns::{Begins, BeginsCompute, Collects, Finishes, Given, Turns};
 use moka::common::iter::WalkCursor;
 use moka::policy::Refused;
@@ -21,29 +21,29 @@ use std::sync::Arc;
 type Selector<'a> = StateEntrySelector<'a, u64, u64, PlainTypes, ExpiringRows<u64, u64>>;
 
 impl Subject for Twin {
-    fn at(&mut self, now: u64) {
+    fn set_moment(&mut self, now: u64) {
         self.now = now;
     }
 
-    fn left(&mut self) -> Option<Left> {
+    fn next_removal(&mut self) -> Option<Left> {
         let notice = self.state.take_notice()?;
         Some((*notice.key, notice.value, notice.cause))
     }
 
-    fn look(&mut self, call: Look, key: u64) -> Told {
+    fn look(&mut self, call: Look, key: u64) -> Returned {
         let now = self.now;
         match call {
             Look::Get => option_of(self.state.get(&key, now)),
-            Look::ContainsKey => Told::Is(self.state.contains_key(&key, now)),
+            Look::ContainsKey => Returned::Is(self.state.contains_key(&key, now)),
             Look::Invalidate => {
                 self.state.invalidate(&key, now);
-                Told::Done
+                Returned::Done
             }
             Look::Remove => option_of(self.state.remove(&key, now)),
         }
     }
 
-    fn all(&mut self, call: All) -> Told {
+    fn call_all(&mut self, call: All) -> Returned {
         let (state, now) = (&mut self.state, self.now);
         match call {
             All::InvalidateAll => state.invalidate_all(),
@@ -51,17 +51,17 @@ impl Subject for Twin {
             All::HideOddShared => return hide_odd_shared(state, self.alloc),
             All::RunPendingTasks | All::Sync => state.run_pending_tasks(now),
             All::RunPendingTasksUpTo(limit) => {
-                return Told::Is(state.run_pending_tasks_up_to(limit, now));
+                return Returned::Is(state.run_pending_tasks_up_to(limit, now));
             }
-            All::EntryCount => return Told::Counts(state.entry_count()),
-            All::WeightedSize => return Told::Counts(state.weighted_size()),
-            All::Name => return Told::Is(state.name() == Some(NAME)),
-            All::Policy => return Told::Policy(state.policy()),
+            All::EntryCount => return Returned::Counts(state.entry_count()),
+            All::WeightedSize => return Returned::Counts(state.weighted_size()),
+            All::Name => return Returned::Is(state.name() == Some(NAME)),
+            All::Policy => return Returned::Policy(state.policy()),
         }
-        Told::Done
+        Returned::Done
     }
 
-    fn form(&mut self, form: Form, key: Key) -> Told {
+    fn call_form(&mut self, form: Form, key: Key) -> Returned {
         let (state, now) = (&mut self.state, self.now);
         match form {
             Form::With(value) | Form::OlderWith(value) => with(state, key, value, now),
@@ -71,12 +71,12 @@ impl Subject for Twin {
         }
     }
 
-    fn selected(&mut self, call: Selected, key: Key) -> Told {
+    fn call_selector(&mut self, call: Selected, key: Key) -> Returned {
         match key {
-            Key::Owned(key) => told_by_selector(self.state.entry(key, self.now), call),
+            Key::Owned(key) => reply_of_selector(self.state.entry(key, self.now), call),
             Key::Lent(key) => match self.state.entry_by_ref(&key, self.now) {
-                Ok(selector) => told_by_selector(selector, call),
-                Err(cause) => Told::Refused(cause),
+                Ok(selector) => reply_of_selector(selector, call),
+                Err(cause) => Returned::Refused(cause),
             },
         }
     }
@@ -105,7 +105,7 @@ impl Turns for Twin {
     ghost use Rattle.moka_state.specs.Compute.{IsCompute};
     ghost use Rattle.moka_state.specs.Finish.{Fits, outcome_of};
 
-    fn write(&mut self, call: Write, key: u64) -> Told {
+    fn write(&mut self, call: Write, key: u64) -> Returned {
         let now = self.now;
         match call {
             Write::Insert(value) => insert_of(self.state.insert(key, value, now), (key, value)),
@@ -159,37 +159,37 @@ impl Turns for Twin {
 }
 
 /// Invalidates the odd values. Drops the id, since each id is new.
-fn hide_odd(state: &mut PlainState) -> Told {
+fn hide_odd(state: &mut PlainState) -> Returned {
     let mut generator = SplitMix64::seed_from_u64(7);
     hidden_of(state.invalidate_entries_if(Odd, &mut generator))
 }
 
-fn hide_odd_shared(state: &mut PlainState, alloc: Global) -> Told {
+fn hide_odd_shared(state: &mut PlainState, alloc: Global) -> Returned {
     match Arc::new(alloc, Odd) {
         Ok(odd) => hidden_of(state.invalidate_entries_with_arc_fun(odd)),
         Err(_) => NO_MEMORY,
     }
 }
 
-fn with(state: &mut PlainState, key: Key, value: u64, now: u64) -> Told {
+fn with(state: &mut PlainState, key: Key, value: u64, now: u64) -> Returned {
     value_of(match key {
         Key::Owned(key) => state.get_with(key, move || value, now),
         Key::Lent(key) => state.get_with_by_ref(&key, move || value, now),
     })
 }
 
-fn with_if(state: &mut PlainState, key: u64, value: u64, unwanted: u64, now: u64) -> Told {
+fn with_if(state: &mut PlainState, key: u64, value: u64, unwanted: u64, now: u64) -> Returned {
     value_of(state.get_with_if(key, move || value, move |live| *live == unwanted, now))
 }
 
-fn optionally(state: &mut PlainState, key: Key, value: Option<u64>, now: u64) -> Told {
+fn optionally(state: &mut PlainState, key: Key, value: Option<u64>, now: u64) -> Returned {
     option_of(match key {
         Key::Owned(key) => state.optionally_get_with(key, move || value, now),
         Key::Lent(key) => state.optionally_get_with_by_ref(&key, move || value, now),
     })
 }
 
-fn tries(state: &mut PlainState, key: Key, value: Result<u64, u64>, now: u64) -> Told {
+fn tries(state: &mut PlainState, key: Key, value: Result<u64, u64>, now: u64) -> Returned {
     tried_of(match key {
         Key::Owned(key) => state.try_get_with(key, move || value, now),
         Key::Lent(key) => state.try_get_with_by_ref(&key, move || value, now),
@@ -197,7 +197,7 @@ fn tries(state: &mut PlainState, key: Key, value: Result<u64, u64>, now: u64) ->
 }
 
 /// Returns the result of a selector's call.
-fn told_by_selector(selector: Selector<'_>, call: Selected) -> Told {
+fn reply_of_selector(selector: Selector<'_>, call: Selected) -> Returned {
     match call {
         Selected::OrDefault => entry_of(selector.or_default()),
         Selected::OrInsert(value) => entry_of(selector.or_insert(value)),
@@ -211,30 +211,30 @@ fn told_by_selector(selector: Selector<'_>, call: Selected) -> Told {
     }
 }
 
-fn or_insert_with(selector: Selector<'_>, value: u64) -> Told {
+fn or_insert_with(selector: Selector<'_>, value: u64) -> Returned {
     entry_of(selector.or_insert_with(move || value))
 }
 
-fn or_insert_with_if(selector: Selector<'_>, value: u64, unwanted: u64) -> Told {
+fn or_insert_with_if(selector: Selector<'_>, value: u64, unwanted: u64) -> Returned {
     entry_of(selector.or_insert_with_if(move || value, move |live| *live == unwanted))
 }
 
-fn or_optionally_insert_with(selector: Selector<'_>, value: Option<u64>) -> Told {
+fn or_optionally_insert_with(selector: Selector<'_>, value: Option<u64>) -> Returned {
     optional_entry_of(selector.or_optionally_insert_with(move || value))
 }
 
-fn or_try_insert_with(selector: Selector<'_>, value: Result<u64, u64>) -> Told {
+fn or_try_insert_with(selector: Selector<'_>, value: Result<u64, u64>) -> Returned {
     tried_entry_of(selector.or_try_insert_with(move || value))
 }
 
-fn and_compute_with(selector: Selector<'_>, doing: Doing) -> Told {
+fn and_compute_with(selector: Selector<'_>, doing: Doing) -> Returned {
     computed_of(selector.and_compute_with(move |shown| op_of(doing, shown)))
 }
 
-fn and_try_compute_with(selector: Selector<'_>, doing: Result<Doing, u64>) -> Told {
+fn and_try_compute_with(selector: Selector<'_>, doing: Result<Doing, u64>) -> Returned {
     tried_compute_of(selector.and_try_compute_with(move |shown| try_op_of(doing, shown)))
 }
 
-fn and_upsert_with(selector: Selector<'_>) -> Told {
+fn and_upsert_with(selector: Selector<'_>) -> Returned {
     entry_of(selector.and_upsert_with(move |shown| next_of(shown)))
 }

@@ -3,14 +3,14 @@
 
 use crate::caches::{cache, segmented_cache, segmented_state, state};
 use crate::lists::{FORMS, KEYS, OF_ALL, SELECTORS, TURNS, Timed};
-use crate::side_by_side::{Causes, Pass, answer_alike};
+use crate::side_by_side::{Causes, Pass, reply_alike};
 use std::alloc::Global;
 use std::process::Abort;
 use std::sync::Wait;
 use std::test::Fail;
 
 /// Compares a cache with its twin by a list, with keys passed by value.
-fn by_cache<W: Wait + Abort + Copy + Drop>(
+fn compare_cache<W: Wait + Abort + Copy + Drop>(
     rt: W,
     alloc: Global,
     calls: &[Timed],
@@ -22,11 +22,11 @@ fn by_cache<W: Wait + Abort + Copy + Drop>(
         is_lent: false,
     };
     let mut causes = Causes::NONE;
-    answer_alike(&rt, alloc, &mut shared, &mut twin, calls, pass, &mut causes)
+    reply_alike(&rt, alloc, &mut shared, &mut twin, calls, pass, &mut causes)
 }
 
 /// Compares a cache with segments with its twin by a list, with keys passed by reference.
-fn by_segments<W: Wait + Abort + Copy + Drop>(
+fn compare_segments<W: Wait + Abort + Copy + Drop>(
     rt: W,
     alloc: Global,
     calls: &[Timed],
@@ -38,65 +38,65 @@ fn by_segments<W: Wait + Abort + Copy + Drop>(
         is_lent: true,
     };
     let mut causes = Causes::NONE;
-    answer_alike(&rt, alloc, &mut shared, &mut twin, calls, pass, &mut causes)
+    reply_alike(&rt, alloc, &mut shared, &mut twin, calls, pass, &mut causes)
 }
 
 /// A call about one key changes nothing if an allocation fails.
 #[test]
 fn a_refused_call_of_a_key_changes_nothing(rt: HostRuntime) -> Result<(), Fail> {
-    by_cache(rt, rt.alloc(), &KEYS)
+    compare_cache(rt, rt.alloc(), &KEYS)
 }
 
 /// A call about all keys changes nothing if an allocation fails.
 #[test]
 fn a_refused_call_of_all_changes_nothing(rt: HostRuntime) -> Result<(), Fail> {
-    by_cache(rt, rt.alloc(), &OF_ALL)
+    compare_cache(rt, rt.alloc(), &OF_ALL)
 }
 
 /// A loader changes nothing if an allocation fails.
 #[test]
 fn a_refused_form_changes_nothing(rt: HostRuntime) -> Result<(), Fail> {
-    by_cache(rt, rt.alloc(), &FORMS)
+    compare_cache(rt, rt.alloc(), &FORMS)
 }
 
 /// A call of a selector changes nothing if an allocation fails.
 #[test]
 fn a_refused_call_of_a_selector_changes_nothing(rt: HostRuntime) -> Result<(), Fail> {
-    by_cache(rt, rt.alloc(), &SELECTORS)
+    compare_cache(rt, rt.alloc(), &SELECTORS)
 }
 
 /// A call about a turn changes nothing if an allocation fails.
 #[test]
 fn a_refused_call_of_a_turn_changes_nothing(rt: HostRuntime) -> Result<(), Fail> {
-    by_cache(rt, rt.alloc(), &TURNS)
+    compare_cache(rt, rt.alloc(), &TURNS)
 }
 
 /// With segments, a call about one key changes nothing if an allocation fails.
 #[test]
 fn a_refused_call_of_a_key_changes_no_segment(rt: HostRuntime) -> Result<(), Fail> {
-    by_segments(rt, rt.alloc(), &KEYS)
+    compare_segments(rt, rt.alloc(), &KEYS)
 }
 
 /// With segments, a call about all keys changes nothing if an allocation fails.
 #[test]
 fn a_refused_call_of_all_changes_no_segment(rt: HostRuntime) -> Result<(), Fail> {
-    by_segments(rt, rt.alloc(), &OF_ALL)
+    compare_segments(rt, rt.alloc(), &OF_ALL)
 }
 
 /// With segments, a loader changes nothing if an allocation fails.
 #[test]
 fn a_refused_form_changes_no_segment(rt: HostRuntime) -> Result<(), Fail> {
-    by_segments(rt, rt.alloc(), &FORMS)
+    compare_segments(rt, rt.alloc(), &FORMS)
 }
 
 /// With segments, a call of a selector changes nothing if an allocation fails.
 #[test]
 fn a_refused_call_of_a_selector_changes_no_segment(rt: HostRuntime) -> Result<(), Fail> {
-    by_segments(rt, rt.alloc(), &SELECTORS)
+    compare_segments(rt, rt.alloc(), &SELECTORS)
 }
 
 /// With segments, a call about a turn changes nothing if an allocation fails.
 #[test]
 fn a_refused_call_of_a_turn_changes_no_segment(rt: HostRuntime) -> Result<(), Fail> {
-    by_segments(rt, rt.alloc(), &TURNS)
+    compare_segments(rt, rt.alloc(), &TURNS)
 }

@@ -2,8 +2,8 @@
 
 use crate::caches::Types;
 use crate::calls::{Doing, Selected, next_of, op_of, try_op_of};
-use crate::told::{
-    Told, computed_of, entry_of, optional_entry_of, tried_compute_of, tried_entry_of,
+use crate::returned::{
+    Returned, computed_of, entry_of, optional_entry_of, tried_compute_of, tried_entry_of,
 };
 use moka::sync::{OwnedKeyEntrySelector, RefKeyEntrySelector};
 use std::sync::Wait;
@@ -15,7 +15,10 @@ pub(crate) enum Selector<'a, W: Wait + Drop> {
 }
 
 /// Returns the result of a call.
-pub(crate) fn told_by_selector<W: Wait + Drop>(selector: Selector<'_, W>, call: Selected) -> Told {
+pub(crate) fn reply_of_selector<W: Wait + Drop>(
+    selector: Selector<'_, W>,
+    call: Selected,
+) -> Returned {
     match call {
         Selected::OrDefault => or_default(selector),
         Selected::OrInsert(value) => or_insert(selector, value),
@@ -29,28 +32,32 @@ pub(crate) fn told_by_selector<W: Wait + Drop>(selector: Selector<'_, W>, call: 
     }
 }
 
-fn or_default<W: Wait + Drop>(selector: Selector<'_, W>) -> Told {
+fn or_default<W: Wait + Drop>(selector: Selector<'_, W>) -> Returned {
     entry_of(match selector {
         Selector::Owned(selector) => selector.or_default(),
         Selector::Lent(selector) => selector.or_default(),
     })
 }
 
-fn or_insert<W: Wait + Drop>(selector: Selector<'_, W>, value: u64) -> Told {
+fn or_insert<W: Wait + Drop>(selector: Selector<'_, W>, value: u64) -> Returned {
     entry_of(match selector {
         Selector::Owned(selector) => selector.or_insert(value),
         Selector::Lent(selector) => selector.or_insert(value),
     })
 }
 
-fn or_insert_with<W: Wait + Drop>(selector: Selector<'_, W>, value: u64) -> Told {
+fn or_insert_with<W: Wait + Drop>(selector: Selector<'_, W>, value: u64) -> Returned {
     entry_of(match selector {
         Selector::Owned(selector) => selector.or_insert_with(move || value),
         Selector::Lent(selector) => selector.or_insert_with(move || value),
     })
 }
 
-fn or_insert_with_if<W: Wait + Drop>(selector: Selector<'_, W>, value: u64, unwanted: u64) -> Told {
+fn or_insert_with_if<W: Wait + Drop>(
+    selector: Selector<'_, W>,
+    value: u64,
+    unwanted: u64,
+) -> Returned {
     entry_of(match selector {
         Selector::Owned(selector) => {
             selector.or_insert_with_if(move || value, move |live| *live == unwanted)
@@ -64,21 +71,24 @@ fn or_insert_with_if<W: Wait + Drop>(selector: Selector<'_, W>, value: u64, unwa
 fn or_optionally_insert_with<W: Wait + Drop>(
     selector: Selector<'_, W>,
     value: Option<u64>,
-) -> Told {
+) -> Returned {
     optional_entry_of(match selector {
         Selector::Owned(selector) => selector.or_optionally_insert_with(move || value),
         Selector::Lent(selector) => selector.or_optionally_insert_with(move || value),
     })
 }
 
-fn or_try_insert_with<W: Wait + Drop>(selector: Selector<'_, W>, value: Result<u64, u64>) -> Told {
+fn or_try_insert_with<W: Wait + Drop>(
+    selector: Selector<'_, W>,
+    value: Result<u64, u64>,
+) -> Returned {
     tried_entry_of(match selector {
         Selector::Owned(selector) => selector.or_try_insert_with(move || value),
         Selector::Lent(selector) => selector.or_try_insert_with(move || value),
     })
 }
 
-fn and_compute_with<W: Wait + Drop>(selector: Selector<'_, W>, doing: Doing) -> Told {
+fn and_compute_with<W: Wait + Drop>(selector: Selector<'_, W>, doing: Doing) -> Returned {
     computed_of(match selector {
         Selector::Owned(selector) => selector.and_compute_with(move |shown| op_of(doing, shown)),
         Selector::Lent(selector) => selector.and_compute_with(move |shown| op_of(doing, shown)),
@@ -88,7 +98,7 @@ fn and_compute_with<W: Wait + Drop>(selector: Selector<'_, W>, doing: Doing) -> 
 fn and_try_compute_with<W: Wait + Drop>(
     selector: Selector<'_, W>,
     doing: Result<Doing, u64>,
-) -> Told {
+) -> Returned {
     tried_compute_of(match selector {
         Selector::Owned(selector) => {
             selector.and_try_compute_with(move |shown| try_op_of(doing, shown))
@@ -99,7 +109,7 @@ fn and_try_compute_with<W: Wait + Drop>(
     })
 }
 
-fn and_upsert_with<W: Wait + Drop>(selector: Selector<'_, W>) -> Told {
+fn and_upsert_with<W: Wait + Drop>(selector: Selector<'_, W>) -> Returned {
     entry_of(match selector {
         Selector::Owned(selector) => selector.and_upsert_with(move |shown| next_of(shown)),
         Selector::Lent(selector) => selector.and_upsert_with(move |shown| next_of(shown)),

@@ -4,8 +4,8 @@
 use crate::caches::ROOM;
 use crate::calls::{All, Call};
 use crate::lists::Timed;
-use crate::subject::{Reply, Subject, reply, walked};
-use crate::told::NO_MEMORY;
+use crate::returned::NO_MEMORY;
+use crate::subject::{Reply, Subject, reply, walk_pairs};
 use crate::turns::Turns;
 use moka::notification::RemovalCause;
 use std::alloc::Global;
@@ -48,7 +48,7 @@ pub(crate) struct Pass {
 }
 
 /// Makes each call of a list on both, and checks that they agree.
-pub(crate) fn answer_alike<S: Subject + Turns, T: Subject + Turns>(
+pub(crate) fn reply_alike<S: Subject + Turns, T: Subject + Turns>(
     rt: &impl Abort,
     alloc: Global,
     shared: &mut S,
@@ -59,8 +59,8 @@ pub(crate) fn answer_alike<S: Subject + Turns, T: Subject + Turns>(
 ) -> Result<(), Fail> {
     for (second, call) in calls {
         let now = pass.from.wrapping_add(*second).wrapping_mul(1_000_000_000);
-        shared.at(now);
-        twin.at(now);
+        shared.set_moment(now);
+        twin.set_moment(now);
         if let Call::Walk = call {
             walk_alike(rt, shared, twin)?;
         } else {
@@ -79,30 +79,30 @@ fn call_alike<S: Subject + Turns, T: Subject + Turns>(
     call: Call,
     is_lent: bool,
 ) -> Result<(), Fail> {
-    let mut told = reply(rt, alloc, shared, call, is_lent)?;
-    if told.0 == NO_MEMORY {
+    let mut returned = reply(rt, alloc, shared, call, is_lent)?;
+    if returned.0 == NO_MEMORY {
         // A failed call has changed nothing: the cache agrees with the twin, which has not made it
         // yet.
         walk_alike(rt, shared, twin)?;
         count_alike(rt, shared, twin);
-        told = reply(rt, alloc, shared, call, is_lent)?;
+        returned = reply(rt, alloc, shared, call, is_lent)?;
     }
-    let wanted = told_by_twin(rt, alloc, twin, call, is_lent)?;
-    assert_eq!(rt; told, wanted, "{call:?}");
+    let wanted = reply_of_twin(rt, alloc, twin, call, is_lent)?;
+    assert_eq!(rt; returned, wanted, "{call:?}");
     Ok(())
 }
 
 /// Returns the result of the twin. Retries once if an allocation fails.
-fn told_by_twin<T: Subject + Turns>(
+fn reply_of_twin<T: Subject + Turns>(
     rt: &impl Abort,
     alloc: Global,
     twin: &mut T,
     call: Call,
     is_lent: bool,
 ) -> Result<Reply, Fail> {
-    let told = reply(rt, alloc, twin, call, is_lent)?;
-    if told.0 != NO_MEMORY {
-        return Ok(told);
+    let returned = reply(rt, alloc, twin, call, is_lent)?;
+    if returned.0 != NO_MEMORY {
+        return Ok(returned);
     }
     Ok(reply(rt, alloc, twin, call, is_lent)?)
 }
@@ -113,15 +113,21 @@ fn walk_alike<S: Subject, T: Subject>(
     shared: &mut S,
     twin: &mut T,
 ) -> Result<(), Fail> {
-    let (pairs, wanted) = (walked(shared)?, walked(twin)?);
+    let (pairs, wanted) = (walk_pairs(shared)?, walk_pairs(twin)?);
     assert_eq!(rt; pairs.as_slice(), wanted.as_slice());
     Ok(())
 }
 
 /// Checks that both have the same number of entries and the same weight.
 fn count_alike<S: Subject, T: Subject>(rt: &impl Abort, shared: &mut S, twin: &mut T) {
-    assert_eq!(rt; shared.all(All::EntryCount), twin.all(All::EntryCount));
-    assert_eq!(rt; shared.all(All::WeightedSize), twin.all(All::WeightedSize));
+    assert_eq!(rt;
+        shared.call_all(All::EntryCount),
+        twin.call_all(All::EntryCount)
+    );
+    assert_eq!(rt;
+        shared.call_all(All::WeightedSize),
+        twin.call_all(All::WeightedSize)
+    );
 }
 
 /// Checks that the listener heard the removals of the twin, in their order, and nothing else.
@@ -133,7 +139,7 @@ fn hear_alike<S: Subject, T: Subject>(
     causes: &mut Causes,
 ) {
     for _ in 0..ROOM {
-        let (heard, left) = (shared.left(), twin.left());
+        let (heard, left) = (shared.next_removal(), twin.next_removal());
         assert_eq!(rt; heard, left, "what left at {call:?}");
         match left {
             Some((_, _, cause)) => causes.note(cause),

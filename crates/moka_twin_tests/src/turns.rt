@@ -3,10 +3,10 @@ ghost use Rattle.std.specs.Prelude.{◌≡◌, ◌≢◌, ℕ};
 ghost use Rattle.moka_model.specs.declared.turns.Kind.{Kind};
 ghost use Rattle.moka_state.specs.Finish.{Fits, outcome_of};
 
-use crate::caches::shared;
+use crate::caches::share;
 use crate::calls::{Doing, Turned, Write, op_of};
+use crate::returned::{Returned, answer_of, done_of, finished_of, parts};
 use crate::subject::Reply;
-use crate::told::{Told, answer_of, done_of, finished_of, parts};
 use moka::common::entry::Entry;
 use moka::ops::compute::Op;
 use moka::policy::Refused;
@@ -37,7 +37,7 @@ pub(crate) trait Turns {
     ghost use Rattle.moka_state.specs.Compute.{IsCompute};
     ghost use Rattle.moka_state.specs.Finish.{Fits, outcome_of};
 
-    fn write(&mut self, call: Write, key: u64) -> Told;
+    fn write(&mut self, call: Write, key: u64) -> Returned;
 
     /// Begins a turn that replaces a live value equal to `unwanted`.
     fn begin(&mut self, key: &Arc<u64>, kind: Kind, unwanted: u64) -> Begins
@@ -73,15 +73,15 @@ pub(crate) fn turn_reply<S: Turns>(
     call: Turned,
     number: u64,
 ) -> Result<Reply, AllocError> {
-    let key = shared(alloc, number)?;
+    let key = share(alloc, number)?;
     Ok(match call {
-        Turned::Begin(unwanted) => begin_spent(subject, &key, unwanted),
-        Turned::BeginByRef(unwanted) => begin_by_ref_spent(subject, number, unwanted),
-        Turned::BeginCompute => begin_compute_spent(subject, &key),
+        Turned::Begin(unwanted) => begin_and_consume(subject, &key, unwanted),
+        Turned::BeginByRef(unwanted) => begin_by_ref_and_consume(subject, number, unwanted),
+        Turned::BeginCompute => begin_compute_and_consume(subject, &key),
         Turned::Value(value) => gives(rt, subject, &key, Kind::With, Outcome::Value(value)),
         Turned::Nothing => gives(rt, subject, &key, Kind::Optionally, Outcome::Nothing),
         Turned::Failed(error) => {
-            let error = shared(alloc, error)?;
+            let error = share(alloc, error)?;
             gives(rt, subject, &key, Kind::Try, Outcome::Failed(error))
         }
         Turned::Computed(doing) => computes(rt, subject, &key, doing),
@@ -91,53 +91,58 @@ pub(crate) fn turn_reply<S: Turns>(
 }
 
 /// Consumes what a begin returned, and returns what it was.
-pub(crate) fn spent<S: Turns>(subject: &mut S, begun: Begins) -> Told {
+pub(crate) fn consume_begun<S: Turns>(subject: &mut S, begun: Begins) -> Returned {
     match begun {
-        Ok(Begun::Found(entry)) => Told::Entry(parts(&entry)),
+        Ok(Begun::Found(entry)) => Returned::Entry(parts(&entry)),
         Ok(Begun::Run(turn)) => {
             let _ = subject.abandon(turn);
-            Told::Runs
+            Returned::Runs
         }
         Ok(Begun::Wait(ticket)) => {
             let _ = subject.leave(ticket);
-            Told::Waits
+            Returned::Waits
         }
-        Err(cause) => Told::Refused(cause),
+        Err(cause) => Returned::Refused(cause),
     }
 }
 
 /// Consumes what the begin of a compute returned, and returns what it was.
-pub(crate) fn spent_compute<S: Turns>(subject: &mut S, begun: BeginsCompute) -> Told {
+pub(crate) fn consume_begun_compute<S: Turns>(subject: &mut S, begun: BeginsCompute) -> Returned {
     match begun {
         Ok(BegunCompute::Run(turn, shown)) => {
             let _ = subject.abandon(turn);
-            Told::Shows(shown.map(|entry: Entry<u64, u64>| parts(&entry)))
+            Returned::Shows(shown.map(|entry: Entry<u64, u64>| parts(&entry)))
         }
         Ok(BegunCompute::Wait(ticket)) => {
             let _ = subject.leave(ticket);
-            Told::Waits
+            Returned::Waits
         }
-        Err(cause) => Told::Refused(cause),
+        Err(cause) => Returned::Refused(cause),
     }
 }
 
-fn begin_spent<S: Turns>(subject: &mut S, key: &Arc<u64>, unwanted: u64) -> Reply {
+fn begin_and_consume<S: Turns>(subject: &mut S, key: &Arc<u64>, unwanted: u64) -> Reply {
     let begun = subject.begin(key, Kind::With, unwanted);
-    (spent(subject, begun), Told::Done)
+    (consume_begun(subject, begun), Returned::Done)
 }
 
-fn begin_by_ref_spent<S: Turns>(subject: &mut S, key: u64, unwanted: u64) -> Reply {
+fn begin_by_ref_and_consume<S: Turns>(subject: &mut S, key: u64, unwanted: u64) -> Reply {
     let begun = subject.begin_by_ref(key, Kind::With, unwanted);
-    (spent(subject, begun), Told::Done)
+    (consume_begun(subject, begun), Returned::Done)
 }
 
-fn begin_compute_spent<S: Turns>(subject: &mut S, key: &Arc<u64>) -> Reply {
+fn begin_compute_and_consume<S: Turns>(subject: &mut S, key: &Arc<u64>) -> Reply {
     let begun = subject.begin_compute(key);
-    (spent_compute(subject, begun), Told::Done)
+    (consume_begun_compute(subject, begun), Returned::Done)
 }
 
 /// Begins a turn that runs, and returns it. Retries once if an allocation fails.
-fn ran<S: Turns>(rt: &impl Abort, subject: &mut S, key: &Arc<u64>, kind: Kind) -> Turn<u64>
+fn begin_running<S: Turns>(
+    rt: &impl Abort,
+    subject: &mut S,
+    key: &Arc<u64>,
+    kind: Kind,
+) -> Turn<u64>
     requires { kind ≢ Kind.Compute }
     ensures { result.key.kind ≡ kind }
 {
@@ -147,12 +152,12 @@ fn ran<S: Turns>(rt: &impl Abort, subject: &mut S, key: &Arc<u64>, kind: Kind) -
     };
     match begun {
         Ok(Begun::Run(turn)) => turn,
-        begun => panic!(rt; "it does not run: {:?}", spent(subject, begun)),
+        begun => panic!(rt; "it does not run: {:?}", consume_begun(subject, begun)),
     }
 }
 
 /// Begins a turn that waits, and returns its ticket. Retries once if an allocation fails.
-fn waited<S: Turns>(rt: &impl Abort, subject: &mut S, key: u64, kind: Kind) -> Ticket<u64>
+fn begin_waiting<S: Turns>(rt: &impl Abort, subject: &mut S, key: u64, kind: Kind) -> Ticket<u64>
     requires { kind ≢ Kind.Compute }
 {
     let begun = match subject.begin_by_ref(key, kind, NONE) {
@@ -160,13 +165,13 @@ fn waited<S: Turns>(rt: &impl Abort, subject: &mut S, key: u64, kind: Kind) -> T
         begun => begun,
     };
     match begun {
-        Ok(Begun::Wait(ticket)) => open_still(rt, subject, ticket),
-        begun => panic!(rt; "it does not wait: {:?}", spent(subject, begun)),
+        Ok(Begun::Wait(ticket)) => collect_open(rt, subject, ticket),
+        begun => panic!(rt; "it does not wait: {:?}", consume_begun(subject, begun)),
     }
 }
 
 /// Collects a ticket. Retries once if an allocation fails.
-fn collected<S: Turns>(
+fn collect_ticket<S: Turns>(
     rt: &impl Abort,
     subject: &mut S,
     ticket: Ticket<u64>,
@@ -181,7 +186,7 @@ fn collected<S: Turns>(
         collected => collected,
     };
     match collected {
-        Ok(told) => told,
+        Ok(returned) => returned,
         Err(CollectRefused { ticket, cause }) => {
             let _ = subject.leave(ticket);
             panic!(rt; "a collect is refused: {cause}")
@@ -190,50 +195,58 @@ fn collected<S: Turns>(
 }
 
 /// Consumes what a ticket collected, and returns what it was.
-fn spent_told<S: Turns>(subject: &mut S, told: Collected<u64, u64, u64>) -> Told {
-    match told {
+fn consume_collected<S: Turns>(subject: &mut S, returned: Collected<u64, u64, u64>) -> Returned {
+    match returned {
         Collected::Ready(answer) => answer_of(answer),
         Collected::NotYet(ticket) => {
             let _ = subject.leave(ticket);
-            Told::NotYet
+            Returned::NotYet
         }
-        Collected::Abandoned => Told::Abandoned,
-        Collected::Ended => Told::Ended,
+        Collected::Abandoned => Returned::Abandoned,
+        Collected::Ended => Returned::Ended,
     }
 }
 
 /// Returns the ticket again after it found its turn still open.
-fn open_still<S: Turns>(rt: &impl Abort, subject: &mut S, ticket: Ticket<u64>) -> Ticket<u64> {
-    match collected(rt, subject, ticket) {
+fn collect_open<S: Turns>(rt: &impl Abort, subject: &mut S, ticket: Ticket<u64>) -> Ticket<u64> {
+    match collect_ticket(rt, subject, ticket) {
         Collected::NotYet(ticket) => ticket,
-        told => panic!(rt; "it is not open: {:?}", spent_told(subject, told)),
+        returned => panic!(rt;
+            "it is not open: {:?}",
+            consume_collected(subject, returned)
+        ),
     }
 }
 
 /// Returns what the ticket of an ended turn collects.
-fn ready<S: Turns>(rt: &impl Abort, subject: &mut S, ticket: Ticket<u64>) -> Told {
-    let told = collected(rt, subject, ticket);
-    spent_told(subject, told)
+fn collect_ready<S: Turns>(rt: &impl Abort, subject: &mut S, ticket: Ticket<u64>) -> Returned {
+    let returned = collect_ticket(rt, subject, ticket);
+    consume_collected(subject, returned)
 }
 
 /// Returns an outcome as plain data. A turn finished with it has this result, except a compute.
-fn told_of(outcome: &Given) -> Told {
+fn returned_of_outcome(outcome: &Given) -> Returned {
     match outcome {
-        Outcome::Value(value) => Told::Value(*value),
-        Outcome::Nothing => Told::Nothing,
-        Outcome::Failed(error) => Told::Failed(**error),
-        Outcome::Op(Op::Put(value)) => Told::Counts(*value),
-        Outcome::Op(Op::Remove) => Told::Is(true),
-        Outcome::Op(Op::Nop) => Told::Is(false),
+        Outcome::Value(value) => Returned::Value(*value),
+        Outcome::Nothing => Returned::Nothing,
+        Outcome::Failed(error) => Returned::Failed(**error),
+        Outcome::Op(Op::Put(value)) => Returned::Counts(*value),
+        Outcome::Op(Op::Remove) => Returned::Is(true),
+        Outcome::Op(Op::Nop) => Returned::Is(false),
     }
 }
 
 /// Finishes a turn. If that fails, checks that turn and outcome came back unchanged, and abandons
 /// the turn.
-pub(crate) fn finished<S: Turns>(subject: &mut S, turn: Turn<u64>, outcome: Given) -> Told
+pub(crate) fn finish_turn<S: Turns>(subject: &mut S, turn: Turn<u64>, outcome: Given) -> Returned
     requires { Fits ℕ turn.key.kind (outcome_of outcome) }
 {
-    let given = (turn.number(), *turn.key(), turn.kind(), told_of(&outcome));
+    let given = (
+        turn.number(),
+        *turn.key(),
+        turn.kind(),
+        returned_of_outcome(&outcome),
+    );
     match subject.finish(turn, outcome) {
         Ok(finished) => finished_of(finished),
         Err(
@@ -243,12 +256,17 @@ pub(crate) fn finished<S: Turns>(subject: &mut S, turn: Turn<u64>, outcome: Give
                 cause,
             },
         ) => {
-            let back = (turn.number(), *turn.key(), turn.kind(), told_of(&outcome));
+            let back = (
+                turn.number(),
+                *turn.key(),
+                turn.kind(),
+                returned_of_outcome(&outcome),
+            );
             let is_open = subject.abandon(turn).is_ok();
             if is_open && back == given {
-                Told::Refused(cause)
+                Returned::Refused(cause)
             } else {
-                Told::Lost
+                Returned::Lost
             }
         }
     }
@@ -265,26 +283,26 @@ fn gives<S: Turns>(
     requires initializer { kind ≢ Kind.Compute }
     requires fits { Fits ℕ kind (outcome_of outcome) }
 {
-    let turn = ran(rt, subject, key, kind);
-    let ticket = waited(rt, subject, **key, kind);
-    let told = finished(subject, turn, outcome);
-    (told, ready(rt, subject, ticket))
+    let turn = begin_running(rt, subject, key, kind);
+    let ticket = begin_waiting(rt, subject, **key, kind);
+    let returned = finish_turn(subject, turn, outcome);
+    (returned, collect_ready(rt, subject, ticket))
 }
 
 /// Begins a turn, waits for it with a ticket, and abandons it. Returns the results of both.
 fn abandons<S: Turns>(rt: &impl Abort, subject: &mut S, key: &Arc<u64>) -> Reply {
-    let turn = ran(rt, subject, key, Kind::With);
-    let ticket = waited(rt, subject, **key, Kind::With);
-    let told = done_of(subject.abandon(turn));
-    (told, ready(rt, subject, ticket))
+    let turn = begin_running(rt, subject, key, Kind::With);
+    let ticket = begin_waiting(rt, subject, **key, Kind::With);
+    let returned = done_of(subject.abandon(turn));
+    (returned, collect_ready(rt, subject, ticket))
 }
 
 /// Begins a turn, waits for it with a ticket, and leaves before it finishes. Returns both results.
 fn leaves<S: Turns>(rt: &impl Abort, subject: &mut S, key: &Arc<u64>, value: u64) -> Reply {
-    let turn = ran(rt, subject, key, Kind::With);
-    let ticket = waited(rt, subject, **key, Kind::With);
+    let turn = begin_running(rt, subject, key, Kind::With);
+    let ticket = begin_waiting(rt, subject, **key, Kind::With);
     let left = done_of(subject.leave(ticket));
-    (finished(subject, turn, Outcome::Value(value)), left)
+    (finish_turn(subject, turn, Outcome::Value(value)), left)
 }
 
 /// Begins a compute, waits for it with a ticket, and finishes it. Returns the results of both.
@@ -296,10 +314,13 @@ fn computes<S: Turns>(rt: &impl Abort, subject: &mut S, key: &Arc<u64>, doing: D
     match begun {
         Ok(BegunCompute::Run(turn, shown)) => {
             let ticket = waits_to_compute(rt, subject, key);
-            let told = finished(subject, turn, Outcome::Op(op_of(doing, shown)));
-            (told, ready(rt, subject, ticket))
+            let returned = finish_turn(subject, turn, Outcome::Op(op_of(doing, shown)));
+            (returned, collect_ready(rt, subject, ticket))
         }
-        begun => panic!(rt; "it does not run: {:?}", spent_compute(subject, begun)),
+        begun => panic!(rt;
+            "it does not run: {:?}",
+            consume_begun_compute(subject, begun)
+        ),
     }
 }
 
@@ -310,7 +331,10 @@ fn waits_to_compute<S: Turns>(rt: &impl Abort, subject: &mut S, key: &Arc<u64>) 
         begun => begun,
     };
     match begun {
-        Ok(BegunCompute::Wait(ticket)) => open_still(rt, subject, ticket),
-        begun => panic!(rt; "it does not wait: {:?}", spent_compute(subject, begun)),
+        Ok(BegunCompute::Wait(ticket)) => collect_open(rt, subject, ticket),
+        begun => panic!(rt;
+            "it does not wait: {:?}",
+            consume_begun_compute(subject, begun)
+        ),
     }
 }

@@ -2,7 +2,7 @@
 
 use crate::caches::{NAME, cache, segmented_cache, segmented_state, state};
 use crate::lists::{FORMS, KEYS, OF_ALL, SELECTORS, TURNS, Timed};
-use crate::side_by_side::{Causes, Pass, answer_alike};
+use crate::side_by_side::{Causes, Pass, reply_alike};
 use crate::subject::Subject;
 use crate::turns::Turns;
 use crate::words::{WORDS, word};
@@ -27,7 +27,7 @@ fn are_twins<S: Subject + Turns, T: Subject + Turns>(
     for is_lent in [false, true] {
         for calls in LISTS {
             let pass = Pass { from, is_lent };
-            answer_alike(rt, alloc, shared, twin, calls, pass, &mut causes)?;
+            reply_alike(rt, alloc, shared, twin, calls, pass, &mut causes)?;
             from = from.wrapping_add(30);
         }
     }

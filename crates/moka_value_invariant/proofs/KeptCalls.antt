@@ -1,4 +1,4 @@
--- After steps that satisfy `keeps`, a call that does so gives a step and an answer that satisfy it.
+-- After steps that satisfy `keeps`, a call that does so gives a step and a reply that satisfy it.
 use Rattle.std.proofs.Common.{◌≡◌, ℕ, Bool, true, false, cond, option_map, Option, Some, None, List, [], ◌∷◌, ◌++◌, ◌==◌, ◌&&◌, append-nil, refl, sym, ◌∙◌, subst}
 use Rattle.std.specs.Cmp.{IsEquivalence}
 use Rattle.std.specs.Option.{IfSome}
@@ -16,11 +16,11 @@ use Rattle.moka_model.specs.Events.{Event, Looked, Written, Hidden, Maintained, 
 use Rattle.moka_model.specs.Numbers.{stores_nothing, is_flush_due}
 use Rattle.moka_model.specs.Steps.{AcceptedStep, events_in, turns}
 use Rattle.moka_model.specs.Calls.{Call, Get, ContainsKey, Insert, Invalidate, Remove, InvalidateAll, InvalidateIf, RunPendingTasks, RunPendingTasksUpTo, EntryCount, WeightedSize, TakeNotice, OrInsert, Begin, BeginCompute, Finish, Abandon, Collect, Leave}
-use Rattle.moka_model.specs.Calls.{Answer, Done, Inserted, ReplacedWith, Accepted, IsLegal, without_move, write_events, look_event, acceptable, entry_of, fresh_entry, begun, begun_compute, or_inserted, put_by, removed_by, kept_by, answer_by, is_replacing, finished, collected, abandons, spends, live_at, accepted, with_step, after, answer_of}
+use Rattle.moka_model.specs.Calls.{Reply, Done, Inserted, ReplacedWith, Accepted, IsLegal, without_move, write_events, look_event, acceptable, entry_of, fresh_entry, begun, begun_compute, or_inserted, put_by, removed_by, kept_by, reply_by, is_replacing, finished, collected, abandons, spends, live_at, accepted, with_step, after, reply_of}
 use Rattle.moka_model.specs.Turns.{Turn, Name, End, AreApart, IsIn, fits, found, same_kind, same_name, is_open, has_ticket, is_open_for, is_open_as, has_ticket_as}
 use Rattle.moka_model.specs.Turns as turning
 use Rattle.moka_model.proofs.Callers.{found-is, numbered-alone, legal-fit, turns-apart}
-use Rattle.moka_value_invariant.specs.Keeps.{IsAlike, EventKeeps, EndKeeps, TurnKeeps, StepsKeep, CallKeeps, EntryKeeps, AnswerKeeps}
+use Rattle.moka_value_invariant.specs.Keeps.{IsAlike, EventKeeps, EndKeeps, TurnKeeps, StepsKeep, CallKeeps, CallEntryKeeps, CallReplyKeeps}
 use Rattle.moka_value_invariant.proofs.KeptWrites.{LiveKeeps, live-keeps, notice-keeps}
 use Rattle.moka_value_invariant.proofs.KeptTurns.{MoveKeeps, each-of, moved-keep}
 
@@ -35,9 +35,9 @@ module _ {K V E : Type 0} (keeps : K → V → Type 0) (eq : K → K → Bool) (
   abbrev EventsKeep : List (Event K V) → Type 0
   EventsKeep es = AllByRecursion (EventKeeps keeps) es
 
-  -- an accepted call satisfies `keeps` if its events, its move and its answer do
+  -- an accepted call satisfies `keeps` if its events, its move and its reply do
   abbrev ItKeeps : Call K V E → Accepted K V E → Type 0
-  ItKeeps call it = EventsKeep it.step.events × MoveKeeps keeps (turns steps) it.step.move × AnswerKeeps keeps call it.answer
+  ItKeeps call it = EventsKeep it.step.events × MoveKeeps keeps (turns steps) it.step.move × CallReplyKeeps keeps call it.reply
 
   live : (k : K) (at : ℕ) → IfSome (live_at eq settings k at h) (LiveKeeps keeps eq settings laws alike k)
   live k at = live-keeps keeps eq settings laws alike k at h keep.0
@@ -77,7 +77,7 @@ module _ {K V E : Type 0} (keeps : K → V → Type 0) (eq : K → K → Bool) (
   found-keeps k None kept = tt
   found-keeps k (Some w) kept = kept.1
 
-  shown-keeps : (k : K) (aside : Bool) (at : ℕ) (o : Option (Write K V)) → IfSome o (LiveKeeps keeps eq settings laws alike k) → IfSome (option_map entry_of o) (EntryKeeps keeps {E = E} (BeginCompute k aside at))
+  shown-keeps : (k : K) (aside : Bool) (at : ℕ) (o : Option (Write K V)) → IfSome o (LiveKeeps keeps eq settings laws alike k) → IfSome (option_map entry_of o) (CallEntryKeeps keeps {E = E} (BeginCompute k aside at))
   shown-keeps k aside at None kept = tt
   shown-keeps k aside at (Some w) kept = kept
 
@@ -97,14 +97,14 @@ module _ {K V E : Type 0} (keeps : K → V → Type 0) (eq : K → K → Bool) (
   ends : (t : Turn K V E) → IsIn t (turns steps) → (end : End V E) → EndKeeps keeps t.name.key end → MoveKeeps keeps (turns steps) (Some (turning.Ended t.name.number end))
   ends t is end kept u is_u same = subst (λ (x : Turn K V E). EndKeeps keeps x.name.key end) (alone t u is is_u same) kept
 
-  puts : (name : Name K) (v : V) (at : ℕ) (shown : Bool) → keeps name.key v → AnswerKeeps keeps (Finish name (outcomes.Op (ops.Put v)) at) (put_by {E = E} name v shown)
-  puts name v at shown kept = cond_both shown (ReplacedWith (fresh_entry name.key v true)) (Inserted (fresh_entry name.key v false)) (AnswerKeeps keeps (Finish name (outcomes.Op (ops.Put v)) at)) (λ _. (kept, kept)) (λ _. (kept, kept))
+  puts : (name : Name K) (v : V) (at : ℕ) (shown : Bool) → keeps name.key v → CallReplyKeeps keeps (Finish name (outcomes.Op (ops.Put v)) at) (put_by {E = E} name v shown)
+  puts name v at shown kept = cond_both shown (ReplacedWith (fresh_entry name.key v true)) (Inserted (fresh_entry name.key v false)) (CallReplyKeeps keeps (Finish name (outcomes.Op (ops.Put v)) at)) (λ _. (kept, kept)) (λ _. (kept, kept))
 
-  removes : (name : Name K) (at : ℕ) (o : Option (Write K V)) → IfSome o (LiveKeeps keeps eq settings laws alike name.key) → AnswerKeeps keeps (Finish name (outcomes.Op ops.Remove) at) (removed_by {E = E} name o)
+  removes : (name : Name K) (at : ℕ) (o : Option (Write K V)) → IfSome o (LiveKeeps keeps eq settings laws alike name.key) → CallReplyKeeps keeps (Finish name (outcomes.Op ops.Remove) at) (removed_by {E = E} name o)
   removes name at None kept = tt
   removes name at (Some w) kept = (kept.1, kept.1)
 
-  leaves : (name : Name K) (at : ℕ) (k : K) (o : Option V) → eq k name.key ≡ true → IfSome o (keeps k) → AnswerKeeps keeps (Finish name (outcomes.Op ops.Nop) at) (kept_by {E = E} name o)
+  leaves : (name : Name K) (at : ℕ) (k : K) (o : Option V) → eq k name.key ≡ true → IfSome o (keeps k) → CallReplyKeeps keeps (Finish name (outcomes.Op ops.Nop) at) (kept_by {E = E} name o)
   leaves name at k None same kept = tt
   leaves name at k (Some v) same kept = let here = alike k name.key v same kept in (here, here)
 
@@ -117,7 +117,7 @@ module _ {K V E : Type 0} (keeps : K → V → Type 0) (eq : K → K → Bool) (
   finishes name (outcomes.Op ops.Remove) at t is same owed = ((tt, tt), ends t is turning.Computed tt, removes name at (live_at eq settings name.key at h) (live name.key at))
   finishes name (outcomes.Op ops.Nop) at t is same owed = ((tt, tt), ends t is turning.Computed tt, leaves name at t.name.key t.kept same (each-of (TurnKeeps keeps) (turns steps) keep.1 t is).0)
 
-  gives : (name : Name K) (k : K) (end : End V E) → eq k name.key ≡ true → EndKeeps keeps k end → AnswerKeeps keeps (Collect name) (answer_by name end)
+  gives : (name : Name K) (k : K) (end : End V E) → eq k name.key ≡ true → EndKeeps keeps k end → CallReplyKeeps keeps (Collect name) (reply_by name end)
   gives name k (turning.Value v replaced) same kept = let here = alike k name.key v same kept in (here, here)
   gives name k turning.Nothing same kept = tt
   gives name k (turning.Failed e) same kept = tt
@@ -174,14 +174,14 @@ module _ {K V E : Type 0} (keeps : K → V → Type 0) (eq : K → K → Bool) (
       go None it_keeps = keep
       go (Some it) it_keeps = (All-append (EventKeeps keeps) it.step.events h it_keeps.0 keep.0, moved-keep keeps (turns steps) it.step.move it_keeps.1 keep.1)
 
-  -- and so does its answer
-  pub answer-keeps : (call : Call K V E) (it : Accepted K V E) → CallKeeps keeps call → accepted eq settings steps call ≡ Some it → AnswerKeeps keeps call it.answer
-  answer-keeps call it owed is = let it_keeps : IfSome (Some it) (ItKeeps call) = subst (λ o. IfSome o (ItKeeps call)) is (accepted-keeps call owed) in it_keeps.2
+  -- and so does its reply
+  pub reply-keeps : (call : Call K V E) (it : Accepted K V E) → CallKeeps keeps call → accepted eq settings steps call ≡ Some it → CallReplyKeeps keeps call it.reply
+  reply-keeps call it owed is = let it_keeps : IfSome (Some it) (ItKeeps call) = subst (λ o. IfSome o (ItKeeps call)) is (accepted-keeps call owed) in it_keeps.2
 
   -- and what it is said to return
-  pub said-keeps : (call : Call K V E) (answer : Answer K V E) → CallKeeps keeps call → answer_of (accepted eq settings steps call) ≡ Some answer → AnswerKeeps keeps call answer
-  said-keeps call answer owed = go (accepted eq settings steps call) (accepted-keeps call owed)
+  pub said-keeps : (call : Call K V E) (reply : Reply K V E) → CallKeeps keeps call → reply_of (accepted eq settings steps call) ≡ Some reply → CallReplyKeeps keeps call reply
+  said-keeps call reply owed = go (accepted eq settings steps call) (accepted-keeps call owed)
     where
-      go : (o : Option (Accepted K V E)) → IfSome o (ItKeeps call) → answer_of o ≡ Some answer → AnswerKeeps keeps call answer
+      go : (o : Option (Accepted K V E)) → IfSome o (ItKeeps call) → reply_of o ≡ Some reply → CallReplyKeeps keeps call reply
       go None kept says = cc
-      go (Some it) kept says = subst (AnswerKeeps keeps call) (same_Some it.answer answer says) kept.2
+      go (Some it) kept says = subst (CallReplyKeeps keeps call) (same_Some it.reply reply says) kept.2

@@ -2,10 +2,10 @@
 use Rattle.std.proofs.Common.{◌≡◌, Bool, Option, Some, None, [], refl}
 use Rattle.std.specs.Cmp.{IsEquivalence}
 use Rattle.moka_model.specs.Lives.{Settings}
-use Rattle.moka_model.specs.Calls.{Call, Answer, Accepted, accepted, after}
-use Rattle.moka_model.specs.StandsFor.{WholeView, StandsFor, Follows, IsAnswerOf, Answers}
-use Rattle.moka_value_invariant.specs.Keeps.{IsAlike, IsCopied, CallKeeps, AnswerKeeps, HasKeptHistory}
-use Rattle.moka_value_invariant.proofs.KeptCalls.{steps-keep, answer-keeps}
+use Rattle.moka_model.specs.Calls.{Call, Reply, Accepted, accepted, after}
+use Rattle.moka_model.specs.StandsFor.{WholeView, StandsFor, Follows, IsReplyOf, RepliesWith}
+use Rattle.moka_value_invariant.specs.Keeps.{IsAlike, IsCopied, CallKeeps, CallReplyKeeps, HasKeptHistory}
+use Rattle.moka_value_invariant.proofs.KeptCalls.{steps-keep, reply-keeps}
 use Rattle.moka_value_invariant.proofs.KeptCopies.{copy-keeps}
 
 -- a state for which nothing was done has such a history
@@ -26,13 +26,13 @@ module _ {K V E : Type 0} (keeps : K → V → Type 0) (eq : K → K → Bool) (
   kept-after old new call follows owed kept = kept-followed old new call kept owed (follows kept.settings kept.steps kept.stands)
 
   -- What is returned after these steps satisfies `keeps`,
-  pub kept-told : IsCopied keeps is_clone → (view : WholeView K V E) (call : Call K V E) (answer : Answer K V E) (kept : HasKeptHistory keeps eq is_clone view) → CallKeeps keeps call → IsAnswerOf is_clone (accepted eq kept.settings kept.steps call) answer → AnswerKeeps keeps call answer
-  kept-told copied view call answer kept owed = go (accepted eq kept.settings kept.steps call) refl
+  pub kept-told : IsCopied keeps is_clone → (view : WholeView K V E) (call : Call K V E) (reply : Reply K V E) (kept : HasKeptHistory keeps eq is_clone view) → CallKeeps keeps call → IsReplyOf is_clone (accepted eq kept.settings kept.steps call) reply → CallReplyKeeps keeps call reply
+  kept-told copied view call reply kept owed = go (accepted eq kept.settings kept.steps call) refl
     where
-      go : (o : Option (Accepted K V E)) → accepted eq kept.settings kept.steps call ≡ o → IsAnswerOf is_clone o answer → AnswerKeeps keeps call answer
+      go : (o : Option (Accepted K V E)) → accepted eq kept.settings kept.steps call ≡ o → IsReplyOf is_clone o reply → CallReplyKeeps keeps call reply
       go None is none = absurd none
-      go (Some it) is copy = copy-keeps keeps is_clone copied call it.answer answer copy (answer-keeps keeps eq kept.settings laws alike kept.steps kept.stands.legal kept.keep call it owed is)
+      go (Some it) is copy = copy-keeps keeps is_clone copied call it.reply reply copy (reply-keeps keeps eq kept.settings laws alike kept.steps kept.stands.legal kept.keep call it owed is)
 
   -- and so does what is returned whatever history the state could have come from.
-  pub kept-answer : IsCopied keeps is_clone → (view : WholeView K V E) (call : Call K V E) (answer : Answer K V E) → Answers eq is_clone view call answer → CallKeeps keeps call → HasKeptHistory keeps eq is_clone view → AnswerKeeps keeps call answer
-  kept-answer copied view call answer answers owed kept = kept-told copied view call answer kept owed (answers kept.settings kept.steps kept.stands)
+  pub kept-reply : IsCopied keeps is_clone → (view : WholeView K V E) (call : Call K V E) (reply : Reply K V E) → RepliesWith eq is_clone view call reply → CallKeeps keeps call → HasKeptHistory keeps eq is_clone view → CallReplyKeeps keeps call reply
+  kept-reply copied view call reply replies owed kept = kept-told copied view call reply kept owed (replies kept.settings kept.steps kept.stands)

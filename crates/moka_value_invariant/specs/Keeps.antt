@@ -11,7 +11,7 @@ use Rattle.moka_model.specs.Turns as turning
 use Rattle.moka_model.specs.Steps.{AcceptedStep, events_in, turns}
 use Rattle.moka_model.specs.Calls.{Call, Get, ContainsKey, Insert, Invalidate, Remove, OrInsert, Begin, BeginCompute}
 use Rattle.moka_model.specs.Calls.{Finish, Abandon, Collect, Leave}
-use Rattle.moka_model.specs.Calls.{Entry, Answer, Found, Noticed, Entered, Run, Unchanged, Inserted, ReplacedWith, Removed}
+use Rattle.moka_model.specs.Calls.{Entry, Reply, Found, Noticed, Entered, Run, Unchanged, Inserted, ReplacedWith, Removed}
 use Rattle.moka_model.specs.StandsFor.{WholeView, StandsFor}
 
 -- the key that a call is given, by itself or in a turn's name
@@ -65,20 +65,20 @@ module _ {K V : Type 0} (keeps : K → V → Type 0) where
     abbrev pub ValueKeeps : V → Type 0  -- a value satisfies `keeps` with the key that the call is given, if any
     ValueKeeps v = IfSome (key_of call) (λ k. keeps k v)
 
-    abbrev pub EntryKeeps : Entry K V → Type 0  -- and with the key of its entry
-    EntryKeeps e = keeps e.key e.value × ValueKeeps e.value
+    abbrev pub CallEntryKeeps : Entry K V → Type 0  -- and with the key of its entry
+    CallEntryKeeps e = keeps e.key e.value × ValueKeeps e.value
 
     -- Each value that a call returns satisfies `keeps` with its own key, and with the key that the call is given.
-    abbrev pub AnswerKeeps : Answer K V E → Type 0
-    AnswerKeeps (Found v) = IfSome v ValueKeeps
-    AnswerKeeps (Noticed l) = IfSome l (λ r. keeps r.key r.value)
-    AnswerKeeps (Entered e) = EntryKeeps e
-    AnswerKeeps (Run name e) = IfSome e EntryKeeps
-    AnswerKeeps (Unchanged e) = EntryKeeps e
-    AnswerKeeps (Inserted e) = EntryKeeps e
-    AnswerKeeps (ReplacedWith e) = EntryKeeps e
-    AnswerKeeps (Removed e) = EntryKeeps e
-    AnswerKeeps answer = ⊤
+    abbrev pub CallReplyKeeps : Reply K V E → Type 0
+    CallReplyKeeps (Found v) = IfSome v ValueKeeps
+    CallReplyKeeps (Noticed l) = IfSome l (λ r. keeps r.key r.value)
+    CallReplyKeeps (Entered e) = CallEntryKeeps e
+    CallReplyKeeps (Run name e) = IfSome e CallEntryKeeps
+    CallReplyKeeps (Unchanged e) = CallEntryKeeps e
+    CallReplyKeeps (Inserted e) = CallEntryKeeps e
+    CallReplyKeeps (ReplacedWith e) = CallEntryKeeps e
+    CallReplyKeeps (Removed e) = CallEntryKeeps e
+    CallReplyKeeps reply = ⊤
 
   -- A state has a history that satisfies `keeps`: it could have come from such accepted steps, under some settings.
   pub record HasKeptHistory {E : Type 0} (eq : K → K → Bool) (is_clone : V → V → Type 0) (view : WholeView K V E) : Type 0 where

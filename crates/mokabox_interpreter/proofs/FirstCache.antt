@@ -22,7 +22,7 @@ use Rattle.mokabox_syntax.specs.declared.settings.Weighing.TheVariants as weighi
 use Rattle.mokabox_syntax.specs.Settings.{byte_weight}
 use Rattle.mokabox_interpreter.specs.declared.session.Bytes.{Bytes}
 use Rattle.mokabox_interpreter.specs.Script.{Text, CacheHasher, is_copy, CacheSettings, beginning, is_lru_by, weight_by, whole_settings, wanted_segments, cache_settings}
-use Rattle.mokabox_interpreter.specs.Session.{CacheData, cache_hash, cache_behaviour, view, IsAt, Told, IsTold}
+use Rattle.mokabox_interpreter.specs.Session.{CacheData, cache_hash, cache_behaviour, view, IsAt, ScriptBuilder, HasSettings}
 
 -- the weight of a text, by the weigher of a cache
 abbrev text_weight : Option Bytes → ℕ → Text → ℕ
@@ -63,30 +63,30 @@ settings_with live idle capacity first closures flush is_lru hash weight own = r
 abbrev meant : SettingsData CacheHasher Bytes NoExpiry → WholeSettings ℕ Text
 meant kept = settings_by cache_behaviour (estimates (noted 6) (estimated 6) (none_noted 6)) kept
 
--- a cache whose builder was told these settings has them
-built_so : (given : Settings) (told : Told) (hasher : CacheHasher) → IsTold given told → (initial_hasher hasher).hash < 2 ^ 64 → meant (settings_built told hasher) ≡ whole_settings given
-built_so given told hasher is small =
+-- a cache whose builder was given these settings has them
+built_so : (given : Settings) (builder : ScriptBuilder) (hasher : CacheHasher) → HasSettings given builder → (initial_hasher hasher).hash < 2 ^ 64 → meant (settings_built builder hasher) ≡ whole_settings given
+built_so given builder hasher is small =
     let wanted : WholeSettings ℕ Text = whole_settings given in
-    let live : Option ℕ = option_map as_nanos told.time_to_live in
-    let idle : Option ℕ = option_map as_nanos told.time_to_idle in
+    let live : Option ℕ = option_map as_nanos builder.time_to_live in
+    let idle : Option ℕ = option_map as_nanos builder.time_to_idle in
     let hash : ℕ → ℕ = λ key. key % 2 ^ 64 in
     let weight : ℕ → Text → ℕ = weight_given given.weigher in
-    ap (λ l. settings_with l idle told.max_capacity told.first_number told.closures told.flush_limit told.is_lru (cache_hash hasher) (text_weight told.weigher) (own_lives told.expiry)) is.time_to_live
-    ∙ ap (λ l. settings_with wanted.time_to_live l told.max_capacity told.first_number told.closures told.flush_limit told.is_lru (cache_hash hasher) (text_weight told.weigher) (own_lives told.expiry)) is.time_to_idle
-    ∙ ap (λ c. settings_with wanted.time_to_live wanted.time_to_idle c told.first_number told.closures told.flush_limit told.is_lru (cache_hash hasher) (text_weight told.weigher) (own_lives told.expiry)) is.max_capacity
-    ∙ ap (λ n. settings_with wanted.time_to_live wanted.time_to_idle given.capacity n told.closures told.flush_limit told.is_lru (cache_hash hasher) (text_weight told.weigher) (own_lives told.expiry)) is.first_number
-    ∙ ap (λ b. settings_with wanted.time_to_live wanted.time_to_idle given.capacity wanted.first_number b told.flush_limit told.is_lru (cache_hash hasher) (text_weight told.weigher) (own_lives told.expiry)) is.closures
-    ∙ ap (λ l. settings_with wanted.time_to_live wanted.time_to_idle given.capacity wanted.first_number given.closures l told.is_lru (cache_hash hasher) (text_weight told.weigher) (own_lives told.expiry)) is.flush_limit
-    ∙ ap (λ b. settings_with wanted.time_to_live wanted.time_to_idle given.capacity wanted.first_number given.closures given.flush_limit b (cache_hash hasher) (text_weight told.weigher) (own_lives told.expiry)) is.is_lru
-    ∙ ap (λ h. settings_with wanted.time_to_live wanted.time_to_idle given.capacity wanted.first_number given.closures given.flush_limit (is_lru_by given.policy) h (text_weight told.weigher) (own_lives told.expiry)) (hashed_by hasher small)
-    ∙ ap (λ w. settings_with wanted.time_to_live wanted.time_to_idle given.capacity wanted.first_number given.closures given.flush_limit (is_lru_by given.policy) hash w (own_lives told.expiry)) (weighed_by told.weigher given.weigher is.weigher)
+    ap (λ l. settings_with l idle builder.max_capacity builder.first_number builder.closures builder.flush_limit builder.is_lru (cache_hash hasher) (text_weight builder.weigher) (own_lives builder.expiry)) is.time_to_live
+    ∙ ap (λ l. settings_with wanted.time_to_live l builder.max_capacity builder.first_number builder.closures builder.flush_limit builder.is_lru (cache_hash hasher) (text_weight builder.weigher) (own_lives builder.expiry)) is.time_to_idle
+    ∙ ap (λ c. settings_with wanted.time_to_live wanted.time_to_idle c builder.first_number builder.closures builder.flush_limit builder.is_lru (cache_hash hasher) (text_weight builder.weigher) (own_lives builder.expiry)) is.max_capacity
+    ∙ ap (λ n. settings_with wanted.time_to_live wanted.time_to_idle given.capacity n builder.closures builder.flush_limit builder.is_lru (cache_hash hasher) (text_weight builder.weigher) (own_lives builder.expiry)) is.first_number
+    ∙ ap (λ b. settings_with wanted.time_to_live wanted.time_to_idle given.capacity wanted.first_number b builder.flush_limit builder.is_lru (cache_hash hasher) (text_weight builder.weigher) (own_lives builder.expiry)) is.closures
+    ∙ ap (λ l. settings_with wanted.time_to_live wanted.time_to_idle given.capacity wanted.first_number given.closures l builder.is_lru (cache_hash hasher) (text_weight builder.weigher) (own_lives builder.expiry)) is.flush_limit
+    ∙ ap (λ b. settings_with wanted.time_to_live wanted.time_to_idle given.capacity wanted.first_number given.closures given.flush_limit b (cache_hash hasher) (text_weight builder.weigher) (own_lives builder.expiry)) is.is_lru
+    ∙ ap (λ h. settings_with wanted.time_to_live wanted.time_to_idle given.capacity wanted.first_number given.closures given.flush_limit (is_lru_by given.policy) h (text_weight builder.weigher) (own_lives builder.expiry)) (hashed_by hasher small)
+    ∙ ap (λ w. settings_with wanted.time_to_live wanted.time_to_idle given.capacity wanted.first_number given.closures given.flush_limit (is_lru_by given.policy) hash w (own_lives builder.expiry)) (weighed_by builder.weigher given.weigher is.weigher)
     ∙ ap (λ e. settings_with wanted.time_to_live wanted.time_to_idle given.capacity wanted.first_number given.closures given.flush_limit (is_lru_by given.policy) hash weight (own_lives e)) is.expiry
 
 -- the cache of a session that was just built
-pub begins : (given : Settings) (cache : CacheData) (told : Told) (hasher : CacheHasher) → IsTold given told → (initial_hasher hasher).hash < 2 ^ 64 → cache.settings ≡ settings_built told hasher → cache.bits ≡ bits_for (wanted_segments given)
+pub begins : (given : Settings) (cache : CacheData) (builder : ScriptBuilder) (hasher : CacheHasher) → HasSettings given builder → (initial_hasher hasher).hash < 2 ^ 64 → cache.settings ≡ settings_built builder hasher → cache.bits ≡ bits_for (wanted_segments given)
     → AllStandFor nat_eq is_copy (segmented_settings_by cache_behaviour (estimates (noted 6) (estimated 6) (none_noted 6)) cache) (view cache) [] → IsAt cache 0 (cache_settings given) beginning
-begins given cache told hasher is small built parted stands =
+begins given cache builder hasher is small built parted stands =
     let same : segmented_settings_by cache_behaviour (estimates (noted 6) (estimated 6) (none_noted 6)) cache ≡ cache_settings given =
     ap (λ b. let s : CacheSettings = record { bits = b; whole = meant cache.settings } in s) parted
-    ∙ ap (λ w. let s : CacheSettings = record { bits = bits_for (wanted_segments given); whole = w } in s) (ap meant built ∙ built_so given told hasher is small) in
+    ∙ ap (λ w. let s : CacheSettings = record { bits = bits_for (wanted_segments given); whole = w } in s) (ap meant built ∙ built_so given builder hasher is small) in
     record { stands = subst (λ settings. AllStandFor nat_eq is_copy settings (view cache) []) same stands; parted = (bits_for-few (wanted_segments given), λ key. mod-lt key (pow_pos 64)); now = refl }

@@ -3,9 +3,9 @@ use Rattle.std.proofs.Common.{◌≡◌, ◌<◌, ℕ, Bool, true, false, ◌||�
 use Rattle.std.specs.Io.BufRead.{drop_through, first_piece, DropsThrough}
 use Rattle.std.specs.Io.KnownBytes.{Appends, Keeps}
 use Rattle.mokabox_interpreter.proofs.LineLaws.{IsRunning, run_step, or_when_true, or_when_false, lines_first, one_written, appends-appends, if_some}
-use Rattle.mokabox_syntax.specs.Answer.{answer_line}
+use Rattle.mokabox_syntax.specs.OutputLine.{written_line}
 use Rattle.mokabox_syntax.specs.Command.{PlainCommand, command_by_line}
-use Rattle.mokabox_syntax.specs.declared.answer.Answer.TheVariants as answers
+use Rattle.mokabox_syntax.specs.declared.output_line.OutputLine.TheVariants as outputs
 use Rattle.moka_policy.specs.declared.builder_utils.BuildError.{BuildError}
 use Rattle.moka_policy.specs.declared.builder_utils.BuildError.TheVariants.{OutOfMemory}
 use Rattle.mokabox_syntax.specs.declared.settings.Settings.{Settings}
@@ -14,7 +14,7 @@ use Rattle.mokabox_interpreter.specs.Session.{CacheData, IsAt, Prints, DoesLine}
 use Rattle.mokabox_syntax.specs.Settings.{settings_by}
 
 -- a bad line is done
-pub bad_line_done : (cache : CacheData) (moment : ℕ) (line : List ℕ) (held held_after : Option (List ℕ)) → None ≡ command_by_line line → Appends held held_after (answer_line answers.BadLine) → DoesLine cache moment line true cache moment held held_after
+pub bad_line_done : (cache : CacheData) (moment : ℕ) (line : List ℕ) (held held_after : Option (List ℕ)) → None ≡ command_by_line line → Appends held held_after (written_line outputs.BadLine) → DoesLine cache moment line true cache moment held held_after
 bad_line_done cache moment line held held_after bad written settings before is =
     (codes "bad line" ∷ [], before, subst (λ o. LinePrints settings before o (codes "bad line" ∷ []) before true) bad (refl, refl, refl), is, one_written held held_after (codes "bad line") written)
 
@@ -44,17 +44,17 @@ next_after_good items item line bytes known_before known known_after cache_befor
     (next_line items item line bytes known_before known known_after cache_before cache cache_after moment_before moment moment_after bad bad_line byte byte_after held_before held held_after running same_byte piece is_ok same does)
 
 -- a bad first line
-pub first_bad : (settings : Option Settings) (known held held_after : Option (List ℕ)) → settings ≡ None → Appends held held_after (answer_line answers.BadLine) → IfSome known (λ input. (printed : List (List ℕ)) × FirstPrints settings (lines_of input) printed 2 × Appends held held_after (lines_text printed))
+pub first_bad : (settings : Option Settings) (known held held_after : Option (List ℕ)) → settings ≡ None → Appends held held_after (written_line outputs.BadLine) → IfSome known (λ input. (printed : List (List ℕ)) × FirstPrints settings (lines_of input) printed 2 × Appends held held_after (lines_text printed))
 first_bad settings known held held_after none written = if_some known (λ input.
     (codes "bad line" ∷ [], subst (λ o. FirstPrints o (lines_of input) (codes "bad line" ∷ []) 2) (sym none) (refl, refl), one_written held held_after (codes "bad line") written))
 
 -- a cache that isn't built
-pub first_not_built : (settings : Option Settings) (given : Settings) (refusal : BuildError) (known held held_after : Option (List ℕ)) → settings ≡ Some given → refusal ≡ unwrap_or (settings_refused given) OutOfMemory → Appends held held_after (answer_line (answers.NotBuilt refusal)) → IfSome known (λ input. (printed : List (List ℕ)) × FirstPrints settings (lines_of input) printed 2 × Appends held held_after (lines_text printed))
+pub first_not_built : (settings : Option Settings) (given : Settings) (refusal : BuildError) (known held held_after : Option (List ℕ)) → settings ≡ Some given → refusal ≡ unwrap_or (settings_refused given) OutOfMemory → Appends held held_after (written_line (outputs.NotBuilt refusal)) → IfSome known (λ input. (printed : List (List ℕ)) × FirstPrints settings (lines_of input) printed 2 × Appends held held_after (lines_text printed))
 first_not_built settings given refusal known held held_after some cause written = if_some known (λ input.
     (not_built refusal ∷ [], subst (λ o. FirstPrints o (lines_of input) (not_built refusal ∷ []) 2) (sym some) (inr (ap (λ r. not_built r ∷ []) cause, refl)), one_written held held_after (not_built refusal) written))
 
 -- a first line that is done, and the lines after it
-pub first_done : (settings : Option Settings) (given : Settings) (known held held_mid held_after : Option (List ℕ)) (cache : CacheData) (moment : ℕ) (bad : Bool) (code : ℕ) → settings ≡ Some given → settings_refused given ≡ None → IsAt cache moment (cache_settings given) beginning → Appends held held_mid (answer_line answers.Done) → ((cached : CacheSettings) (before : Course) → IsAt cache moment cached before → IfSome known (λ input. (printed : List (List ℕ)) × LinesPrint cached before (lines_of input) printed bad × Appends held_mid held_after (lines_text printed))) → code ≡ status_of bad → IfSome known (λ input. (printed : List (List ℕ)) × FirstPrints settings (lines_of input) printed code × Appends held held_after (lines_text printed))
+pub first_done : (settings : Option Settings) (given : Settings) (known held held_mid held_after : Option (List ℕ)) (cache : CacheData) (moment : ℕ) (bad : Bool) (code : ℕ) → settings ≡ Some given → settings_refused given ≡ None → IsAt cache moment (cache_settings given) beginning → Appends held held_mid (written_line outputs.Done) → ((cached : CacheSettings) (before : Course) → IsAt cache moment cached before → IfSome known (λ input. (printed : List (List ℕ)) × LinesPrint cached before (lines_of input) printed bad × Appends held_mid held_after (lines_text printed))) → code ≡ status_of bad → IfSome known (λ input. (printed : List (List ℕ)) × FirstPrints settings (lines_of input) printed code × Appends held held_after (lines_text printed))
 first_done settings given None held held_mid held_after cache moment bad code some fits begins written rest is_code = tt
 first_done settings given (Some input) held held_mid held_after cache moment bad code some fits begins written rest is_code =
     let later = rest (cache_settings given) beginning begins in (
@@ -63,12 +63,12 @@ first_done settings given (Some input) held held_mid held_after cache moment bad
       appends-appends held held_mid held_after (codes "ok" ∷ []) later.0 (one_written held held_mid (codes "ok") written) later.2,
     )
 
--- what is kept is appended no more
-appends-keeps : (old mid new : Option (List ℕ)) (bytes : List ℕ) → Appends old mid bytes → Keeps mid new → Appends old new bytes
-appends-keeps None mid new bytes a k = tt
-appends-keeps (Some xs) None new bytes a k = absurd a
-appends-keeps (Some xs) (Some ys) None bytes a k = absurd k
-appends-keeps (Some xs) (Some ys) (Some zs) bytes a k = k ∙ a
+-- what stays is appended no more
+appends-preserved : (old mid new : Option (List ℕ)) (bytes : List ℕ) → Appends old mid bytes → Keeps mid new → Appends old new bytes
+appends-preserved None mid new bytes a k = tt
+appends-preserved (Some xs) None new bytes a k = absurd a
+appends-preserved (Some xs) (Some ys) None bytes a k = absurd k
+appends-preserved (Some xs) (Some ys) (Some zs) bytes a k = k ∙ a
 
 -- a script with a first line
 pub script_done : {A E : Type 0} (items : A → List ℕ) (item : Result A E) (first : A) (bytes : List ℕ) (settings : Option Settings) (all known known_after held held_mid held_after : Option (List ℕ)) (byte code : ℕ) → known ≡ all → byte ≡ 10 → IfOk item (λ x. IfSome known (λ xs. (0 < length xs) × (items x ≡ first_piece byte xs)) × DropsThrough known known_after byte) → item ≡ Ok first → bytes ≡ items first → settings ≡ settings_by bytes → IfSome known_after (λ input. (printed : List (List ℕ)) × FirstPrints settings (lines_of input) printed code × Appends held held_mid (lines_text printed)) → Keeps held_mid held_after → IfSome all (λ input. (printed : List (List ℕ)) × ScriptPrints (lines_of input) printed code × Appends held held_after (lines_text printed))
@@ -81,4 +81,4 @@ script_done {A} {E} items item first bytes settings (Some input) known known_aft
     let lines : lines_of input ≡ bytes ∷ lines_of (drop_through 10 input) = lines_first input gives.0 ∙ ap (λ one. one ∷ lines_of (drop_through 10 input)) (sym line) in
     let rest : (printed : List (List ℕ)) × FirstPrints settings (lines_of (drop_through 10 input)) printed code × Appends held held_mid (lines_text printed) = subst (λ k. IfSome k (λ input. (printed : List (List ℕ)) × FirstPrints settings (lines_of input) printed code × Appends held held_mid (lines_text printed))) drops prints in
     let begun : FirstPrints (settings_by bytes) (lines_of (drop_through 10 input)) rest.0 code = subst (λ o. FirstPrints o (lines_of (drop_through 10 input)) rest.0 code) is_settings rest.1 in
-    (rest.0, subst (λ ls. ScriptPrints ls rest.0 code) (sym lines) begun, appends-keeps held held_mid held_after (lines_text rest.0) rest.2 keeps)
+    (rest.0, subst (λ ls. ScriptPrints ls rest.0 code) (sym lines) begun, appends-preserved held held_mid held_after (lines_text rest.0) rest.2 keeps)

@@ -14,12 +14,12 @@ use Rattle.moka_model.specs.StandsFor.{StandsFor}
 use Rattle.moka_state_iter.specs.States.{WalksTo}
 use Rattle.moka_policy.specs.declared.policy.Refused.{Refused}
 use Rattle.moka_iter.specs.Walks.{Cursor, start}
-use Rattle.moka_iter.specs.Histories.{History, AllStandFor as AllHaveHistories, keys_of, value_of, live_in, AnswersNext}
+use Rattle.moka_iter.specs.Histories.{History, AllStandFor as AllHaveHistories, keys_of, value_of, live_in, RepliesNext}
 use Rattle.moka_iter.specs.WalkLaws.{HasOneHome, AreAtHome, YieldsJust}
 use Rattle.moka_iter.proofs.Callers.{count-permutation, live-at-home, each-live, each-once}
 use Rattle.moka_segment_model.specs.Segments.{segment_of_key, share_settings, steps_in, events_of, AllStandFor}
 use Rattle.moka_segment_model.proofs.Callers.{there, segment-within, stands-at-home}
-use Rattle.mokabox_syntax.specs.Answer.{pairs_text}
+use Rattle.mokabox_syntax.specs.OutputLine.{pairs_text}
 use Rattle.mokabox_syntax.specs.declared.command.Command.TheVariants as commands
 use Rattle.mokabox_interpreter.specs.Script.{Text, is_copy, is_surely_copied, CacheSettings, live_value, AreTheLive}
 use Rattle.mokabox_interpreter.specs.Session.{CacheData, SegmentState, segment_view, view, PartsHashes, Prints, segment_stands_for, IsWholeWalk}
@@ -126,9 +126,9 @@ module _ (cache : CacheData) (settings : CacheSettings) (done : List (Call ℕ T
       }
 
 -- a walk is printed as the line of what is live,
-pub walk_told : (cache : CacheData) (moment : ℕ) (pairs sorted : List (ℕ × Text)) (lines : List (List ℕ)) → IsWholeWalk cache moment pairs → IsPermutation pairs sorted → IsNonDecreasingBy (λ (pair : ℕ × Text). pair.0) sorted
+pub walk_printed : (cache : CacheData) (moment : ℕ) (pairs sorted : List (ℕ × Text)) (lines : List (List ℕ)) → IsWholeWalk cache moment pairs → IsPermutation pairs sorted → IsNonDecreasingBy (λ (pair : ℕ × Text). pair.0) sorted
     → lines ≡ (codes "walk" ++ pairs_text sorted) ∷ [] → Prints cache moment commands.Walk lines cache moment
-walk_told cache moment pairs sorted lines whole same rising are settings before is =
+walk_printed cache moment pairs sorted lines whole same rising are settings before is =
     let live = subst (λ at. AreTheLive settings (record { done = before.done; moment = at }) sorted) is.now (the-live cache settings before.done is.stands is.parted moment pairs sorted whole same rising) in
     (before, ([], [], lines, refl, (refl, refl), inl (sorted, live, are), sym (append-nil lines), sym is.now ∙ is.now), is)
 
@@ -147,9 +147,9 @@ pub walked_first : (cache : CacheData) (moment : ℕ) (here : Cursor ℕ) → he
 walked_first cache moment here first histories stand rest walk = subst (λ (c : Cursor ℕ). YieldsJust nat_eq is_copy is_surely_copied histories moment c rest) first walk
 
 module _ (cache : CacheData) (moment : ℕ) (states : List SegmentState) (same : states ≡ cache.segments) (so_far : List (ℕ × Text)) (here next : Cursor ℕ) (was : HasWalked cache moment so_far here) where
-  -- what is answered over the segments
+  -- what is returned over the segments
   answered-there : (result : Option (Result (ℕ × Text) Refused)) → WalksTo nat_eq is_copy is_surely_copied segment_stands_for states moment here result next → (histories : List (History ℕ Text Text))
-      → AllHaveHistories segment_stands_for cache.segments histories → AnswersNext nat_eq is_copy is_surely_copied histories moment here result next
+      → AllHaveHistories segment_stands_for cache.segments histories → RepliesNext nat_eq is_copy is_surely_copied histories moment here result next
   answered-there result walks histories stand = subst (λ all. WalksTo nat_eq is_copy is_surely_copied segment_stands_for all moment here result next) same walks histories stand
 
   -- one pair more

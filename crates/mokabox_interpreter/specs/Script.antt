@@ -37,11 +37,11 @@ use Rattle.moka_policy.specs.Building.{too_long_of, flush_refused_of}
 use Rattle.moka_sync.specs.Builder.{segments_refused}
 use Rattle.moka_policy.specs.declared.builder_utils.BuildError.{BuildError}
 use Rattle.moka_policy.specs.declared.builder_utils.BuildError.TheVariants.{OutOfMemory}
-use Rattle.mokabox_syntax.specs.Answer.{answer_text, measure_text, pairs_text}
-use Rattle.mokabox_syntax.specs.declared.answer.Answer.{Answer}
-use Rattle.mokabox_syntax.specs.declared.answer.Answer.TheVariants as answers
-use Rattle.mokabox_syntax.specs.declared.answer.Became.{Became}
-use Rattle.mokabox_syntax.specs.declared.answer.Became.TheVariants as fates
+use Rattle.mokabox_syntax.specs.OutputLine.{output_text, measure_text, pairs_text}
+use Rattle.mokabox_syntax.specs.declared.output_line.OutputLine.{OutputLine}
+use Rattle.mokabox_syntax.specs.declared.output_line.OutputLine.TheVariants as outputs
+use Rattle.mokabox_syntax.specs.declared.output_line.Became.{Became}
+use Rattle.mokabox_syntax.specs.declared.output_line.Became.TheVariants as fates
 use Rattle.mokabox_syntax.specs.Command.{PlainCommand, command_by_line}
 use Rattle.mokabox_syntax.specs.Fields.{fields_of, is_one_of}
 use Rattle.mokabox_syntax.specs.Settings.{settings_by, byte_weight}
@@ -144,13 +144,13 @@ moment_after (At later) moment = later
 moment_after command moment = moment
 
 -- What is printed for an entry.
-abbrev pub entered_of : calls.Entry ℕ Text → Answer
-entered_of entry = answers.Entered entry.key entry.value entry.fresh entry.replaced
+abbrev pub entered_of : calls.Entry ℕ Text → OutputLine
+entered_of entry = outputs.Entered entry.key entry.value entry.fresh entry.replaced
 
 -- What is printed for a turn that was opened: for a compute with the live value that it is shown.
-abbrev pub run_of : Kind → ℕ → Option (calls.Entry ℕ Text) → Answer
-run_of Compute number shown = answers.Shown number (record { 0 = option_map (λ entry. entry.value) shown })
-run_of kind number shown = answers.Run number
+abbrev pub run_of : Kind → ℕ → Option (calls.Entry ℕ Text) → OutputLine
+run_of Compute number shown = outputs.Shown number (record { 0 = option_map (λ entry. entry.value) shown })
+run_of kind number shown = outputs.Run number
 
 -- What is printed for the result of a compute.
 abbrev pub became_of : CompResult ℕ Text → Became
@@ -161,26 +161,26 @@ became_of (results.ReplacedWith entry) = fates.ReplacedWith (entry_of entry).key
 became_of (results.Removed entry) = fates.Removed (entry_of entry).key (entry_of entry).value
 
 -- What is printed for the reply to a call.
-abbrev pub answer_of : ScriptReply → Answer
-answer_of (replies.Found None) = answers.NotFound
-answer_of (replies.Found (Some text)) = answers.Found text
-answer_of (replies.Contains is_there) = answers.Whether is_there
-answer_of replies.Done = answers.Done
-answer_of (replies.Counted count) = answers.Counted count
-answer_of (replies.Left b) = answers.Unfinished b
-answer_of (replies.Noticed None) = answers.End
-answer_of (replies.Noticed (Some notice)) = answers.Left (arc_value notice.key) notice.value notice.cause
-answer_of (replies.Entered entry) = entered_of (entry_of entry)
-answer_of (replies.Run name entry) = run_of name.kind name.number (option_map entry_of entry)
-answer_of (replies.Wait name) = answers.Waits name.number
-answer_of replies.Nothing = answers.Nothing
-answer_of (replies.Failed error) = answers.Failed (arc_value error)
-answer_of (replies.Computed result) = answers.Computed (became_of result)
-answer_of replies.NotYet = answers.NotYet
-answer_of replies.Abandoned = answers.Abandoned
-answer_of replies.Ended = answers.Ended
-answer_of (replies.Refused cause) = answers.Refused cause
-answer_of (replies.PredicateRefused cause) = answers.NotHidden cause
+abbrev pub output_of : ScriptReply → OutputLine
+output_of (replies.Found None) = outputs.NotFound
+output_of (replies.Found (Some text)) = outputs.Found text
+output_of (replies.Contains is_there) = outputs.Whether is_there
+output_of replies.Done = outputs.Done
+output_of (replies.Counted count) = outputs.Counted count
+output_of (replies.Left b) = outputs.Unfinished b
+output_of (replies.Noticed None) = outputs.End
+output_of (replies.Noticed (Some notice)) = outputs.Left (arc_value notice.key) notice.value notice.cause
+output_of (replies.Entered entry) = entered_of (entry_of entry)
+output_of (replies.Run name entry) = run_of name.kind name.number (option_map entry_of entry)
+output_of (replies.Wait name) = outputs.Waits name.number
+output_of replies.Nothing = outputs.Nothing
+output_of (replies.Failed error) = outputs.Failed (arc_value error)
+output_of (replies.Computed result) = outputs.Computed (became_of result)
+output_of replies.NotYet = outputs.NotYet
+output_of replies.Abandoned = outputs.Abandoned
+output_of replies.Ended = outputs.Ended
+output_of (replies.Refused cause) = outputs.Refused cause
+output_of (replies.PredicateRefused cause) = outputs.NotHidden cause
 
 -- What calls print, one line for each reply, and the calls done after them. A call that fails leaves these as they are.
 abbrev pub CallsPrint : CacheSettings → List (Call ℕ Text Text) → List (Call ℕ Text Text) →
@@ -188,7 +188,7 @@ abbrev pub CallsPrint : CacheSettings → List (Call ℕ Text Text) → List (Ca
 CallsPrint settings done [] printed after = (printed ≡ []) × (after ≡ done)
 CallsPrint settings done (call ∷ more) printed after =
     (reply : ScriptReply) × (rest : List (List ℕ)) × IsReplyIn Text nat_eq is_copy is_surely_copied settings done call reply
-    × (printed ≡ answer_text (answer_of reply) ∷ rest) × CallsPrint settings (after_reply_in call reply done) more rest after
+    × (printed ≡ output_text (output_of reply) ∷ rest) × CallsPrint settings (after_reply_in call reply done) more rest after
 
 -- A moment in whole seconds.
 abbrev pub in_seconds : Option ℕ → Option ℕ
@@ -215,19 +215,19 @@ pub record AreTheLive (settings : CacheSettings) (before : Course) (pairs : List
 
 -- What a command prints that makes no call. `policy` prints what the settings say. `walk` prints all live pairs, or an
 -- error if memory ran out.
-abbrev pub Tells : CacheSettings → Course → PlainCommand → List (List ℕ) → Type 0
-Tells settings before Policy lines = lines ≡ policy_line settings ∷ []
-Tells settings before Walk lines =
+abbrev pub PrintsOwn : CacheSettings → Course → PlainCommand → List (List ℕ) → Type 0
+PrintsOwn settings before Policy lines = lines ≡ policy_line settings ∷ []
+PrintsOwn settings before Walk lines =
     ((pairs : List (ℕ × Text)) × AreTheLive settings before pairs × (lines ≡ (codes "walk" ++ pairs_text pairs) ∷ []))
     ⊎ (lines ≡ (codes "refused " ++ decimal 1) ∷ [])
-Tells settings before command lines = lines ≡ []
+PrintsOwn settings before command lines = lines ≡ []
 
 -- What a command prints, and the point of the script after it.
 abbrev pub CommandPrints : CacheSettings → Course → PlainCommand → List (List ℕ) → Course → Type 0
 CommandPrints settings before command printed after =
-    (made : List (Call ℕ Text Text)) × (answers : List (List ℕ)) × (own : List (List ℕ))
+    (made : List (Call ℕ Text Text)) × (outputs : List (List ℕ)) × (own : List (List ℕ))
     × Makes (notices_in Text nat_eq settings before.done) before.moment command made
-    × CallsPrint settings before.done made answers after.done × Tells settings before command own × (printed ≡ own ++ answers)
+    × CallsPrint settings before.done made outputs after.done × PrintsOwn settings before command own × (printed ≡ own ++ outputs)
     × (after.moment ≡ moment_after command before.moment)
 
 -- What a line prints, the point of the script after it, and whether the line is bad.
@@ -290,7 +290,7 @@ settings_refused settings =
 
 -- What is printed if the cache is not built.
 abbrev pub not_built : BuildError → List ℕ
-not_built cause = answer_text (answers.NotBuilt cause)
+not_built cause = output_text (outputs.NotBuilt cause)
 
 -- The point where a script begins.
 abbrev pub beginning : Course

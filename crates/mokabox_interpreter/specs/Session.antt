@@ -25,7 +25,7 @@ use Rattle.moka_iter.specs.Histories.{History, AllStandFor as AllHaveHistories}
 use Rattle.moka_iter.specs.Walks.{start}
 use Rattle.moka_iter.specs.WalkLaws.{YieldsJust}
 use Rattle.mokabox_interpreter.specs.Script.{Text, is_copy, is_surely_copied, is_among, CacheSettings, Course, CommandPrints, LinePrints}
-use Rattle.mokabox_interpreter.specs.Script.{CacheHasher, ScriptStep, Makes, Tells, moment_after, whole_settings}
+use Rattle.mokabox_interpreter.specs.Script.{CacheHasher, ScriptStep, Makes, PrintsOwn, moment_after, whole_settings}
 use Rattle.mokabox_interpreter.specs.Script.{is_lru_by, lines_text}
 use Rattle.mokabox_interpreter.specs.declared.one_of.OneOf.{OneOf}
 use Rattle.mokabox_interpreter.specs.declared.session.Bytes.{Bytes}
@@ -55,25 +55,25 @@ abbrev pub segment_view : SegmentState → WholeView ℕ Text Text
 segment_view = view_by cache_behaviour (estimates (noted 6) (estimated 6)) (none_noted 6)
 
 -- What contracts see of the builder of a script's cache.
-abbrev pub Told : Type 0
-Told = BuilderData Bytes NoExpiry NoListener
+abbrev pub ScriptBuilder : Type 0
+ScriptBuilder = BuilderData Bytes NoExpiry NoListener
 
 -- What a predicate of a script computes: whether a value is one of its texts.
 abbrev pub holds_of : OneOf → ℕ → Text → Bool
 holds_of it key text = is_among (string_bytes it.texts) text
 
 -- The builder was given these settings, and nothing else.
-pub record IsTold (given : Settings) (told : Told) : Type 0 where
-  pub name : told.name ≡ None
-  pub max_capacity : told.max_capacity ≡ given.capacity
-  pub time_to_live : option_map as_nanos told.time_to_live ≡ (whole_settings given).time_to_live
-  pub time_to_idle : option_map as_nanos told.time_to_idle ≡ (whole_settings given).time_to_idle
-  pub is_lru : told.is_lru ≡ is_lru_by given.policy
-  pub weigher : is_some told.weigher ≡ is_some given.weigher
-  pub expiry : told.expiry ≡ None
-  pub closures : told.closures ≡ given.closures
-  pub flush_limit : told.flush_limit ≡ given.flush_limit
-  pub first_number : told.first_number ≡ unwrap_or given.first_number 0
+pub record HasSettings (given : Settings) (builder : ScriptBuilder) : Type 0 where
+  pub name : builder.name ≡ None
+  pub max_capacity : builder.max_capacity ≡ given.capacity
+  pub time_to_live : option_map as_nanos builder.time_to_live ≡ (whole_settings given).time_to_live
+  pub time_to_idle : option_map as_nanos builder.time_to_idle ≡ (whole_settings given).time_to_idle
+  pub is_lru : builder.is_lru ≡ is_lru_by given.policy
+  pub weigher : is_some builder.weigher ≡ is_some given.weigher
+  pub expiry : builder.expiry ≡ None
+  pub closures : builder.closures ≡ given.closures
+  pub flush_limit : builder.flush_limit ≡ given.flush_limit
+  pub first_number : builder.first_number ≡ unwrap_or given.first_number 0
 
 -- Each key belongs to one of the segments: some bits of its hash name it, and each hash has that many bits.
 abbrev pub PartsHashes : CacheSettings → Type 0
@@ -90,7 +90,7 @@ pub record IsAt (cache : CacheData) (moment : ℕ) (settings : CacheSettings) (c
 pub record IsStepOf (moment : ℕ) (command : PlainCommand) (step : ScriptStep) : Type 0 where
   pub makes : (notices : ℕ) → Makes notices moment command (call_of holds_of step ∷ [])
   pub stays : (at : ℕ) → moment_after command at ≡ at
-  pub tells_nothing : (settings : CacheSettings) (before : Course) → Tells settings before command []
+  pub prints_no_own : (settings : CacheSettings) (before : Course) → PrintsOwn settings before command []
   pub owed : StepKeeps (λ key text. Unit {0}) (λ it test. test ≡ holds_of it) holds_of step
 
 -- For each point of the script that the session may be at: the command prints these lines, and leads to the session's

@@ -2,13 +2,13 @@
 ghost use Rattle.std.specs.Prelude.{◌≡◌, ◌≢◌, ℕ, List, map, IfOk, IfSome, OnOk};
 ghost use Rattle.std.specs.Io.Iter.{split_byte, split_known_bytes};
 ghost use Rattle.std.specs.Io.KnownBytes.{Appends};
-ghost use Rattle.mokabox_syntax.specs.Answer.{answer_text};
+ghost use Rattle.mokabox_syntax.specs.OutputLine.{output_text};
 ghost use Rattle.mokabox_interpreter.specs.Script.{CacheSettings, Course, FirstPrints, LinesPrint, ScriptPrints, lines_of, lines_text};
 ghost use Rattle.mokabox_interpreter.specs.Session.{DoesLine, IsAt};
 ghost use Rattle.mokabox_interpreter.specs.Status.{code_of};
 
 use crate::session::Session;
-use mokabox_syntax::answer::{Answer, write_answer};
+use mokabox_syntax::output_line::{OutputLine, write_line};
 use mokabox_syntax::settings::Settings;
 use mokabox_syntax::{command, settings};
 use std::alloc::Global;
@@ -82,17 +82,17 @@ fn begin<R: BufRead + Drop, W: Write>(
         × Appends (W.contents writer.old) (W.contents writer.new) (lines_text printed))) }
 {
     let Some(settings) = settings else {
-        write_answer(writer, &Answer::BadLine)?;
+        write_line(writer, &OutputLine::BadLine)?;
         return Ok(Status::Bad);
     };
     match Session::new(alloc, settings) {
         Ok(session) => {
-            write_answer(writer, &Answer::Done)?;
+            write_line(writer, &OutputLine::Done)?;
             let is_bad = go_on(session, lines, writer)?;
             Ok(if is_bad { Status::Bad } else { Status::Done })
         }
         Err(refusal) => {
-            write_answer(writer, &Answer::NotBuilt(refusal))?;
+            write_line(writer, &OutputLine::NotBuilt(refusal))?;
             Ok(Status::Bad)
         }
     }
@@ -124,21 +124,21 @@ fn do_line<W: Write>(session: &mut Session, line: &[u8], writer: &mut W) -> io::
         session.new.cache session.new.moment (W.contents writer.old) (W.contents writer.new)) }
 {
     let Some(command) = command::parse(line) else {
-        write_answer(writer, &Answer::BadLine)?;
+        write_line(writer, &OutputLine::BadLine)?;
         return Ok(true);
     };
-    let answers = session.execute(command)?;
-    write_answers(writer, &answers)?;
+    let outputs = session.execute(command)?;
+    write_lines(writer, &outputs)?;
     Ok(false)
 }
 
-// Writes each answer as a line of its own.
-fn write_answers<W: Write>(writer: &mut W, answers: &[Answer]) -> io::Result<()>
+// Writes each output line, with its end.
+fn write_lines<W: Write>(writer: &mut W, outputs: &[OutputLine]) -> io::Result<()>
     ensures { OnOk result (Appends (W.contents writer.old) (W.contents writer.new)
-        (lines_text (map answer_text answers.now))) }
+        (lines_text (map output_text outputs.now))) }
 {
-    for answer in answers {
-        write_answer(writer, answer)?;
+    for output in outputs {
+        write_line(writer, output)?;
     }
     Ok(())
 }

@@ -5,14 +5,14 @@ ghost use Rattle.std.specs.String.{string_bytes};
 ghost use Rattle.std.proofs.Math.Path.{◌∙◌};
 ghost use Rattle.moka_model.specs.Lives.{no_lifetimes};
 ghost use Rattle.moka_policy.specs.Policy.{is_lru};
-ghost use Rattle.mokabox_syntax.specs.Answer.{answer_text};
+ghost use Rattle.mokabox_syntax.specs.OutputLine.{output_text};
 ghost use Rattle.moka_model.specs.Entries.{entry_of};
 ghost use Rattle.moka_state.specs.Finish.{outcome_of};
 ghost use Rattle.moka_turns.specs.Handles.{name_by};
 ghost use Rattle.mokabox_syntax.specs.Command.{plain_command};
 ghost use Rattle.mokabox_syntax.specs.Turn.{plain_ending};
-ghost use Rattle.mokabox_interpreter.specs.Script.{beginning, is_lru_by, cache_settings, settings_refused, answer_of, became_of, run_of, entered_of, ending_by, name_of_turn};
-ghost use Rattle.mokabox_interpreter.specs.Session.{IsAt, IsTold, IsStepOf, Prints, IsWholeWalk, holds_of};
+ghost use Rattle.mokabox_interpreter.specs.Script.{beginning, is_lru_by, cache_settings, settings_refused, output_of, became_of, run_of, entered_of, ending_by, name_of_turn};
+ghost use Rattle.mokabox_interpreter.specs.Session.{IsAt, HasSettings, IsStepOf, Prints, IsWholeWalk, holds_of};
 ghost use Rattle.mokabox_syntax.specs.Settings.{byte_weight};
 ghost use Rattle.mokabox_syntax.specs.declared.command.Command.TheVariants as commands;
 
@@ -30,8 +30,8 @@ use moka::sync::CacheBuilder;
 use moka::sync::builder::Single;
 use moka::sync::segment::SegmentedState;
 use moka::sync::value_initializer::{Kind, Outcome, TurnName};
-use mokabox_syntax::answer::{Answer, Became, Live, Measure, Pairs};
 use mokabox_syntax::command::Command;
+use mokabox_syntax::output_line::{Became, Live, Measure, OutputLine, Pairs};
 use mokabox_syntax::settings;
 use mokabox_syntax::settings::{Eviction, Weighing};
 use mokabox_syntax::turn::{Ending, TurnOf};
@@ -135,9 +135,9 @@ impl Session {
     ///
     /// - `AllocError`: an allocation failed, for the lines or for the arguments of the step. The
     ///   command may be done.
-    pub fn execute(&mut self, command: Command<&str>) -> Result<Vec<Answer>, AllocError>
-        ensures { IfOk result (λ answers. Prints self.old.cache self.old.moment (plain_command command.entry)
-            (map answer_text answers.items) self.new.cache self.new.moment) }
+    pub fn execute(&mut self, command: Command<&str>) -> Result<Vec<OutputLine>, AllocError>
+        ensures { IfOk result (λ outputs. Prints self.old.cache self.old.moment (plain_command command.entry)
+            (map output_text outputs.items) self.new.cache self.new.moment) }
     {
         let now = self.moment;
         let step = match command {
@@ -167,8 +167,8 @@ impl Session {
             Command::Collect(turn) => self.collect(turn)?,
             Command::Leave(turn) => self.leave(turn)?,
         };
-        let answer = answer_of(self.alloc, self.cache.step(step))?;
-        Ok(vec![in self.alloc; answer]?)
+        let output = output_of(self.alloc, self.cache.step(step))?;
+        Ok(vec![in self.alloc; output]?)
     }
 
     // Returns the step that inserts a value.
@@ -303,32 +303,32 @@ impl Session {
     }
 
     // Returns the line of the cache's policy, with lifetimes in seconds.
-    fn policy(&self) -> Result<Vec<Answer>, AllocError>
-        ensures { IfOk result (λ answers. Prints self.now.cache self.now.moment commands.Policy
-            (map answer_text answers.items) self.now.cache self.now.moment) }
+    fn policy(&self) -> Result<Vec<OutputLine>, AllocError>
+        ensures { IfOk result (λ outputs. Prints self.now.cache self.now.moment commands.Policy
+            (map output_text outputs.items) self.now.cache self.now.moment) }
     {
         let policy = self.cache.policy();
-        let answer = Answer::Policy(
+        let output = OutputLine::Policy(
             Measure(policy.max_capacity()),
             Measure(policy.time_to_live().map(|life| life.as_secs())),
             Measure(policy.time_to_idle().map(|life| life.as_secs())),
             policy.num_segments() as u64,
         );
-        Ok(vec![in self.alloc; answer]?)
+        Ok(vec![in self.alloc; output]?)
     }
 
     // Returns the line of all live pairs, by increasing key, or that of the error if one of them
     // cannot be cloned.
-    fn walk(&self) -> Result<Vec<Answer>, AllocError>
-        ensures { IfOk result (λ answers. Prints self.now.cache self.now.moment commands.Walk
-            (map answer_text answers.items) self.now.cache self.now.moment) }
+    fn walk(&self) -> Result<Vec<OutputLine>, AllocError>
+        ensures { IfOk result (λ outputs. Prints self.now.cache self.now.moment commands.Walk
+            (map output_text outputs.items) self.now.cache self.now.moment) }
     {
         match self.live_pairs()? {
             Ok(mut pairs) => {
                 pairs.sort_unstable_by_key(|pair| pair.0);
-                Ok(vec![in self.alloc; Answer::Walked(Pairs(pairs))]?)
+                Ok(vec![in self.alloc; OutputLine::Walked(Pairs(pairs))]?)
             }
-            Err(cause) => Ok(vec![in self.alloc; Answer::Refused(cause)]?),
+            Err(cause) => Ok(vec![in self.alloc; OutputLine::Refused(cause)]?),
         }
     }
 
@@ -386,55 +386,58 @@ impl Session {
     }
 
     // Takes all notices, and once more when there is none.
-    fn notices(&mut self) -> Result<Vec<Answer>, AllocError>
-        ensures { IfOk result (λ answers. Prints self.old.cache self.old.moment commands.Notices
-            (map answer_text answers.items) self.new.cache self.new.moment) }
+    fn notices(&mut self) -> Result<Vec<OutputLine>, AllocError>
+        ensures { IfOk result (λ outputs. Prints self.old.cache self.old.moment commands.Notices
+            (map output_text outputs.items) self.new.cache self.new.moment) }
     {
-        let mut answers = Vec::new(self.alloc);
+        let mut outputs = Vec::new(self.alloc);
         while let Some(notice) = self.cache.take_notice() {
-            let answer = answer_of(self.alloc, Reply::Noticed(Some(notice)))?;
-            answers.push(answer)?;
+            let output = output_of(self.alloc, Reply::Noticed(Some(notice)))?;
+            outputs.push(output)?;
         }
-        let last = answer_of(self.alloc, Reply::Noticed(None))?;
-        answers.push(last)?;
-        Ok(answers)
+        let last = output_of(self.alloc, Reply::Noticed(None))?;
+        outputs.push(last)?;
+        Ok(outputs)
     }
 }
 
 // Returns what is printed for a reply of the cache. Allocates only for the text of an error.
-fn answer_of(alloc: Global, reply: ScriptReply) -> Result<Answer, AllocError>
-    ensures { IfOk result (λ answer. answer_text answer ≡ answer_text (answer_of reply)) }
+fn output_of(alloc: Global, reply: ScriptReply) -> Result<OutputLine, AllocError>
+    ensures { IfOk result (λ output. output_text output ≡ output_text (output_of reply)) }
 {
     Ok(match reply {
-        Reply::Found(Some(value)) => Answer::Found(value),
-        Reply::Found(None) => Answer::NotFound,
-        Reply::Contains(is_there) => Answer::Whether(is_there),
-        Reply::Done => Answer::Done,
-        Reply::Counted(count) => Answer::Counted(count),
-        Reply::Left(is_left) => Answer::Unfinished(is_left),
-        Reply::Noticed(Some(notice)) => Answer::Left(*notice.key, notice.value, notice.cause),
-        Reply::Noticed(None) => Answer::End,
+        Reply::Found(Some(value)) => OutputLine::Found(value),
+        Reply::Found(None) => OutputLine::NotFound,
+        Reply::Contains(is_there) => OutputLine::Whether(is_there),
+        Reply::Done => OutputLine::Done,
+        Reply::Counted(count) => OutputLine::Counted(count),
+        Reply::Left(is_left) => OutputLine::Unfinished(is_left),
+        Reply::Noticed(Some(notice)) => OutputLine::Left(*notice.key, notice.value, notice.cause),
+        Reply::Noticed(None) => OutputLine::End,
         Reply::Entered(entry) => entered_of(entry),
         Reply::Run(name, shown) => run_of(name, shown),
-        Reply::Wait(name) => Answer::Waits(name.number),
-        Reply::Nothing => Answer::Nothing,
-        Reply::Failed(error) => Answer::Failed(String::from_str(alloc, error.as_str())?),
-        Reply::Computed(result) => Answer::Computed(became_of(result)),
-        Reply::NotYet => Answer::NotYet,
-        Reply::Abandoned => Answer::Abandoned,
-        Reply::Ended => Answer::Ended,
-        Reply::Refused(refused) => Answer::Refused(refused),
-        Reply::PredicateRefused(refused) => Answer::NotHidden(refused),
+        Reply::Wait(name) => OutputLine::Waits(name.number),
+        Reply::Nothing => OutputLine::Nothing,
+        Reply::Failed(error) => OutputLine::Failed(String::from_str(alloc, error.as_str())?),
+        Reply::Computed(result) => OutputLine::Computed(became_of(result)),
+        Reply::NotYet => OutputLine::NotYet,
+        Reply::Abandoned => OutputLine::Abandoned,
+        Reply::Ended => OutputLine::Ended,
+        Reply::Refused(refused) => OutputLine::Refused(refused),
+        Reply::PredicateRefused(refused) => OutputLine::NotHidden(refused),
     })
 }
 
 // Returns what is printed for a turn that was opened: with the live value if it is a compute.
-fn run_of(name: TurnName<u64>, shown: Option<Entry<u64, String>>) -> Answer
+fn run_of(name: TurnName<u64>, shown: Option<Entry<u64, String>>) -> OutputLine
     ensures { result ≡ run_of name.kind name.number (option_map entry_of shown) }
 {
     match name.kind {
-        Kind::Compute => Answer::Shown(name.number, Live(shown.map(|entry| entry.into_value()))),
-        Kind::With | Kind::Optionally | Kind::Try => Answer::Run(name.number),
+        Kind::Compute => OutputLine::Shown(
+            name.number,
+            Live(shown.map(|entry| entry.into_value())),
+        ),
+        Kind::With | Kind::Optionally | Kind::Try => OutputLine::Run(name.number),
     }
 }
 
@@ -452,13 +455,13 @@ fn became_of(computed: CompResult<u64, String>) -> Became
 }
 
 // Returns what is printed for an entry.
-fn entered_of(entry: Entry<u64, String>) -> Answer
+fn entered_of(entry: Entry<u64, String>) -> OutputLine
     ensures { result ≡ entered_of (entry_of entry) }
 {
     let key = *entry.key();
     let is_fresh = entry.is_fresh();
     let is_replaced = entry.is_old_value_replaced();
-    Answer::Entered(key, entry.into_value(), is_fresh, is_replaced)
+    OutputLine::Entered(key, entry.into_value(), is_fresh, is_replaced)
 }
 
 // The builder of a script's cache.
@@ -466,7 +469,7 @@ type Builder = CacheBuilder<u64, String, ScriptTypes, Single>;
 
 // Returns the builder of a cache with these settings.
 fn builder_of(settings: settings::Settings) -> Builder
-    ensures { IsTold settings result }
+    ensures { HasSettings settings result }
 {
     let builder = CacheBuilder::default()
         .eviction_policy(policy_of(settings.policy))

@@ -1,6 +1,6 @@
-pub mod Answer
 pub mod Command
 pub mod Fields
 pub mod FieldsLeft
+pub mod OutputLine
 pub mod Settings
 pub mod Turn

@@ -98,15 +98,15 @@ fn read_whole<'a>(word: &str, fields: Fields<'a>) -> Option<Command<&'a str>>
     ensures { option_map plain_command result ≡ read_by whole_words word.now (fields_left fields.entry) }
 {
     let command = match word {
-        "invalidate-all" => alone(fields, Command::InvalidateAll)?,
+        "invalidate-all" => command_alone(fields, Command::InvalidateAll)?,
         "invalidate-if" => Command::InvalidateIf(fields.texts()?),
-        "tasks" => alone(fields, Command::Tasks)?,
+        "tasks" => command_alone(fields, Command::Tasks)?,
         "tasks-up-to" => Command::TasksUpTo(fields.sole_number()?),
-        "count" => alone(fields, Command::Count)?,
-        "weight" => alone(fields, Command::Weight)?,
-        "notices" => alone(fields, Command::Notices)?,
-        "policy" => alone(fields, Command::Policy)?,
-        "walk" => alone(fields, Command::Walk)?,
+        "count" => command_alone(fields, Command::Count)?,
+        "weight" => command_alone(fields, Command::Weight)?,
+        "notices" => command_alone(fields, Command::Notices)?,
+        "policy" => command_alone(fields, Command::Policy)?,
+        "walk" => command_alone(fields, Command::Walk)?,
         word => return read_turn(word, fields),
     };
     Some(command)
@@ -129,7 +129,7 @@ fn read_turn<'a>(word: &str, fields: Fields<'a>) -> Option<Command<&'a str>>
 }
 
 /// Returns the command if no field is left.
-fn alone<'a>(fields: Fields<'_>, command: Command<&'a str>) -> Option<Command<&'a str>>
+fn command_alone<'a>(fields: Fields<'_>, command: Command<&'a str>) -> Option<Command<&'a str>>
     ensures { option_map plain_command result ≡ alone (plain_command command.entry) (fields_left fields.entry) }
 {
     fields.none_left()?;
@@ -151,7 +151,7 @@ fn begin_of_kind<'a>(kind: Kind, key: u64, mut fields: Fields<'a>) -> Option<Com
     ensures { option_map plain_command result ≡ begin_by kind key (fields_left fields.entry) }
 {
     if kind == Kind::Compute {
-        return alone(fields, Command::BeginCompute(key));
+        return command_alone(fields, Command::BeginCompute(key));
     }
     match fields.next() {
         None => Some(Command::Begin(kind, key, None)),

@@ -20,7 +20,7 @@ impl<'a> Fields<'a> {
     }
 
     /// Returns the only field left, or `None` if there is not exactly one.
-    pub fn sole(mut self) -> Option<&'a str>
+    pub fn sole_field(mut self) -> Option<&'a str>
         ensures { option_map (λ x. x.now) result ≡ sole_of (fields_left self.entry) }
     {
         let field = self.next()?;
@@ -34,14 +34,14 @@ impl<'a> Fields<'a> {
     pub fn sole_number(self) -> Option<u64>
         ensures { result ≡ sole_number_of (fields_left self.entry) }
     {
-        number(self.sole()?)
+        number(self.sole_field()?)
     }
 
     /// Returns the only field left, as a text.
     pub fn sole_text(self) -> Option<&'a str>
         ensures { option_map (λ x. x.now) result ≡ sole_text_of (fields_left self.entry) }
     {
-        text(self.sole()?)
+        text(self.sole_field()?)
     }
 
     /// Takes the first field, and returns it as a number.

@@ -159,7 +159,7 @@ fn read_setting(field: &str) -> Option<Setting>
     if field == "closures" {
         return Some(Setting::Closures);
     }
-    let (name, value) = named(field)?;
+    let (name, value) = split_at_equals(field)?;
     match name {
         "ttl" => Some(Setting::TimeToLive(number(value)?)),
         "tti" => Some(Setting::TimeToIdle(number(value)?)),
@@ -196,7 +196,7 @@ fn read_weighing(name: &str) -> Option<Weighing>
 }
 
 /// Returns what is before the first equals sign of a field, and what is after it.
-fn named(field: &str) -> Option<(&str, &str)>
+fn split_at_equals(field: &str) -> Option<(&str, &str)>
     ensures { option_map (λ x. (x.0.now, x.1.now)) result ≡ halves field.now }
 {
     field.split_once('=')

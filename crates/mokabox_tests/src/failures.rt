@@ -1,5 +1,5 @@
 //! Arguments, and readers and writers that fail.
-use crate::runs::{Row, SOUND, Way, goes};
+use crate::runs::{Row, SOUND, Way, check_run};
 use mokabox_interpreter::program::run_program;
 use mokabox_interpreter::script::Status;
 use std::fs;
@@ -27,7 +27,7 @@ fn any_argument_is_answered_with_the_usage(rt: HostRuntime) -> Result<(), Fail> 
         &[""],
         &["new", "", "new"],
     ] {
-        goes(
+        check_run(
             &rt,
             rt.alloc(),
             way,
@@ -48,7 +48,7 @@ fn a_writer_that_is_full_fails_the_run(rt: HostRuntime) -> Result<(), Fail> {
         for room in 0..wanted.len() {
             let way = Way { room, ..SOUND };
             let taken = &wanted.as_bytes()[..room];
-            goes(
+            check_run(
                 &rt,
                 rt.alloc(),
                 way,
@@ -63,7 +63,7 @@ fn a_writer_that_is_full_fails_the_run(rt: HostRuntime) -> Result<(), Fail> {
         room: PRINTED.len(),
         ..SOUND
     };
-    goes(
+    check_run(
         &rt,
         rt.alloc(),
         way,
@@ -88,7 +88,7 @@ fn a_flush_that_fails_fails_the_run(rt: HostRuntime) -> Result<(), Fail> {
         ("new\nnew\n", "ok\nbad line\n"),
         ("\n", "bad line\n"),
     ] {
-        goes(
+        check_run(
             &rt,
             rt.alloc(),
             way,
@@ -98,7 +98,7 @@ fn a_flush_that_fails_fails_the_run(rt: HostRuntime) -> Result<(), Fail> {
             Status::Failed,
         )?;
     }
-    goes(
+    check_run(
         &rt,
         rt.alloc(),
         way,
@@ -146,7 +146,7 @@ fn a_broken_reader_fails_the_run(rt: HostRuntime) -> Result<(), Fail> {
                 breaks: true,
                 ..SOUND
             };
-            goes(
+            check_run(
                 &rt,
                 rt.alloc(),
                 way,

@@ -4,8 +4,6 @@
 #![tactic(auto)]
 
 #[cfg(test)]
-mod answers;
-#[cfg(test)]
 mod failures;
 #[cfg(test)]
 mod hiding;
@@ -15,6 +13,8 @@ mod limits;
 mod lines;
 #[cfg(test)]
 mod or_inserts;
+#[cfg(test)]
+mod output_lines;
 #[cfg(test)]
 mod runs;
 #[cfg(test)]

@@ -48,7 +48,7 @@ pub fn prints_bytes(
     status: Status,
 ) -> Result<(), Fail> {
     for piece in [1, 7, 4096] {
-        goes(
+        check_run(
             rt,
             alloc,
             Way { piece, ..SOUND },
@@ -62,7 +62,7 @@ pub fn prints_bytes(
 }
 
 /// Checks what a run writes, and how it ends.
-pub fn goes(
+pub fn check_run(
     rt: &impl Abort,
     alloc: Global,
     way: Way,

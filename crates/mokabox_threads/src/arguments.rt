@@ -1,7 +1,7 @@
 //! Which arguments ask for workers.
 ghost use Rattle.std.specs.Prelude.{◌≡◌, ◌≤◌, map, IfSome};
 ghost use Rattle.std.specs.String.{string_bytes};
-ghost use Rattle.mokabox_threads.specs.Threads.{few, workers_by};
+ghost use Rattle.mokabox_threads.specs.Threads.{workers_in_range, workers_by};
 
 use mokabox_syntax::fields::number;
 
@@ -15,14 +15,14 @@ pub fn workers_of(arguments: &[String]) -> Option<u64>
     ensures range { IfSome result (λ workers. (1 ≤ workers) × (workers ≤ 16)) }
 {
     match arguments {
-        [word, count] if word.as_str() == "threads" => few(number(count.as_str())?),
+        [word, count] if word.as_str() == "threads" => workers_in_range(number(count.as_str())?),
         _ => None,
     }
 }
 
 // Returns the number of workers, if it is from 1 to the greatest.
-fn few(count: u64) -> Option<u64>
-    ensures { result ≡ few count }
+fn workers_in_range(count: u64) -> Option<u64>
+    ensures { result ≡ workers_in_range count }
 {
     if 1 <= count && count <= MOST_WORKERS {
         Some(count)

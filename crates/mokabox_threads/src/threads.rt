@@ -7,7 +7,7 @@ use crate::worker::{Texts, count, work};
 use moka::policy::{ManualClock, Refused};
 use moka::ready::FoldState;
 use moka::sync::CacheBuilder;
-use mokabox_syntax::answer::{Answer, write_answer};
+use mokabox_syntax::output_line::{OutputLine, write_line};
 use std::alloc::Global;
 use std::io::Write;
 use std::sync::Wait;
@@ -147,7 +147,7 @@ fn write_counted<W: Write>(
                 "workers {workers} present {present} absent {absent}"
             )?;
         }
-        Err(cause) => write_answer(writer, &Answer::Refused(*cause))?,
+        Err(cause) => write_line(writer, &OutputLine::Refused(*cause))?,
     }
     writer.flush()
 }

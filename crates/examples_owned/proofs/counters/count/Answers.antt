@@ -10,9 +10,9 @@ use Rattle.moka_model.specs.Lives.{Settings, Write}
 use Rattle.moka_model.specs.Events.{Event}
 use Rattle.moka_model.specs.Turns.{Name, Turn, found, is_open_as, is_open_for, fits}
 use Rattle.moka_model.specs.Steps.{AcceptedStep, events_in, turns}
-use Rattle.moka_model.specs.Calls.{Accepted, BeginCompute, Run, Wait, Inserted, ReplacedWith, IsAnswer, IsEntryOf, after, begun_compute, finished, live_at, put_by}
+use Rattle.moka_model.specs.Calls.{Accepted, BeginCompute, Run, Wait, Inserted, ReplacedWith, IsCopiedReply, IsEntryOf, after, begun_compute, finished, live_at, put_by}
 use Rattle.moka_model.specs.Calls as calls
-use Rattle.moka_model.specs.StandsFor.{IsAnswerOf}
+use Rattle.moka_model.specs.StandsFor.{IsReplyOf}
 use Rattle.moka_model.specs.Entries.{entry_of}
 use Rattle.moka_state.specs.ComputeForms.{IsComputeForm, IsUpserted}
 use Rattle.examples_owned.specs.Counts.{count_of, live_count, one_more_than}
@@ -39,18 +39,18 @@ same-count (Some w) (Some e) is = ap Some is.1
 module _ {E : Type 0} (settings : Settings ℕ ℕ) (page at : ℕ) where
   -- the closure gets the live count
   shown-live : (h : List (Event ℕ ℕ)) (name : Name ℕ) (shown : Option (calls.Entry ℕ ℕ)) (o : Option (Turn ℕ ℕ E))
-      → IsAnswer is_clone (begun_compute nat_eq settings h page false at o).answer (Run name shown)
+      → IsCopiedReply is_clone (begun_compute nat_eq settings h page false at o).reply (Run name shown)
       → shown_count shown ≡ option_map (λ w. w.value) (live_at nat_eq settings page at h)
   shown-live h name shown (Some t) waits = cc
   shown-live h name shown None runs = same-count (live_at nat_eq settings page at h) shown runs.1
 
 -- the entry that a `Put` returns holds the count that was put
 module _ (E : Type 0) (name : Name ℕ) (count : ℕ) where
-  inserted : (put : calls.Entry ℕ ℕ) (shown : Bool) → IsAnswer is_clone (put_by {E = E} name count shown) (Inserted put) → put.value ≡ count
+  inserted : (put : calls.Entry ℕ ℕ) (shown : Bool) → IsCopiedReply is_clone (put_by {E = E} name count shown) (Inserted put) → put.value ≡ count
   inserted put true other = cc
   inserted put false is = is.1
 
-  replaced : (put : calls.Entry ℕ ℕ) (shown : Bool) → IsAnswer is_clone (put_by {E = E} name count shown) (ReplacedWith put) → put.value ≡ count
+  replaced : (put : calls.Entry ℕ ℕ) (shown : Bool) → IsCopiedReply is_clone (put_by {E = E} name count shown) (ReplacedWith put) → put.value ≡ count
   replaced put true is = is.1
   replaced put false other = cc
 
@@ -59,14 +59,14 @@ module _ {E : Type 0} (settings : Settings ℕ ℕ) (h : List (Event ℕ ℕ)) (
   end fit o = if fit then option_map (finished nat_eq settings h name (outcomes.Op (ops.Put count)) at) o else None
 
   -- the turn that is finished was open
-  of-end : (answer : calls.Answer ℕ ℕ E) (fit : Bool) (o : Option (Turn ℕ ℕ E)) → IsAnswerOf is_clone (end fit o) answer → (shown : Bool) × IsAnswer is_clone (put_by name count shown) answer
+  of-end : (answer : calls.Reply ℕ ℕ E) (fit : Bool) (o : Option (Turn ℕ ℕ E)) → IsReplyOf is_clone (end fit o) answer → (shown : Bool) × IsCopiedReply is_clone (put_by name count shown) answer
   of-end answer true (Some t) is = (t.shown, is)
   of-end answer true None is = absurd is
   of-end answer false o is = absurd is
 
   module _ (entry : Entry ℕ ℕ) where
     -- the returned entry holds the count that was put
-    put-is : (answer : calls.Answer ℕ ℕ E) → (shown : Bool) × IsAnswer is_clone (put_by name count shown) answer → IsUpserted (Ok answer) (Ok entry) → (entry_of entry).value ≡ count
+    put-is : (answer : calls.Reply ℕ ℕ E) → (shown : Bool) × IsCopiedReply is_clone (put_by name count shown) answer → IsUpserted (Ok answer) (Ok entry) → (entry_of entry).value ≡ count
     put-is (Inserted put) is own = ap (λ (e : calls.Entry ℕ ℕ). e.value) own ∙ inserted E name count put is.0 is.1
     put-is (ReplacedWith put) is own = ap (λ (e : calls.Entry ℕ ℕ). e.value) own ∙ replaced E name count put is.0 is.1
     put-is (calls.Found v) is other = absurd other
@@ -89,7 +89,7 @@ module _ {E : Type 0} (settings : Settings ℕ ℕ) (h : List (Event ℕ ℕ)) (
 
 module _ {E : Type 0} (is_infallible : ℕ → Type 0) (settings : Settings ℕ ℕ) (steps : List (AcceptedStep ℕ ℕ E)) (page at : ℕ) (entry : Entry ℕ ℕ) where
   -- the returned count is the live count plus one
-  counts-up : (Stands : List (AcceptedStep ℕ ℕ E) → Type 0) (shown : Option (Entry ℕ ℕ)) (given : Option ℕ) (answer : Result (calls.Answer ℕ ℕ E) Refused)
+  counts-up : (Stands : List (AcceptedStep ℕ ℕ E) → Type 0) (shown : Option (Entry ℕ ℕ)) (given : Option ℕ) (answer : Result (calls.Reply ℕ ℕ E) Refused)
       → IsComputeForm nat_eq is_clone is_infallible settings steps (BeginCompute page false at) at (option_map entry_of shown) (option_map (λ v. Some (ops.Put v)) given) answer Stands
       → IsUpserted answer (Ok entry) → IfSome given (λ v. v ≡ one_more_than (count_of (option_map (λ e. (entry_of e).value) shown)))
       → (entry_of entry).value ≡ one_more_than (live_count settings steps page at)

@@ -6,7 +6,7 @@ use Rattle.moka_expiring_rows.proofs.expiring_rows.list_all.Goals as goal
 pub loop-cursor-init : goal.loop-cursor-init
 loop-cursor-init g c = (
   ([], g.R.RowStore.admitted c.args.rows.now, lists-first (g.R.RowStore.admitted c.args.rows.now) (g.R.RowStore.waiting c.args.rows.now) c.first_admitted-cursor.result (order_of c.clear.new.self) c.first_admitted-cursor.ensures c.clear.ensures.order),
-  record { kept = c.clear.ensures.kept; whole = λ known room. refl },
+  record { preserves = c.clear.ensures.preserves; whole = λ known room. refl },
 )
 
 pub row-requires : goal.row-requires
@@ -31,7 +31,7 @@ loop-cursor-preserved g c =
     let on = now.0 in
     let next = lists-on (g.R.RowStore.admitted c.args.rows.now) (g.R.RowStore.waiting c.args.rows.now) c.in-Some.number c.loop-cursor.is_whole (order_of c.loop-cursor.deadlines) on.0 on.1 on.2 c.row.result.now c.next-cursor.result c.row.ensures.apart c.row.ensures.row c.next-cursor.ensures.behind c.enlist-is_whole.result (order_of c.enlist-is_whole.new.deadlines) (rw c.info-deadline.ensures at c.enlist-is_whole.ensures.listed) in (
       (on.0 ++ (c.in-Some.number, c.row.result.now) ∷ [], next.0, next.1),
-      fits-on (g.R.RowStore.admitted c.args.rows.now) (g.R.RowStore.waiting c.args.rows.now) c.in-Some.number c.loop-cursor.is_whole c.args.deadlines.now c.loop-cursor.deadlines on.0 on.1 on.2 now.1 c.row.ensures.apart _ c.enlist-is_whole.new.deadlines c.enlist-is_whole.result c.enlist-is_whole.ensures.kept c.enlist-is_whole.ensures.whole,
+      fits-on (g.R.RowStore.admitted c.args.rows.now) (g.R.RowStore.waiting c.args.rows.now) c.in-Some.number c.loop-cursor.is_whole c.args.deadlines.now c.loop-cursor.deadlines on.0 on.1 on.2 now.1 c.row.ensures.apart _ c.enlist-is_whole.new.deadlines c.enlist-is_whole.result c.enlist-is_whole.ensures.preserves c.enlist-is_whole.ensures.whole,
     )
 
 pub returns-clause-listed : goal.returns-clause-listed

@@ -11,5 +11,5 @@ invariant-loop-place l = record {
   capacity : vec_capacity l.numbers ≡ vec_capacity l.fn.numbers;
   places : vec_len l.places ≡ vec_len l.fn.places;
   closes : Closes (slice_index l.fn.numbers.items) (leaf l.fn.nodes.items l.size) (slice_index l.fn.places.items)
-      (slice_index l.numbers.items) (leaf l.nodes.items l.size) (slice_index l.places.items) (vec_len l.fn.places) l.kept l.place;
+      (slice_index l.numbers.items) (leaf l.nodes.items l.size) (slice_index l.places.items) (vec_len l.fn.places) l.retained l.place;
 }

@@ -40,7 +40,7 @@ returns-then-not-take_budget-clause-swept g c =
     let table = c.loop-cursor.table in
     let was = rw c.in-Some.is at c.loop-cursor.invariant.sweeps in
     let here = at-admitted table.admitted table.waiting c.in-Some.number was.0 was.1 c.row.result.now c.next-cursor.result c.next-cursor.ensures.apart c.row.ensures c.next-cursor.ensures.behind was.2.walks in
-    let gone = sym (ap (λ (i : EntryInfo). i.is_hidden || has_come i.deadline c.args.now) c.info-kept.ensures) ∙ sym c.is_dead.ensures ∙ c.if-is_dead.true in
+    let gone = sym (ap (λ (i : EntryInfo). i.is_hidden || has_come i.deadline c.args.now) c.info-metadata.ensures) ∙ sym c.is_dead.ensures ∙ c.if-is_dead.true in
     let stops = unspent c.loop-cursor.limit c.take_budget.new.limit 1 c.take_budget.result c.take_budget.ensures.lets c.take_budget.ensures.rest c.if-not-take_budget.true in
     resumes-stops c.args.now (admitted_parts c.args.now c.args.table.now.waiting) (λ l. queues l c.args.table.now.waiting) (are-admitted c.args.now c.args.table.now.waiting) c.args.limit.now (admitted_parts c.args.now c.args.table.now.waiting [] c.args.table.now.admitted) c.args.table.now c.loop-cursor.limit table
     was.0 was.1 here.0 (c.in-Some.number, c.row.result.now) here.1.rest_is was.3 gone stops.0 c.take_budget.new.limit stops.1
@@ -69,8 +69,8 @@ loop-cursor-preserved-then-is_dead g c =
     let here = at-admitted table.admitted table.waiting c.in-Some.number was.0 was.1 c.row.result.now c.next-cursor.result c.next-cursor.ensures.apart c.row.ensures c.next-cursor.ensures.behind was.2.walks in
     let new = c.evict.new.self in
     let left = left-admitted c.in-Some.number c.row.result.now c.cause.result table new c.evict.ensures.rows c.evict.ensures.notices here.1.stands in
-    let noticed = left.2 ∙ ap (λ it. table.notices ++ notice_for it (c.in-Some.number, c.row.result.now) ∷ []) (c.cause.ensures ∙ cause-dead c.info-kept.result c.args.now ∙ ap (λ (i : EntryInfo). cond i.is_hidden Explicit Expired) c.info-kept.ensures) in
-    let gone = sym (ap (λ (i : EntryInfo). i.is_hidden || has_come i.deadline c.args.now) c.info-kept.ensures) ∙ sym c.is_dead.ensures ∙ c.if-is_dead.true in
+    let noticed = left.2 ∙ ap (λ it. table.notices ++ notice_for it (c.in-Some.number, c.row.result.now) ∷ []) (c.cause.ensures ∙ cause-dead c.info-metadata.result c.args.now ∙ ap (λ (i : EntryInfo). cond i.is_hidden Explicit Expired) c.info-metadata.ensures) in
+    let gone = sym (ap (λ (i : EntryInfo). i.is_hidden || has_come i.deadline c.args.now) c.info-metadata.ensures) ∙ sym c.is_dead.ensures ∙ c.if-is_dead.true in
     let yet = spent c.loop-cursor.limit c.take_budget.new.limit 1 c.take_budget.result c.take_budget.ensures.lets c.take_budget.ensures.rest c.if-not-take_budget.false in
     let stands = queues-are new (was.0 ++ here.0) c.args.table.now.waiting (row-left table.admitted c.in-Some.number was.0 was.1 was.2 c.row.result.now c.next-cursor.result here.0 here.1 new.admitted left.0) (left.1 ∙ c.loop-cursor.invariant.waiting) in
     record {
@@ -99,7 +99,7 @@ loop-cursor-preserved g c =
     let table = c.loop-cursor.table in
     let was = rw c.in-Some.is at c.loop-cursor.invariant.sweeps in
     let here = at-admitted table.admitted table.waiting c.in-Some.number was.0 was.1 c.row.result.now c.next-cursor.result c.next-cursor.ensures.apart c.row.ensures c.next-cursor.ensures.behind was.2.walks in
-    let lives = sym (ap (λ (i : EntryInfo). i.is_hidden || has_come i.deadline c.args.now) c.info-kept.ensures) ∙ sym c.is_dead.ensures ∙ c.if-is_dead.false in
+    let lives = sym (ap (λ (i : EntryInfo). i.is_hidden || has_come i.deadline c.args.now) c.info-metadata.ensures) ∙ sym c.is_dead.ensures ∙ c.if-is_dead.false in
     record {
       room = c.loop-cursor.invariant.room;
       waiting = c.loop-cursor.invariant.waiting;

@@ -6,8 +6,8 @@ use Rattle.moka_housekeeper.proofs.Shown.{shown-left}
 use Rattle.moka_housekeeper.proofs.Visits.{visits-parts}
 use Rattle.moka_housekeeper.proofs.maintain.maintain_up_to.Goals as goal
 
-pub hides_nothing-requires : goal.hides_nothing-requires
-hides_nothing-requires g c =
+pub clear_may_hide-requires : goal.clear_may_hide-requires
+clear_may_hide-requires g c =
     let old = c.args.table.now in
     let one = swept-admitted c.args.now c.args.limit old c.evict_dead_admitted.new.table c.evict_dead_admitted.new.limit (rw c.if-evict_dead_admitted.false at c.evict_dead_admitted.ensures.swept) in
     let two = swept-waiting c.args.now c.evict_dead_admitted.new.limit c.evict_dead_admitted.new.table c.evict_dead_waiting.new.table c.evict_dead_waiting.new.limit (rw c.if-evict_dead_waiting.false at c.evict_dead_waiting.ensures.swept) in
@@ -26,19 +26,19 @@ returns-then-evict_dead_waiting-clause-maintained g c lives dated =
 
 pub returns-then-evict_over_capacity-clause-maintained : goal.returns-then-evict_over_capacity-clause-maintained
 returns-then-evict_over_capacity-clause-maintained g c lives dated =
-    let same = c.hides_nothing.ensures.same in
+    let same = c.clear_may_hide.ensures.same in
     cut-third lives c.args.now (omega arith) (is_lru c.args.policy) (g.F.FrequencySource.count c.args.source.now) c.args.capacity c.args.limit c.args.table.now dated
     c.evict_dead_admitted.new.table c.evict_dead_admitted.new.limit c.evict_dead_admitted.result c.evict_dead_admitted.ensures.swept c.if-evict_dead_admitted.false
     c.evict_dead_waiting.new.table c.evict_dead_waiting.new.limit c.evict_dead_waiting.result c.evict_dead_waiting.ensures.swept c.if-evict_dead_waiting.false
-    c.hides_nothing.new.self same.0 same.1 same.2 c.evict_over_capacity.new.table c.evict_over_capacity.new.limit c.evict_over_capacity.result c.evict_over_capacity.ensures.shrunk c.if-evict_over_capacity.true
+    c.clear_may_hide.new.self same.0 same.1 same.2 c.evict_over_capacity.new.table c.evict_over_capacity.new.limit c.evict_over_capacity.result c.evict_over_capacity.ensures.shrunk c.if-evict_over_capacity.true
 
 pub returns-clause-maintained : goal.returns-clause-maintained
 returns-clause-maintained g c lives dated =
-    let same = c.hides_nothing.ensures.same in
+    let same = c.clear_may_hide.ensures.same in
     phases-end lives c.args.now (omega arith) (is_lru c.args.policy) (g.F.FrequencySource.count c.args.source.now) c.args.capacity c.args.limit c.args.table.now dated
     c.evict_dead_admitted.new.table c.evict_dead_admitted.new.limit c.evict_dead_admitted.result c.evict_dead_admitted.ensures.swept c.if-evict_dead_admitted.false
     c.evict_dead_waiting.new.table c.evict_dead_waiting.new.limit c.evict_dead_waiting.result c.evict_dead_waiting.ensures.swept c.if-evict_dead_waiting.false
-    c.hides_nothing.new.self same.0 same.1 same.2 c.evict_over_capacity.new.table c.evict_over_capacity.new.limit c.evict_over_capacity.result c.evict_over_capacity.ensures.shrunk c.if-evict_over_capacity.false
+    c.clear_may_hide.new.self same.0 same.1 same.2 c.evict_over_capacity.new.table c.evict_over_capacity.new.limit c.evict_over_capacity.result c.evict_over_capacity.ensures.shrunk c.if-evict_over_capacity.false
     c.admit_or_drop_all.new.table c.admit_or_drop_all.new.limit c.admit_or_drop_all.result c.admit_or_drop_all.ensures.judged
 
 pub returns-then-evict_dead_waiting-clause-visited : goal.returns-then-evict_dead_waiting-clause-visited
@@ -54,8 +54,8 @@ returns-then-evict_over_capacity-clause-visited g c =
 pub returns-clause-visited : goal.returns-clause-visited
 returns-clause-visited g c =
     let old = c.args.table.now in
-    let shown = c.hides_nothing.new.self in
-    let same = c.hides_nothing.ensures.same in
+    let shown = c.clear_may_hide.new.self in
+    let same = c.clear_may_hide.ensures.same in
     let one = swept-admitted c.args.now c.args.limit old c.evict_dead_admitted.new.table c.evict_dead_admitted.new.limit (rw c.if-evict_dead_admitted.false at c.evict_dead_admitted.ensures.swept) in
     let two = swept-waiting c.args.now c.evict_dead_admitted.new.limit c.evict_dead_admitted.new.table c.evict_dead_waiting.new.table c.evict_dead_waiting.new.limit (rw c.if-evict_dead_waiting.false at c.evict_dead_waiting.ensures.swept) in
     let three = shrunk-rows c.args.capacity c.evict_dead_waiting.new.limit shown c.evict_over_capacity.new.table c.evict_over_capacity.new.limit (rw c.if-evict_over_capacity.false at c.evict_over_capacity.ensures.shrunk) in

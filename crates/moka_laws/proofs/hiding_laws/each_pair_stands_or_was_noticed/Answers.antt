@@ -1,4 +1,4 @@
-use Rattle.moka_conserved.proofs.Callers.{count-left, pairs_conserved}
+use Rattle.moka_model.proofs.Callers.{count-left, pairs_conserved}
 use Rattle.moka_laws.proofs.hiding_laws.each_pair_stands_or_was_noticed.Goals as goal
 
 pub returns-clause-stands_or_left : goal.returns-clause-stands_or_left

@@ -3,15 +3,15 @@ use Rattle.moka_model.specs.Admission.{frequency}
 use Rattle.moka_model.specs.Orders.{orders, standing}
 use Rattle.moka_model.specs.Removals.{notices_left}
 use Rattle.moka_model.specs.Numbers.{next_number, is_flush_due}
-use Rattle.moka_laws.proofs.Questions.{same-events, same-turns, question-step, answer-events}
+use Rattle.moka_laws.proofs.Questions.{same-events, same-turns, question-step, reply-events}
 use Rattle.moka_laws.specs.Laws.{and_then}
 use Rattle.moka_laws.proofs.laws.a_question_changes_nothing.Goals as goal
 
 pub returns-clause-step : goal.returns-clause-step
 returns-clause-step g c settings steps call asks = question-step g.K.PartialEq.eq settings steps call asks
 
-pub returns-clause-answer : goal.returns-clause-answer
-returns-clause-answer g c settings later steps call = answer-events g.K.PartialEq.eq settings (later ++ and_then [] steps) (later ++ steps) (same-events later steps) (same-turns later steps) call
+pub returns-clause-reply : goal.returns-clause-reply
+returns-clause-reply g c settings later steps call = reply-events g.K.PartialEq.eq settings (later ++ and_then [] steps) (later ++ steps) (same-events later steps) (same-turns later steps) call
 
 pub returns-clause-standing : goal.returns-clause-standing
 returns-clause-standing g c settings later steps k = ap (standing g.K.PartialEq.eq settings k) (same-events later steps)

@@ -1,5 +1,5 @@
 use Rattle.moka_model.proofs.Callers.{taken-le}
-use Rattle.moka_conserved.proofs.Callers.{given_out-append-notices_left, length-given_out}
+use Rattle.moka_model.proofs.Callers.{given_out-append-notices_left, length-given_out}
 use Rattle.moka_laws.proofs.Notices.{next_notice, notice_gives, no_notice}
 use Rattle.moka_laws.proofs.laws.each_removal_is_noticed_once.Goals as goal
 

@@ -1,6 +1,6 @@
 use Rattle.moka_model.specs.Orders.{standing}
 use Rattle.moka_model.proofs.Callers.{held-orders}
-use Rattle.moka_laws.proofs.HeldOnes.{each_stands, in_one_order}
+use Rattle.moka_laws.proofs.RestOnes.{each_stands, in_one_order}
 use Rattle.moka_laws.proofs.order_laws.the_queues_hold_what_stands.Goals as goal
 
 pub returns-clause-held : goal.returns-clause-held

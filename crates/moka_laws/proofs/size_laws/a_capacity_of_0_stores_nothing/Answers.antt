@@ -1,6 +1,6 @@
 use Rattle.std.proofs.Common.{refl}
 use Rattle.moka_model.proofs.Callers.{orders-empty, standing-empty, removals-empty}
-use Rattle.moka_laws.proofs.Undrawn.{drawn-empty}
+use Rattle.moka_laws.proofs.Flushes.{drawn-empty}
 use Rattle.moka_laws.proofs.size_laws.a_capacity_of_0_stores_nothing.Goals as goal
 
 pub returns-clause-orders : goal.returns-clause-orders

@@ -1,6 +1,6 @@
 use Rattle.std.proofs.Common.{sym, ap, ◌∙◌, arith}
 use Rattle.moka_recording.proofs.Moves.{compares, takes}
-use Rattle.moka_recording.proofs.Tokens.{told}
+use Rattle.moka_recording.proofs.Tokens.{receipts_stand}
 use Rattle.moka_recording.proofs.recorded.take_back.Goals as goal
 
 pub join_seat-requires : goal.join_seat-requires
@@ -12,10 +12,10 @@ join_seat-requires g c =
 pub load-requires : goal.load-requires
 load-requires g c =
     let w = c.requires.words in
-    (c.join_seat.ensures.0 ∙ c.requires.token.0 ∙ sym c.requires.table, omega arith, compares c.args.history.now.shared.table_id.slots _ 0 _ _ (ap (λ m. m.0.keeps) c.join_seat.ensures.2 ∙ c.requires.token.1))
+    (c.join_seat.ensures.0 ∙ c.requires.token.0 ∙ sym c.requires.table, omega arith, compares c.args.history.now.shared.table_id.slots _ 0 _ _ (ap (λ m. m.0.is_recorder) c.join_seat.ensures.2 ∙ c.requires.token.1))
 
 pub returns-clause-stand : goal.returns-clause-stand
 returns-clause-stand g c =
     let log = ap (λ m. m.0.all) c.join_seat.ensures.2 ∙ c.requires.token.2 in
     let claims = ap (λ m. m.0.claims) c.join_seat.ensures.2 ∙ ap (λ m. m.0.claims) c.pass.invariant.2 in
-    rw (← c.pass.view_is) (told _ _ _ _ _ _ _ _ log claims c.pass.invariant.3 c.load.ensures.2.1)
+    rw (← c.pass.view_is) (receipts_stand _ _ _ _ _ _ _ _ log claims c.pass.invariant.3 c.load.ensures.2.1)

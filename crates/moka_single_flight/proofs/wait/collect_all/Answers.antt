@@ -1,12 +1,12 @@
 use Rattle.std.proofs.Common.{subst, suc, rules}
-use Rattle.moka_single_flight.specs.declared.replies.Collected.TheVariants.{Ready, Again}
+use Rattle.moka_single_flight.specs.declared.replies.Collected.TheVariants.{Ready, Retry}
 use Rattle.moka_single_flight.proofs.wait.collect_all.Goals as goal
 
 pub returns-in-Ready-clause-done : goal.returns-in-Ready-clause-done
 returns-in-Ready-clause-done g c = c.loop.invariant.0 0 (Ready c.in-Ready.value) _ (subst (λ b. g.P.Participant.collected c.args.at.now c.loop.caller c.loop.ticket b c.collect.new.self) c.in-Ready.is c.in_ok-value.ensures.done)
 
-pub returns-in-Again-clause-done : goal.returns-in-Again-clause-done
-returns-in-Again-clause-done g c = c.loop.invariant.0 0 Again _ (subst (λ b. g.P.Participant.collected c.args.at.now c.loop.caller c.loop.ticket b c.collect.new.self) c.in-Again.is c.in_ok-value.ensures.done)
+pub returns-in-Retry-clause-done : goal.returns-in-Retry-clause-done
+returns-in-Retry-clause-done g c = c.loop.invariant.0 0 Retry _ (subst (λ b. g.P.Participant.collected c.args.at.now c.loop.caller c.loop.ticket b c.collect.new.self) c.in-Retry.is c.in_ok-value.ensures.done)
 
 pub loop-preserved : goal.loop-preserved
 loop-preserved g c =

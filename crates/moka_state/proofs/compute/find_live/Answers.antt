@@ -16,5 +16,5 @@ returns g c =
       rw c.row-row.ensures at c.in-Some.ensures.found,
       ap not alive,
       rw c.row-row.ensures at c.in_ok-entry.ensures,
-      c.in_ok-kept.ensures,
+      c.in_ok-saved.ensures,
     )

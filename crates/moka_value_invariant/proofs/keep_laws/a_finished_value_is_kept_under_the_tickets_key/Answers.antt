@@ -15,5 +15,5 @@ returns-clause-found g c name k v w at now owed settings steps legal keep says =
     said-keeps g.C.CacheTypes.keeps g.K.PartialEq.eq settings g.met.K.Eq.laws g.met.C.CacheTypes.equal_keys_keep (after g.K.PartialEq.eq settings (Finish name (outcomes.Value v) at) steps) (IsLegal-after g.K.PartialEq.eq settings (Finish name (outcomes.Value v) at) steps legal)
     (steps-keep g.C.CacheTypes.keeps g.K.PartialEq.eq settings g.met.K.Eq.laws g.met.C.CacheTypes.equal_keys_keep steps legal keep (Finish name (outcomes.Value v) at) owed) (Get k now) (Found (Some w)) tt says
 
-pub returns-clause-answered : goal.returns-clause-answered
-returns-clause-answered g c name v at e owed settings steps legal keep says = said-keeps g.C.CacheTypes.keeps g.K.PartialEq.eq settings g.met.K.Eq.laws g.met.C.CacheTypes.equal_keys_keep steps legal keep (Finish name (outcomes.Value v) at) (Entered e) owed says
+pub returns-clause-returned : goal.returns-clause-returned
+returns-clause-returned g c name v at e owed settings steps legal keep says = said-keeps g.C.CacheTypes.keeps g.K.PartialEq.eq settings g.met.K.Eq.laws g.met.C.CacheTypes.equal_keys_keep steps legal keep (Finish name (outcomes.Value v) at) (Entered e) owed says

@@ -37,7 +37,7 @@ invariant_of-self-2 g c =
           let done = c.relist-self.ensures.listed whole in
           listed-used n admitted waiting c.row.result.now c.row.ensures.row c.is_admitted-is_admitted.result c.is_admitted-is_admitted.ensures
           (order_of c.args.self.now.deadlines) (order_of c.relist-self.new.deadlines) (c.args.self.now.listed done.0) (admitted_in c.touch-2.new.self) _ _ (touched c.args.touch) c.touch-2.ensures.after
-          (rw (c.only_admitted-before.ensures, c.only_admitted-after.ensures, c.info-was.ensures) at done.1);
+          (rw (c.deadline_if_admitted-before.ensures, c.deadline_if_admitted-after.ensures, c.info-was.ensures) at done.1);
       noted = noted-used had given c.args.self.now.top n (touched c.args.touch) admitted waiting (admitted_in c.touch-2.new.self) (waiting_in c.touch-2.new.self)
           (λ r none. none-there c.args.touch.deadline (sym c.is_some.ensures ∙ none)) c.args.self.now.noted c.touch-2.ensures.after;
       whole = λ none.
@@ -46,7 +46,7 @@ invariant_of-self-2 g c =
           let was : c.info-was.result.deadline ≡ None = ap (λ info. info.deadline) c.info-was.ensures ∙ read.0 neither_is.0 in
           let is : c.args.touch.deadline ≡ None = none-there c.args.touch.deadline (sym c.is_some.ensures ∙ neither_is.1) in
           c.relist-self.ensures.whole (c.args.self.now.whole neither_is.0)
-          (placed-none n _ _ (c.only_admitted-before.ensures ∙ none-of c.is_admitted-is_admitted.result _ was))
-          (stands-none n _ _ _ _ (c.only_admitted-after.ensures ∙ none-of c.is_admitted-is_admitted.result _ is));
+          (placed-none n _ _ (c.deadline_if_admitted-before.ensures ∙ none-of c.is_admitted-is_admitted.result _ was))
+          (stands-none n _ _ _ _ (c.deadline_if_admitted-after.ensures ∙ none-of c.is_admitted-is_admitted.result _ is));
       begun = c.args.self.now.begun;
     }

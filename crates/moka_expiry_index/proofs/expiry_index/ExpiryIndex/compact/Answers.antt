@@ -7,15 +7,15 @@ use Rattle.moka_expiry_index.proofs.expiry_index.ExpiryIndex.compact.Goals as go
 
 pub returns-clause-order : goal.returns-clause-order
 returns-clause-order c =
-    let kept : vec_len c.truncate.new.self ≡ c.close_gaps-kept.result = omega (arith, c.truncate.ensures.len, c.close_gaps-kept.ensures.few, c.close_gaps-kept.ensures.numbers) in
-    ap (listed (slice_index c.truncate.new.self.items) (leaf c.rebuild.new.nodes.items c.args.self.now.size)) kept
-    ∙ listed-same (slice_index c.close_gaps-kept.new.numbers.items) (slice_index c.truncate.new.self.items) (leaf c.close_gaps-kept.new.nodes.items c.args.self.now.size) (leaf c.rebuild.new.nodes.items c.args.self.now.size) c.close_gaps-kept.result
-    (λ i less. ap (λ (l : List ℕ). get_or l i 0) c.truncate.ensures.items ∙ get_or-take c.close_gaps-kept.result c.close_gaps-kept.new.numbers.items i 0 less)
-    (λ i less. c.rebuild.ensures.leaves i (let few : vec_len c.args.self.now.numbers ≤ c.args.self.now.size = c.args.self.now.few in omega (arith, less, few, c.close_gaps-kept.ensures.few)) ∙ c.clear_from.ensures.before i less)
-    ∙ c.close_gaps-kept.ensures.same
+    let retained : vec_len c.truncate.new.self ≡ c.close_gaps-retained.result = omega (arith, c.truncate.ensures.len, c.close_gaps-retained.ensures.few, c.close_gaps-retained.ensures.numbers) in
+    ap (listed (slice_index c.truncate.new.self.items) (leaf c.rebuild.new.nodes.items c.args.self.now.size)) retained
+    ∙ listed-same (slice_index c.close_gaps-retained.new.numbers.items) (slice_index c.truncate.new.self.items) (leaf c.close_gaps-retained.new.nodes.items c.args.self.now.size) (leaf c.rebuild.new.nodes.items c.args.self.now.size) c.close_gaps-retained.result
+    (λ i less. ap (λ (l : List ℕ). get_or l i 0) c.truncate.ensures.items ∙ get_or-take c.close_gaps-retained.result c.close_gaps-retained.new.numbers.items i 0 less)
+    (λ i less. c.rebuild.ensures.leaves i (let few : vec_len c.args.self.now.numbers ≤ c.args.self.now.size = c.args.self.now.few in omega (arith, less, few, c.close_gaps-retained.ensures.few)) ∙ c.clear_from.ensures.before i less)
+    ∙ c.close_gaps-retained.ensures.same
 
 pub returns-clause-full : goal.returns-clause-full
 returns-clause-full c =
-    let kept : vec_len c.truncate.new.self ≡ c.close_gaps-kept.result = omega (arith, c.truncate.ensures.len, c.close_gaps-kept.ensures.few, c.close_gaps-kept.ensures.numbers) in
-    kept ∙ sym (listed-full (slice_index c.close_gaps-kept.new.numbers.items) (leaf c.close_gaps-kept.new.nodes.items c.args.self.now.size) c.close_gaps-kept.result c.close_gaps-kept.ensures.full)
-    ∙ ap length c.close_gaps-kept.ensures.same
+    let retained : vec_len c.truncate.new.self ≡ c.close_gaps-retained.result = omega (arith, c.truncate.ensures.len, c.close_gaps-retained.ensures.few, c.close_gaps-retained.ensures.numbers) in
+    retained ∙ sym (listed-full (slice_index c.close_gaps-retained.new.numbers.items) (leaf c.close_gaps-retained.new.nodes.items c.args.self.now.size) c.close_gaps-retained.result c.close_gaps-retained.ensures.full)
+    ∙ ap length c.close_gaps-retained.ensures.same

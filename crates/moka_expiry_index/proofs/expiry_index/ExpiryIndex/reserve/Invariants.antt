@@ -6,7 +6,7 @@ abbrev pub invariant-loop-self : goal.invariant-loop-self
 invariant-loop-self l = record {
   known : l.number < known_of l.self;
   order : order_of l.self ≡ order_of l.fn.self;
-  kept : PreservesRoom l.fn.self l.self;
+  preserves : PreservesRoom l.fn.self l.self;
 }
 
 abbrev pub decreases-loop-self : goal.decreases-loop-self

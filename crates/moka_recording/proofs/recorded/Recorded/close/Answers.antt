@@ -8,8 +8,8 @@ use Rattle.moka_recording.specs.Receipts.{IsWhole, Stand}
 use Rattle.moka_recording.proofs.Places.{each_snoc}
 use Rattle.moka_recording.proofs.recorded.Recorded.close.Goals as goal
 
-pub returns-then-not-all_there-clause-missing : goal.returns-then-not-all_there-clause-missing
-returns-then-not-all_there-clause-missing g c = (refl, refl, λ (w : IsWhole c.args.self c.args.passes.items). let t = c.all_there.ensures.1 (rw (c.self.view_is, c.as_slice.ensures.value) w) in search rules)
+pub returns-then-not-are_all_passes-clause-missing : goal.returns-then-not-are_all_passes-clause-missing
+returns-then-not-are_all_passes-clause-missing g c = (refl, refl, λ (w : IsWhole c.args.self c.args.passes.items). let t = c.are_all_passes.ensures.1 (rw (c.self.view_is, c.as_slice.ensures.value) w) in search rules)
 
 pub loop-pass-preserved : goal.loop-pass-preserved
 loop-pass-preserved g c =
@@ -25,4 +25,4 @@ returns-clause-stand g c =
     subst (λ l. Each (λ p. Stand g.M.Machine.same_step g.M.Machine.same_reply c.machine.inside.entries.items p) l) y c.loop-pass.invariant.5
 
 pub returns-clause-whole : goal.returns-clause-whole
-returns-clause-whole g c = let t : IsWhole c.self.inside.count c.as_slice.result.now = c.all_there.ensures.0 (search rules) in rw (← c.self.view_is, ← c.as_slice.ensures.value) t
+returns-clause-whole g c = let t : IsWhole c.self.inside.count c.as_slice.result.now = c.are_all_passes.ensures.0 (search rules) in rw (← c.self.view_is, ← c.as_slice.ensures.value) t

@@ -9,7 +9,7 @@ use Rattle.moka_segment_model.specs.Segments.{first_from}
 use Rattle.moka_segment_model.proofs.Callers.{first_from-passes}
 use Rattle.moka_segmented.specs.SegmentedData.{SegmentedData, data_of, has_notice}
 use Rattle.moka_segmented.proofs.Hashing.{all-hash-set}
-use Rattle.moka_segmented.proofs.Noticing.{taken-answers, taken-follows, none-answers, none-follows, kept-some, kept-fewer, kept-none}
+use Rattle.moka_segmented.proofs.Noticing.{taken-answers, taken-follows, none-answers, none-follows, queued-some, queued-fewer, queued-none}
 use Rattle.moka_segmented.proofs.Routed.{IfSome-by}
 use Rattle.moka_segmented.proofs.segment.Segmented.take_notice.Goals as goal
 
@@ -56,7 +56,7 @@ returns-in-Some-clause-none g c =
     let passes = first_from-passes (has_notice states) 0 (length states) index (sym found) in
     let within : index < length states = omega (arith, passes.0) in
     let here : slice_get states index ≡ Some c.index_mut.result.now = slice_get_read states (length states) index c.index_mut.result.now refl within c.index_mut.ensures.value in
-    let some = kept-some states index c.index_mut.result.now within here passes.1 in
+    let some = queued-some states index c.index_mut.result.now within here passes.1 in
     rw (← c.self.view_is) (λ is_none. absurd (some.0 (c.take_notice.ensures.none.0 is_none)), λ zero. absurd (some.1 zero))
 
 pub returns-in-Some-clause-fewer : goal.returns-in-Some-clause-fewer
@@ -68,10 +68,10 @@ returns-in-Some-clause-fewer g c =
     let passes = first_from-passes (has_notice states) 0 (length states) index (sym found) in
     let within : index < length states = omega (arith, passes.0) in
     let here : slice_get states index ≡ Some c.index_mut.result.now = slice_get_read states (length states) index c.index_mut.result.now refl within c.index_mut.ensures.value in
-    rw (← c.self.view_is) (IfSome-by c.take_notice.result (λ notice less. kept-fewer states index c.index_mut.result.now c.take_notice.new.self within here less) c.take_notice.ensures.fewer)
+    rw (← c.self.view_is) (IfSome-by c.take_notice.result (λ notice less. queued-fewer states index c.index_mut.result.now c.take_notice.new.self within here less) c.take_notice.ensures.fewer)
 
 pub returns-in-None-clause-none : goal.returns-in-None-clause-none
-returns-in-None-clause-none g c = (λ is_none. kept-none c.args.self.now.segments c.in-None.ensures, λ zero. refl)
+returns-in-None-clause-none g c = (λ is_none. queued-none c.args.self.now.segments c.in-None.ensures, λ zero. refl)
 
 pub invariant_of-self : goal.invariant_of-self
 invariant_of-self g c =

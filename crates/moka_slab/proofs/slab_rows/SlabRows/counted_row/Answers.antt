@@ -1,4 +1,4 @@
-use Rattle.moka_row_index.proofs.Callers.{linked-above}
+use Rattle.moka_index.proofs.Callers.{linked-above}
 use Rattle.moka_slab.proofs.slab_rows.SlabRows.counted_row.Goals as goal
 
 pub overflow_sub-number : goal.overflow_sub-number

@@ -1,5 +1,5 @@
 use Rattle.std.proofs.Common.{[], ◌∷◌, ◌++◌, sym, ◌∙◌, arith}
-use Rattle.moka_row_index.specs.RowIndex.{admitted_of}
+use Rattle.moka_index.specs.RowIndex.{admitted_of}
 use Rattle.moka_slab.proofs.Walks.{walks-first, walks-end, walks-more, walks-here, walks-linked, walks-admitted, walks-expired, walks-alive}
 use Rattle.moka_slab.proofs.slab_rows.SlabRows.walk_to_expired.Goals as goal
 

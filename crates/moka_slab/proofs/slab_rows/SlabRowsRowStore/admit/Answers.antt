@@ -1,6 +1,6 @@
 use Rattle.std.proofs.Common.{inr}
-use Rattle.moka_slab.proofs.KeptLemmas.{some-of}
-use Rattle.moka_slab.specs.Kept.{row_at}
+use Rattle.moka_slab.proofs.NumberedLemmas.{some-of}
+use Rattle.moka_slab.specs.NumberedRows.{row_at}
 use Rattle.moka_slab.proofs.TiedLemmas.{waiting-found, admitted-tied, admitted-waiting, admitted-last}
 use Rattle.moka_slab.proofs.slab_rows.SlabRowsRowStore.admit.Goals as goal
 
@@ -9,7 +9,7 @@ admit-requires g c = inr (waiting-found c.args.self.now.rows c.args.self.now.lin
 
 pub invariant_of-self : goal.invariant_of-self
 invariant_of-self g c = record {
-  tied = admitted-tied c.args.self.now.rows c.args.self.now.links c.admit.new.self c.args.self.now.tied c.args.number (waiting-found c.args.self.now.rows c.args.self.now.links c.args.number c.requires) c.admit.ensures.admitted c.admit.ensures.waiting c.admit.ensures.kept.hash;
+  tied = admitted-tied c.args.self.now.rows c.args.self.now.links c.admit.new.self c.args.self.now.tied c.args.number (waiting-found c.args.self.now.rows c.args.self.now.links c.args.number c.requires) c.admit.ensures.admitted c.admit.ensures.waiting c.admit.ensures.preserves.hash;
 }
 
 pub returns-clause-waiting : goal.returns-clause-waiting

@@ -1,5 +1,5 @@
 use Rattle.std.proofs.Common.{◌-◌, length}
-use Rattle.moka_row_index.specs.RowIndex.{chain_of}
+use Rattle.moka_index.specs.RowIndex.{chain_of}
 use Rattle.moka_slab.proofs.FindLemmas.{Sought}
 use Rattle.moka_slab.proofs.slab_rows.SlabRowsRowStore.find.Given as goal
 

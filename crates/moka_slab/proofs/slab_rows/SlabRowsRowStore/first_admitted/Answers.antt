@@ -1,7 +1,7 @@
 use Rattle.std.proofs.Common.{inl, rules}
-use Rattle.moka_row_index.specs.RowIndex.{admitted_of}
-use Rattle.moka_slab.specs.Kept.{row_at}
-use Rattle.moka_slab.proofs.KeptLemmas.{first-numbered}
+use Rattle.moka_index.specs.RowIndex.{admitted_of}
+use Rattle.moka_slab.specs.NumberedRows.{row_at}
+use Rattle.moka_slab.proofs.NumberedLemmas.{first-numbered}
 use Rattle.moka_slab.proofs.slab_rows.SlabRowsRowStore.first_admitted.Goals as goal
 
 pub returns : goal.returns

@@ -1,7 +1,7 @@
 use Rattle.std.proofs.Common.{inr, rules}
-use Rattle.moka_row_index.specs.RowIndex.{waiting_of}
-use Rattle.moka_slab.specs.Kept.{row_at}
-use Rattle.moka_slab.proofs.KeptLemmas.{first-numbered}
+use Rattle.moka_index.specs.RowIndex.{waiting_of}
+use Rattle.moka_slab.specs.NumberedRows.{row_at}
+use Rattle.moka_slab.proofs.NumberedLemmas.{first-numbered}
 use Rattle.moka_slab.proofs.TiedLemmas.{numbers-differ}
 use Rattle.moka_slab.proofs.slab_rows.SlabRowsRowStore.first_waiting.Goals as goal
 

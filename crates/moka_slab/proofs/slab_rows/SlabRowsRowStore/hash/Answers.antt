@@ -1,6 +1,6 @@
 use Rattle.std.proofs.Common.{◌∙◌, sym}
-use Rattle.moka_slab.specs.Kept.{row_at}
-use Rattle.moka_slab.proofs.KeptLemmas.{some-of}
+use Rattle.moka_slab.specs.NumberedRows.{row_at}
+use Rattle.moka_slab.proofs.NumberedLemmas.{some-of}
 use Rattle.moka_slab.proofs.TiedLemmas.{linked-found, under-all}
 use Rattle.moka_slab.proofs.slab_rows.SlabRowsRowStore.hash.Goals as goal
 

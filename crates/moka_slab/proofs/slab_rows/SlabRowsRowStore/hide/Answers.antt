@@ -1,7 +1,7 @@
 use Rattle.std.proofs.Common.{◌-◌, refl, arith}
 use Rattle.slab.specs.Slab.{with_value}
 use Rattle.moka_rows.specs.Rows.{hidden}
-use Rattle.moka_row_index.proofs.Callers.{linked-above}
+use Rattle.moka_index.proofs.Callers.{linked-above}
 use Rattle.moka_slab.proofs.TiedLemmas.{linked-found, changed-tied, changed-admitted, changed-waiting}
 use Rattle.moka_slab.proofs.RoomLemmas.{room-kept, len-write}
 use Rattle.moka_slab.proofs.slab_rows.SlabRowsRowStore.hide.Goals as goal

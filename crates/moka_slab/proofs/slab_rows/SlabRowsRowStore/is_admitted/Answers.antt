@@ -1,5 +1,5 @@
-use Rattle.moka_slab.proofs.KeptLemmas.{some-of}
-use Rattle.moka_slab.specs.Kept.{row_at}
+use Rattle.moka_slab.proofs.NumberedLemmas.{some-of}
+use Rattle.moka_slab.specs.NumberedRows.{row_at}
 use Rattle.moka_slab.proofs.TiedLemmas.{linked-found, by-order}
 use Rattle.moka_slab.proofs.slab_rows.SlabRowsRowStore.is_admitted.Goals as goal
 

@@ -1,9 +1,9 @@
 use Rattle.std.proofs.Common.{◌≡◌, ◌+◌, length, length-append, inl, inr, arith}
-use Rattle.moka_row_index.specs.RowIndex.{admitted_of, waiting_of}
-use Rattle.moka_row_index.proofs.Callers.{few-linked}
-use Rattle.moka_slab.specs.Kept.{row_at}
+use Rattle.moka_index.specs.RowIndex.{admitted_of, waiting_of}
+use Rattle.moka_index.proofs.Callers.{few-linked}
+use Rattle.moka_slab.specs.NumberedRows.{row_at}
 use Rattle.moka_slab.specs.Tied.{admitted_rows, waiting_rows, all_rows}
-use Rattle.moka_slab.proofs.KeptLemmas.{length-numbered}
+use Rattle.moka_slab.proofs.NumberedLemmas.{length-numbered}
 use Rattle.moka_slab.proofs.slab_rows.SlabRowsRowStore.len.Goals as goal
 
 pub overflow_add-result : goal.overflow_add-result

@@ -1,7 +1,7 @@
 use Rattle.std.proofs.Common.{inl, inr, sym, ◌∙◌}
-use Rattle.moka_row_index.specs.RowIndex.{admitted_of, waiting_of}
-use Rattle.moka_slab.proofs.KeptLemmas.{some-of, after-numbered}
-use Rattle.moka_slab.specs.Kept.{row_at}
+use Rattle.moka_index.specs.RowIndex.{admitted_of, waiting_of}
+use Rattle.moka_slab.proofs.NumberedLemmas.{some-of, after-numbered}
+use Rattle.moka_slab.specs.NumberedRows.{row_at}
 use Rattle.moka_slab.proofs.TiedLemmas.{linked-found, by-order, numbers-differ}
 use Rattle.moka_slab.proofs.slab_rows.SlabRowsRowStore.next.Goals as goal
 

@@ -1,7 +1,7 @@
 use Rattle.std.proofs.Common.{◌-◌, Some, refl, subst, arith}
 use Rattle.slab.specs.Slab.{with_value}
 use Rattle.moka_rows.specs.Rows.{overwritten}
-use Rattle.moka_row_index.proofs.Callers.{linked-above}
+use Rattle.moka_index.proofs.Callers.{linked-above}
 use Rattle.moka_slab.proofs.TiedLemmas.{linked-found, Puts, puts-write, used-tied, used-orders, under-all, order-said}
 use Rattle.moka_slab.proofs.RoomLemmas.{room-kept, len-write}
 use Rattle.moka_slab.proofs.slab_rows.SlabRowsRowStore.overwrite.Goals as goal
@@ -23,7 +23,7 @@ invariant_of-self g c =
     (puts-write c.args.self.now.rows c.args.number c.index_mut.result.now c.overwrite-value.new.self (linked-above c.args.self.now.links c.args.number there) c.index_mut.ensures.value) in
     record {
       tied = used-tied c.args.self.now.rows rows c.args.self.now.links c.touch.new.self c.args.self.now.tied c.args.number c.index_mut.result.now (overwritten c.args.value c.args.info) c.index_mut.ensures.value
-          puts refl there c.touch.result c.touch.ensures.admitted c.touch.ensures.waits c.touch.ensures.waiting c.touch.ensures.kept.hash;
+          puts refl there c.touch.result c.touch.ensures.admitted c.touch.ensures.waits c.touch.ensures.waiting c.touch.ensures.preserves.hash;
     }
 
 pub returns-clause-after : goal.returns-clause-after
@@ -38,7 +38,7 @@ returns-clause-after g c =
 pub returns-clause-room : goal.returns-clause-room
 returns-clause-room g c =
     room-kept c.args.self.now.rows (with_value c.args.self.now.rows (c.args.number - 2) c.overwrite-value.new.self) c.args.self.now.links c.touch.new.self refl
-    (omega (arith, len-write c.args.self.now.rows (c.args.number - 2) c.index_mut.result.now c.overwrite-value.new.self c.index_mut.ensures.value)) c.touch.ensures.kept.places c.touch.ensures.kept.spare
+    (omega (arith, len-write c.args.self.now.rows (c.args.number - 2) c.index_mut.result.now c.overwrite-value.new.self c.index_mut.ensures.value)) c.touch.ensures.preserves.places c.touch.ensures.preserves.spare
 
 pub returns-clause-before : goal.returns-clause-before
 returns-clause-before g c =

@@ -1,5 +1,5 @@
 use Rattle.std.proofs.Common.{◌≡◌, ℕ, ◌+◌, ◌-◌, ◌≤◌, None, arith}
-use Rattle.moka_row_index.proofs.Callers.{linked-above}
+use Rattle.moka_index.proofs.Callers.{linked-above}
 use Rattle.moka_slab.proofs.RoomLemmas.{room-kept}
 use Rattle.moka_slab.proofs.TiedLemmas.{linked-found, puts-update, removed-tied, removed-rest, under-all, order-said}
 use Rattle.moka_slab.proofs.slab_rows.SlabRowsRowStore.remove.Goals as goal
@@ -20,7 +20,7 @@ pub invariant_of-self : goal.invariant_of-self
 invariant_of-self g c = record {
   tied = removed-tied c.args.self.now.rows c.remove-2.new.self c.args.self.now.links c.remove.new.self c.args.self.now.tied c.args.number c.remove-2.result c.remove-2.ensures.value
       (puts-update c.args.self.now.rows c.remove-2.new.self c.args.number (c.args.number - 2) None (back c.args.number (linked-above c.args.self.now.links c.args.number (linked-found c.args.self.now.rows c.args.self.now.links c.args.number c.requires))) c.remove-2.ensures.updates)
-      (linked-found c.args.self.now.rows c.args.self.now.links c.args.number c.requires) c.remove.ensures.admitted c.remove.ensures.waiting c.remove.ensures.kept.hash;
+      (linked-found c.args.self.now.rows c.args.self.now.links c.args.number c.requires) c.remove.ensures.admitted c.remove.ensures.waiting c.remove.ensures.preserves.hash;
 }
 
 pub returns-clause-row : goal.returns-clause-row
@@ -35,7 +35,7 @@ returns-clause-rest g c =
 pub returns-clause-room : goal.returns-clause-room
 returns-clause-room g c =
     room-kept c.args.self.now.rows c.remove-2.new.self c.args.self.now.links c.remove.new.self c.remove-2.ensures.capacity (omega (arith, c.remove-2.ensures.len))
-    c.remove.ensures.kept.places c.remove.ensures.kept.spare
+    c.remove.ensures.preserves.places c.remove.ensures.preserves.spare
 
 pub returns-clause-order : goal.returns-clause-order
 returns-clause-order g c =

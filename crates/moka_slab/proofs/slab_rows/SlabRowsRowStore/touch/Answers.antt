@@ -1,7 +1,7 @@
 use Rattle.std.proofs.Common.{◌-◌, Some, refl, subst, arith}
 use Rattle.slab.specs.Slab.{with_value}
 use Rattle.moka_rows.specs.Rows.{touched}
-use Rattle.moka_row_index.proofs.Callers.{linked-above}
+use Rattle.moka_index.proofs.Callers.{linked-above}
 use Rattle.moka_slab.proofs.TiedLemmas.{linked-found, Puts, puts-write, used-tied, used-orders}
 use Rattle.moka_slab.proofs.RoomLemmas.{room-kept, len-write}
 use Rattle.moka_slab.proofs.slab_rows.SlabRowsRowStore.touch.Goals as goal
@@ -23,7 +23,7 @@ invariant_of-self g c =
     (puts-write c.args.self.now.rows c.args.number c.index_mut.result.now c.touch.new.self (linked-above c.args.self.now.links c.args.number there) c.index_mut.ensures.value) in
     record {
       tied = used-tied c.args.self.now.rows rows c.args.self.now.links c.touch-2.new.self c.args.self.now.tied c.args.number c.index_mut.result.now (touched c.args.touch) c.index_mut.ensures.value
-          puts refl there c.touch-2.result c.touch-2.ensures.admitted c.touch-2.ensures.waits c.touch-2.ensures.waiting c.touch-2.ensures.kept.hash;
+          puts refl there c.touch-2.result c.touch-2.ensures.admitted c.touch-2.ensures.waits c.touch-2.ensures.waiting c.touch-2.ensures.preserves.hash;
     }
 
 pub returns-clause-after : goal.returns-clause-after
@@ -38,4 +38,4 @@ returns-clause-after g c =
 pub returns-clause-room : goal.returns-clause-room
 returns-clause-room g c =
     room-kept c.args.self.now.rows (with_value c.args.self.now.rows (c.args.number - 2) c.touch.new.self) c.args.self.now.links c.touch-2.new.self refl
-    (omega (arith, len-write c.args.self.now.rows (c.args.number - 2) c.index_mut.result.now c.touch.new.self c.index_mut.ensures.value)) c.touch-2.ensures.kept.places c.touch-2.ensures.kept.spare
+    (omega (arith, len-write c.args.self.now.rows (c.args.number - 2) c.index_mut.result.now c.touch.new.self c.index_mut.ensures.value)) c.touch-2.ensures.preserves.places c.touch-2.ensures.preserves.spare

@@ -1,7 +1,7 @@
 use Rattle.std.proofs.Common.{inr, sym, ◌∙◌}
-use Rattle.moka_row_index.specs.RowIndex.{waiting_of}
-use Rattle.moka_slab.specs.Kept.{row_at}
-use Rattle.moka_slab.proofs.KeptLemmas.{length-numbered}
+use Rattle.moka_index.specs.RowIndex.{waiting_of}
+use Rattle.moka_slab.specs.NumberedRows.{row_at}
+use Rattle.moka_slab.proofs.NumberedLemmas.{length-numbered}
 use Rattle.moka_slab.proofs.slab_rows.SlabRowsRowStore.waiting_len.Goals as goal
 
 pub returns : goal.returns

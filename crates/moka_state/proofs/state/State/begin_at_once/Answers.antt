@@ -7,9 +7,9 @@ returns-clause-begins g c =
     record {
       reply = λ settings steps stands.
           let it = begins.1.reply settings steps stands in
-          rw (unsaid _ _ _ begins.0 c.without.ensures it.0) at it.1;
+          rw (unsaid _ _ _ begins.0 c.none_like.ensures it.0) at it.1;
       stands = on-ok c.begin_at_once_if.result (λ follows settings steps stands.
           let it = begins.1.reply settings steps stands in
-          rw (unsaid _ _ _ begins.0 c.without.ensures it.0) at follows settings steps stands) begins.1.stands;
+          rw (unsaid _ _ _ begins.0 c.none_like.ensures it.0) at follows settings steps stands) begins.1.stands;
       refused = begins.1.refused;
     }

@@ -3,16 +3,16 @@ use Rattle.moka_state.proofs.state.State.begin_at_once_by_ref.Goals as goal
 
 pub returns-clause-begins : goal.returns-clause-begins
 returns-clause-begins g c =
-    let begins = c.begin_lent.ensures.begins in (
+    let begins = c.begin_borrowed.ensures.begins in (
       begins.0,
       begins.1,
       record {
         reply = λ settings steps stands.
             let it = begins.3.reply settings steps stands in
-            rw (unsaid _ _ _ begins.2 c.without.ensures it.0) at it.1;
-        stands = on-ok c.begin_lent.result (λ follows settings steps stands.
+            rw (unsaid _ _ _ begins.2 c.none_like.ensures it.0) at it.1;
+        stands = on-ok c.begin_borrowed.result (λ follows settings steps stands.
             let it = begins.3.reply settings steps stands in
-            rw (unsaid _ _ _ begins.2 c.without.ensures it.0) at follows settings steps stands) begins.3.stands;
+            rw (unsaid _ _ _ begins.2 c.none_like.ensures it.0) at follows settings steps stands) begins.3.stands;
         refused = begins.3.refused;
       },
       begins.4,

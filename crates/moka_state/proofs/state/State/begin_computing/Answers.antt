@@ -19,7 +19,7 @@ use Rattle.moka_state.proofs.Alike.{hash-alike}
 use Rattle.moka_state.proofs.Becoming.{becomes-passed, estimates-noted}
 use Rattle.moka_state.proofs.Begins.{becomes-drawn, looks-in-vain, move-stands, waits-told}
 use Rattle.moka_state.proofs.ComputeForms.{at-once-refused, err-is, open-waits}
-use Rattle.moka_state.proofs.Computes.{none-open, nothing-kept, compute-refused, compute-waits, after-compute-waits, compute-used-up, compute-runs, after-compute-runs, shows-none, shows-live, shows-hit}
+use Rattle.moka_state.proofs.Computes.{none-open, nothing-saved, compute-refused, compute-waits, after-compute-waits, compute-used-up, compute-runs, after-compute-runs, shows-none, shows-live, shows-hit}
 use Rattle.moka_state.proofs.Held.{same-key}
 use Rattle.moka_state.proofs.Sound.{IsSound-touched}
 use Rattle.moka_state.proofs.Turns.{sound-turns, same-turns, with-turns}
@@ -166,7 +166,7 @@ returns-in_default-found-clause-begins g c = record {
       let live = shows-none eq g.V.Clone.is_clone laws _ s.table _ s.latest s.next_number given steps there s.housekeeper.lives refl c.self.invariant.0.dated hash_of alike c.self.invariant.0.hashed key c.args.keep c.args.now c.args.hash hash (omega (arith, c.max-now.ensures)) shown in
       let becomes = looks-in-vain eq laws _ s.table _ s.latest s.next_number given steps there None key c.args.now live _ (estimates-noted g.C.Frequency.FrequencySource.noted g.C.Frequency.FrequencySource.count s.housekeeper.source c.note.new.self c.args.hash _ c.note.ensures hash) in
       let value : Option g.row.V.Denot = cond c.args.keep None None in
-      let left = c.in_ok-turn.ensures.opens hash_of (turns steps) value alike hash (nothing-kept g.V.Clone.is_clone c.args.keep) keeps in
+      let left = c.in_ok-turn.ensures.opens hash_of (turns steps) value alike hash (nothing-saved g.V.Clone.is_clone c.args.keep) keeps in
       rw c.max-now.ensures (move-stands eq given _ _ _ steps there (BeginCompute key c.args.keep c.args.now) (Drawn ∷ Looked key c.args.now ∷ []) _
       (after-compute-runs eq g.V.Clone.is_clone g.V.Clone.is_infallible given steps key c.args.keep c.args.now opened s.next_number counted None live) _
       (view-becomes eq laws given _ _ _ Drawn

@@ -23,9 +23,9 @@ returns-in_default g c = rw c.refusal.ensures (record {
       let s = c.self.inside in
       let eq = g.K.PartialEq.eq in
       let laws = g.met.K.Eq.laws in
-      let name = c.rehashed-turn.ensures.name in
+      let name = c.with_hash-turn.ensures.name in
       let hash_of = hash_by g.C.Hasher.BuildHasher.build_hasher g.C.Hasher.Hasher.Hasher.write g.C.Hasher.Hasher.Hasher.finish g.K.Hash.hash_input s.behaviour.hasher in
-      let hashed = c.rehashed-turn.ensures.hash ∙ c.hash-hash.ensures.hash ∙ ap hash_of (c.key.ensures ∙ sym (ap (λ (n : Name g.row.K.Denot). n.key) name)) in
+      let hashed = c.with_hash-turn.ensures.hash ∙ c.hash-hash.ensures.hash ∙ ap hash_of (c.key.ensures ∙ sym (ap (λ (n : Name g.row.K.Denot). n.key) name)) in
       let there = rw (← c.self.view_is) at stands in
       let keeps = table-keeps eq laws g.V.Clone.is_clone hash_of c.hash-hash.ensures.alike s.turns.opened.entries s.turns.ended.entries (turns steps) there.turns in
       let sound = sound-turns eq laws given steps stands.legal in
@@ -35,7 +35,7 @@ returns-in_default g c = rw c.refusal.ensures (record {
   stands = tt;
   given = tt;
   refused = refl;
-  turn_back = c.rehashed-turn.ensures.name;
+  turn_back = c.with_hash-turn.ensures.name;
   outcome_back = refl;
   settings = refl;
 })
@@ -46,9 +46,9 @@ returns g c = record {
       let s = c.self.inside in
       let eq = g.K.PartialEq.eq in
       let laws = g.met.K.Eq.laws in
-      let name = c.rehashed-turn.ensures.name in
+      let name = c.with_hash-turn.ensures.name in
       let hash_of = hash_by g.C.Hasher.BuildHasher.build_hasher g.C.Hasher.Hasher.Hasher.write g.C.Hasher.Hasher.Hasher.finish g.K.Hash.hash_input s.behaviour.hasher in
-      let hashed = c.rehashed-turn.ensures.hash ∙ c.hash-hash.ensures.hash ∙ ap hash_of (c.key.ensures ∙ sym (ap (λ (n : Name g.row.K.Denot). n.key) name)) in
+      let hashed = c.with_hash-turn.ensures.hash ∙ c.hash-hash.ensures.hash ∙ ap hash_of (c.key.ensures ∙ sym (ap (λ (n : Name g.row.K.Denot). n.key) name)) in
       let there = rw (← c.self.view_is) at stands in
       let keeps = table-keeps eq laws g.V.Clone.is_clone hash_of c.hash-hash.ensures.alike s.turns.opened.entries s.turns.ended.entries (turns steps) there.turns in
       let sound = sound-turns eq laws given steps stands.legal in
@@ -57,14 +57,14 @@ returns g c = record {
       let ends = given-there _ _ t.0 t.1 (rw name at (c.finish_computed-key.ensures.finishes hash_of (turns steps) c.hash-hash.ensures.alike hashed sound keeps)) in
       let keyed = ap arc_value c.finish_computed-key.ensures.key ∙ ap (λ (n : Name g.row.K.Denot). n.key) name in
       finish-given eq given steps (turn_name c.args.turn) (Op Nop) c.args.now c.requires g.V.Clone.is_clone g.V.Clone.is_infallible t.0 t.1 _
-      (left-answer g.V.Clone.is_clone _ _ (turn_name c.args.turn) keyed t.0.kept c.finish_computed-key.result.1.kept ends.1 c.unchanged_result.result c.unchanged_result.ensures) (λ out. no-less out.0);
+      (left-answer g.V.Clone.is_clone _ _ (turn_name c.args.turn) keyed t.0.kept c.finish_computed-key.result.1.saved ends.1 c.unchanged_result.result c.unchanged_result.ensures) (λ out. no-less out.0);
   stands = λ given steps stands.
       let s = c.self.inside in
       let eq = g.K.PartialEq.eq in
       let laws = g.met.K.Eq.laws in
-      let name = c.rehashed-turn.ensures.name in
+      let name = c.with_hash-turn.ensures.name in
       let hash_of = hash_by g.C.Hasher.BuildHasher.build_hasher g.C.Hasher.Hasher.Hasher.write g.C.Hasher.Hasher.Hasher.finish g.K.Hash.hash_input s.behaviour.hasher in
-      let hashed = c.rehashed-turn.ensures.hash ∙ c.hash-hash.ensures.hash ∙ ap hash_of (c.key.ensures ∙ sym (ap (λ (n : Name g.row.K.Denot). n.key) name)) in
+      let hashed = c.with_hash-turn.ensures.hash ∙ c.hash-hash.ensures.hash ∙ ap hash_of (c.key.ensures ∙ sym (ap (λ (n : Name g.row.K.Denot). n.key) name)) in
       let there = rw (← c.self.view_is) at stands in
       let keeps = table-keeps eq laws g.V.Clone.is_clone hash_of c.hash-hash.ensures.alike s.turns.opened.entries s.turns.ended.entries (turns steps) there.turns in
       let sound = sound-turns eq laws given steps stands.legal in
@@ -75,8 +75,8 @@ returns g c = record {
       (view-becomes eq laws given _ _ (events_in steps) (Passed c.args.now) (view-of eq given _ steps there) (becomes-passed eq _ s.table _ s.latest s.next_number c.args.now))
       (table-holds eq laws g.V.Clone.is_clone hash_of c.hash-hash.ensures.alike _ _ _ ends.2));
   given =
-      let keyed = ap arc_value c.finish_computed-key.ensures.key ∙ ap (λ (n : Name g.row.K.Denot). n.key) c.rehashed-turn.ensures.name in
-      left-given g.V.Clone.is_clone _ (turn_name c.args.turn).key keyed c.finish_computed-key.result.1.kept c.unchanged_result.result c.unchanged_result.ensures;
+      let keyed = ap arc_value c.finish_computed-key.ensures.key ∙ ap (λ (n : Name g.row.K.Denot). n.key) c.with_hash-turn.ensures.name in
+      left-given g.V.Clone.is_clone _ (turn_name c.args.turn).key keyed c.finish_computed-key.result.1.saved c.unchanged_result.result c.unchanged_result.ensures;
   refused = tt;
   turn_back = tt;
   outcome_back = tt;

@@ -27,9 +27,9 @@ returns-in_default g c = rw c.refusal.ensures (record {
       let s = c.self.inside in
       let eq = g.K.PartialEq.eq in
       let laws = g.met.K.Eq.laws in
-      let name = c.rehashed-turn.ensures.name in
+      let name = c.with_hash-turn.ensures.name in
       let hash_of = hash_by g.C.Hasher.BuildHasher.build_hasher g.C.Hasher.Hasher.Hasher.write g.C.Hasher.Hasher.Hasher.finish g.K.Hash.hash_input s.behaviour.hasher in
-      let hashed = c.rehashed-turn.ensures.hash ∙ c.hash-hash.ensures.hash ∙ ap hash_of (c.key.ensures ∙ sym (ap (λ (n : Name g.row.K.Denot). n.key) name)) in
+      let hashed = c.with_hash-turn.ensures.hash ∙ c.hash-hash.ensures.hash ∙ ap hash_of (c.key.ensures ∙ sym (ap (λ (n : Name g.row.K.Denot). n.key) name)) in
       let there = rw (← c.self.view_is) at stands in
       let keeps = table-keeps eq laws g.V.Clone.is_clone hash_of c.hash-hash.ensures.alike s.turns.opened.entries s.turns.ended.entries (turns steps) there.turns in
       let sound = sound-turns eq laws given steps stands.legal in
@@ -39,7 +39,7 @@ returns-in_default g c = rw c.refusal.ensures (record {
   stands = tt;
   given = tt;
   refused = refl;
-  turn_back = c.rehashed-turn.ensures.name;
+  turn_back = c.with_hash-turn.ensures.name;
   outcome_back = refl;
   settings = refl;
 })
@@ -50,9 +50,9 @@ returns-in_default-new g c = rw c.refusal-in_default-new.ensures (record {
       let s = c.self.inside in
       let eq = g.K.PartialEq.eq in
       let laws = g.met.K.Eq.laws in
-      let name = c.rehashed-turn.ensures.name in
+      let name = c.with_hash-turn.ensures.name in
       let hash_of = hash_by g.C.Hasher.BuildHasher.build_hasher g.C.Hasher.Hasher.Hasher.write g.C.Hasher.Hasher.Hasher.finish g.K.Hash.hash_input s.behaviour.hasher in
-      let hashed = c.rehashed-turn.ensures.hash ∙ c.hash-hash.ensures.hash ∙ ap hash_of (c.key.ensures ∙ sym (ap (λ (n : Name g.row.K.Denot). n.key) name)) in
+      let hashed = c.with_hash-turn.ensures.hash ∙ c.hash-hash.ensures.hash ∙ ap hash_of (c.key.ensures ∙ sym (ap (λ (n : Name g.row.K.Denot). n.key) name)) in
       let there = rw (← c.self.view_is) at stands in
       let keeps = table-keeps eq laws g.V.Clone.is_clone hash_of c.hash-hash.ensures.alike s.turns.opened.entries s.turns.ended.entries (turns steps) there.turns in
       let sound = sound-turns eq laws given steps stands.legal in
@@ -64,7 +64,7 @@ returns-in_default-new g c = rw c.refusal-in_default-new.ensures (record {
   stands = tt;
   given = tt;
   refused = refl;
-  turn_back = c.rehashed-turn.ensures.name;
+  turn_back = c.with_hash-turn.ensures.name;
   outcome_back = refl;
   settings = refl;
 })
@@ -75,9 +75,9 @@ returns g c = record {
       let s = c.self.inside in
       let eq = g.K.PartialEq.eq in
       let laws = g.met.K.Eq.laws in
-      let name = c.rehashed-turn.ensures.name in
+      let name = c.with_hash-turn.ensures.name in
       let hash_of = hash_by g.C.Hasher.BuildHasher.build_hasher g.C.Hasher.Hasher.Hasher.write g.C.Hasher.Hasher.Hasher.finish g.K.Hash.hash_input s.behaviour.hasher in
-      let hashed = c.rehashed-turn.ensures.hash ∙ c.hash-hash.ensures.hash ∙ ap hash_of (c.key.ensures ∙ sym (ap (λ (n : Name g.row.K.Denot). n.key) name)) in
+      let hashed = c.with_hash-turn.ensures.hash ∙ c.hash-hash.ensures.hash ∙ ap hash_of (c.key.ensures ∙ sym (ap (λ (n : Name g.row.K.Denot). n.key) name)) in
       let there = rw (← c.self.view_is) at stands in
       let keeps = table-keeps eq laws g.V.Clone.is_clone hash_of c.hash-hash.ensures.alike s.turns.opened.entries s.turns.ended.entries (turns steps) there.turns in
       let sound = sound-turns eq laws given steps stands.legal in
@@ -86,14 +86,14 @@ returns g c = record {
       let nothing : stores_nothing given.max_capacity ≡ true = ap (λ (s : Settings _ _). stores_nothing s.max_capacity) (sym there.settings) ∙ (rw (← c.self.view_is) at c.requires.nothing) in
       let left : ¬ (FinishOutOfNumbers eq given steps (turn_name c.args.turn) (Value c.args.value) c.args.now c.requires.fits) = λ out. let stores : false ≡ true = sym ((out_of_numbers-insert eq given (turn_name c.args.turn).key c.args.value c.args.now steps).0 out).0 ∙ nothing in absurd (true≢false (sym stores)) in
       rw c.conclude-answer.ensures.entry (finish-given eq given steps (turn_name c.args.turn) (Value c.args.value) c.args.now c.requires.fits g.V.Clone.is_clone g.V.Clone.is_infallible t.0 t.1 _
-      (c.in-Ok.ensures.key ∙ ap (λ (n : Name _). n.key) name, c.in-Ok.ensures.answer, refl, sym (never-replaced eq given nothing steps stands.legal (turn_name c.args.turn).key c.args.now)) (λ out. left out));
+      (c.in-Ok.ensures.key ∙ ap (λ (n : Name _). n.key) name, c.in-Ok.ensures.reply, refl, sym (never-replaced eq given nothing steps stands.legal (turn_name c.args.turn).key c.args.now)) (λ out. left out));
   stands = λ given steps stands.
       let s = c.self.inside in
       let eq = g.K.PartialEq.eq in
       let laws = g.met.K.Eq.laws in
-      let name = c.rehashed-turn.ensures.name in
+      let name = c.with_hash-turn.ensures.name in
       let hash_of = hash_by g.C.Hasher.BuildHasher.build_hasher g.C.Hasher.Hasher.Hasher.write g.C.Hasher.Hasher.Hasher.finish g.K.Hash.hash_input s.behaviour.hasher in
-      let hashed = c.rehashed-turn.ensures.hash ∙ c.hash-hash.ensures.hash ∙ ap hash_of (c.key.ensures ∙ sym (ap (λ (n : Name g.row.K.Denot). n.key) name)) in
+      let hashed = c.with_hash-turn.ensures.hash ∙ c.hash-hash.ensures.hash ∙ ap hash_of (c.key.ensures ∙ sym (ap (λ (n : Name g.row.K.Denot). n.key) name)) in
       let there = rw (← c.self.view_is) at stands in
       let keeps = table-keeps eq laws g.V.Clone.is_clone hash_of c.hash-hash.ensures.alike s.turns.opened.entries s.turns.ended.entries (turns steps) there.turns in
       let sound = sound-turns eq laws given steps stands.legal in
@@ -102,11 +102,11 @@ returns g c = record {
       let nothing : stores_nothing given.max_capacity ≡ true = ap (λ (s : Settings _ _). stores_nothing s.max_capacity) (sym there.settings) ∙ (rw (← c.self.view_is) at c.requires.nothing) in
       let left : ¬ (FinishOutOfNumbers eq given steps (turn_name c.args.turn) (Value c.args.value) c.args.now c.requires.fits) = λ out. let stores : false ≡ true = sym ((out_of_numbers-insert eq given (turn_name c.args.turn).key c.args.value c.args.now steps).0 out).0 ∙ nothing in absurd (true≢false (sym stores)) in
       let never = never-replaced eq given nothing steps stands.legal (turn_name c.args.turn).key c.args.now in
-      let ended = c.conclude-answer.ensures.keeps hash_of (turns steps) c.args.value c.hash-hash.ensures.alike hashed sound c.in-Ok.ensures.kept keeps in
+      let ended = c.conclude-answer.ensures.preserves hash_of (turns steps) c.args.value c.hash-hash.ensures.alike hashed sound c.in-Ok.ensures.saved keeps in
       rw c.max-self-inside.ensures (finish-stands eq given steps (turn_name c.args.turn) (Value c.args.value) c.args.now c.requires.fits _ _ _ there t.0 t.1 _
       (view-nothing eq laws given _ (events_in steps) (view-of eq given _ steps there) _ (turn_name c.args.turn).key c.args.value c.args.now (rw (← c.self.view_is) at c.requires.nothing) (becomes-passed eq _ s.table _ s.latest s.next_number c.args.now))
       (table-holds eq laws g.V.Clone.is_clone hash_of c.hash-hash.ensures.alike _ _ _ (rw (t.2, never) ended)));
-  given = let keyed = ap (λ (n : Name _). n.key) c.rehashed-turn.ensures.name in given-entry g.V.Clone.is_clone (turn_name c.args.turn).key c.args.value c.conclude-answer.result _ c.conclude-answer.ensures.entry (c.in-Ok.ensures.key ∙ keyed) c.in-Ok.ensures.answer;
+  given = let keyed = ap (λ (n : Name _). n.key) c.with_hash-turn.ensures.name in given-entry g.V.Clone.is_clone (turn_name c.args.turn).key c.args.value c.conclude-answer.result _ c.conclude-answer.ensures.entry (c.in-Ok.ensures.key ∙ keyed) c.in-Ok.ensures.reply;
   refused = tt;
   turn_back = tt;
   outcome_back = tt;

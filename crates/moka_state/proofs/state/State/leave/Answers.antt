@@ -13,9 +13,9 @@ returns-then-not-leave-clause-reply g c given steps stands =
     let s = c.self.inside in
     let eq = g.K.PartialEq.eq in
     let laws = g.met.K.Eq.laws in
-    let name = c.rehashed.ensures.name in
+    let name = c.with_hash.ensures.name in
     let hash_of = hash_by g.C.Hasher.BuildHasher.build_hasher g.C.Hasher.Hasher.Hasher.write g.C.Hasher.Hasher.Hasher.finish g.K.Hash.hash_input s.behaviour.hasher in
-    let hashed = c.rehashed.ensures.hash ∙ c.hash-hash.ensures.hash ∙ ap hash_of (c.key.ensures ∙ sym (ap (λ (n : Name g.row.K.Denot). n.key) name)) in
+    let hashed = c.with_hash.ensures.hash ∙ c.hash-hash.ensures.hash ∙ ap hash_of (c.key.ensures ∙ sym (ap (λ (n : Name g.row.K.Denot). n.key) name)) in
     let there = rw (← c.self.view_is) at stands in
     let keeps = table-keeps eq laws g.V.Clone.is_clone hash_of c.hash-hash.ensures.alike s.turns.opened.entries s.turns.ended.entries (turns steps) there.turns in
     let it = c.leave.ensures.leaves hash_of (turns steps) c.hash-hash.ensures.alike hashed (sound-turns eq laws given steps stands.legal) keeps in
@@ -26,23 +26,23 @@ returns-clause-reply g c given steps stands =
     let s = c.self.inside in
     let eq = g.K.PartialEq.eq in
     let laws = g.met.K.Eq.laws in
-    let name = c.rehashed.ensures.name in
+    let name = c.with_hash.ensures.name in
     let hash_of = hash_by g.C.Hasher.BuildHasher.build_hasher g.C.Hasher.Hasher.Hasher.write g.C.Hasher.Hasher.Hasher.finish g.K.Hash.hash_input s.behaviour.hasher in
-    let hashed = c.rehashed.ensures.hash ∙ c.hash-hash.ensures.hash ∙ ap hash_of (c.key.ensures ∙ sym (ap (λ (n : Name g.row.K.Denot). n.key) name)) in
+    let hashed = c.with_hash.ensures.hash ∙ c.hash-hash.ensures.hash ∙ ap hash_of (c.key.ensures ∙ sym (ap (λ (n : Name g.row.K.Denot). n.key) name)) in
     let there = rw (← c.self.view_is) at stands in
     let keeps = table-keeps eq laws g.V.Clone.is_clone hash_of c.hash-hash.ensures.alike s.turns.opened.entries s.turns.ended.entries (turns steps) there.turns in
     let it = c.leave.ensures.leaves hash_of (turns steps) c.hash-hash.ensures.alike hashed (sound-turns eq laws given steps stands.legal) keeps in
     let t = found-told _ (found (has_ticket_as eq _) (turns steps)) c.leave.result it c.if-not-leave.false in
-    rw (← name) (gives-accepted eq g.V.Clone.is_clone g.V.Clone.is_infallible given steps (Leave (name_of c.rehashed.result.key c.rehashed.result.number)) (spends t.0.name.number) Done (ap (option_map (λ t. spends t.name.number)) t.1) refl (λ out. no-less out.0))
+    rw (← name) (gives-accepted eq g.V.Clone.is_clone g.V.Clone.is_infallible given steps (Leave (name_of c.with_hash.result.key c.with_hash.result.number)) (spends t.0.name.number) Done (ap (option_map (λ t. spends t.name.number)) t.1) refl (λ out. no-less out.0))
 
 pub returns-clause-stands : goal.returns-clause-stands
 returns-clause-stands g c given steps stands =
     let s = c.self.inside in
     let eq = g.K.PartialEq.eq in
     let laws = g.met.K.Eq.laws in
-    let name = c.rehashed.ensures.name in
+    let name = c.with_hash.ensures.name in
     let hash_of = hash_by g.C.Hasher.BuildHasher.build_hasher g.C.Hasher.Hasher.Hasher.write g.C.Hasher.Hasher.Hasher.finish g.K.Hash.hash_input s.behaviour.hasher in
-    let hashed = c.rehashed.ensures.hash ∙ c.hash-hash.ensures.hash ∙ ap hash_of (c.key.ensures ∙ sym (ap (λ (n : Name g.row.K.Denot). n.key) name)) in
+    let hashed = c.with_hash.ensures.hash ∙ c.hash-hash.ensures.hash ∙ ap hash_of (c.key.ensures ∙ sym (ap (λ (n : Name g.row.K.Denot). n.key) name)) in
     let there = rw (← c.self.view_is) at stands in
     let keeps = table-keeps eq laws g.V.Clone.is_clone hash_of c.hash-hash.ensures.alike s.turns.opened.entries s.turns.ended.entries (turns steps) there.turns in
     let it = c.leave.ensures.leaves hash_of (turns steps) c.hash-hash.ensures.alike hashed (sound-turns eq laws given steps stands.legal) keeps in

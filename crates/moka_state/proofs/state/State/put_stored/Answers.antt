@@ -31,9 +31,9 @@ returns-in_default g c = rw c.refusal.ensures (record {
       let s = c.self.inside in
       let eq = g.K.PartialEq.eq in
       let laws = g.met.K.Eq.laws in
-      let name = c.rehashed-turn.ensures.name in
+      let name = c.with_hash-turn.ensures.name in
       let hash_of = hash_by g.C.Hasher.BuildHasher.build_hasher g.C.Hasher.Hasher.Hasher.write g.C.Hasher.Hasher.Hasher.finish g.K.Hash.hash_input s.behaviour.hasher in
-      let hashed = c.rehashed-turn.ensures.hash ∙ c.hash-hash.ensures.hash ∙ ap hash_of (c.key.ensures ∙ sym (ap (λ (n : Name g.row.K.Denot). n.key) name)) in
+      let hashed = c.with_hash-turn.ensures.hash ∙ c.hash-hash.ensures.hash ∙ ap hash_of (c.key.ensures ∙ sym (ap (λ (n : Name g.row.K.Denot). n.key) name)) in
       let there = rw (← c.self.view_is) at stands in
       let keeps = table-keeps eq laws g.V.Clone.is_clone hash_of c.hash-hash.ensures.alike s.turns.opened.entries s.turns.ended.entries (turns steps) there.turns in
       let sound = sound-turns eq laws given steps stands.legal in
@@ -43,7 +43,7 @@ returns-in_default g c = rw c.refusal.ensures (record {
   stands = tt;
   given = tt;
   refused = refl;
-  turn_back = c.rehashed-turn.ensures.name;
+  turn_back = c.with_hash-turn.ensures.name;
   outcome_back = refl;
   settings = refl;
 })
@@ -54,9 +54,9 @@ returns-then-self g c = rw c.refusal-then-self.ensures (record {
       let s = c.self.inside in
       let eq = g.K.PartialEq.eq in
       let laws = g.met.K.Eq.laws in
-      let name = c.rehashed-turn.ensures.name in
+      let name = c.with_hash-turn.ensures.name in
       let hash_of = hash_by g.C.Hasher.BuildHasher.build_hasher g.C.Hasher.Hasher.Hasher.write g.C.Hasher.Hasher.Hasher.finish g.K.Hash.hash_input s.behaviour.hasher in
-      let hashed = c.rehashed-turn.ensures.hash ∙ c.hash-hash.ensures.hash ∙ ap hash_of (c.key.ensures ∙ sym (ap (λ (n : Name g.row.K.Denot). n.key) name)) in
+      let hashed = c.with_hash-turn.ensures.hash ∙ c.hash-hash.ensures.hash ∙ ap hash_of (c.key.ensures ∙ sym (ap (λ (n : Name g.row.K.Denot). n.key) name)) in
       let there = rw (← c.self.view_is) at stands in
       let keeps = table-keeps eq laws g.V.Clone.is_clone hash_of c.hash-hash.ensures.alike s.turns.opened.entries s.turns.ended.entries (turns steps) there.turns in
       let sound = sound-turns eq laws given steps stands.legal in
@@ -68,7 +68,7 @@ returns-then-self g c = rw c.refusal-then-self.ensures (record {
   stands = tt;
   given = tt;
   refused = refl;
-  turn_back = c.rehashed-turn.ensures.name;
+  turn_back = c.with_hash-turn.ensures.name;
   outcome_back = refl;
   settings = refl;
 })
@@ -79,9 +79,9 @@ returns-in_default-clone g c = rw c.refusal-in_default-clone.ensures (record {
       let s = c.self.inside in
       let eq = g.K.PartialEq.eq in
       let laws = g.met.K.Eq.laws in
-      let name = c.rehashed-turn.ensures.name in
+      let name = c.with_hash-turn.ensures.name in
       let hash_of = hash_by g.C.Hasher.BuildHasher.build_hasher g.C.Hasher.Hasher.Hasher.write g.C.Hasher.Hasher.Hasher.finish g.K.Hash.hash_input s.behaviour.hasher in
-      let hashed = c.rehashed-turn.ensures.hash ∙ c.hash-hash.ensures.hash ∙ ap hash_of (c.key.ensures ∙ sym (ap (λ (n : Name g.row.K.Denot). n.key) name)) in
+      let hashed = c.with_hash-turn.ensures.hash ∙ c.hash-hash.ensures.hash ∙ ap hash_of (c.key.ensures ∙ sym (ap (λ (n : Name g.row.K.Denot). n.key) name)) in
       let there = rw (← c.self.view_is) at stands in
       let keeps = table-keeps eq laws g.V.Clone.is_clone hash_of c.hash-hash.ensures.alike s.turns.opened.entries s.turns.ended.entries (turns steps) there.turns in
       let sound = sound-turns eq laws given steps stands.legal in
@@ -93,20 +93,20 @@ returns-in_default-clone g c = rw c.refusal-in_default-clone.ensures (record {
   stands = tt;
   given = tt;
   refused = refl;
-  turn_back = c.rehashed-turn.ensures.name;
+  turn_back = c.with_hash-turn.ensures.name;
   outcome_back = refl;
   settings = refl;
 })
 
-pub returns-in_default-place_for : goal.returns-in_default-place_for
-returns-in_default-place_for g c = rw c.refusal-in_default-place_for.ensures (record {
+pub returns-in_default-plan_for : goal.returns-in_default-plan_for
+returns-in_default-plan_for g c = rw c.refusal-in_default-plan_for.ensures (record {
   reply = λ given steps stands.
       let s = c.self.inside in
       let eq = g.K.PartialEq.eq in
       let laws = g.met.K.Eq.laws in
-      let name = c.rehashed-turn.ensures.name in
+      let name = c.with_hash-turn.ensures.name in
       let hash_of = hash_by g.C.Hasher.BuildHasher.build_hasher g.C.Hasher.Hasher.Hasher.write g.C.Hasher.Hasher.Hasher.finish g.K.Hash.hash_input s.behaviour.hasher in
-      let hashed = c.rehashed-turn.ensures.hash ∙ c.hash-hash.ensures.hash ∙ ap hash_of (c.key.ensures ∙ sym (ap (λ (n : Name g.row.K.Denot). n.key) name)) in
+      let hashed = c.with_hash-turn.ensures.hash ∙ c.hash-hash.ensures.hash ∙ ap hash_of (c.key.ensures ∙ sym (ap (λ (n : Name g.row.K.Denot). n.key) name)) in
       let there = rw (← c.self.view_is) at stands in
       let keeps = table-keeps eq laws g.V.Clone.is_clone hash_of c.hash-hash.ensures.alike s.turns.opened.entries s.turns.ended.entries (turns steps) there.turns in
       let sound = sound-turns eq laws given steps stands.legal in
@@ -117,8 +117,8 @@ returns-in_default-place_for g c = rw c.refusal-in_default-place_for.ensures (re
       finish-memory eq given steps (turn_name c.args.turn) (Op (Put c.args.value)) c.args.now c.requires.fits g.V.Clone.is_clone g.V.Clone.is_infallible t.0 t.1 tt (λ out. left out);
   stands = tt;
   given = tt;
-  refused = let s = c.self.inside in rw (← c.self.view_is) (with-books _ _ _ _ _ _ (same-books-of s.latest s.next_number s.table c.place_for.new.table c.place_for.ensures.same));
-  turn_back = c.rehashed-turn.ensures.name;
+  refused = let s = c.self.inside in rw (← c.self.view_is) (with-books _ _ _ _ _ _ (same-books-of s.latest s.next_number s.table c.plan_for.new.table c.plan_for.ensures.same));
+  turn_back = c.with_hash-turn.ensures.name;
   outcome_back = refl;
   settings = rw (← c.self.view_is) refl;
 })
@@ -126,10 +126,10 @@ returns-in_default-place_for g c = rw c.refusal-in_default-place_for.ensures (re
 pub invariant_of-self-2 : goal.invariant_of-self-2
 invariant_of-self-2 g c =
     let s = c.self.inside in
-    let keyed = ap (λ (n : Name _). n.key) c.rehashed-turn.ensures.name in
-    let kept = IsSound-same _ _ s.housekeeper.lives s.table c.place_for.new.table c.in-Ok-place_for.ensures.same c.self.invariant.0 in (
-      sound-written g.K.PartialEq.eq g.met.K.Eq.laws _ s.housekeeper.lives _ s.housekeeper.max_capacity s.flush_limit c.place_for.new.table c.write.new.table kept g.met.C.CacheTypes.equal_keys_keep (turn_name c.args.turn).key _ (rw c.key.ensures at c.hash-hash.ensures.hash) c.requires.kept
-          c.in-Ok-place_for.place c.write.result (rw keyed at c.in-Ok-place_for.ensures.place) (c.write.ensures kept.dated),
+    let keyed = ap (λ (n : Name _). n.key) c.with_hash-turn.ensures.name in
+    let kept = IsSound-same _ _ s.housekeeper.lives s.table c.plan_for.new.table c.in-Ok-plan_for.ensures.same c.self.invariant.0 in (
+      sound-written g.K.PartialEq.eq g.met.K.Eq.laws _ s.housekeeper.lives _ s.housekeeper.max_capacity s.flush_limit c.plan_for.new.table c.write.new.table kept g.met.C.CacheTypes.equal_keys_keep (turn_name c.args.turn).key _ (rw c.key.ensures at c.hash-hash.ensures.hash) c.requires.kept
+          c.in-Ok-plan_for.place c.write.result (rw keyed at c.in-Ok-plan_for.ensures.place) (c.write.ensures kept.dated),
       c.self.invariant.1,
     )
 
@@ -139,9 +139,9 @@ returns g c = record {
       let s = c.self.inside in
       let eq = g.K.PartialEq.eq in
       let laws = g.met.K.Eq.laws in
-      let name = c.rehashed-turn.ensures.name in
+      let name = c.with_hash-turn.ensures.name in
       let hash_of = hash_by g.C.Hasher.BuildHasher.build_hasher g.C.Hasher.Hasher.Hasher.write g.C.Hasher.Hasher.Hasher.finish g.K.Hash.hash_input s.behaviour.hasher in
-      let hashed = c.rehashed-turn.ensures.hash ∙ c.hash-hash.ensures.hash ∙ ap hash_of (c.key.ensures ∙ sym (ap (λ (n : Name g.row.K.Denot). n.key) name)) in
+      let hashed = c.with_hash-turn.ensures.hash ∙ c.hash-hash.ensures.hash ∙ ap hash_of (c.key.ensures ∙ sym (ap (λ (n : Name g.row.K.Denot). n.key) name)) in
       let there = rw (← c.self.view_is) at stands in
       let keeps = table-keeps eq laws g.V.Clone.is_clone hash_of c.hash-hash.ensures.alike s.turns.opened.entries s.turns.ended.entries (turns steps) there.turns in
       let sound = sound-turns eq laws given steps stands.legal in
@@ -152,14 +152,14 @@ returns g c = record {
       let ends = given-there _ _ t.0 t.1 (rw name at (c.finish_computed-key.ensures.finishes hash_of (turns steps) c.hash-hash.ensures.alike hashed sound keeps)) in
       let owned = ap arc_value c.finish_computed-key.ensures.key ∙ ap (λ (n : Name _). n.key) name in
       finish-given eq given steps (turn_name c.args.turn) (Op (Put c.args.value)) c.args.now c.requires.fits g.V.Clone.is_clone g.V.Clone.is_infallible t.0 t.1 _
-      (put-answer g.V.Clone.is_clone _ c.args.value c.in-Ok.answer c.in-Ok.ensures.cases _ (turn_name c.args.turn) owned t.0.shown c.finish_computed-key.result.1.shown ends.0 c.put_result.result c.put_result.ensures) (λ out. left out);
+      (put-answer g.V.Clone.is_clone _ c.args.value c.in-Ok.reply c.in-Ok.ensures.cases _ (turn_name c.args.turn) owned t.0.shown c.finish_computed-key.result.1.shown ends.0 c.put_result.result c.put_result.ensures) (λ out. left out);
   stands = λ given steps stands.
       let s = c.self.inside in
       let eq = g.K.PartialEq.eq in
       let laws = g.met.K.Eq.laws in
-      let name = c.rehashed-turn.ensures.name in
+      let name = c.with_hash-turn.ensures.name in
       let hash_of = hash_by g.C.Hasher.BuildHasher.build_hasher g.C.Hasher.Hasher.Hasher.write g.C.Hasher.Hasher.Hasher.finish g.K.Hash.hash_input s.behaviour.hasher in
-      let hashed = c.rehashed-turn.ensures.hash ∙ c.hash-hash.ensures.hash ∙ ap hash_of (c.key.ensures ∙ sym (ap (λ (n : Name g.row.K.Denot). n.key) name)) in
+      let hashed = c.with_hash-turn.ensures.hash ∙ c.hash-hash.ensures.hash ∙ ap hash_of (c.key.ensures ∙ sym (ap (λ (n : Name g.row.K.Denot). n.key) name)) in
       let there = rw (← c.self.view_is) at stands in
       let keeps = table-keeps eq laws g.V.Clone.is_clone hash_of c.hash-hash.ensures.alike s.turns.opened.entries s.turns.ended.entries (turns steps) there.turns in
       let sound = sound-turns eq laws given steps stands.legal in
@@ -169,17 +169,17 @@ returns g c = record {
       let rows = turns_of hash_of s.turns in
       let hash = rw c.key.ensures at c.hash-hash.ensures.hash in
       let weighed = rw (c.key-2.ensures ∙ keyed) at c.weight-weight.ensures in
-      let place = rw keyed at c.in-Ok-place_for.ensures.place in
-      let kept = IsSound-same _ _ s.housekeeper.lives s.table c.place_for.new.table c.in-Ok-place_for.ensures.same c.self.invariant.0 in
-      let same = subst (λ view. StandsFor eq g.V.Clone.is_clone given (whole view rows) steps) (same-view _ _ s.latest s.next_number s.table c.place_for.new.table c.in-Ok-place_for.ensures.same) there in
-      let written = view-written eq laws given _ s.housekeeper.lives refl _ c.place_for.new.table c.write.new.table s.latest s.next_number (events_in steps) (view-of eq given _ steps same) kept c.hash-hash.ensures.alike (turn_name c.args.turn).key c.args.now _
-      hash weighed c.max-now.ensures (omega (arith, c.max-now.ensures)) c.in-Ok-place_for.place c.write.result place (c.write.ensures kept.dated) (rw (← c.self.view_is) at c.requires.stores) in
+      let place = rw keyed at c.in-Ok-plan_for.ensures.place in
+      let kept = IsSound-same _ _ s.housekeeper.lives s.table c.plan_for.new.table c.in-Ok-plan_for.ensures.same c.self.invariant.0 in
+      let same = subst (λ view. StandsFor eq g.V.Clone.is_clone given (whole view rows) steps) (same-view _ _ s.latest s.next_number s.table c.plan_for.new.table c.in-Ok-plan_for.ensures.same) there in
+      let written = view-written eq laws given _ s.housekeeper.lives refl _ c.plan_for.new.table c.write.new.table s.latest s.next_number (events_in steps) (view-of eq given _ steps same) kept c.hash-hash.ensures.alike (turn_name c.args.turn).key c.args.now _
+      hash weighed c.max-now.ensures (omega (arith, c.max-now.ensures)) c.in-Ok-plan_for.place c.write.result place (c.write.ensures kept.dated) (rw (← c.self.view_is) at c.requires.stores) in
       let ends = given-there _ _ t.0 t.1 (rw name at (c.finish_computed-key.ensures.finishes hash_of (turns steps) c.hash-hash.ensures.alike hashed sound keeps)) in
       rw c.max-now.ensures (finish-stands eq given steps (turn_name c.args.turn) (Op (Put c.args.value)) c.args.now c.requires.fits _ _ _ there t.0 t.1 _ written
       (table-holds eq laws g.V.Clone.is_clone hash_of c.hash-hash.ensures.alike _ _ _ ends.2));
   given =
-      let owned = ap arc_value c.finish_computed-key.ensures.key ∙ ap (λ (n : Name _). n.key) c.rehashed-turn.ensures.name in
-      put-given g.V.Clone.is_clone _ c.args.value c.in-Ok.answer c.in-Ok.ensures.cases (turn_name c.args.turn).key owned c.finish_computed-key.result.1.shown c.put_result.result c.put_result.ensures;
+      let owned = ap arc_value c.finish_computed-key.ensures.key ∙ ap (λ (n : Name _). n.key) c.with_hash-turn.ensures.name in
+      put-given g.V.Clone.is_clone _ c.args.value c.in-Ok.reply c.in-Ok.ensures.cases (turn_name c.args.turn).key owned c.finish_computed-key.result.1.shown c.put_result.result c.put_result.ensures;
   refused = tt;
   turn_back = tt;
   outcome_back = tt;

@@ -13,13 +13,13 @@ use Rattle.moka_state.proofs.state.State.step_begin.Goals as goal
 
 pub returns-clause-reply : goal.returns-clause-reply
 returns-clause-reply g c given steps stands =
-    c.begun_reply.ensures.says given steps (Begin (arc_value c.args.key) c.args.kind c.args.replace c.args.now) (c.begin_asked.ensures.reply given steps stands)
+    c.begin_reply.ensures.says given steps (Begin (arc_value c.args.key) c.args.kind c.args.replace c.args.now) (c.begin_for_step.ensures.reply given steps stands)
 
 pub returns-clause-stands : goal.returns-clause-stands
 returns-clause-stands g c given steps stands =
     let view = view_by (behaviour_by (hash_by g.C.Hasher.BuildHasher.build_hasher g.C.Hasher.Hasher.Hasher.write g.C.Hasher.Hasher.Hasher.finish g.K.Hash.hash_input) g.C.CacheTypes.weight g.C.CacheTypes.lifetimes) (estimates g.C.Frequency.FrequencySource.noted g.C.Frequency.FrequencySource.count) g.C.Frequency.FrequencySource.opened in
-    subst (StandsFor g.K.PartialEq.eq g.V.Clone.is_clone given (view c.begin_asked.new.self)) (sym (c.begun_reply.ensures.leaves given steps (Begin (arc_value c.args.key) c.args.kind c.args.replace c.args.now)))
-    (given-stands g.K.PartialEq.eq view c.args.self.now c.begin_asked.new.self (Begin (arc_value c.args.key) c.args.kind c.args.replace c.args.now) c.begin_asked.result c.begin_asked.ensures.stands c.begin_asked.ensures.refused given steps stands)
+    subst (StandsFor g.K.PartialEq.eq g.V.Clone.is_clone given (view c.begin_for_step.new.self)) (sym (c.begin_reply.ensures.leaves given steps (Begin (arc_value c.args.key) c.args.kind c.args.replace c.args.now)))
+    (given-stands g.K.PartialEq.eq view c.args.self.now c.begin_for_step.new.self (Begin (arc_value c.args.key) c.args.kind c.args.replace c.args.now) c.begin_for_step.result c.begin_for_step.ensures.stands c.begin_for_step.ensures.refused given steps stands)
 
 pub returns-then-eq-clause-reply : goal.returns-then-eq-clause-reply
 returns-then-eq-clause-reply g c given steps stands =
@@ -36,7 +36,7 @@ returns-then-eq-clause-stands g c given steps stands =
     (given-stands g.K.PartialEq.eq view c.args.self.now c.begin_compute.new.self (Begin (arc_value c.args.key) c.args.kind c.args.replace c.args.now) c.begin_compute.result follows c.begin_compute.ensures.begins.refused given steps stands)
 
 pub returns-clause-refused : goal.returns-clause-refused
-returns-clause-refused g c refusal = OnErr-so c.begin_asked.result c.begin_asked.ensures.refused (c.begun_reply.ensures.refused refusal)
+returns-clause-refused g c refusal = OnErr-so c.begin_for_step.result c.begin_for_step.ensures.refused (c.begin_reply.ensures.refused refusal)
 
 pub returns-then-eq-clause-refused : goal.returns-then-eq-clause-refused
 returns-then-eq-clause-refused g c refusal = OnErr-so c.begin_compute.result c.begin_compute.ensures.begins.refused (c.compute_reply.ensures.refused refusal)

@@ -15,15 +15,15 @@ returns-clause-steps g c =
 
 pub returns-clause-replies : goal.returns-clause-replies
 returns-clause-replies g c given steps stands =
-    same-replies g.K.PartialEq.eq g.V.Clone.is_clone g.V.Clone.is_infallible given steps (call_of g.C.CacheTypes.test c.args.step) c.step-reply.result c.again-first_reply.result c.again-second_reply.result c.in-Ok-handed_out.one c.in-Ok-handed_out-2.other
-    (c.step-reply.ensures.reply given steps stands) (c.in-Ok-handed_out.ensures given steps stands) (c.in-Ok-handed_out-2.ensures given steps stands)
-    c.again-first_reply.ensures.said c.again-second_reply.ensures.said c.again-first_reply.ensures.refused c.again-second_reply.ensures.refused
+    same-replies g.K.PartialEq.eq g.V.Clone.is_clone g.V.Clone.is_infallible given steps (call_of g.C.CacheTypes.test c.args.step) c.step-reply.result c.with_clones-first_reply.result c.with_clones-second_reply.result c.in-Ok-clones_for_step.one c.in-Ok-clones_for_step-2.other
+    (c.step-reply.ensures.reply given steps stands) (c.in-Ok-clones_for_step.ensures given steps stands) (c.in-Ok-clones_for_step-2.ensures given steps stands)
+    c.with_clones-first_reply.ensures.said c.with_clones-second_reply.ensures.said c.with_clones-first_reply.ensures.refused c.with_clones-second_reply.ensures.refused
 
 pub returns-clause-record : goal.returns-clause-record
 returns-clause-record g c history recorded =
     let view = view_by (behaviour_by (hash_by g.C.Hasher.BuildHasher.build_hasher g.C.Hasher.Hasher.Hasher.write g.C.Hasher.Hasher.Hasher.finish g.K.Hash.hash_input) g.C.CacheTypes.weight g.C.CacheTypes.lifetimes) (estimates g.C.Frequency.FrequencySource.noted g.C.Frequency.FrequencySource.count) g.C.Frequency.FrequencySource.opened in
-    grown g.V.Clone.is_clone g.K.PartialEq.eq g.V.Clone.is_infallible g.C.CacheTypes.test view c.args.self.now c.step-reply.new.self (c.args.step, c.step-reply.result) (c.in-Ok.first, c.again-first_reply.result) history recorded
+    grown g.V.Clone.is_clone g.K.PartialEq.eq g.V.Clone.is_infallible g.C.CacheTypes.test view c.args.self.now c.step-reply.new.self (c.args.step, c.step-reply.result) (c.in-Ok.first, c.with_clones-first_reply.result) history recorded
     c.step-reply.ensures.reply c.step-reply.ensures.stands (λ wants. false≢true (c.if-wants_memory.ensures.1 wants)) (c.args.step, inl refl, inr c.in-Ok.ensures.cases)
-    (λ given steps stands. (same-replies g.K.PartialEq.eq g.V.Clone.is_clone g.V.Clone.is_infallible given steps (call_of g.C.CacheTypes.test c.args.step) c.step-reply.result c.again-first_reply.result c.again-second_reply.result c.in-Ok-handed_out.one c.in-Ok-handed_out-2.other
-    (c.step-reply.ensures.reply given steps stands) (c.in-Ok-handed_out.ensures given steps stands) (c.in-Ok-handed_out-2.ensures given steps stands)
-    c.again-first_reply.ensures.said c.again-second_reply.ensures.said c.again-first_reply.ensures.refused c.again-second_reply.ensures.refused).0)
+    (λ given steps stands. (same-replies g.K.PartialEq.eq g.V.Clone.is_clone g.V.Clone.is_infallible given steps (call_of g.C.CacheTypes.test c.args.step) c.step-reply.result c.with_clones-first_reply.result c.with_clones-second_reply.result c.in-Ok-clones_for_step.one c.in-Ok-clones_for_step-2.other
+    (c.step-reply.ensures.reply given steps stands) (c.in-Ok-clones_for_step.ensures given steps stands) (c.in-Ok-clones_for_step-2.ensures given steps stands)
+    c.with_clones-first_reply.ensures.said c.with_clones-second_reply.ensures.said c.with_clones-first_reply.ensures.refused c.with_clones-second_reply.ensures.refused).0)

@@ -32,13 +32,13 @@ pub returns-in-BeginCompute-clause-kept : goal.returns-in-BeginCompute-clause-ke
 returns-in-BeginCompute-clause-kept g c = rw c.in-BeginCompute.is (compute-keeps g.C.CacheTypes.keeps c.in-BeginCompute.key c.in-BeginCompute.keep c.in-BeginCompute.now c.step_begin_compute.result c.step_begin_compute.ensures.kept)
 
 pub returns-in-Finish-clause-kept : goal.returns-in-Finish-clause-kept
-returns-in-Finish-clause-kept g c = rw c.in-Finish.is (finish-keeps g.C.CacheTypes.keeps c.in-Finish.name c.in-Finish.outcome c.in-Finish.now c.step_finish.result c.step_finish.ensures.kept)
+returns-in-Finish-clause-kept g c = rw c.in-Finish.is (finish-keeps g.C.CacheTypes.keeps c.in-Finish.name c.in-Finish.outcome c.in-Finish.now c.step_finish.result c.step_finish.ensures.no_notice)
 
 pub returns-in-Abandon-clause-kept : goal.returns-in-Abandon-clause-kept
-returns-in-Abandon-clause-kept g c = rw c.in-Abandon.is (abandon-keeps g.C.CacheTypes.keeps c.in-Abandon.name c.step_abandon.result c.step_abandon.ensures.kept)
+returns-in-Abandon-clause-kept g c = rw c.in-Abandon.is (abandon-keeps g.C.CacheTypes.keeps c.in-Abandon.name c.step_abandon.result c.step_abandon.ensures.no_notice)
 
 pub returns-in-Collect-clause-kept : goal.returns-in-Collect-clause-kept
-returns-in-Collect-clause-kept g c = rw c.in-Collect.is (collect-keeps g.C.CacheTypes.keeps c.in-Collect.name c.step_collect.result c.step_collect.ensures.kept)
+returns-in-Collect-clause-kept g c = rw c.in-Collect.is (collect-keeps g.C.CacheTypes.keeps c.in-Collect.name c.step_collect.result c.step_collect.ensures.no_notice)
 
 pub returns-clause-kept : goal.returns-clause-kept
-returns-clause-kept g c = rw c.in-Leave.is (leave-keeps g.C.CacheTypes.keeps c.in-Leave.name c.step_leave.result c.step_leave.ensures.kept)
+returns-clause-kept g c = rw c.in-Leave.is (leave-keeps g.C.CacheTypes.keeps c.in-Leave.name c.step_leave.result c.step_leave.ensures.no_notice)

@@ -13,9 +13,9 @@ use Rattle.moka_state.proofs.state.State.write_anew.Goals as goal
 pub invariant_of-self-2 : goal.invariant_of-self-2
 invariant_of-self-2 g c =
     let s = c.self.inside in
-    let sound = IsSound-same _ _ s.housekeeper.lives s.table c.place.new.self c.in-Ok.ensures.same c.self.invariant.0 in (
-      sound-written g.K.PartialEq.eq g.met.K.Eq.laws _ s.housekeeper.lives _ s.housekeeper.max_capacity s.flush_limit c.place.new.self c.write.new.table sound g.met.C.CacheTypes.equal_keys_keep (g.S.IntoArc.key_of c.args.key) _ (rw (← c.self.view_is) at c.requires.hash) c.requires.kept
-          c.in-Ok.place c.write.result c.in-Ok.ensures.place (c.write.ensures sound.dated),
+    let sound = IsSound-same _ _ s.housekeeper.lives s.table c.plan_write.new.self c.in-Ok.ensures.same c.self.invariant.0 in (
+      sound-written g.K.PartialEq.eq g.met.K.Eq.laws _ s.housekeeper.lives _ s.housekeeper.max_capacity s.flush_limit c.plan_write.new.self c.write.new.table sound g.met.C.CacheTypes.equal_keys_keep (g.S.IntoArc.key_of c.args.key) _ (rw (← c.self.view_is) at c.requires.hash) c.requires.kept
+          c.in-Ok.place c.write.result c.in-Ok.ensures.plan (c.write.ensures sound.dated),
       c.self.invariant.1,
     )
 
@@ -27,10 +27,10 @@ returns-clause-ends g c = record {
       let laws = g.met.K.Eq.laws in
       let key = g.S.IntoArc.key_of c.args.key in
       let rows = turns_of (hash_by g.C.Hasher.BuildHasher.build_hasher g.C.Hasher.Hasher.Hasher.write g.C.Hasher.Hasher.Hasher.finish g.K.Hash.hash_input s.behaviour.hasher) s.turns in
-      let sound = IsSound-same _ _ s.housekeeper.lives s.table c.place.new.self c.in-Ok.ensures.same c.self.invariant.0 in
-      let same = subst (λ view. StandsFor eq g.V.Clone.is_clone given (whole view rows) steps) (same-view _ _ s.latest s.next_number s.table c.place.new.self c.in-Ok.ensures.same) (rw (← c.self.view_is) at stands) in
-      let written = view-written eq laws given _ s.housekeeper.lives refl _ c.place.new.self c.write.new.table s.latest s.next_number (events_in steps) (view-of eq given _ steps same) sound (hash-alike g.C.Hasher.BuildHasher.build_hasher g.C.Hasher.Hasher.Hasher.write g.C.Hasher.Hasher.Hasher.finish s.behaviour.hasher g.met.K.Hash.respects_eq) key c.args.now _
-      (rw (← c.self.view_is) at c.requires.hash) (rw c.key.ensures at c.weight-weight.ensures) c.max-now.ensures (omega (arith, c.max-now.ensures)) c.in-Ok.place c.write.result c.in-Ok.ensures.place (c.write.ensures sound.dated) (rw (← c.self.view_is) at c.requires.stores) in
+      let sound = IsSound-same _ _ s.housekeeper.lives s.table c.plan_write.new.self c.in-Ok.ensures.same c.self.invariant.0 in
+      let same = subst (λ view. StandsFor eq g.V.Clone.is_clone given (whole view rows) steps) (same-view _ _ s.latest s.next_number s.table c.plan_write.new.self c.in-Ok.ensures.same) (rw (← c.self.view_is) at stands) in
+      let written = view-written eq laws given _ s.housekeeper.lives refl _ c.plan_write.new.self c.write.new.table s.latest s.next_number (events_in steps) (view-of eq given _ steps same) sound (hash-alike g.C.Hasher.BuildHasher.build_hasher g.C.Hasher.Hasher.Hasher.write g.C.Hasher.Hasher.Hasher.finish s.behaviour.hasher g.met.K.Hash.respects_eq) key c.args.now _
+      (rw (← c.self.view_is) at c.requires.hash) (rw c.key.ensures at c.weight-weight.ensures) c.max-now.ensures (omega (arith, c.max-now.ensures)) c.in-Ok.place c.write.result c.in-Ok.ensures.plan (c.write.ensures sound.dated) (rw (← c.self.view_is) at c.requires.stores) in
       rw c.max-now.ensures (stands-after eq given _ steps same (Insert key c.args.value c.args.now) _ (write_events eq given key c.args.value c.args.now (events_in steps)) refl written);
   refused = tt;
   key_back = tt;

@@ -3,7 +3,7 @@ use Rattle.moka_model.proofs.Callers.{total-append}
 use Rattle.moka_rows.specs.declared.rows.EntryInfo.{EntryInfo}
 use Rattle.moka_table.specs.Table.{weight_of}
 use Rattle.moka_rows.proofs.Callers.{length-added}
-use Rattle.moka_table.proofs.Weights.{total-light, kept-added}
+use Rattle.moka_table.proofs.Weights.{total-light, consistent-added}
 use Rattle.moka_table.proofs.table.Table.add.Goals as goal
 
 pub overflow_add-self : goal.overflow_add-self
@@ -14,7 +14,7 @@ invariant_of-self g c =
     let room = rw (← c.self.view_is) at c.requires.room in
     let more = length-added c.add.result c.args.row _ _ _ _ c.add.ensures.admitted c.add.ensures.waiting in
     let weighs = ap (λ (i : EntryInfo). i.policy_weight) c.info.ensures in (
-      kept-added (g.R.RowStore.admitted c.self.inside.rows) (g.R.RowStore.waiting c.self.inside.rows) c.self.inside.weights _ _ _ c.self.invariant.0
+      consistent-added (g.R.RowStore.admitted c.self.inside.rows) (g.R.RowStore.waiting c.self.inside.rows) c.self.inside.weights _ _ _ c.self.invariant.0
           (g.R.RowStore.admitted c.add.new.self) (g.R.RowStore.waiting c.add.new.self) (record { admitted = c.self.inside.weights.admitted; waiting = c.self.inside.weights.waiting + c.from.result }) _ _ (omega (arith, room, more, c.self.invariant.0.few))
           c.add.result c.args.row (omega (arith, weighs)) c.requires.shown c.add.ensures.admitted c.add.ensures.waiting refl (omega (arith, weighs, c.from.ensures)),
       omega (arith, c.self.invariant.1, c.add.ensures.room),

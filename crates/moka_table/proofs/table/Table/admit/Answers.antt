@@ -3,7 +3,7 @@ use Rattle.moka_model.proofs.Callers.{total-append}
 use Rattle.moka_rows.specs.declared.rows.EntryInfo.{EntryInfo}
 use Rattle.moka_table.specs.Table.{weight_of}
 use Rattle.moka_rows.proofs.Callers.{length-admitted}
-use Rattle.moka_table.proofs.Weights.{total-light, kept-admitted, stored-waiting, under-waiting, row-le}
+use Rattle.moka_table.proofs.Weights.{total-light, consistent-admitted, stored-waiting, under-waiting, row-le}
 use Rattle.moka_table.proofs.table.Table.admit.Goals as goal
 
 pub row-requires : goal.row-requires
@@ -25,7 +25,7 @@ invariant_of-self g c =
     let le = row-le c.args.number _ _ waits in
     let weighs = ap (λ (i : EntryInfo). i.policy_weight) c.info.ensures in
     let same = length-admitted c.args.number _ _ _ _ there c.admit.ensures.admitted c.admit.ensures.waiting in (
-      kept-admitted (g.R.RowStore.admitted c.self.inside.rows) (g.R.RowStore.waiting c.self.inside.rows) c.self.inside.weights _ _ _ c.self.invariant.0
+      consistent-admitted (g.R.RowStore.admitted c.self.inside.rows) (g.R.RowStore.waiting c.self.inside.rows) c.self.inside.weights _ _ _ c.self.invariant.0
           (g.R.RowStore.admitted c.admit.new.self) (g.R.RowStore.waiting c.admit.new.self) (record { admitted = c.self.inside.weights.admitted + c.from-weight.result; waiting = c.self.inside.weights.waiting - c.from-weight.result }) _ _ (omega (arith, same, c.self.invariant.0.few))
           c.args.number c.row.result.now waits (rw waits at c.admit.ensures.admitted) c.admit.ensures.waiting (omega (arith, weighs, c.from-weight.ensures)) (omega (arith, le, weighs, c.self.invariant.0.waiting_weight, c.from-weight.ensures)),
       omega (arith, c.self.invariant.1, c.admit.ensures.room),

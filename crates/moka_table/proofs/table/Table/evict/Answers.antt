@@ -2,25 +2,25 @@ use Rattle.std.proofs.Common.{arith}
 use Rattle.moka_model.proofs.Callers.{total-append}
 use Rattle.moka_table.specs.Table.{weight_of}
 use Rattle.moka_rows.proofs.Callers.{length-taken}
-use Rattle.moka_table.proofs.Weights.{total-light, weight_in-le, with-le, with-changed, kept-taken}
+use Rattle.moka_table.proofs.Weights.{total-light, weight_in-le, with-le, with-changed, consistent-taken}
 use Rattle.moka_table.proofs.table.Table.evict.Goals as goal
 
-pub with-self-inside-requires-clause-before : goal.with-self-inside-requires-clause-before
-with-self-inside-requires-clause-before g c =
+pub with_weight-self-inside-requires-clause-before : goal.with_weight-self-inside-requires-clause-before
+with_weight-self-inside-requires-clause-before g c =
     rw c.info.ensures (with-le c.args.number c.remove-row.result.0 _ _ c.remove-row.ensures.row c.self.inside.weights c.self.invariant.0.admitted_weight c.self.invariant.0.waiting_weight c.remove-row.result.1 c.remove-row.ensures.order)
 
-pub with-self-inside-requires-clause-fits : goal.with-self-inside-requires-clause-fits
-with-self-inside-requires-clause-fits g c =
+pub with_weight-self-inside-requires-clause-fits : goal.with_weight-self-inside-requires-clause-fits
+with_weight-self-inside-requires-clause-fits g c =
     omega (arith, weight_in-le c.remove-row.result.1 c.self.inside.weights, c.self.invariant.0, c.self.invariant.1, total-light _ c.self.invariant.0.light, total-append weight_of (g.R.RowStore.admitted c.self.inside.rows) (g.R.RowStore.waiting c.self.inside.rows))
 
 pub invariant_of-self : goal.invariant_of-self
 invariant_of-self g c =
     let fewer = length-taken c.args.number c.remove-row.result.0 _ _ _ _ c.remove-row.ensures.row c.remove-row.ensures.rest in (
-      kept-taken (g.R.RowStore.admitted c.self.inside.rows) (g.R.RowStore.waiting c.self.inside.rows) c.self.inside.weights _ _ _ c.self.invariant.0
-          (g.R.RowStore.admitted c.remove-row.new.self) (g.R.RowStore.waiting c.remove-row.new.self) c.with-self-inside.result _ _ (omega (arith, fewer, c.self.invariant.0.few, c.in-Ok.ensures.len, c.in-Ok.ensures.in_place))
+      consistent-taken (g.R.RowStore.admitted c.self.inside.rows) (g.R.RowStore.waiting c.self.inside.rows) c.self.inside.weights _ _ _ c.self.invariant.0
+          (g.R.RowStore.admitted c.remove-row.new.self) (g.R.RowStore.waiting c.remove-row.new.self) c.with_weight-self-inside.result _ _ (omega (arith, fewer, c.self.invariant.0.few, c.in-Ok.ensures.len, c.in-Ok.ensures.in_place))
           c.args.number c.remove-row.result.0 c.remove-row.ensures.row c.remove-row.ensures.rest
           (with-changed c.args.number c.remove-row.result.0 _ _ c.remove-row.ensures.row c.self.inside.weights c.self.invariant.0.admitted_weight c.self.invariant.0.waiting_weight c.remove-row.result.1 c.remove-row.ensures.order
-          0 c.with-self-inside.result (rw c.info.ensures at c.with-self-inside.ensures.changed) c.with-self-inside.ensures.others),
+          0 c.with_weight-self-inside.result (rw c.info.ensures at c.with_weight-self-inside.ensures.changed) c.with_weight-self-inside.ensures.others),
       omega (arith, c.self.invariant.1, c.remove-row.ensures.room),
     )
 

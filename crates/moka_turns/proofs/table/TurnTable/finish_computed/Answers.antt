@@ -22,6 +22,6 @@ returns-clause-finishes g c hash_of ts respects hashed sound keeps =
     let named = known eq copies hash_of ts sound _ _ keeps q hashed c.args.turn.number turn.0 turn.1 (number ∙ its) in
     rw named (
       turn.2.shown,
-      turn.2.kept,
+      turn.2.saved,
       end-keeps eq laws copies hash_of respects ts sound _ _ keeps q hashed row there own.0 parts.0 parts.1 ends.Computed Computed (λ _. refl) _ _ (λ p. by_kinds eq q p _ _ _ (c.end_computed-row.ensures.opened.0 p)) (λ some. (given-there _ _ own.0 own.1 (c.end_computed-row.ensures.waited_for some)).0) (λ none m. ap (lookup (nat_eq m)) (c.end_computed-row.ensures.alone none)),
     )

@@ -9,7 +9,7 @@ use Rattle.moka_turns.specs.declared.table.OpenTurn.{OpenTurn}
 use Rattle.moka_turns.specs.declared.table.EndedTurn.{EndedTurn}
 use Rattle.moka_turns.proofs.Abandons.{by_kinds, abandoned-number}
 use Rattle.moka_turns.proofs.Changes.{given-there, change-keeps}
-use Rattle.moka_turns.proofs.Leaves.{TellsOf, passes-there, is_awaited, is_its, its-kinds, awaited, the_ended, kept, ended-number, leave-keeps, no-ticket}
+use Rattle.moka_turns.proofs.Leaves.{TellsOf, passes-there, is_awaited, is_ended_for, its-kinds, awaited, the_ended, kept, ended-number, leave-keeps, no-ticket}
 use Rattle.moka_turns.proofs.table.TurnTable.leave.Goals as goal
 
 pub returns-then-is_awaited-clause-leaves : goal.returns-then-is_awaited-clause-leaves
@@ -25,18 +25,18 @@ returns-then-is_awaited-clause-leaves g c hash_of ts respects hashed sound keeps
     rw (named, c.leave_open.ensures.ended) (
       refl,
       change-keeps eq laws copies hash_of respects ts sound _ _ keeps q hashed row.0 row.1 _ spent (λ u. refl) (λ u. refl) (with_unspent (row.0.unspent - 1) row.0)
-          (λ u is. record { number = is.number; shown = is.shown; kept = is.kept; unspent = ap (λ n. n - 1) is.unspent })
+          (λ u is. record { number = is.number; shown = is.shown; saved = is.saved; unspent = ap (λ n. n - 1) is.unspent })
           (λ p. by_kinds eq q p _ _ _ ((given-there _ _ row.0 row.1 c.leave_open.ensures.spent).0 p)),
     )
 
-pub returns-then-is_its-clause-leaves : goal.returns-then-is_its-clause-leaves
-returns-then-is_its-clause-leaves g c hash_of ts respects hashed sound keeps =
+pub returns-then-is_ended_for-clause-leaves : goal.returns-then-is_ended_for-clause-leaves
+returns-then-is_ended_for-clause-leaves g c hash_of ts respects hashed sound keeps =
     let eq = g.K.PartialEq.eq in
     let laws = g.met.K.Eq.laws in
     let copies = g.V.Clone.is_clone in
     let q = c.args.ticket.key in
     let number = c.args.ticket.number in
-    let row = passes-there (is_its eq laws copies hash_of respects ts sound _ _ keeps q hashed number) _ _ (its-kinds eq q _ _ c.is_its.ensures) c.if-is_its.true in
+    let row = passes-there (is_ended_for eq laws copies hash_of respects ts sound _ _ keeps q hashed number) _ _ (its-kinds eq q _ _ c.is_ended_for.ensures) c.if-is_ended_for.true in
     let named = kept eq laws copies hash_of respects ts sound _ _ keeps q hashed number row.0 row.1 row.2 in
     let its = ended-number eq laws copies hash_of respects ts sound _ _ keeps q hashed number row.0 row.1 in
     rw (named, c.leave_ended.ensures.opened, its) (
@@ -47,5 +47,5 @@ returns-then-is_its-clause-leaves g c hash_of ts respects hashed sound keeps =
 pub returns-clause-leaves : goal.returns-clause-leaves
 returns-clause-leaves g c hash_of ts respects hashed sound keeps =
     let eq = g.K.PartialEq.eq in
-    let none = no-ticket eq g.met.K.Eq.laws g.V.Clone.is_clone hash_of respects ts sound _ _ keeps c.args.ticket.key hashed c.args.ticket.number _ c.is_awaited.ensures c.if-is_awaited.false _ (its-kinds eq c.args.ticket.key _ _ c.is_its.ensures) c.if-is_its.false in
+    let none = no-ticket eq g.met.K.Eq.laws g.V.Clone.is_clone hash_of respects ts sound _ _ keeps c.args.ticket.key hashed c.args.ticket.number _ c.is_awaited.ensures c.if-is_awaited.false _ (its-kinds eq c.args.ticket.key _ _ c.is_ended_for.ensures) c.if-is_ended_for.false in
     rw none refl

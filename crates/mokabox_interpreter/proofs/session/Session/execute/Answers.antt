@@ -27,12 +27,12 @@ step-requires c =
       | in-Has+in_ok-step-in-Has w ↦ rw (w.in-Has.is, w.step-is) w.in_ok-step-in-Has.ensures
       | in-Invalidate+in_ok-step-in-Invalidate w ↦ rw (w.in-Invalidate.is, w.step-is) w.in_ok-step-in-Invalidate.ensures
       | in-Remove+in_ok-step-in-Remove w ↦ rw (w.in-Remove.is, w.step-is) w.in_ok-step-in-Remove.ensures
-      | in-InvalidateAll w ↦ rw (w.in-InvalidateAll.is, w.step-is) (record { makes = λ notices. refl; stays = λ at. refl; tells_nothing = λ settings before. refl; owed = tt })
+      | in-InvalidateAll w ↦ rw (w.in-InvalidateAll.is, w.step-is) (record { makes = λ notices. refl; stays = λ at. refl; prints_no_own = λ settings before. refl; owed = tt })
       | in-InvalidateIf+in_ok-step-in-InvalidateIf w ↦ rw (w.in-InvalidateIf.is, w.step-is) w.in_ok-step-in-InvalidateIf.ensures
-      | in-Tasks w ↦ rw (w.in-Tasks.is, w.step-is) (record { makes = λ notices. refl; stays = λ at. refl; tells_nothing = λ settings before. refl; owed = tt })
-      | in-TasksUpTo w ↦ rw (w.in-TasksUpTo.is, w.step-is) (record { makes = λ notices. refl; stays = λ at. refl; tells_nothing = λ settings before. refl; owed = tt })
-      | in-Count w ↦ rw (w.in-Count.is, w.step-is) (record { makes = λ notices. refl; stays = λ at. refl; tells_nothing = λ settings before. refl; owed = tt })
-      | in-Weight w ↦ rw (w.in-Weight.is, w.step-is) (record { makes = λ notices. refl; stays = λ at. refl; tells_nothing = λ settings before. refl; owed = tt })
+      | in-Tasks w ↦ rw (w.in-Tasks.is, w.step-is) (record { makes = λ notices. refl; stays = λ at. refl; prints_no_own = λ settings before. refl; owed = tt })
+      | in-TasksUpTo w ↦ rw (w.in-TasksUpTo.is, w.step-is) (record { makes = λ notices. refl; stays = λ at. refl; prints_no_own = λ settings before. refl; owed = tt })
+      | in-Count w ↦ rw (w.in-Count.is, w.step-is) (record { makes = λ notices. refl; stays = λ at. refl; prints_no_own = λ settings before. refl; owed = tt })
+      | in-Weight w ↦ rw (w.in-Weight.is, w.step-is) (record { makes = λ notices. refl; stays = λ at. refl; prints_no_own = λ settings before. refl; owed = tt })
       | in-Begin+in_ok-step-in-Begin w ↦ rw (w.in-Begin.is, w.step-is) w.in_ok-step-in-Begin.ensures
       | in-BeginCompute+in_ok-step-in-BeginCompute w ↦ rw (w.in-BeginCompute.is, w.step-is) w.in_ok-step-in-BeginCompute.ensures
       | in-Finish+in_ok-step-in-Finish w ↦ rw (w.in-Finish.is, w.step-is) w.in_ok-step-in-Finish.ensures
@@ -51,12 +51,12 @@ returns c =
       | in-Has+in_ok-step-in-Has w ↦ rw (w.in-Has.is, w.step-is) w.in_ok-step-in-Has.ensures
       | in-Invalidate+in_ok-step-in-Invalidate w ↦ rw (w.in-Invalidate.is, w.step-is) w.in_ok-step-in-Invalidate.ensures
       | in-Remove+in_ok-step-in-Remove w ↦ rw (w.in-Remove.is, w.step-is) w.in_ok-step-in-Remove.ensures
-      | in-InvalidateAll w ↦ rw (w.in-InvalidateAll.is, w.step-is) (record { makes = λ notices. refl; stays = λ at. refl; tells_nothing = λ settings before. refl; owed = tt })
+      | in-InvalidateAll w ↦ rw (w.in-InvalidateAll.is, w.step-is) (record { makes = λ notices. refl; stays = λ at. refl; prints_no_own = λ settings before. refl; owed = tt })
       | in-InvalidateIf+in_ok-step-in-InvalidateIf w ↦ rw (w.in-InvalidateIf.is, w.step-is) w.in_ok-step-in-InvalidateIf.ensures
-      | in-Tasks w ↦ rw (w.in-Tasks.is, w.step-is) (record { makes = λ notices. refl; stays = λ at. refl; tells_nothing = λ settings before. refl; owed = tt })
-      | in-TasksUpTo w ↦ rw (w.in-TasksUpTo.is, w.step-is) (record { makes = λ notices. refl; stays = λ at. refl; tells_nothing = λ settings before. refl; owed = tt })
-      | in-Count w ↦ rw (w.in-Count.is, w.step-is) (record { makes = λ notices. refl; stays = λ at. refl; tells_nothing = λ settings before. refl; owed = tt })
-      | in-Weight w ↦ rw (w.in-Weight.is, w.step-is) (record { makes = λ notices. refl; stays = λ at. refl; tells_nothing = λ settings before. refl; owed = tt })
+      | in-Tasks w ↦ rw (w.in-Tasks.is, w.step-is) (record { makes = λ notices. refl; stays = λ at. refl; prints_no_own = λ settings before. refl; owed = tt })
+      | in-TasksUpTo w ↦ rw (w.in-TasksUpTo.is, w.step-is) (record { makes = λ notices. refl; stays = λ at. refl; prints_no_own = λ settings before. refl; owed = tt })
+      | in-Count w ↦ rw (w.in-Count.is, w.step-is) (record { makes = λ notices. refl; stays = λ at. refl; prints_no_own = λ settings before. refl; owed = tt })
+      | in-Weight w ↦ rw (w.in-Weight.is, w.step-is) (record { makes = λ notices. refl; stays = λ at. refl; prints_no_own = λ settings before. refl; owed = tt })
       | in-Begin+in_ok-step-in-Begin w ↦ rw (w.in-Begin.is, w.step-is) w.in_ok-step-in-Begin.ensures
       | in-BeginCompute+in_ok-step-in-BeginCompute w ↦ rw (w.in-BeginCompute.is, w.step-is) w.in_ok-step-in-BeginCompute.ensures
       | in-Finish+in_ok-step-in-Finish w ↦ rw (w.in-Finish.is, w.step-is) w.in_ok-step-in-Finish.ensures
@@ -64,4 +64,4 @@ returns c =
       | in-Collect+in_ok-step-in-Collect w ↦ rw (w.in-Collect.is, w.step-is) w.in_ok-step-in-Collect.ensures
       | in-Leave+in_ok-step-in-Leave w ↦ rw (w.in-Leave.is, w.step-is) w.in_ok-step-in-Leave.ensures
     ] in
-    one_call _ _ _ _ c.match-command.step c.step.result c.in_ok-answer.answer _ one (record { reply_is = c.step.ensures.reply; stands = c.step.ensures.stands }) c.in_ok-answer.ensures c.in_ok-vec.ensures.items
+    one_call _ _ _ _ c.match-command.step c.step.result c.in_ok-output.output _ one (record { reply_is = c.step.ensures.reply; stands = c.step.ensures.stands }) c.in_ok-output.ensures c.in_ok-vec.ensures.items

@@ -9,6 +9,6 @@ pub returns-clause-begun : goal.returns-clause-begun
 returns-clause-begun c =
     let wanted : c.in_ok-builder.builder.num_segments ≡ wanted_segments c.args.settings = search rules in
     begins c.args.settings c.in_ok-cache.cache c.builder_of.result c.default.result c.builder_of.ensures (search rules)
-    (c.in_ok-cache.ensures.settings ∙ ap (λ b. settings_built b c.default.result) c.in_ok-builder.ensures.told)
+    (c.in_ok-cache.ensures.settings ∙ ap (λ b. settings_built b c.default.result) c.in_ok-builder.ensures.settings)
     (c.in_ok-cache.ensures.segments ∙ ap bits_for wanted)
     c.in_ok-cache.ensures.empty

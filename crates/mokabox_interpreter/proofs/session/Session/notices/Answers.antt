@@ -2,7 +2,7 @@ use Rattle.std.proofs.Common.{◌+◌, refl, arith, Some, None, true, nat_eq}
 use Rattle.moka_state.specs.declared.step.Reply.TheVariants.{Noticed}
 use Rattle.moka_segmented.proofs.Callers.{taken-replies}
 use Rattle.mokabox_interpreter.specs.Script.{Text, is_copy, is_surely_copied}
-use Rattle.mokabox_interpreter.proofs.SessionLaws.{answered_more, all_taken}
+use Rattle.mokabox_interpreter.proofs.SessionLaws.{printed_more, all_taken}
 use Rattle.mokabox_interpreter.proofs.session.Session.notices.Goals as goal
 
 pub loop-notice-preserved : goal.loop-notice-preserved
@@ -11,9 +11,9 @@ loop-notice-preserved c = (
       let was = c.loop-notice.invariant.0 settings steps stands in (
         was.0 + 1,
         omega (arith, was.1, c.in-Some.ensures.fewer),
-        answered_more _ _ settings steps was.0 _ _ _ (Noticed (Some c.in-Some.notice)) was.2
+        printed_more _ _ settings steps was.0 _ _ _ (Noticed (Some c.in-Some.notice)) was.2
             (record { reply_is = λ s calls stand. taken-replies Text nat_eq is_copy is_surely_copied s calls (λ key text. true) (Some c.in-Some.notice) (c.in-Some.ensures.reply s calls stand); stands = c.in-Some.ensures.stands })
-            c.in_ok-answer.ensures c.in_ok-push.ensures.items,
+            c.in_ok-output.ensures c.in_ok-push.ensures.items,
       )),
   c.loop-notice.invariant.1,
 )
@@ -26,7 +26,7 @@ returns c =
     let left = c.in_default.ensures.none.0 refl in (
       was.0 + 1,
       omega (arith, was.1, left),
-      answered_more _ _ settings steps was.0 _ _ _ (Noticed None) was.2
+      printed_more _ _ settings steps was.0 _ _ _ (Noticed None) was.2
           (record { reply_is = λ s calls stand. taken-replies Text nat_eq is_copy is_surely_copied s calls (λ key text. true) None (c.in_default.ensures.reply s calls stand); stands = c.in_default.ensures.stands })
           c.in_ok-last.ensures c.in_ok-push-2.ensures.items,
     )))

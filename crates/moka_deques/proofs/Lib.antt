@@ -1,5 +1,0 @@
-pub mod Callers
-pub mod ChainLemmas
-pub mod NodeLemmas
-pub mod DequeLemmas
-pub mod PathLemmas

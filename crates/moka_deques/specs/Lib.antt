@@ -1,4 +1,0 @@
-pub mod Nodes
-pub mod Deques
-pub mod Paths
-pub mod Rings

@@ -1,0 +1,16 @@
+use Rattle.std.proofs.Common.{◌≡◌}
+use Rattle.moka_index.specs.Nodes.{node_at}
+use Rattle.moka_index.proofs.NodeLemmas.{next-within, prev-within, unlinks}
+use Rattle.moka_index.proofs.nodes.unlink_in.Goals as goal
+
+pub set_next-requires : goal.set_next-requires
+set_next-requires c = rw c.read-prev.ensures (prev-within c.args.nodes.now c.args.at c.requires.mutual c.requires.within)
+
+pub set_prev-requires : goal.set_prev-requires
+set_prev-requires c = rw (c.set_next.ensures.rest.len, c.read-prev.ensures) (next-within c.args.nodes.now c.args.at c.requires.mutual c.requires.within)
+
+pub returns : goal.returns
+returns c =
+    let is : c.read-prev.result ≡ node_at c.args.nodes.now c.args.at = c.read-prev.ensures in
+    unlinks c.args.nodes.now c.set_next.new.nodes c.set_prev.new.nodes c.set_next-2.new.nodes c.set_prev-2.new.nodes c.args.at c.requires.mutual
+    (rw is at c.set_next.ensures) (rw is at c.set_prev.ensures) c.set_next-2.ensures c.set_prev-2.ensures

@@ -1,0 +1,88 @@
+//! What the lock of a recorded machine guards.
+ghost use Rattle.std.specs.Prelude.{◌≡◌, [], length, IfOk, IfErr, OnErr};
+ghost use Rattle.moka_recording.specs.Receipts.{AddsReceipt};
+
+use crate::law::{Adds, Entry, Hands, History, Token};
+use crate::machine::Machine;
+use crate::naming::Naming;
+use crate::pass::Pass;
+use crate::receipt::{Receipt, StoredReceipt};
+use moka_policy::policy::Refused;
+use std::marker::Model;
+use std::mem;
+use std::sync::ledger::{Book, Share};
+
+/// A machine with the history of its steps. Contracts see both.
+///
+/// The machine stands for the history. The one token that knows the whole history knows this one.
+#[derive(Drop)]
+pub struct GuardedMachine<M: Machine<S, R>, S: Drop, R: Drop, L: Naming> {
+    pub(crate) machine: M,
+    pub(crate) entries: Vec<Entry<S, R>>,
+    pub(crate) token: Token<S, R>,
+    pub(crate) book: Book<L>,
+    pub(crate) rest: Share<L>,
+}
+
+impl<M: Machine<S, R>, S: Drop, R: Drop, L: Naming> Model for GuardedMachine<M, S, R, L> {
+    ghost use Rattle.std.specs.Prelude.{◌≡◌, ℕ, List, [], length};
+    ghost use Rattle.moka_recording.specs.History.{GuardedMachineData, recorder};
+    ghost use Rattle.moka_recording.specs.Receipts.{pairs};
+
+    ghost Value = { GuardedMachineData M S R };
+
+    ghost view = { λ d. record { machine = d.machine; history = d.entries.items } };
+
+    ghost invariant = { λ d. M.stands d.machine (pairs d.entries.items)
+        × (d.token.table_id ≡ L.table)
+        × (d.token.me ≡ (recorder d.entries.items [], []))
+        × (d.book.total ≡ length d.entries.items)
+        × (d.rest.parts ≡ 0)
+        × (d.rest.amount ≡ 0) };
+}
+
+impl<M: Machine<S, R>, S: Drop, R: Drop, L: Naming> GuardedMachine<M, S, R, L> {
+    // Does one step and records it in the history and in the pass. If it fails, the pass is
+    // unchanged.
+    pub(crate) fn add(
+        &mut self,
+        history: &History<S, R>,
+        pass: &mut Pass<M, S, R, L>,
+        step: S,
+    ) -> Result<Receipt<R>, Refused>
+        requires table { history.now.shared.table_id ≡ L.table }
+        requires words { history.now.shared.table_id.words ≡ 1 }
+        requires owes { M.owes step }
+        ensures place { IfOk result (λ receipt. receipt.place ≡ length self.old.history) }
+        ensures receipt { IfOk result
+            (AddsReceipt M.same_step M.same_reply step pass.old pass.new) }
+        ensures fits { IfOk result (λ receipt. M.fits step receipt.reply) }
+        ensures refused { OnErr result (pass.new ≡ pass.old) }
+        ensures cause { IfErr result (λ cause. cause ≡ Refused.OutOfMemory) }
+    {
+        let Ok(()) = self.entries.reserve(1) else {
+            return Err(Refused::OutOfMemory);
+        };
+        let Ok(()) = pass.receipts.reserve(1) else {
+            return Err(Refused::OutOfMemory);
+        };
+        let (reply, first, second) = self.machine.step_recorded(step)?;
+        let place = self.entries.len() as u64;
+        let entry = (pass.number, first.0, first.1);
+        let spare = history.shared.split_seat::<Hands>(&mut self.token);
+        let theirs = mem::replace(&mut pass.token, spare);
+        history.shared.join_seat::<Hands>(&mut self.token, theirs);
+        history
+            .shared
+            .compare_exchange_with::<Adds>(&mut self.token, 0, 0, 0, &entry);
+        pass.token = history.shared.split_seat::<Hands>(&mut self.token);
+        self.entries.push_reserved(entry);
+        pass.receipts.push_reserved(StoredReceipt {
+            place,
+            step: second.0,
+            reply: second.1,
+        });
+        self.book.add(&mut pass.share, 1);
+        Ok(Receipt { place, reply })
+    }
+}

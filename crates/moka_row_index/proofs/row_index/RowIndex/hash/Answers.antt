@@ -1,8 +1,0 @@
-use Rattle.moka_row_index.proofs.IndexLemmas.{number-within}
-use Rattle.moka_row_index.proofs.row_index.RowIndex.hash.Goals as goal
-
-pub link-requires : goal.link-requires
-link-requires c = number-within c.args.self.now.orders c.args.number c.requires
-
-pub hash-requires : goal.hash-requires
-hash-requires c = rw c.link.ensures (number-within c.args.self.now.orders c.args.number c.requires)
