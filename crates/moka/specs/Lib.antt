@@ -18,6 +18,7 @@ pub use Rattle.moka_base.specs.StandsFor
 pub use Rattle.moka_base.specs.Steps
 pub use Rattle.moka_state.specs.Behaviour
 pub use Rattle.moka_state.specs.Noticed
+pub use Rattle.moka_state.specs.Recorded
 pub use Rattle.moka_state.specs.Replies
 pub use Rattle.moka_state.specs.Rows
 pub use Rattle.moka_state.specs.State
@@ -27,6 +28,17 @@ pub use Rattle.moka_state.specs.Table
 pub use Rattle.moka_state.specs.Write
 pub use Rattle.moka_state_iter.specs.States
 pub use Rattle.moka_presets.specs.Copies
+pub use Rattle.moka_recorded.specs.Gets
+pub use Rattle.moka_recorded.specs.GivesBack
+pub use Rattle.moka_recorded.specs.History
+pub use Rattle.moka_recorded.specs.Keeps
+pub use Rattle.moka_recorded.specs.Receipts
+pub use Rattle.moka_recorded.specs.Rounds
+pub use Rattle.moka_recorded.specs.StepForm
+pub use Rattle.moka_recorded_laws.specs.GetLaws
+pub use Rattle.moka_recorded_laws.specs.HistoryLaws
+pub use Rattle.moka_recorded_laws.specs.LegalRun
+pub use Rattle.moka_recorded_laws.specs.RunLaws
 pub use Rattle.moka_sync.specs.Builder
 pub use Rattle.moka_sync.specs.Cache
 pub use Rattle.moka_iter.specs.Cursors

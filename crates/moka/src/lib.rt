@@ -58,9 +58,13 @@ pub mod sync {
     /// A cache that threads share, with the history of its steps.
     pub mod recorded {
         pub use moka_recorded::naming::Naming;
-        pub use moka_recorded::receipt::Receipt;
-        pub use moka_recorded::recorded_cache::{CloseRefused, Opened, Pass, RecordedCache};
+        pub use moka_recorded::receipt::{Receipt, StoredReceipt};
+        pub use moka_recorded::recorded_cache::{
+            CloseRefused, Entries, Opened, Pass, RecordedCache, Recording,
+        };
+        pub use moka_recorded::recorded_state::OverState;
         pub use moka_recorded::refused::GetWithRefused;
+        pub use moka_recorded_laws::{get_laws, history_laws, legal_laws, run_laws};
     }
 
     /// The owned cache of several segments.

@@ -5,3 +5,4 @@ pub mod clock;
 pub mod copies;
 pub mod meant;
 pub mod ready;
+pub mod recorded;

@@ -4,7 +4,7 @@ use Rattle.moka_policy.specs.declared.policy.Refused as policies
 use Rattle.moka_model.specs.declared.entry.Entry.{Entry}
 use Rattle.moka_state.specs.declared.step.Reply.{Reply}
 use Rattle.moka_state.specs.declared.step.Reply.TheVariants.{Entered, Refused}
-use Rattle.moka_history.specs.StepForm.{RefusedOr, IsSort, an_entry}
+use Rattle.moka_recorded.specs.StepForm.{RefusedOr, IsSort, an_entry}
 
 module _ {K V C H W X P F L T E S : Type 0} (May : policies.Refused → Type 0) where
   -- an entry, or a refusal

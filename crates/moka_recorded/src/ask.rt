@@ -26,12 +26,7 @@ pub(crate) type Shared<K, V, C, R, L, W> = Recorded<
 >;
 
 /// A pass of a recorded state.
-pub(crate) type PassOf<K, V, C, R, L> = Pass<
-    RecordedState<K, V, C, R>,
-    Step<K, V, C>,
-    Reply<K, V, C>,
-    L,
->;
+pub type PassOf<K, V, C, R, L> = Pass<RecordedState<K, V, C, R>, Step<K, V, C>, Reply<K, V, C>, L>;
 
 // A call of `get_with`: the cache, the key, and the moment in nanoseconds.
 #[derive(Drop)]
@@ -67,13 +62,13 @@ impl<
 
     type Refused = GetWithRefused<K, V, C>;
 
-    ghost begun = { λ at. Begins V.is_clone (arc_value at.key) at.now };
+    ghost begun = { λ at. Begins V.is_clone C.keeps (arc_value at.key) at.now };
 
-    ghost collected = { λ _. Collects V.is_clone };
+    ghost collected = { λ _. Collects V.is_clone C.keeps };
 
-    ghost begin_refused = { λ at. BeginRefused V.is_clone (arc_value at.key) at.now };
+    ghost begin_refused = { λ at. BeginRefused V.is_clone C.keeps (arc_value at.key) at.now };
 
-    ghost collect_refused = { λ _. CollectRefused V.is_clone };
+    ghost collect_refused = { λ _. CollectRefused V.is_clone C.keeps };
 
     fn begin(
         &mut self,

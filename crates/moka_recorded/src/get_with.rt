@@ -35,9 +35,10 @@ where
     F: FnOnce() -> V + Drop,
     requires asks { F.IsAlwaysCallable init }
     requires keeps { (v : V) → F.post init v → C.keeps (arc_value key) v }
-    ensures done { IfOk result (λ v. Gets V.is_clone (arc_value key) now
+    ensures done { IfOk result (λ v. Gets V.is_clone C.keeps (arc_value key) now
         (F.post init) pass.old v pass.new) }
-    ensures refused { IfErr result (λ refused. GetsRefused V.is_clone (arc_value key) now
+    ensures kept { IfOk result (C.keeps (arc_value key)) }
+    ensures refused { IfErr result (λ refused. GetsRefused V.is_clone C.keeps (arc_value key) now
         (F.post init) pass.old refused pass.new) }
 {
     let at = GetWithCall { cache, key, now };
@@ -71,10 +72,10 @@ where
     L: Naming,
     W: Wait + Drop,
     requires { C.keeps (arc_value turn.name.key) value }
-    ensures done { IfOk result (λ v. Finishes V.is_clone (name_by turn.name) value now
+    ensures done { IfOk result (λ v. Finishes V.is_clone C.keeps (name_by turn.name) value now
         v pass.old pass.new) }
-    ensures refused { IfErr result (λ refused. FinishRefused V.is_clone (name_by turn.name) value
-        now refused pass.old pass.new) }
+    ensures refused { IfErr result (λ refused. FinishRefused V.is_clone C.keeps
+        (name_by turn.name) value now refused pass.old pass.new) }
 {
     let Named { name } = turn;
     let Ok(called) = copy_name(&name) else {

@@ -1,12 +1,40 @@
 //! An owned cache as a machine whose steps are recorded.
-ghost use Rattle.std.specs.Prelude.{◌≡◌, IfOk, IfErr};
+ghost use Rattle.std.specs.Prelude.{◌≡◌, ◌↔◌, List, [], IsTrue, IfOk, IfErr};
 
+use crate::named::copy_name;
+use moka_expiration::view::StateView;
 use moka_policy::policy::{CacheTypes, Refused};
 use moka_recording::machine::Machine;
 use moka_rows::rows::RowStore;
 use moka_state::state::State;
 use moka_state::step::{Reply, Step};
 use std::hash::Hash;
+
+/// A machine over a state that was just built, which gives the state back.
+///
+/// A recorded cache is written over any such machine. The prover takes no function that is given a
+/// state by value and is generic over its keys, its values and its types.
+pub trait OverState<S: Drop, R: Drop>: Machine<S, R> + Sized {
+    ghost use Rattle.std.specs.Prelude.{◌≡◌, List, []};
+
+    /// The state.
+    type State;
+
+    /// The state was just built.
+    ghost is_built: { Self.State → Type 0 };
+
+    /// The state stands for this history, the oldest step first, and the history is legal.
+    ghost is_record: { Self.State → List (S × R) → Type 0 };
+
+    /// Creates the machine over a state.
+    fn over(state: Self::State) -> Self
+        requires { is_built state }
+        ensures { Self.stands result [] };
+
+    /// Returns the state of the machine.
+    fn into_state(self) -> Self::State
+        ensures { (h : List (S × R)) → Self.stands self h → is_record result h };
+}
 
 /// A state whose steps are recorded.
 #[derive(Drop)]
@@ -27,10 +55,14 @@ impl<K: Hash + Drop, V: Clone, C: CacheTypes<K, V>, R: RowStore<K, V>> Machine<
 > for RecordedState<K, V, C, R> {
     ghost use Rattle.moka_expiration.specs.Behaviour.{hash_by, behaviour_by};
     ghost use Rattle.moka_expiration.specs.StateData.{estimates, view_by};
-    ghost use Rattle.moka_state.specs.Step.{StepKeeps, ReplyKeeps};
-    ghost use Rattle.moka_state.specs.Recorded.{SameStep, SameReply, IsRecord};
-    ghost use Rattle.moka_history.specs.StepForm.{IsOfForm};
+    ghost use Rattle.moka_value_invariant.specs.Keeps.{HasKeptHistory};
+    ghost use Rattle.moka_state.specs.Replies.{IsRefusal};
+    ghost use Rattle.moka_state.specs.Step.{StepKeeps};
+    ghost use Rattle.moka_state.specs.Recorded.{OneStep, OneReply, IsRecord};
     ghost use Rattle.moka_recorded.specs.GivesBack.{GivesBack};
+    ghost use Rattle.moka_recorded.specs.Keeps.{HandsOutKept};
+    ghost use Rattle.moka_recorded.specs.StepForm.{IsOfForm};
+    ghost use Rattle.moka_recorded.specs.Waking.{IsEnd, IsNotYet};
 
     ghost stands = { λ it history. IsRecord K.eq V.is_clone V.is_infallible C.test
         (view_by
@@ -38,28 +70,78 @@ impl<K: Hash + Drop, V: Clone, C: CacheTypes<K, V>, R: RowStore<K, V>> Machine<
         (hash_by C.Hasher.build_hasher C.Hasher.Hasher.write C.Hasher.Hasher.finish K.hash_input)
         C.weight C.lifetimes)
         (estimates C.Frequency.noted C.Frequency.count) C.Frequency.opened)
-        it.state history };
+        it.state history
+        × HasKeptHistory C.keeps K.eq V.is_clone (view_by
+        (behaviour_by
+        (hash_by C.Hasher.build_hasher C.Hasher.Hasher.write C.Hasher.Hasher.finish K.hash_input)
+        C.weight C.lifetimes)
+        (estimates C.Frequency.noted C.Frequency.count) C.Frequency.opened it.state) };
 
     ghost owes = { StepKeeps C.keeps C.Predicate.tests C.test };
 
     ghost fits = { λ step reply. IsOfForm step reply
-        × ReplyKeeps C.keeps step reply
+        × HandsOutKept C.keeps C.test step reply
         × GivesBack V.is_clone step reply };
 
-    ghost same_step = { SameStep V.is_clone };
+    ghost one_step = { OneStep V.is_clone };
 
-    ghost same_reply = { SameReply V.is_clone };
+    ghost one_reply = { OneReply V.is_clone };
+
+    ghost ends = { IsEnd };
+
+    ghost fails = { IsRefusal };
+
+    ghost early = { IsNotYet };
 
     fn step_recorded(&mut self, step: Step<K, V, C>) -> Result<Done<K, V, C>, Refused> {
         let (reply, first, second) = self.state.step_recorded(step)?;
         Ok((reply, first, second))
     }
 
-    fn wakes(step: &Step<K, V, C>) -> bool {
+    fn is_end(step: &Step<K, V, C>) -> bool {
         matches!(step, Step::Finish { .. } | Step::Abandon { .. })
+    }
+
+    fn is_failure(reply: &Reply<K, V, C>) -> bool {
+        matches!(reply, Reply::Refused(_) | Reply::PredicateRefused(_))
     }
 
     fn is_early(reply: &Reply<K, V, C>) -> bool {
         matches!(reply, Reply::NotYet)
+    }
+
+    fn still_waits(&self, step: &Step<K, V, C>) -> bool {
+        let Step::Collect { name } = step else {
+            return false;
+        };
+        match copy_name(name) {
+            Ok(name) => self.state.is_open(name),
+            Err(_) => false,
+        }
+    }
+}
+
+impl<K: Hash + Drop, V: Clone, C: CacheTypes<K, V>, R: RowStore<K, V>> OverState<
+    Step<K, V, C>,
+    Reply<K, V, C>,
+> for RecordedState<K, V, C, R> {
+    ghost use Rattle.std.specs.Prelude.{[]};
+    ghost use Rattle.moka_state.specs.Recorded.{IsRecord};
+
+    type State = State<K, V, C, R>;
+
+    ghost is_built = { λ state. ⟦<C as StateView<K, V>>⟧.stands_for
+        (⟦<C as StateView<K, V>>⟧.settings state.settings) state [] };
+
+    ghost is_record = { IsRecord K.eq V.is_clone V.is_infallible C.test
+        ⟦<C as StateView<K, V>>⟧.view };
+
+    fn over(state: State<K, V, C, R>) -> Self {
+        RecordedState { state }
+    }
+
+    fn into_state(self) -> State<K, V, C, R> {
+        let RecordedState { state } = self;
+        state
     }
 }

@@ -4,6 +4,7 @@ use mathlib.Core.Logic.{dite}
 use native.Mathlib.Decide.{ℕ_discrete}
 use Rattle.std.specs.Prelude.{slice_get}
 use Rattle.moka_recording.specs.History.{Each}
+use Rattle.moka_recording.specs.Receipts.{PassData, AreInOrder, IsWhole}
 
 module _ {A : Type 0} where
   pub get_front : (xs ys : List A) (k : ℕ) (p : A) → slice_get xs k ≡ Some p → slice_get (xs ++ ys) k ≡ Some p
@@ -20,6 +21,11 @@ module _ {A : Type 0} where
   get_below (x ∷ xs) zero p e = omega arith
   get_below (x ∷ xs) (suc k) p e = let h = get_below xs k p e in omega arith
 
+  get_there : (xs : List A) (k : ℕ) → k < length xs → (x : A) × (slice_get xs k ≡ Some x)
+  get_there [] k h = absurd (omega arith)
+  get_there (x ∷ xs) zero h = (x, refl)
+  get_there (x ∷ xs) (suc k) h = get_there xs k (omega arith)
+
   pub each_nil : (P : A → Type 0) → Each P []
   each_nil P k x e = absurd (cc)
 
@@ -34,3 +40,8 @@ module _ {A : Type 0} where
 
 pub upto : (P : ℕ → Type 0) (k : ℕ) → ((n : ℕ) → n < k → P n) → P k → (n : ℕ) → n < k + 1 → P n
 upto P k h p n less = dite (ℕ_discrete n k) (λ e. subst P (sym e) p) (λ ne. h n (omega arith))
+
+module _ {S R : Type 0} where
+  pub in_order : (passes : List (PassData S R)) (count : ℕ) → AreInOrder passes → length passes ≡ count → IsWhole count passes
+  in_order passes count order size =
+      (size, λ number below. let p = get_there passes number (omega arith) in (number, p.0, p.1, order number p.0 p.1))

@@ -1,5 +1,5 @@
 //! What the lock of a recorded machine guards.
-ghost use Rattle.std.specs.Prelude.{◌≡◌, [], length, IfOk, IfErr, OnErr};
+ghost use Rattle.std.specs.Prelude.{◌≡◌, [], length, IfOk, OnErr};
 ghost use Rattle.moka_recording.specs.Receipts.{AddsReceipt};
 
 use crate::law::{Adds, Entry, Hands, History, Token};
@@ -7,7 +7,6 @@ use crate::machine::Machine;
 use crate::naming::Naming;
 use crate::pass::Pass;
 use crate::receipt::{Receipt, StoredReceipt};
-use moka_policy::policy::Refused;
 use std::marker::Model;
 use std::mem;
 use std::sync::ledger::{Book, Share};
@@ -42,31 +41,34 @@ impl<M: Machine<S, R>, S: Drop, R: Drop, L: Naming> Model for GuardedMachine<M, 
 }
 
 impl<M: Machine<S, R>, S: Drop, R: Drop, L: Naming> GuardedMachine<M, S, R, L> {
-    // Does one step and records it in the history and in the pass. If it fails, the pass is
-    // unchanged.
+    // Does one step and records it in the history and in the pass.
+    //
+    // Fails only if an allocation fails. The pass is then unchanged. If the machine never got the step,
+    // hands it back, so that the caller drops it without the lock.
     pub(crate) fn add(
         &mut self,
         history: &History<S, R>,
         pass: &mut Pass<M, S, R, L>,
         step: S,
-    ) -> Result<Receipt<R>, Refused>
+    ) -> Result<Receipt<R>, Option<S>>
         requires table { history.now.shared.table_id ≡ L.table }
         requires words { history.now.shared.table_id.words ≡ 1 }
         requires owes { M.owes step }
         ensures place { IfOk result (λ receipt. receipt.place ≡ length self.old.history) }
         ensures receipt { IfOk result
-            (AddsReceipt M.same_step M.same_reply step pass.old pass.new) }
+            (AddsReceipt M.one_step M.one_reply step pass.old pass.new) }
         ensures fits { IfOk result (λ receipt. M.fits step receipt.reply) }
         ensures refused { OnErr result (pass.new ≡ pass.old) }
-        ensures cause { IfErr result (λ cause. cause ≡ Refused.OutOfMemory) }
     {
         let Ok(()) = self.entries.reserve(1) else {
-            return Err(Refused::OutOfMemory);
+            return Err(Some(step));
         };
         let Ok(()) = pass.receipts.reserve(1) else {
-            return Err(Refused::OutOfMemory);
+            return Err(Some(step));
         };
-        let (reply, first, second) = self.machine.step_recorded(step)?;
+        let Ok((reply, first, second)) = self.machine.step_recorded(step) else {
+            return Err(None);
+        };
         let place = self.entries.len() as u64;
         let entry = (pass.number, first.0, first.1);
         let spare = history.shared.split_seat::<Hands>(&mut self.token);
@@ -84,5 +86,13 @@ impl<M: Machine<S, R>, S: Drop, R: Drop, L: Naming> GuardedMachine<M, S, R, L> {
         });
         self.book.add(&mut pass.share, 1);
         Ok(Receipt { place, reply })
+    }
+
+    // Returns whether the last step of a pass, if done now, would still be early.
+    pub(crate) fn still_waits(&self, pass: &Pass<M, S, R, L>) -> bool {
+        match pass.receipts.last() {
+            Some(stored) => self.machine.still_waits(&stored.step),
+            None => false,
+        }
     }
 }

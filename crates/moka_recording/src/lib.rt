@@ -9,5 +9,4 @@ pub mod naming;
 pub mod opened;
 pub mod pass;
 pub mod receipt;
-pub mod receipt_laws;
 pub mod recorded;

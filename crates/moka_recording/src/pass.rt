@@ -1,7 +1,7 @@
 //! The right to call a recorded machine.
-ghost use Rattle.std.specs.Prelude.{◌≡◌, ℕ, List, [], length};
+ghost use Rattle.std.specs.Prelude.{◌≡◌, []};
 ghost use Rattle.moka_recording.specs.History.{claimer};
-ghost use Rattle.moka_recording.specs.Receipts.{AreOf};
+ghost use Rattle.moka_recording.specs.Receipts.{PlacesRise};
 
 use crate::law::Token;
 use crate::machine::Machine;
@@ -12,7 +12,7 @@ use std::marker::{Model, PhantomData};
 use std::sync::ledger::Share;
 
 /// The right of one thread to call a recorded machine, with the receipts of its calls. Contracts
-/// see its number and its receipts.
+/// see its number, its receipts, and what the history has at their places.
 #[derive(Drop)]
 pub struct Pass<M: Machine<S, R>, S: Drop, R: Drop, L: Naming> {
     pub(crate) number: u64,
@@ -23,20 +23,21 @@ pub struct Pass<M: Machine<S, R>, S: Drop, R: Drop, L: Naming> {
 }
 
 impl<M: Machine<S, R>, S: Drop, R: Drop, L: Naming> Model for Pass<M, S, R, L> {
-    ghost use Rattle.std.specs.Prelude.{◌≡◌, ℕ, List, [], length};
-    ghost use Rattle.moka_recording.specs.declared.receipt.StoredReceipt.{StoredReceipt};
-    ghost use Rattle.moka_recording.specs.declared.law.Claim.{Claim};
-    ghost use Rattle.moka_recording.specs.History.{claimer};
-    ghost use Rattle.moka_recording.specs.Receipts.{AreOf};
+    ghost use Rattle.std.specs.Prelude.{◌≡◌, [], length};
+    ghost use Rattle.moka_recording.specs.Receipts.{PassData, AreOf, PlacesRise};
 
-    ghost Value = { ℕ × List (StoredReceipt S R) };
+    ghost Value = { PassData S R };
 
-    ghost view = { λ p. (p.number, p.receipts.items) };
+    ghost view = { λ p. record {
+      number = p.number;
+      receipts = p.receipts.items;
+      claims = p.token.me.0.claims;
+    } };
 
-    ghost invariant = { λ p. (claims : List (Claim S R))
-        × (p.token.table_id ≡ L.table)
-        × (p.token.me ≡ (claimer claims, []))
-        × AreOf M.same_step M.same_reply p.number claims p.receipts.items
+    ghost invariant = { λ p. (p.token.table_id ≡ L.table)
+        × (p.token.me.1 ≡ [])
+        × AreOf M.one_step M.one_reply p.number p.token.me.0.claims p.receipts.items
+        × PlacesRise p.receipts.items
         × (p.share.parts ≡ 1)
         × (p.share.amount ≡ length p.receipts.items) };
 }
@@ -51,7 +52,7 @@ impl<M: Machine<S, R>, S: Drop, R: Drop, L: Naming> Pass<M, S, R, L> {
     ) -> Self
         requires token { (token.table_id ≡ L.table) × (token.me ≡ (claimer [], [])) }
         requires share { (share.parts ≡ 1) × (share.amount ≡ 0) }
-        ensures { result ≡ (number, []) }
+        ensures { result ≡ record { number = number; receipts = []; claims = [] } }
     {
         Pass {
             number,
@@ -64,8 +65,16 @@ impl<M: Machine<S, R>, S: Drop, R: Drop, L: Naming> Pass<M, S, R, L> {
 
     /// Returns the number of the pass. The passes of a cache are numbered from 0.
     pub fn number(&self) -> u64
-        ensures { result ≡ self.now.0 }
+        ensures { result ≡ self.now.number }
     {
         self.number
+    }
+
+    /// Returns the receipts of the pass's calls, the oldest first. Their places rise.
+    pub fn receipts(&self) -> &[StoredReceipt<S, R>]
+        ensures receipts { result.now ≡ self.now.receipts }
+        ensures rise { PlacesRise self.now.receipts }
+    {
+        self.receipts.as_slice()
     }
 }

@@ -1,7 +1,7 @@
 //! A machine under a lock, with the history of its steps.
 ghost use Rattle.std.specs.Prelude.{◌≡◌, ◌+◌, [], length, true, IfOk, IfErr, OnErr, vec_len, sum_by, IsTrue};
 ghost use Rattle.moka_recording.specs.History.{Each, recorder};
-ghost use Rattle.moka_recording.specs.Receipts.{pairs, Stand, AddsReceipt, fresh_passes, IsWhole, HasNumber};
+ghost use Rattle.moka_recording.specs.Receipts.{pairs, Stand, AddsReceipt, fresh_passes, IsWhole, HasNumber, AreInOrder, PlacesRise, AreApart, IsCovered};
 ghost use mathlib.Core.Logic.{◌↔◌};
 
 use crate::guarded_machine::GuardedMachine;
@@ -15,7 +15,7 @@ use moka_policy::policy::Refused;
 use std::alloc::Global;
 use std::marker::Model;
 use std::sync::ledger::{Blank, Share};
-use std::sync::{Condvar, Mutex, Wait};
+use std::sync::{Condvar, Mutex, MutexGuard, Wait};
 
 /// A machine that threads share, with the history of its steps. Contracts see how many passes it
 /// has.
@@ -92,8 +92,9 @@ fn take_back<M: Machine<S, R>, S: Drop, R: Drop, L: Naming>(
         × (token.new.me.0.is_recorder ≡ true)
         × (token.new.me.0.all ≡ entries.now.items) }
     ensures parts { rest.new.parts ≡ rest.old.parts + 1 }
-    ensures amount { rest.new.amount ≡ rest.old.amount + length pass.1 }
-    ensures stand { Stand M.same_step M.same_reply entries.now.items pass }
+    ensures amount { rest.new.amount ≡ rest.old.amount + length pass.receipts }
+    ensures stand { Stand M.one_step M.one_reply entries.now.items pass }
+    ensures rise { PlacesRise pass.receipts }
 {
     let Pass {
         number: _,
@@ -107,7 +108,32 @@ fn take_back<M: Machine<S, R>, S: Drop, R: Drop, L: Naming>(
     rest.merge(share);
 }
 
-// Returns whether these are all passes, each once.
+// Takes all passes back. Their receipts are then proved to agree with the history.
+fn take_all_back<M: Machine<S, R>, S: Drop, R: Drop, L: Naming>(
+    history: &History<S, R>,
+    token: &mut Token<S, R>,
+    rest: &mut Share<L>,
+    entries: &Vec<Entry<S, R>>,
+    passes: Vec<Pass<M, S, R, L>>,
+)
+    requires table { history.now.shared.table_id ≡ L.table }
+    requires words { history.now.shared.table_id.words ≡ 1 }
+    requires token { (token.old.table_id ≡ L.table)
+        × (token.old.me.0.is_recorder ≡ true)
+        × (token.old.me.0.all ≡ entries.now.items) }
+    requires rest { (rest.old.parts ≡ 0) × (rest.old.amount ≡ 0) }
+    ensures parts { rest.new.parts ≡ length passes.items }
+    ensures amount { rest.new.amount ≡ sum_by (λ pass. length pass.receipts) passes.items }
+    ensures stand { Each (Stand M.one_step M.one_reply entries.now.items) passes.items }
+    ensures rise { Each (λ pass. PlacesRise pass.receipts) passes.items }
+{
+    for pass in passes {
+        take_back(history, token, rest, entries, pass);
+    }
+}
+
+// Returns whether these are all passes, each once. Takes no memory, so that a refused `close` can
+// hand them back as they were.
 fn are_all_passes<M: Machine<S, R>, S: Drop, R: Drop, L: Naming>(
     passes: &[Pass<M, S, R, L>],
     count: u64,
@@ -117,8 +143,23 @@ fn are_all_passes<M: Machine<S, R>, S: Drop, R: Drop, L: Naming>(
     if passes.len() as u64 != count {
         return false;
     }
+    if are_in_order(passes) {
+        return true;
+    }
     for number in 0..count {
         if !has_number(passes, number) {
+            return false;
+        }
+    }
+    true
+}
+
+// Returns whether the number of each pass is its index.
+fn are_in_order<M: Machine<S, R>, S: Drop, R: Drop, L: Naming>(passes: &[Pass<M, S, R, L>]) -> bool
+    ensures { IsTrue result ↔ AreInOrder passes.now }
+{
+    for index in 0..passes.len() {
+        if passes[index].number() != index as u64 {
             return false;
         }
     }
@@ -186,8 +227,9 @@ impl<M: Machine<S, R>, S: Drop, R: Drop, L: Naming, W: Drop> Recorded<M, S, R, L
 
     /// Returns the history and the machine, given all of its passes. Does not wait.
     ///
-    /// The history has as many entries as the passes have receipts, and each receipt is at its
-    /// place.
+    /// The history is legal from what the machine was when this was created. It has as many entries
+    /// as the passes have receipts, and each receipt is at its place. The places of one pass rise.
+    /// No two receipts have the same place, so each place is that of one receipt.
     ///
     /// # Errors
     ///
@@ -195,14 +237,19 @@ impl<M: Machine<S, R>, S: Drop, R: Drop, L: Naming, W: Drop> Recorded<M, S, R, L
     ///
     /// # Complexity
     ///
-    /// Quadratic in the number of passes. Also drops all receipts.
+    /// Linear in the number of passes if they are in the order of their numbers, else quadratic.
+    /// Also drops all receipts.
     pub fn close(self, passes: Vec<Pass<M, S, R, L>>) -> Closed<M, S, R, L, W>
         ensures legal { IfOk result (λ closed. M.stands closed.1 (pairs closed.0.items)) }
         ensures count { IfOk result (λ closed.
-            vec_len closed.0 ≡ sum_by (λ pass. length pass.1) passes.items) }
+            vec_len closed.0 ≡ sum_by (λ pass. length pass.receipts) passes.items) }
         ensures stand { IfOk result (λ closed.
-            Each (λ pass. Stand M.same_step M.same_reply closed.0.items pass) passes.items) }
+            Each (Stand M.one_step M.one_reply closed.0.items) passes.items) }
         ensures whole { IfOk result (λ _. IsWhole self passes.items) }
+        ensures rise { IfOk result (λ _.
+            Each (λ pass. PlacesRise pass.receipts) passes.items) }
+        ensures apart { IfOk result (λ _. AreApart passes.items) }
+        ensures covered { IfOk result (λ closed. IsCovered closed.0.items passes.items) }
         ensures missing { IfErr result (λ back.
             (back.0 ≡ self) × (back.1 ≡ passes) × ¬ (IsWhole self passes.items)) }
     {
@@ -223,9 +270,7 @@ impl<M: Machine<S, R>, S: Drop, R: Drop, L: Naming, W: Drop> Recorded<M, S, R, L
             mut book,
             mut rest,
         } = guarded.into_inner();
-        for pass in passes {
-            take_back(&history, &mut token, &mut rest, &entries, pass);
-        }
+        take_all_back(&history, &mut token, &mut rest, &entries, passes);
         book.audit(&mut rest);
         Ok((entries, machine))
     }
@@ -237,7 +282,9 @@ impl<M: Machine<S, R>, S: Drop, R: Drop, L: Naming, W: Wait + Drop> Recorded<M, 
         &self.waits
     }
 
-    /// Does one step, and wakes the sleeping callers if the machine says so.
+    /// Does one step. If it ends what other callers wait for, wakes them.
+    ///
+    /// A step that failed wakes nobody.
     ///
     /// # Errors
     ///
@@ -245,26 +292,30 @@ impl<M: Machine<S, R>, S: Drop, R: Drop, L: Naming, W: Wait + Drop> Recorded<M, 
     pub fn call(&self, pass: &mut Pass<M, S, R, L>, step: S) -> Result<Receipt<R>, Refused>
         requires owes { M.owes step }
         ensures receipt { IfOk result
-            (AddsReceipt M.same_step M.same_reply step pass.old pass.new) }
+            (AddsReceipt M.one_step M.one_reply step pass.old pass.new) }
         ensures fits { IfOk result (λ receipt. M.fits step receipt.reply) }
         ensures refused { OnErr result (pass.new ≡ pass.old) }
         ensures cause { IfErr result (λ cause. cause ≡ Refused.OutOfMemory) }
     {
-        let wakes = M::wakes(&step);
-        let receipt = self
-            .guarded
-            .lock(&self.waits)
-            .add(&self.history, pass, step)?;
-        if wakes {
+        let is_end = M::is_end(&step);
+        let mut guarded = self.guarded.lock(&self.waits);
+        let done = guarded.add(&self.history, pass, step);
+        // What is left of the step is dropped without the lock.
+        drop(guarded);
+        let Ok(receipt) = done else {
+            return Err(Refused::OutOfMemory);
+        };
+        if is_end && !M::is_failure(&receipt.reply) {
             self.moved.notify_all();
         }
         Ok(receipt)
     }
 
-    /// Does one step, and sleeps until another step wakes it, if the machine calls the reply early.
+    /// Does one step. If the machine calls the reply early, sleeps until the step would not be early
+    /// any more.
     ///
-    /// No wake-up is lost in between, since it goes to sleep under the lock of its own step. Wakes no
-    /// other caller, whatever the step.
+    /// No wake-up is lost in between, since it goes to sleep under the lock of its own step. It
+    /// wakes no other caller, whatever the step.
     ///
     /// # Errors
     ///
@@ -272,16 +323,37 @@ impl<M: Machine<S, R>, S: Drop, R: Drop, L: Naming, W: Wait + Drop> Recorded<M, 
     pub fn call_and_wait(&self, pass: &mut Pass<M, S, R, L>, step: S) -> Result<Receipt<R>, Refused>
         requires owes { M.owes step }
         ensures receipt { IfOk result
-            (AddsReceipt M.same_step M.same_reply step pass.old pass.new) }
+            (AddsReceipt M.one_step M.one_reply step pass.old pass.new) }
         ensures fits { IfOk result (λ receipt. M.fits step receipt.reply) }
         ensures refused { OnErr result (pass.new ≡ pass.old) }
         ensures cause { IfErr result (λ cause. cause ≡ Refused.OutOfMemory) }
     {
         let mut guarded = self.guarded.lock(&self.waits);
-        let receipt = guarded.add(&self.history, pass, step)?;
-        if M::is_early(&receipt.reply) {
-            drop(self.moved.wait(&self.waits, guarded));
+        match guarded.add(&self.history, pass, step) {
+            Ok(receipt) => {
+                if M::is_early(&receipt.reply) {
+                    self.sleep(guarded, pass);
+                }
+                Ok(receipt)
+            }
+            Err(unused) => {
+                // What is left of the step is dropped without the lock.
+                drop(guarded);
+                drop(unused);
+                Err(Refused::OutOfMemory)
+            }
         }
-        Ok(receipt)
+    }
+
+    // Sleeps until the last step of the pass would not be early any more. The end of a step that
+    // this caller does not wait for sends it back to sleep.
+    fn sleep(&self, guarded: MutexGuard<'_, GuardedMachine<M, S, R, L>>, pass: &Pass<M, S, R, L>) {
+        let mut guarded = guarded;
+        for _ in self.waits.forever() {
+            guarded = self.moved.wait(&self.waits, guarded);
+            if !guarded.still_waits(pass) {
+                return;
+            }
+        }
     }
 }

@@ -18,7 +18,7 @@ use Rattle.moka_state.specs.declared.step.Reply.{Reply}
 use Rattle.moka_state.specs.declared.step.Reply.TheVariants.{Found, Contains, Done, Counted, Left, Noticed, Refused, PredicateRefused}
 use Rattle.moka_state.specs.declared.step.Reply.TheVariants.{Entered, Run, Wait, Nothing, Failed, Computed, NotYet, Abandoned, Ended}
 use Rattle.moka_state.specs.HandedOut.{HandsOut}
-use Rattle.moka_state.specs.Recorded.{OfOne, IsNoticeFor, IsNoticed, IsSaid, SameReply, SameStep, AreRecords, WantsMemory, IsRecord}
+use Rattle.moka_state.specs.Recorded.{IsNoticeFor, IsNoticed, IsSaid, SameReply, OneReply, IsStepCopy, AreRecords, WantsMemory, IsRecordUnder}
 use Rattle.moka_state.specs.Replies.{IsRefusal}
 use Rattle.moka_state.specs.Step.{call_of, IsReplyTo, IsRun, after_reply, after_all}
 use Rattle.moka_state.proofs.Runs.{IsRun-more, stands-more}
@@ -30,6 +30,10 @@ IfOk-by (Err e) more is = tt
 pub IfOk-both : {A B : Type 0} {P Q S : A → Type 0} (r : Result A B) → ((x : A) → P x → Q x → S x) → IfOk r P → IfOk r Q → IfOk r S
 IfOk-both (Ok x) both p q = both x p q
 IfOk-both (Err e) both p q = tt
+
+pub IfOk-so : {A B : Type 0} {C : Type 0} {P Q S : A → Type 0} (r : Result A B) → IfOk r P → (C → IfOk r Q) → ((x : A) → P x → (C → Q x) → S x) → IfOk r S
+IfOk-so (Ok x) p q so = so x p q
+IfOk-so (Err e) p q so = tt
 
 module _ {K V : Type 0} (is_clone : V → V → Type 0) where
   -- a notice is that of its own removal
@@ -85,15 +89,21 @@ module _ {K V C H W X P F L T E S : Type 0} (eq : K → K → Bool) (is_clone : 
   pub same-replies : (reply one other : Reply K V C H W X P F L T E S) (out more : HandedOut K V E) → IsReplyTo eq is_clone is_infallible settings steps call reply
       → IfSome (reply_of (accepted eq settings steps call)) (λ answer. HandsOut is_clone answer out) → IfSome (reply_of (accepted eq settings steps call)) (λ answer. HandsOut is_clone answer more)
       → SaysAgain reply out one → SaysAgain reply more other → (IsRefusal reply → one ≡ reply) → (IsRefusal reply → other ≡ reply)
-      → SameReply is_clone reply one × SameReply is_clone reply other × SameReply is_clone one other
+      → OneReply is_clone reply one other
   same-replies reply one other out more is hands hands_more again again_other refused refused_other = go (said reply is)
     where
-      go : Said reply → SameReply is_clone reply one × SameReply is_clone reply other × SameReply is_clone one other
-      go (inl refusal) = let a = refused refusal in let b = refused_other refusal in (inr (refusal, a), inr (refusal, b), inr (subst IsRefusal (sym a) refusal, b ∙ sym a))
+      go : Said reply → OneReply is_clone reply one other
+      go (inl refusal) = inr (refusal, refused refusal, refused_other refusal)
       go (inr (answer, there, says)) =
           let x = again answer says (subst (λ o. IfSome o (λ answer. HandsOut is_clone answer out)) there hands) in
           let y = again_other answer says (subst (λ o. IfSome o (λ answer. HandsOut is_clone answer more)) there hands_more) in
-          (inl (answer, says, x), inl (answer, says, y), inl (answer, x, y))
+          inl (answer, says, x, y)
+
+module _ {K V C H W X P F L T E S : Type 0} (is_clone : V → V → Type 0) where
+  -- two of three replies that are one
+  pub first-two : (a b c : Reply K V C H W X P F L T E S) → OneReply is_clone a b c → SameReply is_clone a b
+  first-two a b c (inl one) = inl (one.0, one.1, one.2)
+  first-two a b c (inr failed) = inr (failed.0, failed.1)
 
 map-more : {A B : Type 0} (f : A → B) (xs : List A) (x : A) → map f (xs ++ x ∷ []) ≡ map f xs ++ f x ∷ []
 map-more f [] x = refl
@@ -107,7 +117,7 @@ abbrev Line : (K V C H W X P F L T E S : Type 0) → Type 0
 Line K V C H W X P F L T E S = Step K V C H W X P F L T E S × Reply K V C H W X P F L T E S
 
 module _ {K V C H W X P F L T E S : Type 0} (is_clone : V → V → Type 0) where
-  records-more : (xs ys : List (Line K V C H W X P F L T E S)) (a b : Line K V C H W X P F L T E S) → AreRecords is_clone xs ys → SameStep is_clone a.0 b.0 → SameReply is_clone a.1 b.1 → AreRecords is_clone (xs ++ a ∷ []) (ys ++ b ∷ [])
+  records-more : (xs ys : List (Line K V C H W X P F L T E S)) (a b : Line K V C H W X P F L T E S) → AreRecords is_clone xs ys → IsStepCopy is_clone a.0 b.0 → SameReply is_clone a.1 b.1 → AreRecords is_clone (xs ++ a ∷ []) (ys ++ b ∷ [])
   records-more [] [] a b h s r = (s, r, tt)
   records-more (x ∷ xs) (y ∷ ys) a b h s r = (h.0, h.1, records-more xs ys a b h.2 s r)
   records-more [] (y ∷ ys) a b h s r = absurd h
@@ -115,21 +125,20 @@ module _ {K V C H W X P F L T E S : Type 0} (is_clone : V → V → Type 0) wher
 
   module _ {D : Type 0} (eq : K → K → Bool) (is_infallible : V → Type 0) (test : P → K → V → Bool) (view : D → WholeView K V E) where
     -- a new state has the empty history
-    pub nothing-recorded : (settings : Settings K V) (state : D) → StandsFor eq is_clone settings (view state) [] → (none : List (Line K V C H W X P F L T E S)) → none ≡ [] → IsRecord {T = T} {S = S} eq is_clone is_infallible test view state none
-    nothing-recorded settings state stands none e = rw e (settings, [], tt, tt, tt, stands)
+    pub nothing-recorded : (settings : Settings K V) (state : D) → StandsFor eq is_clone settings (view state) [] → (none : List (Line K V C H W X P F L T E S)) → none ≡ [] → IsRecordUnder {T = T} {S = S} eq is_clone is_infallible test view settings state none
+    nothing-recorded settings state stands none e = rw e ([], tt, tt, tt, stands)
 
     -- After a step that did not fail with `OutOfMemory`, a history with one entry more is one of the new state.
-    pub grown : (old new : D) (a b : Line K V C H W X P F L T E S) (history : List (Line K V C H W X P F L T E S)) → IsRecord eq is_clone is_infallible test view old history
+    pub grown : (old new : D) (a b : Line K V C H W X P F L T E S) (settings : Settings K V) (history : List (Line K V C H W X P F L T E S)) → IsRecordUnder eq is_clone is_infallible test view settings old history
         → ((settings : Settings K V) (steps : List (AcceptedStep K V E)) → StandsFor eq is_clone settings (view old) steps → IsReplyTo eq is_clone is_infallible settings steps (call_of test a.0) a.1)
         → ((settings : Settings K V) (steps : List (AcceptedStep K V E)) → StandsFor eq is_clone settings (view old) steps → StandsFor eq is_clone settings (view new) (after_reply eq settings (call_of test a.0) a.1 steps))
-        → ¬ (WantsMemory a.1) → SameStep is_clone a.0 b.0
+        → ¬ (WantsMemory a.1) → IsStepCopy is_clone a.0 b.0
         → ((settings : Settings K V) (steps : List (AcceptedStep K V E)) → StandsFor eq is_clone settings (view old) steps → SameReply is_clone a.1 b.1)
-        → IsRecord eq is_clone is_infallible test view new (history ++ b ∷ [])
-    grown old new a b history (settings, done, run, fine, records, stands) reply follows wants same_step same_reply =
+        → IsRecordUnder eq is_clone is_infallible test view settings new (history ++ b ∷ [])
+    grown old new a b settings history (done, run, fine, records, stands) reply follows wants same_step same_reply =
         let before = after_all eq test settings (map (λ d. d.0) done) (map (λ d. d.1) done) [] in
         let calls_more = map-more (λ (d : Line K V C H W X P F L T E S). d.0) done a in
         let replies_more = map-more (λ (d : Line K V C H W X P F L T E S). d.1) done a in (
-          settings,
           done ++ a ∷ [],
           rw (calls_more, replies_more) (IsRun-more eq test is_clone is_infallible settings [] (map (λ d. d.0) done) (map (λ d. d.1) done) a.0 a.1 run (reply settings before stands)),
           all-more (λ (d : Line K V C H W X P F L T E S). ¬ (WantsMemory d.1)) done a fine wants,

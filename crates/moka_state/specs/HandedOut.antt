@@ -1,7 +1,10 @@
 -- Clones of what a step hands out, made before the step.
-use Rattle.std.specs.Prelude.{⊤, ◌≡◌, Option, Some, None, IfSome, IsSomeAnd}
+use Rattle.std.specs.Prelude.{⊤, ◌≡◌, Bool, true, List, Option, Some, None, IsSome, IfSome, IsSomeAnd}
 use Rattle.std.specs.Arc.{arc_value}
+use Rattle.moka_model.specs.declared.turns.Kind.{Kind}
+use Rattle.moka_model.specs.declared.turns.Kind.TheVariants.{Compute}
 use Rattle.moka_model.specs.Lives.{Write}
+use Rattle.moka_model.specs.Turns.{Turn, found, is_open_for}
 use Rattle.moka_model.specs.Calls.{Entry, Reply, IsCopyOf}
 use Rattle.moka_model.specs.Calls as calls
 use Rattle.moka_table.specs.Notices.{IsNoticeOf}
@@ -12,6 +15,12 @@ abbrev pub IsPairOf : {K V A : Type 0} → (A → K) → (V → V → Type 0) �
 IsPairOf key_of is_clone None None = ⊤
 IsPairOf key_of is_clone (Some w) (Some p) = (key_of p.0 ≡ w.key) × is_clone w.value p.1
 IsPairOf key_of is_clone w p = ⊥
+
+-- A begin of this key and kind does not return the live entry: a compute has to wait for an open turn, or the caller of
+-- an initializer replaces the live value.
+abbrev pub HidesLive : {K V E : Type 0} → (K → K → Bool) → List (Turn K V E) → K → Kind → Option Bool → Type 0
+HidesLive eq turns key Compute replace = IsSome (found (is_open_for eq Compute key) turns)
+HidesLive eq turns key kind replace = replace ≡ Some true
 
 module _ {K V E : Type 0} where
   abbrev pub HasKey : K → HandedOut K V E → Type 0  -- The key of the entry is there.

@@ -28,10 +28,6 @@ use Rattle.moka_state.specs.declared.step.Reply.TheVariants.{Entered, Run, Wait,
 use Rattle.moka_state.specs.Replies.{IsRefusal}
 use Rattle.moka_state.specs.Step.{IsRun, after_all}
 
--- Each of the two is the same original, or a clone of that original.
-abbrev pub OfOne : {A : Type 0} → (A → A → Type 0) → A → A → Type 0
-OfOne {A} is_copy a b = (one : A) × ((a ≡ one) ⊎ is_copy one a) × ((b ≡ one) ⊎ is_copy one b)
-
 module _ {K V C H W X P F L T E S : Type 0} where
   abbrev pub WantsMemory : Reply K V C H W X P F L T E S → Type 0  -- The step failed with `OutOfMemory`.
   WantsMemory (Refused OutOfMemory) = ⊤
@@ -88,9 +84,9 @@ module _ {V : Type 0} (is_clone : V → V → Type 0) where
     IsStepCopy (Leave name) (Leave called) = name_by called ≡ name_by name
     IsStepCopy step copy = ⊥
 
-    -- Both steps are one step, or clones of one step.
-    abbrev pub SameStep : Step K V C H W X P F L T E S → Step K V C H W X P F L T E S → Type 0
-    SameStep = OfOne IsStepCopy
+    -- The second and the third step are clones of the first.
+    abbrev pub OneStep : Step K V C H W X P F L T E S → Step K V C H W X P F L T E S → Step K V C H W X P F L T E S → Type 0
+    OneStep step one other = IsStepCopy step one × IsStepCopy step other
 
   module _ {K C H W X P F L T E S : Type 0} where
     -- The reply is this one of the specification, with clones of its values. The value of a notice may also be the original.
@@ -117,27 +113,37 @@ module _ {V : Type 0} (is_clone : V → V → Type 0) where
     abbrev pub SameReply : Reply K V C H W X P F L T E S → Reply K V C H W X P F L T E S → Type 0
     SameReply a b = ((returned : calls.Reply K V E) × IsSaid returned a × IsSaid returned b) ⊎ (IsRefusal a × (b ≡ a))
 
-    -- Two lists of steps and replies are the same, place by place, up to clones.
+    -- All three are the same reply of the specification, or they are the same failure.
+    abbrev pub OneReply : Reply K V C H W X P F L T E S → Reply K V C H W X P F L T E S → Reply K V C H W X P F L T E S → Type 0
+    OneReply a b c =
+        ((returned : calls.Reply K V E) × IsSaid returned a × IsSaid returned b × IsSaid returned c)
+        ⊎ (IsRefusal a × (b ≡ a) × (c ≡ a))
+
+    -- The second list has, place by place, clones of the steps of the first, and the same replies up to clones.
     abbrev pub AreRecords : List (Step K V C H W X P F L T E S × Reply K V C H W X P F L T E S) →
         List (Step K V C H W X P F L T E S × Reply K V C H W X P F L T E S) → Type 0
     AreRecords [] [] = ⊤
-    AreRecords (a ∷ xs) (b ∷ ys) = SameStep a.0 b.0 × SameReply a.1 b.1 × AreRecords xs ys
+    AreRecords (a ∷ xs) (b ∷ ys) = IsStepCopy a.0 b.0 × SameReply a.1 b.1 × AreRecords xs ys
     AreRecords [] (b ∷ ys) = ⊥
     AreRecords (a ∷ xs) [] = ⊥
 
 module _ {K V C H W X P F L T E S D : Type 0} (eq : K → K → Bool) (is_clone : V → V → Type 0) (is_infallible : V → Type 0)
     (test : P → K → V → Bool) (view : D → WholeView K V E) where
-  -- The history is, up to clones, a run from nothing in which no step failed with `OutOfMemory`. The state stands for
-  -- the steps that the run accepted.
-  abbrev pub IsRecord : D → List (Step K V C H W X P F L T E S × Reply K V C H W X P F L T E S) → Type 0
-  IsRecord state history =
-      (settings : Settings K V) × (done : List (Step K V C H W X P F L T E S × Reply K V C H W X P F L T E S))
+  -- The history is, up to clones, a run from nothing under these settings, in which no step failed with `OutOfMemory`.
+  -- The state stands for the steps that the run accepted.
+  abbrev pub IsRecordUnder : Settings K V → D → List (Step K V C H W X P F L T E S × Reply K V C H W X P F L T E S) → Type 0
+  IsRecordUnder settings state history =
+      (done : List (Step K V C H W X P F L T E S × Reply K V C H W X P F L T E S))
       × IsRun {E = E} eq test settings is_clone is_infallible [] (map (λ d. d.0) done) (map (λ d. d.1) done)
       × AllByRecursion (λ d. ¬ (WantsMemory d.1)) done × AreRecords is_clone done history
       × StandsFor eq is_clone settings (view state) (after_all eq test settings (map (λ d. d.0) done) (map (λ d. d.1) done) [])
 
-  -- Each history that the old state has, followed by this entry, is one that the new state has.
+  -- The history is such a run under some settings.
+  abbrev pub IsRecord : D → List (Step K V C H W X P F L T E S × Reply K V C H W X P F L T E S) → Type 0
+  IsRecord state history = (settings : Settings K V) × IsRecordUnder settings state history
+
+  -- Each history that the old state has, followed by this entry, is one that the new state has, under the same settings.
   abbrev pub Records : D → D → Step K V C H W X P F L T E S × Reply K V C H W X P F L T E S → Type 0
   Records old new entry =
-      (history : List (Step K V C H W X P F L T E S × Reply K V C H W X P F L T E S)) → IsRecord old history →
-      IsRecord new (history ++ entry ∷ [])
+      (settings : Settings K V) (history : List (Step K V C H W X P F L T E S × Reply K V C H W X P F L T E S)) →
+      IsRecordUnder settings old history → IsRecordUnder settings new (history ++ entry ∷ [])

@@ -1,21 +1,21 @@
 //! Clones of what a step will hand out, made before the step is done.
-ghost use Rattle.std.specs.Prelude.{◌≡◌, ℕ, Option, Some, None, IfOk, IfSome, option_map};
+ghost use Rattle.std.specs.Prelude.{◌≡◌, ℕ, Option, Some, None, true, false, IsTrue, IsSome, IfOk, IfSome, option_map};
 ghost use Rattle.std.specs.Arc.{arc_value};
-ghost use Rattle.moka_model.specs.Turns.{Name, End, found, has_ticket_as, is_open_as};
+ghost use Rattle.moka_model.specs.Turns.{Name, End, found, has_ticket_as, is_open_as, is_open_for};
 ghost use Rattle.moka_model.specs.Steps.{events_in, turns};
 ghost use Rattle.moka_model.specs.Calls.{IsCopyOf, IsCopiedEnd, accepted, reply_of, collected, live_at};
 ghost use Rattle.moka_model.specs.Calls.{Collect, Finish, OrInsert, TakeNotice, entry_of};
 ghost use Rattle.moka_turns.specs.Handles.{name_by};
 ghost use Rattle.moka_turns.specs.Represents.{end_of};
 ghost use Rattle.moka_state.specs.Finish.{outcome_of};
-ghost use Rattle.moka_state.specs.HandedOut.{HandsOut, HasEntry, HasName, IsPairOf};
+ghost use Rattle.moka_state.specs.HandedOut.{HandsOut, HasEntry, HasName, HidesLive, IsPairOf};
 ghost use Rattle.moka_state.specs.Step.{call_of};
 
 use crate::state::State;
 use crate::step::Step;
 use moka_expiration::view::StateView;
 use moka_model::notification::Notice;
-use moka_model::turns::{Op, Outcome};
+use moka_model::turns::{Kind, Op, Outcome};
 use moka_policy::policy::{CacheTypes, Refused};
 use moka_rows::rows::RowStore;
 use moka_turns::table::TurnEnd;
@@ -178,19 +178,62 @@ impl<K: Hash + Drop, V: Clone, C: CacheTypes<K, V>, R: RowStore<K, V>> State<K, 
         }
     }
 
-    // Clones what a begin may return: the key in the turn's name, and the live entry.
+    // Returns whether a compute of a key is open. May return false if memory is short.
+    fn is_computed(&self, key: &Arc<K>) -> bool
+        ensures { IsTrue result → ⟦<C as StateView<K, V>>⟧.at_each_history self.now (λ settings steps.
+            IsSome (found (is_open_for K.eq Kind.Compute (arc_value key.now)) (turns steps))) }
+    {
+        let hash = self.behaviour.hash(&**key);
+        let Ok(own) = key.clone() else {
+            return false;
+        };
+        let wanted = TurnKey {
+            hash,
+            kind: Kind::Compute,
+            key: own,
+        };
+        match self.turns.find(&wanted) {
+            Some(_) => true,
+            None => false,
+        }
+    }
+
+    // Returns whether a begin may return the live entry. It does not if an initializer's caller
+    // replaces the live value, or if a compute has to wait.
+    fn shows_live(&self, key: &Arc<K>, kind: Kind, replace: Option<bool>) -> bool
+        ensures { result ≡ false → ⟦<C as StateView<K, V>>⟧.at_each_history self.now (λ settings steps.
+            HidesLive K.eq (turns steps) (arc_value key.now) kind replace) }
+    {
+        match kind {
+            Kind::Compute => !self.is_computed(key),
+            Kind::With | Kind::Optionally | Kind::Try => replace != Some(true),
+        }
+    }
+
+    // Clones what a begin may return: the key in the turn's name and, if it `may_show` it, the live
+    // entry.
     fn clones_for_begin(
         &self,
         key: &Arc<K>,
+        may_show: bool,
         now: u64,
     ) -> Result<HandedOut<K, V, C::Error>, AllocError>
         ensures name { IfOk result (HasName (arc_value key.now)) }
-        ensures entry { IfOk result (λ out.
+        ensures entry { may_show ≡ true → IfOk result (λ out.
             ⟦<C as StateView<K, V>>⟧.at_each_history self.now (λ settings steps.
             IfSome (live_at K.eq settings (arc_value key.now) now (events_in steps))
             (λ w. HasEntry V.is_clone (entry_of w) out))) }
     {
         let name = key.clone()?;
+        if !may_show {
+            return Ok(HandedOut {
+                value: None,
+                key: None,
+                name: Some(name),
+                error: None,
+                notice: None,
+            });
+        }
         match self.live_pair(&**key, now)? {
             Some((key, value)) => Ok(HandedOut {
                 value: Some(value),
@@ -298,8 +341,19 @@ impl<K: Hash + Drop, V: Clone, C: CacheTypes<K, V>, R: RowStore<K, V>> State<K, 
             Step::Get { key, now } => self.clones_for_lookup(&**key, *now),
             Step::Remove { key, now } => self.clones_for_lookup(&**key, *now),
             Step::OrInsert { key, value, now } => self.clones_for_or_insert(key, value, *now),
-            Step::Begin { key, now, .. } => self.clones_for_begin(key, *now),
-            Step::BeginCompute { key, now, .. } => self.clones_for_begin(key, *now),
+            Step::Begin {
+                key,
+                kind,
+                replace,
+                now,
+            } => {
+                let may_show = self.shows_live(key, *kind, *replace);
+                self.clones_for_begin(key, may_show, *now)
+            }
+            Step::BeginCompute { key, now, .. } => {
+                let may_show = self.shows_live(key, Kind::Compute, None);
+                self.clones_for_begin(key, may_show, *now)
+            }
             Step::Finish { name, outcome, now } => self.clones_for_finish(name, outcome, *now),
             Step::Collect { name } => self.clones_for_collect(name),
             Step::TakeNotice => self.clones_for_take_notice(),

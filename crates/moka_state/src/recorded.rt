@@ -1,7 +1,7 @@
 //! Recorded steps: each is done once, and returned twice more with its reply, for a history and for
 //! the caller.
 ghost use Rattle.std.specs.Prelude.{◌≡◌, IfOk, IfErr, OnErr};
-ghost use Rattle.moka_state.specs.Recorded.{Records, SameReply, SameStep, WantsMemory};
+ghost use Rattle.moka_state.specs.Recorded.{OneReply, OneStep, Records, WantsMemory};
 ghost use Rattle.moka_state.specs.Step.{IsReplyTo, StepKeeps, ReplyKeeps, after_reply, call_of};
 
 use crate::state::State;
@@ -15,13 +15,12 @@ use std::hash::Hash;
 pub type Entry<K, V, C> = (Step<K, V, C>, Reply<K, V, C>);
 
 impl<K: Hash + Drop, V: Clone, C: CacheTypes<K, V>, R: RowStore<K, V>> State<K, V, C, R> {
-    /// Works like [`State::step`], and returns the step with its reply twice more: first for a
-    /// history, then for the caller to keep.
+    /// Does a step like [`State::step`], and also returns two clones of the step and of its reply:
+    /// first for a history, then for the caller to keep.
     ///
-    /// Both are clones: of the given step, and of the values in its reply. All clones are made
-    /// before anything changes. A step that fails for another cause than memory succeeds here, with
-    /// a reply that says so; it has changed nothing. An `Abandon` or a `Leave` shares its key, and
-    /// does not allocate.
+    /// All clones are made before anything changes. A step that fails for another cause than memory
+    /// succeeds here, with a reply that says so; it has changed nothing. An `Abandon` or a `Leave`
+    /// shares its key, and does not allocate. Only values that the reply contains are cloned.
     ///
     /// # Errors
     ///
@@ -43,12 +42,10 @@ impl<K: Hash + Drop, V: Clone, C: CacheTypes<K, V>, R: RowStore<K, V>> State<K, 
         ensures given { IfOk result (λ done. ¬ (WantsMemory done.0)) }
 
         // Up to clones, both entries have the given step and the returned reply.
-        ensures steps { IfOk result (λ done. SameStep V.is_clone step done.1.0
-            × SameStep V.is_clone step done.2.0 × SameStep V.is_clone done.1.0 done.2.0) }
+        ensures steps { IfOk result (λ done. OneStep V.is_clone step done.1.0 done.2.0) }
         ensures replies { IfOk result (λ done.
             ⟦<C as StateView<K, V>>⟧.at_each_history self.old (λ _ _.
-            SameReply V.is_clone done.0 done.1.1 × SameReply V.is_clone done.0 done.2.1
-            × SameReply V.is_clone done.1.1 done.2.1)) }
+            OneReply V.is_clone done.0 done.1.1 done.2.1)) }
 
         // If the state has a history, it has that history with one entry more afterwards.
         ensures record { IfOk result (λ done. Records K.eq V.is_clone V.is_infallible C.test

@@ -1,8 +1,10 @@
 //! The calls of turns as steps, in which a turn or a ticket appears by its name.
-ghost use Rattle.std.specs.Prelude.{◌≡◌, ◌≢◌, Bool, false, unwrap_or, IfOk, OnOk, OnErr};
+ghost use Rattle.std.specs.Prelude.{◌≡◌, ◌≢◌, Bool, false, is_some, unwrap_or, IfOk, OnOk, OnErr};
 ghost use Rattle.std.specs.Arc.{arc_value};
 ghost use Rattle.std.specs.Fn.{CalledAt};
 ghost use Rattle.moka_model.specs.Calls.{Abandon, Begin, BeginCompute, Collect, Finish, Leave};
+ghost use Rattle.moka_model.specs.Steps.{turns};
+ghost use Rattle.moka_model.specs.Turns.{found, is_open_as};
 ghost use Rattle.moka_turns.specs.Handles.{name_by};
 ghost use Rattle.moka_state.specs.Begin.{FoundKeeps};
 ghost use Rattle.moka_state.specs.Finish.{OutcomeKeeps, outcome_of};
@@ -19,6 +21,7 @@ use moka_model::turns::{Kind, Outcome};
 use moka_policy::policy::{CacheTypes, Refused};
 use moka_rows::rows::RowStore;
 use moka_turns::by_name::{ticket_of, turn_of};
+use moka_turns::turn_key::TurnKey;
 use moka_turns::turn_name::TurnName;
 use std::hash::Hash;
 use std::sync::Arc;
@@ -161,5 +164,26 @@ impl<K: Hash + Drop, V: Clone, C: CacheTypes<K, V>, R: RowStore<K, V>> State<K, 
         ensures settings { self.new.settings ≡ self.old.settings }
     {
         done_reply(self.leave(ticket_of(name)))
+    }
+
+    /// Returns whether the turn of a name is open. Changes nothing, and is no step.
+    ///
+    /// # Complexity
+    ///
+    /// One lookup in the table of turns.
+    pub fn is_open(&self, name: TurnName<K>) -> bool
+        ensures { ⟦<C as StateView<K, V>>⟧.at_each_history self.now (λ settings steps.
+            result ≡ is_some (found (is_open_as K.eq (name_by name)) (turns steps))) }
+    {
+        let hash = self.behaviour.hash(&*name.key);
+        let TurnName { number, kind, key } = name;
+        let wanted = TurnKey { hash, kind, key };
+        let Some(row) = self.turns.find(&wanted) else {
+            return false;
+        };
+        if row.number != number {
+            return false;
+        }
+        true
     }
 }

@@ -1,4 +1,4 @@
-use Rattle.moka_history.specs.StepForm.{NoTurnOrNumbers}
+use Rattle.moka_recorded.specs.StepForm.{NoTurnOrNumbers}
 use Rattle.moka_recorded.proofs.Forms.{nothing_else}
 use Rattle.moka_recorded.proofs.get_with.finish.Goals as goal
 

@@ -1,28 +1,24 @@
-use Rattle.std.proofs.Common.{◌≡◌, ◌+◌, refl, sym, ap, ◌∙◌, subst, rules, arith, length-append}
-use Rattle.std.proofs.lemmas.Grind.{common_steps}
-use Rattle.std.proofs.lemmas.Iterator.Consumers.{YieldsList-end}
-use Rattle.std.proofs.lemmas.Iterator.Adapters.{YieldsList-from_vec}
-use Rattle.std.proofs.lemmas.List.{map-id}
-use Rattle.moka_recording.specs.History.{Each}
-use Rattle.moka_recording.specs.Receipts.{IsWhole, Stand}
-use Rattle.moka_recording.proofs.Places.{each_snoc}
+use Rattle.std.proofs.Common.{refl, sym, ◌∙◌, rules}
+use Rattle.moka_recording.specs.Receipts.{IsWhole}
+use Rattle.moka_recording.proofs.Apart.{apart, covered}
 use Rattle.moka_recording.proofs.recorded.Recorded.close.Goals as goal
 
 pub returns-then-not-are_all_passes-clause-missing : goal.returns-then-not-are_all_passes-clause-missing
 returns-then-not-are_all_passes-clause-missing g c = (refl, refl, λ (w : IsWhole c.args.self c.args.passes.items). let t = c.are_all_passes.ensures.1 (rw (c.self.view_is, c.as_slice.ensures.value) w) in search rules)
 
-pub loop-pass-preserved : goal.loop-pass-preserved
-loop-pass-preserved g c =
-    let i = c.loop-pass.invariant in
-    let e = c.take_back.ensures in
-    (e.token.0, e.token.1, e.token.2, e.parts ∙ ap (λ n. n + 1) i.3 ∙ sym (length-append _ _), (rw (e.amount, i.4) (grind (arith, common_steps))), each_snoc _ _ _ i.5 e.stand)
-
-pub returns-clause-stand : goal.returns-clause-stand
-returns-clause-stand g c =
-    let b = c.into_iter-pass-iterator.ensures.into_iter_gives in
-    let seen = YieldsList-end (YieldsList-from_vec {s = c.into_iter-pass-iterator.result} c.args.passes.items b.0 (b.1 ∙ c.args.passes.ok.0)) c.loop-pass.yielded c.loop-pass.pass-iterator c.loop-pass.yielded_by c.next.result c.next.new.self c.in-None.is c.next.ensures.steps in
-    let y : c.loop-pass.yielded ≡ c.args.passes.items = sym (map-id _) ∙ seen.0 in
-    subst (λ l. Each (λ p. Stand g.M.Machine.same_step g.M.Machine.same_reply c.machine.inside.entries.items p) l) y c.loop-pass.invariant.5
-
 pub returns-clause-whole : goal.returns-clause-whole
 returns-clause-whole g c = let t : IsWhole c.self.inside.count c.as_slice.result.now = c.are_all_passes.ensures.0 (search rules) in rw (← c.self.view_is, ← c.as_slice.ensures.value) t
+
+pub returns-clause-apart : goal.returns-clause-apart
+returns-clause-apart g c =
+    let e = c.take_all_back.ensures in
+    let t : IsWhole c.self.inside.count c.as_slice.result.now = c.are_all_passes.ensures.0 (search rules) in
+    apart _ _ _ _ c.self.inside.count (rw (← c.as_slice.ensures.value) t) e.stand e.rise
+
+pub returns-clause-covered : goal.returns-clause-covered
+returns-clause-covered g c =
+    let e = c.take_all_back.ensures in
+    let t : IsWhole c.self.inside.count c.as_slice.result.now = c.are_all_passes.ensures.0 (search rules) in
+    let w : IsWhole c.self.inside.count c.args.passes.items = rw (← c.as_slice.ensures.value) t in
+    let all = c.audit.ensures.whole (e.parts ∙ w.0 ∙ c.self.invariant.2) in
+    covered _ _ _ _ (apart _ _ _ _ c.self.inside.count w e.stand e.rise) e.stand (sym c.machine.invariant.3 ∙ sym all ∙ e.amount)

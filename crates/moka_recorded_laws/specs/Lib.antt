@@ -1,0 +1,4 @@
+pub mod GetLaws
+pub mod HistoryLaws
+pub mod LegalRun
+pub mod RunLaws
