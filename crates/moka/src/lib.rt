@@ -57,6 +57,8 @@ pub mod sync {
 
     /// A cache that threads share, with the history of its steps.
     pub mod recorded {
+        pub use moka_jobs::job::{Job, run_both};
+        pub use moka_recorded::built::Built;
         pub use moka_recorded::naming::Naming;
         pub use moka_recorded::receipt::{Receipt, StoredReceipt};
         pub use moka_recorded::recorded_cache::{

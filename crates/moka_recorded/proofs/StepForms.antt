@@ -1,5 +1,5 @@
 -- A reply is of the form that its step has.
-use Rattle.std.proofs.Common.{◌≡◌, ◌⊎◌, ℕ, ◌<◌, Bool, true, false, cond, ◌&&◌, List, [], ◌∷◌, map, Option, Some, None, option_map, refl, sym, ap, ◌∙◌, subst, inl, inr, arith}
+use Rattle.std.proofs.Common.{◌≡◌, ◌⊎◌, ℕ, ◌<◌, Bool, true, false, cond, ◌&&◌, List, [], ◌∷◌, Option, Some, None, option_map, refl, sym, ap, ◌∙◌, subst, inl, inr, arith}
 use Rattle.std.specs.Prelude.{IfSome}
 use Rattle.std.specs.Arc.{arc_value}
 use Rattle.std.specs.declared.sync.Arc.{Arc}
@@ -12,7 +12,6 @@ use Rattle.moka_model.specs.declared.notification.Notice.{Notice}
 use Rattle.moka_model.specs.declared.comp_result.CompResult.{CompResult}
 use Rattle.moka_model.specs.declared.comp_result.CompResult.TheVariants as results
 use Rattle.moka_model.specs.CompResults.{of_computed}
-use Rattle.moka_model.specs.declared.entry.Entry as handed
 use Rattle.moka_model.specs.Entries as entries_of
 use Rattle.moka_model.specs.declared.turns.Kind.{Kind}
 use Rattle.moka_model.specs.declared.turns.Kind.TheVariants.{With, Optionally, Try, Compute}
@@ -20,7 +19,7 @@ use Rattle.moka_model.specs.declared.turns.Op.TheVariants as ops
 use Rattle.moka_model.specs.declared.turns.Outcome.{Outcome}
 use Rattle.moka_model.specs.declared.turns.Outcome.TheVariants as outcomes
 use Rattle.moka_model.specs.Lives.{Settings, Write}
-use Rattle.moka_model.specs.Events.{Event, Hidden}
+use Rattle.moka_model.specs.Events.{Hidden}
 use Rattle.moka_model.specs.Turns.{Turn, Name, End, found, is_open_for, is_open_as, has_ticket_as, fits, is_open, same_kind}
 use Rattle.moka_model.specs.Turns as turning
 use Rattle.moka_model.specs.Steps.{AcceptedStep, events_in, turns}
@@ -28,7 +27,6 @@ use Rattle.moka_model.specs.Calls.{Call, Accepted, accepted, reply_of, IsCopiedR
 use Rattle.moka_model.specs.Calls.{begun, begun_compute, or_inserted, acceptable, new_name, finished, reply_of_finish, put_by, removed_by, kept_by, collected, live_at, abandons, spends, without_move, WantsNumber}
 use Rattle.moka_model.specs.Calls as calls
 use Rattle.moka_model.specs.Numbers.{next_number}
-use Rattle.moka_model.specs.StandsFor.{WholeView, StandsFor}
 use Rattle.moka_model.proofs.Callers.{found-is, same_kind-is}
 use Rattle.moka_value_invariant.specs.Fits.{EndFits}
 use Rattle.moka_value_invariant.proofs.Callers.{ticket-fits}
@@ -37,7 +35,7 @@ use Rattle.moka_turns.specs.Handles.{name_by}
 use Rattle.moka_state.specs.Finish.{outcome_of}
 use Rattle.moka_state.specs.Recorded.{IsNoticed, IsSaid, WantsMemory}
 use Rattle.moka_state.specs.Replies.{IsRefusal}
-use Rattle.moka_state.specs.Step.{call_of, IsReplyTo, after_all}
+use Rattle.moka_state.specs.Step.{call_of, IsReplyTo}
 use Rattle.moka_state.specs.declared.step.Step.{Step}
 use Rattle.moka_state.specs.declared.step.Step.TheVariants.{Get, ContainsKey, Insert, Invalidate, Remove, InvalidateAll, InvalidateIf}
 use Rattle.moka_state.specs.declared.step.Step.TheVariants.{RunPendingTasks, RunPendingTasksUpTo, EntryCount, WeightedSize, TakeNotice}

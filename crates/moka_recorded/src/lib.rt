@@ -2,6 +2,7 @@
 #![tactic(auto)]
 
 mod ask;
+pub mod built;
 mod get_with;
 pub mod named;
 pub mod recorded_cache;

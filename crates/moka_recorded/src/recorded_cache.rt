@@ -1,5 +1,5 @@
 //! A shared cache that keeps the history of its steps.
-ghost use Rattle.std.specs.Prelude.{◌≡◌, ℕ, [], length, IfOk, IfErr, OnErr, vec_len, sum_by};
+ghost use Rattle.std.specs.Prelude.{◌≡◌, ℕ, [], length, Some, IfOk, IfErr, OnErr, IsSomeAnd, vec_len, sum_by};
 ghost use Rattle.std.specs.Arc.{arc_value};
 ghost use Rattle.moka_state.specs.Recorded.{OneStep, OneReply};
 ghost use Rattle.moka_state.specs.Step.{StepKeeps};
@@ -11,6 +11,7 @@ ghost use Rattle.moka_recorded.specs.Keeps.{HandsOutKept};
 ghost use Rattle.moka_recorded.specs.StepForm.{IsOfForm};
 
 use crate::ask::PassOf;
+use crate::built::Built;
 use crate::get_with;
 use crate::recorded_state::{OverState, RecordedState};
 pub use crate::refused::CloseRefused;
@@ -31,7 +32,15 @@ use std::sync::ledger::Blank;
 use std::sync::{Arc, Wait};
 
 /// A new table for the history of a recorded cache.
-pub type Opened<K, V, C> = opened::Opened<Step<K, V, C>, Reply<K, V, C>>;
+pub type Opened<K, V, C> = opened::Opened<
+    Step<K, V, C>,
+    Reply<K, V, C>,
+    Built<
+        <C as CacheTypes<K, V>>::Hasher,
+        <C as CacheTypes<K, V>>::Weigher,
+        <C as CacheTypes<K, V>>::Expiry,
+    >,
+>;
 
 /// The right of one thread to call a recorded cache, with the receipts of its calls. Contracts see
 /// its number, its receipts, and what the history has at their places.
@@ -45,17 +54,18 @@ pub type Pass<K, V, C, L> = pass::Pass<
 >;
 
 /// A cache that threads share, each with its pass, and that keeps the history of its steps.
-/// Contracts see how many passes it has.
+/// Contracts see how many passes it has, and the settings that it was built with.
 ///
 /// Each step is done under one lock. The history has it with the number of its pass and its reply.
 /// The caller gets a receipt, which the pass keeps too: the place in the history, and the reply.
-/// `close` returns the history, and the state that stands for it.
+/// `close` returns the history, legal under these settings, and the state that stands for it.
 ///
 /// # Waiting
 ///
 /// A call waits for the lock. The lock is held while a step clones values, hashes and compares
-/// keys, weighs, asks the expiry and the predicate, and drops what the step replaces. So no code of
-/// these may call the cache or wait for a thread that does.
+/// keys, weighs, asks the expiry and the predicate, and drops what it does not keep. Replaced and
+/// removed entries become notices. None of this code may call the cache or wait for a thread that
+/// does.
 ///
 /// A `get_with` also waits while another caller has the turn of its key. It waits for ever if that
 /// turn is never ended. So a thread that opened a turn by `call` ends it before it asks for the
@@ -76,9 +86,9 @@ pub struct Recording<M: Machine<S, R>, S: Drop, R: Drop, L: Naming, W: Drop> {
 }
 
 impl<M: Machine<S, R>, S: Drop, R: Drop, L: Naming, W: Drop> Model for Recording<M, S, R, L, W> {
-    ghost use Rattle.std.specs.Prelude.{ℕ};
+    ghost use Rattle.moka_recording.specs.History.{RecordedData};
 
-    ghost Value = { ℕ };
+    ghost Value = { RecordedData M.Built };
 
     ghost view = { λ cache. cache.shared };
 }
@@ -88,7 +98,7 @@ pub type Entries<S, R> = Vec<(u64, S, R)>;
 
 impl<M: OverState<S, R>, S: Drop, R: Drop, L: Naming, W: Drop> Recording<M, S, R, L, W> {
     /// Creates a recorded cache over a newly built owned cache, with `count` passes numbered from
-    /// 0: one for each part of the ledger.
+    /// 0: one for each part of the ledger. It keeps the settings of the owned cache.
     ///
     /// The table is the one that `L` names. Write the caller as a function over any `L`, and call
     /// it with `Brand`. The proof says which table and which ledger it names.
@@ -99,7 +109,7 @@ impl<M: OverState<S, R>, S: Drop, R: Drop, L: Naming, W: Drop> Recording<M, S, R
     pub fn new(
         alloc: Global,
         state: M::State,
-        opened: opened::Opened<S, R>,
+        opened: opened::Opened<S, R, M::Built>,
         blank: Blank,
         count: u64,
         waits: W,
@@ -109,7 +119,8 @@ impl<M: OverState<S, R>, S: Drop, R: Drop, L: Naming, W: Drop> Recording<M, S, R
         requires empty { opened.history ≡ [] }
         requires name { blank.name ≡ L.name }
         requires parts { (blank.parts ≡ L.parts) × (count ≡ L.parts) }
-        ensures count { IfOk result (λ made. made.0 ≡ count) }
+        ensures count { IfOk result (λ made. made.0.count ≡ count) }
+        ensures built { IfOk result (λ made. made.0.built ≡ Some (M.settings state)) }
         ensures passes { IfOk result (λ made. made.1.items ≡ fresh_passes count) }
         ensures cause { IfErr result (λ cause. cause ≡ Refused.OutOfMemory) }
     {
@@ -118,11 +129,46 @@ impl<M: OverState<S, R>, S: Drop, R: Drop, L: Naming, W: Drop> Recording<M, S, R
         Ok((Recording { shared }, passes))
     }
 
+    /// Creates a recorded cache as [`new`](Self::new) does, and puts its passes into `passes`, in
+    /// place of those that are there.
+    ///
+    /// For a program under proof. Of a function that has a recorded cache of a ready-made type and
+    /// its passes in one value, the borrow checker gives no proof.
+    ///
+    /// # Errors
+    ///
+    /// - `OutOfMemory`: an allocation failed. `passes` is unchanged.
+    pub fn new_into(
+        alloc: Global,
+        state: M::State,
+        opened: opened::Opened<S, R, M::Built>,
+        blank: Blank,
+        count: u64,
+        waits: W,
+        passes: &mut Vec<pass::Pass<M, S, R, L>>,
+    ) -> Result<Self, Refused>
+        requires built { M.is_built state }
+        requires table { opened.table ≡ L.table }
+        requires empty { opened.history ≡ [] }
+        requires name { blank.name ≡ L.name }
+        requires parts { (blank.parts ≡ L.parts) × (count ≡ L.parts) }
+        ensures count { IfOk result (λ cache. cache.count ≡ count) }
+        ensures built { IfOk result (λ cache. cache.built ≡ Some (M.settings state)) }
+        ensures passes { IfOk result (λ _. passes.new.items ≡ fresh_passes count) }
+        ensures refused { OnErr result (passes.new ≡ passes.old) }
+        ensures cause { IfErr result (λ cause. cause ≡ Refused.OutOfMemory) }
+    {
+        let (cache, made) = Self::new(alloc, state, opened, blank, count, waits)?;
+        *passes = made;
+        Ok(cache)
+    }
+
     /// Returns the history and the owned cache, given all passes of this cache. Does not wait.
     ///
-    /// The history is the record of a legal run, and the returned state stands for it. It has as
-    /// many entries as the passes have receipts. Each receipt is at its place, with the number of
-    /// its pass. No two receipts have the same place, and each place is that of a receipt.
+    /// The history is the record of a legal run under the settings that this cache was built with,
+    /// and the returned state stands for it. It has as many entries as the passes have receipts.
+    /// Each receipt is at its place, with the number of its pass. No two receipts have the same
+    /// place, and each place is that of a receipt.
     ///
     /// # Errors
     ///
@@ -136,7 +182,8 @@ impl<M: OverState<S, R>, S: Drop, R: Drop, L: Naming, W: Drop> Recording<M, S, R
         self,
         passes: Vec<pass::Pass<M, S, R, L>>,
     ) -> Result<(Entries<S, R>, M::State), CloseRefused<M, S, R, L, W>>
-        ensures legal { IfOk result (λ closed. M.is_record closed.1 (pairs closed.0.items)) }
+        ensures legal { IfOk result (λ closed. IsSomeAnd self.built (λ built.
+            M.is_record built closed.1 (pairs closed.0.items))) }
         ensures count { IfOk result (λ closed.
             vec_len closed.0 ≡ sum_by (λ pass. length pass.receipts) passes.items) }
         ensures stand { IfOk result (λ closed.
@@ -144,9 +191,10 @@ impl<M: OverState<S, R>, S: Drop, R: Drop, L: Naming, W: Drop> Recording<M, S, R
         ensures rise { IfOk result (λ _. Each (λ pass. PlacesRise pass.receipts) passes.items) }
         ensures apart { IfOk result (λ _. AreApart passes.items) }
         ensures covered { IfOk result (λ closed. IsCovered closed.0.items passes.items) }
-        ensures whole { IfOk result (λ _. IsWhole self passes.items) }
+        ensures whole { IfOk result (λ _. IsWhole self.count passes.items) }
         ensures missing { IfErr result (λ refused.
-            (refused ≡ CloseRefused.PassesMissing self passes) × ¬ (IsWhole self passes.items)) }
+            (refused ≡ CloseRefused.PassesMissing self passes)
+            × ¬ (IsWhole self.count passes.items)) }
     {
         let Recording { shared } = self;
         match shared.close(passes) {

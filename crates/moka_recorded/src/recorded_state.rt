@@ -1,6 +1,7 @@
 //! An owned cache as a machine whose steps are recorded.
 ghost use Rattle.std.specs.Prelude.{◌≡◌, ◌↔◌, List, [], IsTrue, IfOk, IfErr};
 
+use crate::built::Built;
 use crate::named::copy_name;
 use moka_expiration::view::StateView;
 use moka_policy::policy::{CacheTypes, Refused};
@@ -23,17 +24,23 @@ pub trait OverState<S: Drop, R: Drop>: Machine<S, R> + Sized {
     /// The state was just built.
     ghost is_built: { Self.State → Type 0 };
 
-    /// The state stands for this history, the oldest step first, and the history is legal.
-    ghost is_record: { Self.State → List (S × R) → Type 0 };
+    /// The settings of the state, with which it was built.
+    ghost settings: { Self.State → Self.Built };
+
+    /// The state stands for this history, the oldest step first. The history is legal under these
+    /// settings.
+    ghost is_record: { Self.Built → Self.State → List (S × R) → Type 0 };
 
     /// Creates the machine over a state.
     fn over(state: Self::State) -> Self
         requires { is_built state }
-        ensures { Self.stands result [] };
+        ensures built { Self.built_with result ≡ settings state }
+        ensures stands { Self.stands (settings state) result [] };
 
     /// Returns the state of the machine.
     fn into_state(self) -> Self::State
-        ensures { (h : List (S × R)) → Self.stands self h → is_record result h };
+        ensures { (built : Self.Built) (h : List (S × R)) → Self.stands built self h →
+            is_record built result h };
 }
 
 /// A state whose steps are recorded.
@@ -53,29 +60,22 @@ impl<K: Hash + Drop, V: Clone, C: CacheTypes<K, V>, R: RowStore<K, V>> Machine<
     Step<K, V, C>,
     Reply<K, V, C>,
 > for RecordedState<K, V, C, R> {
-    ghost use Rattle.moka_expiration.specs.Behaviour.{hash_by, behaviour_by};
-    ghost use Rattle.moka_expiration.specs.StateData.{estimates, view_by};
     ghost use Rattle.moka_value_invariant.specs.Keeps.{HasKeptHistory};
     ghost use Rattle.moka_state.specs.Replies.{IsRefusal};
     ghost use Rattle.moka_state.specs.Step.{StepKeeps};
-    ghost use Rattle.moka_state.specs.Recorded.{OneStep, OneReply, IsRecord};
+    ghost use Rattle.moka_state.specs.Recorded.{OneStep, OneReply, IsRecordUnder};
     ghost use Rattle.moka_recorded.specs.GivesBack.{GivesBack};
     ghost use Rattle.moka_recorded.specs.Keeps.{HandsOutKept};
     ghost use Rattle.moka_recorded.specs.StepForm.{IsOfForm};
     ghost use Rattle.moka_recorded.specs.Waking.{IsEnd, IsNotYet};
 
-    ghost stands = { λ it history. IsRecord K.eq V.is_clone V.is_infallible C.test
-        (view_by
-        (behaviour_by
-        (hash_by C.Hasher.build_hasher C.Hasher.Hasher.write C.Hasher.Hasher.finish K.hash_input)
-        C.weight C.lifetimes)
-        (estimates C.Frequency.noted C.Frequency.count) C.Frequency.opened)
-        it.state history
-        × HasKeptHistory C.keeps K.eq V.is_clone (view_by
-        (behaviour_by
-        (hash_by C.Hasher.build_hasher C.Hasher.Hasher.write C.Hasher.Hasher.finish K.hash_input)
-        C.weight C.lifetimes)
-        (estimates C.Frequency.noted C.Frequency.count) C.Frequency.opened it.state) };
+    type Built = Built<C::Hasher, C::Weigher, C::Expiry>;
+
+    ghost built_with = { λ it. it.state.settings };
+
+    ghost stands = { λ built it history. IsRecordUnder K.eq V.is_clone V.is_infallible C.test
+        ⟦<C as StateView<K, V>>⟧.view (⟦<C as StateView<K, V>>⟧.settings built) it.state history
+        × HasKeptHistory C.keeps K.eq V.is_clone (⟦<C as StateView<K, V>>⟧.view it.state) };
 
     ghost owes = { StepKeeps C.keeps C.Predicate.tests C.test };
 
@@ -126,15 +126,17 @@ impl<K: Hash + Drop, V: Clone, C: CacheTypes<K, V>, R: RowStore<K, V>> OverState
     Reply<K, V, C>,
 > for RecordedState<K, V, C, R> {
     ghost use Rattle.std.specs.Prelude.{[]};
-    ghost use Rattle.moka_state.specs.Recorded.{IsRecord};
+    ghost use Rattle.moka_state.specs.Recorded.{IsRecordUnder};
 
     type State = State<K, V, C, R>;
 
     ghost is_built = { λ state. ⟦<C as StateView<K, V>>⟧.stands_for
         (⟦<C as StateView<K, V>>⟧.settings state.settings) state [] };
 
-    ghost is_record = { IsRecord K.eq V.is_clone V.is_infallible C.test
-        ⟦<C as StateView<K, V>>⟧.view };
+    ghost settings = { λ state. state.settings };
+
+    ghost is_record = { λ built. IsRecordUnder K.eq V.is_clone V.is_infallible C.test
+        ⟦<C as StateView<K, V>>⟧.view (⟦<C as StateView<K, V>>⟧.settings built) };
 
     fn over(state: State<K, V, C, R>) -> Self {
         RecordedState { state }

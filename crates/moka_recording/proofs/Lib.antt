@@ -2,3 +2,4 @@ pub mod Apart
 pub mod Moves
 pub mod Places
 pub mod Tokens
+pub mod Witnesses

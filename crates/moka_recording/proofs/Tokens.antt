@@ -1,27 +1,32 @@
 -- The tokens through one call, and a history that grows.
-use Rattle.std.proofs.Common.{◌≡◌, ℕ, zero, suc, ◌<◌, List, [], ◌∷◌, ◌++◌, length, Some, refl, sym, ap, ◌∙◌, subst}
-use Rattle.std.specs.Prelude.{slice_get}
+use Rattle.std.proofs.Common.{◌≡◌, ℕ, zero, suc, ◌<◌, List, [], ◌∷◌, ◌++◌, length, Option, Some, None, refl, sym, ap, ◌∙◌, subst}
+use Rattle.std.specs.Prelude.{slice_get, IsSome, IsSomeAnd}
 use mathlib.Core.Option.{some}
 use Rattle.atomic_table.specs.Table.{Me, step}
 use Rattle.moka_recording.specs.declared.law.Claim.{Claim}
 use Rattle.moka_recording.specs.declared.law.View.{View}
 use Rattle.moka_recording.specs.declared.receipt.StoredReceipt.{StoredReceipt}
-use Rattle.moka_recording.specs.History.{Each, claim, recorder, claimer, with_claims, without_claims, Added}
+use Rattle.moka_recording.specs.History.{Each, claim, recorder, with_claims, without_claims, IsAnnounced, Added}
 use Rattle.moka_recording.specs.Receipts.{PassData, pairs, IsOf, AreOf, Stand}
+
+-- what the witness claims is what the recorder announced
+pub heard_is_built : {B : Type 0} (Q : B → Type 0) (claimed built heard : Option B) (b : B) → Q b → IsSome claimed → built ≡ Some b → heard ≡ claimed → IsAnnounced built heard → IsSomeAnd claimed Q
+heard_is_built Q None built heard b q is known same told = absurd (cc)
+heard_is_built Q (Some x) built heard b q is known same told = let e = sym known ∙ told x same in subst Q (cc) q
 
 module _ {S R : Type 0} where
   -- the recorder while it has the claims of a pass
-  pub borrowed : (all : List (ℕ × S × R)) (claims theirs : List (Claim S R)) (a b m : Me (ℕ × S × R) (View S R)) → a ≡ (recorder all [], []) → b ≡ (without_claims a.0, a.1) → theirs ≡ claims
-      → m ≡ (record { is_recorder = b.0.is_recorder; all = b.0.all; claims = theirs }, b.1) → m ≡ (recorder all claims, [])
-  borrowed all claims theirs a b m ha hb ht hm =
+  pub borrowed : {B : Type 0} (built : Option B) (all : List (ℕ × S × R)) (theirs pass : View S R B) (a b m : Me (ℕ × S × R) (View S R B)) → a ≡ (recorder built all [] None, []) → b ≡ (without_claims a.0, a.1) → theirs ≡ pass
+      → m ≡ (with_claims b.0 theirs, b.1) → m ≡ (recorder built all pass.claims pass.heard, [])
+  borrowed {B} built all theirs pass a b m ha hb ht hm =
       hm
-      ∙ ap (λ (x : Me (ℕ × S × R) (View S R)). (with_claims x.0 (claimer theirs), x.1)) (hb ∙ ap (λ (x : Me (ℕ × S × R) (View S R)). (without_claims x.0, x.1)) ha)
-      ∙ ap (λ (cs : List (Claim S R)). (recorder all cs, [])) ht
+      ∙ ap (λ (x : Me (ℕ × S × R) (View S R B)). (with_claims x.0 theirs, x.1)) (hb ∙ ap (λ (x : Me (ℕ × S × R) (View S R B)). (without_claims x.0, x.1)) ha)
+      ∙ ap (λ (v : View S R B). (recorder built all v.claims v.heard, [])) ht
 
-  pub added : (slots : ℕ) (all : List (ℕ × S × R)) (claims : List (Claim S R)) (e : ℕ × S × R) (m n : Me (ℕ × S × R) (View S R)) (found : ℕ) → m ≡ (recorder all claims, []) → Added (step slots 0 0 0 (some e)) m found n
-      → (n ≡ (recorder (all ++ e ∷ []) (claims ++ claim (length all) e ∷ []), [])) × Each (λ (c : Claim S R). c.place < length all) claims
-  added slots all claims e m n found h a =
-      let d = subst (λ (x : Me (ℕ × S × R) (View S R)). Added (step slots 0 0 0 (some e)) x found n) h a in ((λ i. (d.0.0 i, d.1 i)), d.0.1)
+  pub added : {B : Type 0} (slots : ℕ) (built : Option B) (all : List (ℕ × S × R)) (claims : List (Claim S R)) (heard : Option B) (e : ℕ × S × R) (m n : Me (ℕ × S × R) (View S R B)) (found : ℕ) → m ≡ (recorder built all claims heard, []) → Added (step slots 0 0 0 (some e)) m found n
+      → (n ≡ (recorder built (all ++ e ∷ []) (claims ++ claim (length all) e ∷ []) heard, [])) × Each (λ (c : Claim S R). c.place < length all) claims
+  added {B} slots built all claims heard e m n found h a =
+      let d = subst (λ (x : Me (ℕ × S × R) (View S R B)). Added (step slots 0 0 0 (some e)) x found n) h a in ((λ i. (d.0.0 i, d.1 i)), d.0.1)
 
   pairs_more : (xs : List (ℕ × S × R)) (e : ℕ × S × R) → pairs (xs ++ e ∷ []) ≡ pairs xs ++ (e.1, e.2) ∷ []
   pairs_more [] e = refl

@@ -13,18 +13,19 @@ use std::sync::ledger::{Book, Share};
 
 /// A machine with the history of its steps. Contracts see both.
 ///
-/// The machine stands for the history. The one token that knows the whole history knows this one.
+/// The machine stands for the history, from what it was built with. The one token that knows the
+/// whole history and what was built knows these.
 #[derive(Drop)]
 pub struct GuardedMachine<M: Machine<S, R>, S: Drop, R: Drop, L: Naming> {
     pub(crate) machine: M,
     pub(crate) entries: Vec<Entry<S, R>>,
-    pub(crate) token: Token<S, R>,
+    pub(crate) token: Token<S, R, M::Built>,
     pub(crate) book: Book<L>,
     pub(crate) rest: Share<L>,
 }
 
 impl<M: Machine<S, R>, S: Drop, R: Drop, L: Naming> Model for GuardedMachine<M, S, R, L> {
-    ghost use Rattle.std.specs.Prelude.{◌≡◌, ℕ, List, [], length};
+    ghost use Rattle.std.specs.Prelude.{◌≡◌, ℕ, List, [], length, Some, None};
     ghost use Rattle.moka_recording.specs.History.{GuardedMachineData, recorder};
     ghost use Rattle.moka_recording.specs.Receipts.{pairs};
 
@@ -32,9 +33,10 @@ impl<M: Machine<S, R>, S: Drop, R: Drop, L: Naming> Model for GuardedMachine<M, 
 
     ghost view = { λ d. record { machine = d.machine; history = d.entries.items } };
 
-    ghost invariant = { λ d. M.stands d.machine (pairs d.entries.items)
+    ghost invariant = { λ d. ((built : M.Built)
+        × M.stands built d.machine (pairs d.entries.items)
+        × (d.token.me ≡ (recorder (Some built) d.entries.items [] None, [])))
         × (d.token.table_id ≡ L.table)
-        × (d.token.me ≡ (recorder d.entries.items [], []))
         × (d.book.total ≡ length d.entries.items)
         × (d.rest.parts ≡ 0)
         × (d.rest.amount ≡ 0) };
@@ -47,7 +49,7 @@ impl<M: Machine<S, R>, S: Drop, R: Drop, L: Naming> GuardedMachine<M, S, R, L> {
     // hands it back, so that the caller drops it without the lock.
     pub(crate) fn add(
         &mut self,
-        history: &History<S, R>,
+        history: &History<S, R, M::Built>,
         pass: &mut Pass<M, S, R, L>,
         step: S,
     ) -> Result<Receipt<R>, Option<S>>

@@ -10,3 +10,4 @@ pub mod opened;
 pub mod pass;
 pub mod receipt;
 pub mod recorded;
+mod witness;

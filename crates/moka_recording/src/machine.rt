@@ -15,8 +15,15 @@ pub trait Machine<S: Drop, R: Drop>: Drop {
     ghost use mathlib.Core.Logic.{◌↔◌};
     ghost use Rattle.moka_policy.specs.declared.policy.Refused.TheVariants.{OutOfMemory};
 
-    /// The machine stands for this history, the oldest step first, and the history is legal.
-    ghost stands: { Self → List (S × R) → Type 0 };
+    /// What a machine was built with. Exists only in proofs.
+    type Built;
+
+    /// What the machine was built with.
+    ghost built_with: { Self → Self.Built };
+
+    /// The machine stands for this history, the oldest step first. The history is legal from what
+    /// the machine was built with.
+    ghost stands: { Self.Built → Self → List (S × R) → Type 0 };
 
     /// What a caller has to prove of a step.
     ghost owes: { S → Type 0 };
@@ -48,15 +55,15 @@ pub trait Machine<S: Drop, R: Drop>: Drop {
     ///   stood for.
     fn step_recorded(&mut self, step: S) -> Result<(R, (S, R), (S, R)), Refused>
         requires { owes step }
-        ensures stands { IfOk result (λ done. (h : List (S × R)) → stands self.old h →
-            stands self.new (h ++ done.1 ∷ [])) }
+        ensures stands { IfOk result (λ done. (b : Self.Built) (h : List (S × R)) →
+            stands b self.old h → stands b self.new (h ++ done.1 ∷ [])) }
         ensures steps { IfOk result (λ done. one_step step done.1.0 done.2.0) }
-        ensures replies { IfOk result (λ done. (h : List (S × R)) → stands self.old h →
-            one_reply done.0 done.1.1 done.2.1) }
-        ensures fits { IfOk result (λ done. (h : List (S × R)) → stands self.old h →
-            fits step done.0) }
-        ensures refused { IfErr result (λ _. (h : List (S × R)) → stands self.old h →
-            stands self.new h) }
+        ensures replies { IfOk result (λ done. (b : Self.Built) (h : List (S × R)) →
+            stands b self.old h → one_reply done.0 done.1.1 done.2.1) }
+        ensures fits { IfOk result (λ done. (b : Self.Built) (h : List (S × R)) →
+            stands b self.old h → fits step done.0) }
+        ensures refused { IfErr result (λ _. (b : Self.Built) (h : List (S × R)) →
+            stands b self.old h → stands b self.new h) }
         ensures cause { IfErr result (λ cause. cause ≡ OutOfMemory) };
 
     /// Returns whether a step may end what other callers wait for.

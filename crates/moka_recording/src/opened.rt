@@ -8,13 +8,13 @@ use std::marker::Model;
 
 /// A new table for the history of a recorded cache. Contracts see its name and its history.
 #[derive(Drop)]
-pub struct Opened<S: Drop, R: Drop> {
-    pub(crate) table: History<S, R>,
-    pub(crate) token: Token<S, R>,
+pub struct Opened<S: Drop, R: Drop, B> {
+    pub(crate) table: History<S, R, B>,
+    pub(crate) token: Token<S, R, B>,
 }
 
-impl<S: Drop, R: Drop> Model for Opened<S, R> {
-    ghost use Rattle.std.specs.Prelude.{◌≡◌, []};
+impl<S: Drop, R: Drop, B> Model for Opened<S, R, B> {
+    ghost use Rattle.std.specs.Prelude.{◌≡◌, [], None};
     ghost use Rattle.moka_recording.specs.History.{OpenedData, recorder};
 
     ghost Value = { OpenedData S R };
@@ -22,11 +22,11 @@ impl<S: Drop, R: Drop> Model for Opened<S, R> {
     ghost view = { λ o. record { table = o.table.shared.table_id; history = o.token.me.0.all } };
 
     ghost invariant = { λ o. (o.token.table_id ≡ o.table.shared.table_id)
-        × (o.token.me ≡ (recorder [] [], []))
+        × (o.token.me ≡ (recorder None [] [] None, []))
         × (o.table.shared.table_id.words ≡ 1) };
 }
 
-impl<S: Drop, R: Drop> Opened<S, R> {
+impl<S: Drop, R: Drop, B> Opened<S, R, B> {
     /// Creates a table with an empty history.
     ///
     /// # Errors

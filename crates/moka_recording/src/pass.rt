@@ -1,5 +1,5 @@
 //! The right to call a recorded machine.
-ghost use Rattle.std.specs.Prelude.{◌≡◌, []};
+ghost use Rattle.std.specs.Prelude.{◌≡◌, [], None};
 ghost use Rattle.moka_recording.specs.History.{claimer};
 ghost use Rattle.moka_recording.specs.Receipts.{PlacesRise};
 
@@ -17,7 +17,7 @@ use std::sync::ledger::Share;
 pub struct Pass<M: Machine<S, R>, S: Drop, R: Drop, L: Naming> {
     pub(crate) number: u64,
     pub(crate) receipts: Vec<StoredReceipt<S, R>>,
-    pub(crate) token: Token<S, R>,
+    pub(crate) token: Token<S, R, M::Built>,
     pub(crate) share: Share<L>,
     pub(crate) machine: PhantomData<M>,
 }
@@ -47,10 +47,10 @@ impl<M: Machine<S, R>, S: Drop, R: Drop, L: Naming> Pass<M, S, R, L> {
     pub(crate) fn with_number(
         alloc: Global,
         number: u64,
-        token: Token<S, R>,
+        token: Token<S, R, M::Built>,
         share: Share<L>,
     ) -> Self
-        requires token { (token.table_id ≡ L.table) × (token.me ≡ (claimer [], [])) }
+        requires token { (token.table_id ≡ L.table) × (token.me ≡ (claimer [] None, [])) }
         requires share { (share.parts ≡ 1) × (share.amount ≡ 0) }
         ensures { result ≡ record { number = number; receipts = []; claims = [] } }
     {

@@ -1,7 +1,7 @@
 //! Receipts: the evidence of a recorded step.
 
 /// What a call returns: the place of its step in the history, and its reply.
-#[derive(Drop)]
+#[derive(Debug, Drop)]
 pub struct Receipt<R> {
     /// The place in the history, from 0.
     pub place: u64,
@@ -10,7 +10,7 @@ pub struct Receipt<R> {
 }
 
 /// A receipt as a pass stores it: with the step that was called.
-#[derive(Drop)]
+#[derive(Debug, Drop)]
 pub struct StoredReceipt<S, R> {
     /// The place in the history, from 0.
     pub place: u64,

@@ -1,43 +1,49 @@
 //! A machine under a lock, with the history of its steps.
-ghost use Rattle.std.specs.Prelude.{◌≡◌, ◌+◌, [], length, true, IfOk, IfErr, OnErr, vec_len, sum_by, IsTrue};
-ghost use Rattle.moka_recording.specs.History.{Each, recorder};
+ghost use Rattle.std.specs.Prelude.{◌≡◌, ◌+◌, [], length, true, Some, None, IfOk, IfErr, OnErr, IsSomeAnd, vec_len, sum_by, IsTrue};
+ghost use Rattle.moka_recording.specs.History.{Each, recorder, claimer};
 ghost use Rattle.moka_recording.specs.Receipts.{pairs, Stand, AddsReceipt, fresh_passes, IsWhole, HasNumber, AreInOrder, PlacesRise, AreApart, IsCovered};
 ghost use mathlib.Core.Logic.{◌↔◌};
 
 use crate::guarded_machine::GuardedMachine;
-use crate::law::{Compares, Entry, Hands, History, Token};
+use crate::law::{Announcement, Announces, Compares, Entry, Hands, History, Token};
 use crate::machine::Machine;
 use crate::naming::Naming;
 use crate::opened::Opened;
 use crate::pass::Pass;
 use crate::receipt::Receipt;
+use crate::witness::Witness;
 use moka_policy::policy::Refused;
 use std::alloc::Global;
-use std::marker::Model;
+use std::marker::{Brand, Model};
 use std::sync::ledger::{Blank, Share};
 use std::sync::{Condvar, Mutex, MutexGuard, Wait};
 
 /// A machine that threads share, with the history of its steps. Contracts see how many passes it
-/// has.
+/// has, and what the machine was built with.
 #[derive(Drop)]
 pub struct Recorded<M: Machine<S, R>, S: Drop, R: Drop, L: Naming, W: Drop> {
-    history: History<S, R>,
+    history: History<S, R, M::Built>,
     guarded: Mutex<GuardedMachine<M, S, R, L>>,
     moved: Condvar,
     count: u64,
     waits: W,
+    witness: Witness<S, R, M::Built>,
 }
 
 impl<M: Machine<S, R>, S: Drop, R: Drop, L: Naming, W: Drop> Model for Recorded<M, S, R, L, W> {
-    ghost use Rattle.std.specs.Prelude.{◌≡◌, ℕ};
+    ghost use Rattle.std.specs.Prelude.{◌≡◌, ℕ, [], IsSome};
+    ghost use Rattle.moka_recording.specs.History.{RecordedData};
 
-    ghost Value = { ℕ };
+    ghost Value = { RecordedData M.Built };
 
-    ghost view = { λ c. c.count };
+    ghost view = { λ c. record { count = c.count; built = c.witness.token.me.0.heard } };
 
     ghost invariant = { λ c. (c.history.shared.table_id ≡ L.table)
         × (c.history.shared.table_id.words ≡ 1)
-        × (c.count ≡ L.parts) };
+        × (c.count ≡ L.parts)
+        × (c.witness.token.table_id ≡ L.table)
+        × (c.witness.token.me.1 ≡ [])
+        × IsSome c.witness.token.me.0.heard };
 }
 
 /// What `close` returns: the history and the machine, or the recorded machine and its passes back.
@@ -49,18 +55,19 @@ pub type Closed<M, S, R, L, W> = Result<
 // Creates the passes of a new machine, numbered from 0.
 fn create_passes<M: Machine<S, R>, S: Drop, R: Drop, L: Naming>(
     alloc: Global,
-    history: &History<S, R>,
-    token: &mut Token<S, R>,
+    history: &History<S, R, M::Built>,
+    token: &mut Token<S, R, M::Built>,
     all: &mut Share<L>,
     count: u64,
 ) -> Result<Vec<Pass<M, S, R, L>>, Refused>
     requires table { history.now.shared.table_id ≡ L.table }
     requires words { history.now.shared.table_id.words ≡ 1 }
-    requires token { (token.old.table_id ≡ L.table) × (token.old.me ≡ (recorder [] [], [])) }
+    requires token { (token.old.table_id ≡ L.table)
+        × (token.old.me ≡ (recorder None [] [] None, [])) }
     requires share { (all.old.parts ≡ count) × (all.old.amount ≡ 0) }
     ensures passes { IfOk result (λ passes. passes.items ≡ fresh_passes count) }
     ensures token { IfOk result (λ _. (token.new.table_id ≡ L.table)
-        × (token.new.me ≡ (recorder [] [], []))) }
+        × (token.new.me ≡ (recorder None [] [] None, []))) }
     ensures share { IfOk result (λ _. (all.new.parts ≡ 0) × (all.new.amount ≡ 0)) }
     ensures cause { IfErr result (λ cause. cause ≡ Refused.OutOfMemory) }
 {
@@ -75,10 +82,30 @@ fn create_passes<M: Machine<S, R>, S: Drop, R: Drop, L: Naming>(
     Ok(passes)
 }
 
+// Announces what the machine was built with. Returns a token that claims it.
+fn announce<M: Machine<S, R>, S: Drop, R: Drop, Z: Announcement<M::Built>>(
+    history: &History<S, R, M::Built>,
+    token: &mut Token<S, R, M::Built>,
+    machine: &M,
+) -> Token<S, R, M::Built>
+    requires table { token.old.table_id ≡ history.now.shared.table_id }
+    requires words { history.now.shared.table_id.words ≡ 1 }
+    requires token { token.old.me ≡ (recorder None [] [] None, []) }
+    requires built { Z.built ≡ Some (M.built_with machine.now) }
+    ensures token { (token.new.table_id ≡ token.old.table_id)
+        × (token.new.me ≡ (recorder (Some (M.built_with machine.now)) [] [] None, [])) }
+    ensures witness { (result.table_id ≡ token.old.table_id)
+        × (result.me ≡ (claimer [] (Some (M.built_with machine.now)), [])) }
+{
+    let _ = machine;
+    history.shared.load::<Announces<Z>>(token, 0);
+    history.shared.split_seat::<Hands>(token)
+}
+
 // Takes a pass back. Its receipts are then proved to agree with the history.
 fn take_back<M: Machine<S, R>, S: Drop, R: Drop, L: Naming>(
-    history: &History<S, R>,
-    token: &mut Token<S, R>,
+    history: &History<S, R, M::Built>,
+    token: &mut Token<S, R, M::Built>,
     rest: &mut Share<L>,
     entries: &Vec<Entry<S, R>>,
     pass: Pass<M, S, R, L>,
@@ -110,8 +137,8 @@ fn take_back<M: Machine<S, R>, S: Drop, R: Drop, L: Naming>(
 
 // Takes all passes back. Their receipts are then proved to agree with the history.
 fn take_all_back<M: Machine<S, R>, S: Drop, R: Drop, L: Naming>(
-    history: &History<S, R>,
-    token: &mut Token<S, R>,
+    history: &History<S, R, M::Built>,
+    token: &mut Token<S, R, M::Built>,
     rest: &mut Share<L>,
     entries: &Vec<Entry<S, R>>,
     passes: Vec<Pass<M, S, R, L>>,
@@ -183,7 +210,7 @@ fn has_number<M: Machine<S, R>, S: Drop, R: Drop, L: Naming>(
 
 impl<M: Machine<S, R>, S: Drop, R: Drop, L: Naming, W: Drop> Recorded<M, S, R, L, W> {
     /// Creates a recorded machine with an empty history, and its passes: one for each part of the
-    /// ledger.
+    /// ledger. It keeps what the machine was built with.
     ///
     /// # Errors
     ///
@@ -191,23 +218,25 @@ impl<M: Machine<S, R>, S: Drop, R: Drop, L: Naming, W: Drop> Recorded<M, S, R, L
     pub fn new(
         alloc: Global,
         machine: M,
-        opened: Opened<S, R>,
+        opened: Opened<S, R, M::Built>,
         blank: Blank,
         count: u64,
         waits: W,
     ) -> Result<(Self, Vec<Pass<M, S, R, L>>), Refused>
-        requires built { M.stands machine [] }
+        requires built { M.stands (M.built_with machine) machine [] }
         requires table { opened.table ≡ L.table }
         requires empty { opened.history ≡ [] }
         requires name { blank.name ≡ L.name }
         requires parts { (blank.parts ≡ L.parts) × (count ≡ L.parts) }
-        ensures count { IfOk result (λ made. made.0 ≡ count) }
+        ensures count { IfOk result (λ made. made.0.count ≡ count) }
+        ensures built { IfOk result (λ made. made.0.built ≡ Some (M.built_with machine)) }
         ensures passes { IfOk result (λ made. made.1.items ≡ fresh_passes count) }
         ensures cause { IfErr result (λ cause. cause ≡ Refused.OutOfMemory) }
     {
         let Opened { table, mut token } = opened;
         let (book, mut rest) = blank.open::<L>();
         let passes = create_passes(alloc, &table, &mut token, &mut rest, count)?;
+        let witness = announce::<M, S, R, Brand>(&table, &mut token, &machine);
         let guarded = GuardedMachine {
             machine,
             entries: Vec::new(alloc),
@@ -221,15 +250,16 @@ impl<M: Machine<S, R>, S: Drop, R: Drop, L: Naming, W: Drop> Recorded<M, S, R, L
             moved: Condvar::new(),
             count,
             waits,
+            witness: Witness::new(witness),
         };
         Ok((recorded, passes))
     }
 
     /// Returns the history and the machine, given all of its passes. Does not wait.
     ///
-    /// The history is legal from what the machine was when this was created. It has as many entries
-    /// as the passes have receipts, and each receipt is at its place. The places of one pass rise.
-    /// No two receipts have the same place, so each place is that of one receipt.
+    /// The history is legal from what the machine was built with. It has as many entries as the
+    /// passes have receipts, and each receipt is at its place. The places of one pass rise. No two
+    /// receipts have the same place, so each place is that of one receipt.
     ///
     /// # Errors
     ///
@@ -240,18 +270,20 @@ impl<M: Machine<S, R>, S: Drop, R: Drop, L: Naming, W: Drop> Recorded<M, S, R, L
     /// Linear in the number of passes if they are in the order of their numbers, else quadratic.
     /// Also drops all receipts.
     pub fn close(self, passes: Vec<Pass<M, S, R, L>>) -> Closed<M, S, R, L, W>
-        ensures legal { IfOk result (λ closed. M.stands closed.1 (pairs closed.0.items)) }
+        ensures legal { IfOk result (λ closed. IsSomeAnd self.built (λ built.
+            M.stands built closed.1 (pairs closed.0.items))) }
         ensures count { IfOk result (λ closed.
             vec_len closed.0 ≡ sum_by (λ pass. length pass.receipts) passes.items) }
         ensures stand { IfOk result (λ closed.
             Each (Stand M.one_step M.one_reply closed.0.items) passes.items) }
-        ensures whole { IfOk result (λ _. IsWhole self passes.items) }
+        ensures whole { IfOk result (λ _. IsWhole self.count passes.items) }
         ensures rise { IfOk result (λ _.
             Each (λ pass. PlacesRise pass.receipts) passes.items) }
         ensures apart { IfOk result (λ _. AreApart passes.items) }
         ensures covered { IfOk result (λ closed. IsCovered closed.0.items passes.items) }
         ensures missing { IfErr result (λ back.
-            (back.0 ≡ self) × (back.1 ≡ passes) × ¬ (IsWhole self passes.items)) }
+            (back.0 ≡ self) × (back.1 ≡ passes)
+            × ¬ (IsWhole self.count passes.items)) }
     {
         if !are_all_passes(passes.as_slice(), self.count) {
             return Err((self, passes));
@@ -262,6 +294,7 @@ impl<M: Machine<S, R>, S: Drop, R: Drop, L: Naming, W: Drop> Recorded<M, S, R, L
             moved: _,
             count: _,
             waits: _,
+            witness,
         } = self;
         let GuardedMachine {
             machine,
@@ -270,6 +303,9 @@ impl<M: Machine<S, R>, S: Drop, R: Drop, L: Naming, W: Drop> Recorded<M, S, R, L
             mut book,
             mut rest,
         } = guarded.into_inner();
+        let witness = witness.into_token();
+        history.shared.join_seat::<Hands>(&mut token, witness);
+        history.shared.load::<Compares>(&mut token, 0);
         take_all_back(&history, &mut token, &mut rest, &entries, passes);
         book.audit(&mut rest);
         Ok((entries, machine))

@@ -2,7 +2,7 @@
 ghost use Rattle.std.specs.Prelude.{◌≡◌, ◌≢◌};
 ghost use Rattle.moka_model.specs.declared.turns.Kind.{Kind};
 
-use crate::caches::{FOURTH, Numbers, SECOND, THIRD, cache, clone, share};
+use crate::caches::{FOURTH, Numbers, SECOND, THIRD, cache, clone, get, insert, share};
 use crate::marks::{Marks, count_so_far, mark, new_marks, pause, reaches};
 use moka::policy::Refused;
 use moka::sync::value_initializer::{Begun, FinishRefused, Kind, Outcome, Turn};
@@ -121,17 +121,46 @@ where
     assert_eq!(rt; count_so_far(&marks.asks), 1, "one initializer ran");
 }
 
+/// How a caller loads that is to wait for a turn.
+#[derive(Clone, Copy)]
+enum Way {
+    /// By `get_with`, with no live value.
+    Plain,
+    /// By `get_with_if`, which replaces the live value. When its predicate runs, it has begun, and
+    /// it holds a ticket before anybody else gets the segment's lock.
+    If,
+}
+
+const WAYS: [Way; 2] = [Way::Plain, Way::If];
+
 /// Counts a call of the caller's own initializer, and returns its value.
 fn count_own(marks: &Marks) -> u64 {
     mark(&marks.asks);
     12
 }
 
-fn asks<W: Wait + Clock + Drop>(cache: &Numbers<W>, marks: &Marks, key: u64) -> Given {
+fn turns_it_down(marks: &Marks) -> bool {
     mark(&marks.arrived);
-    let given = cache.get_with(key, || count_own(marks));
+    true
+}
+
+fn asks<W: Wait + Clock + Drop>(cache: &Numbers<W>, marks: &Marks, key: u64, way: Way) -> Given {
+    let given = match way {
+        Way::Plain => asks_for_any(cache, marks, key),
+        Way::If => asks_for_another(cache, marks, key),
+    };
     mark(&marks.done);
     given
+}
+
+fn asks_for_any<W: Wait + Clock + Drop>(cache: &Numbers<W>, marks: &Marks, key: u64) -> Given {
+    mark(&marks.arrived);
+    cache.get_with(key, || count_own(marks))
+}
+
+/// Loads by a closure of its own, and turns down the live value. Its predicate counts it as arrived.
+fn asks_for_another<W: Wait + Clock + Drop>(cache: &Numbers<W>, marks: &Marks, key: u64) -> Given {
+    cache.get_with_if(key, || count_own(marks), |_| turns_it_down(marks))
 }
 
 /// Returns a turn of a kind, whatever is live.
@@ -197,8 +226,8 @@ fn ends<W: Wait + Clock + Drop>(rt: &impl Abort, cache: &Numbers<W>, turn: Turn<
 /// A waiting caller gets the value of a turn that is finished, in each segment.
 #[test]
 fn a_finished_turn_answers_who_waits_in_its_segment(rt: HostRuntime) -> Result<(), Fail> {
-    for key in KEYS {
-        waits_for_a_turn(rt, rt.alloc(), key, End::Finished)?;
+    for way in WAYS {
+        for_each_key(rt, rt.alloc(), way, End::Finished)?;
     }
     Ok(())
 }
@@ -206,35 +235,49 @@ fn a_finished_turn_answers_who_waits_in_its_segment(rt: HostRuntime) -> Result<(
 /// If a turn is abandoned, a waiting caller runs its own initializer, in each segment.
 #[test]
 fn an_abandoned_turn_goes_to_who_waits_in_its_segment(rt: HostRuntime) -> Result<(), Fail> {
-    for key in KEYS {
-        waits_for_a_turn(rt, rt.alloc(), key, End::Abandoned)?;
+    for way in WAYS {
+        for_each_key(rt, rt.alloc(), way, End::Abandoned)?;
     }
     Ok(())
 }
 
-fn waits_for_a_turn<W>(rt: W, alloc: Global, key: u64, end: End) -> Result<(), Fail>
+fn for_each_key<W>(rt: W, alloc: Global, way: Way, end: End) -> Result<(), Fail>
+where
+    W: Wait + Clock + Threads + Abort + Copy + Drop + Send + Sync + 'static,
+{
+    for key in KEYS {
+        waits_for_a_turn(rt, alloc, key, way, end)?;
+    }
+    Ok(())
+}
+
+fn waits_for_a_turn<W>(rt: W, alloc: Global, key: u64, way: Way, end: End) -> Result<(), Fail>
 where
     W: Wait + Clock + Threads + Abort + Copy + Drop + Send + Sync + 'static,
 {
     let key = share(alloc, key)?;
     let marks = new_marks(alloc)?;
     let cache = cache(rt, alloc)?;
-    gets_reply(&rt, &cache, (&key, &marks), end)
+    gets_reply(&rt, &cache, (&key, &marks), way, end)
 }
 
 fn gets_reply<W>(
     rt: &W,
     cache: &Numbers<W>,
     shared: (&Arc<u64>, &Arc<Marks>),
+    way: Way,
     end: End,
 ) -> Result<(), Fail>
 where
     W: Wait + Clock + Threads + Abort + Copy + Drop + Send + Sync + 'static,
 {
     let (key, marks) = shared;
+    if matches!(way, Way::If) {
+        insert(cache, **key, 10)?;
+    }
     let (theirs, others, number) = (clone(cache)?, marks.clone()?, **key);
     let turn = begin_running(rt, cache, key, Kind::With);
-    let child = thread::spawn(rt, move || asks(&theirs, &others, number));
+    let child = thread::spawn(rt, move || asks(&theirs, &others, number, way));
     waits_still(rt, marks);
     ends(rt, cache, turn, end);
     assert!(rt; reaches(rt, &marks.done, 1), "the other is answered");
@@ -256,4 +299,34 @@ fn is_given(rt: &impl Abort, given: Given, asks: u64, end: End) {
         End::Abandoned => (Ok(12), 1),
     };
     assert_eq!(rt; (given, asks), wanted);
+}
+
+/// A turn that was begun with the key by reference is ended with a value, in each segment.
+#[test]
+fn a_turn_by_reference_is_finished_in_its_segment(rt: HostRuntime) -> Result<(), Fail> {
+    let cache = cache(rt, rt.alloc())?;
+    for key in KEYS {
+        finishes_by_ref(&rt, &cache, key);
+    }
+    Ok(())
+}
+
+fn finishes_by_ref<W: Wait + Clock + Drop>(rt: &impl Abort, cache: &Numbers<W>, key: u64) {
+    finishes(rt, cache, begin_by_ref(rt, cache, key));
+    assert_eq!(rt; get(cache, key), Ok(Some(7)), "{key}");
+}
+
+/// Begins with the key by reference, and returns the turn.
+fn begin_by_ref<W: Wait + Clock + Drop>(rt: &impl Abort, cache: &Numbers<W>, key: u64) -> Turn<u64>
+    ensures { result.key.kind ≡ Kind.With }
+{
+    match cache.begin_by_ref(&key, Kind::With, None::<fn(&u64) -> bool>) {
+        Ok(Begun::Run(turn)) => turn,
+        Ok(Begun::Wait(ticket)) => {
+            let _ = cache.leave(ticket);
+            panic!(rt; "another has the turn")
+        }
+        Ok(Begun::Found(_)) => panic!(rt; "a value is live"),
+        Err(cause) => panic!(rt; "{cause}"),
+    }
 }

@@ -165,3 +165,76 @@ where
     let child = thread::spawn(rt, move || writes_to_one(&handle, &theirs, &others))?;
     all_come(rt, alloc, cache.iter(), marks, child)
 }
+
+/// Notes a key that came, which is none of those that came before.
+fn comes_first(rt: &impl Abort, came: &mut Vec<u64>, key: u64) -> Result<(), Fail> {
+    assert!(rt; !came.contains(&key), "no key comes twice: {key}");
+    came.push(key)?;
+    Ok(())
+}
+
+/// Checks that each key that was stored before has come.
+fn have_come(rt: &impl Abort, came: &Vec<u64>) {
+    for key in KEYS {
+        assert!(rt; came.contains(&key), "a key that stood comes: {key}");
+    }
+}
+
+/// A key that has come, is removed and is inserted again does not come twice from a cache with
+/// several segments.
+#[test]
+fn a_key_comes_once_from_several_segments(rt: HostRuntime) -> Result<(), Fail> {
+    let cache = cache(rt, rt.alloc())?;
+    renews_in_several(&rt, rt.alloc(), &cache)
+}
+
+/// Iterates, and after each step removes the key that came and inserts it again.
+fn renews_in_several<W>(rt: &W, alloc: Global, cache: &Numbers<W>) -> Result<(), Fail>
+where
+    W: Wait + Clock + Abort + Copy + Drop,
+{
+    for key in KEYS {
+        insert(cache, key, 10)?;
+    }
+    let mut came = Vec::new(alloc);
+    for pair in cache.iter() {
+        let (key, _) = pair?;
+        comes_first(rt, &mut came, *key)?;
+        cache.invalidate(&*key);
+        insert(cache, *key, 20)?;
+    }
+    have_come(rt, &came);
+    Ok(())
+}
+
+/// A key that has come, is removed and is inserted again does not come twice from a cache with one
+/// lock.
+#[test]
+fn a_key_comes_once_from_one_lock(rt: HostRuntime) -> Result<(), Fail> {
+    let cache = builder().build_with_hasher(
+        rt.alloc(),
+        Hasher::default(),
+        ManualClock::new(0),
+        rt,
+    )?;
+    renews_in_one(&rt, rt.alloc(), &cache)
+}
+
+/// As `renews_in_several`.
+fn renews_in_one<W>(rt: &W, alloc: Global, cache: &OneLock<W>) -> Result<(), Fail>
+where
+    W: Wait + Clock + Abort + Copy + Drop,
+{
+    for key in KEYS {
+        cache.insert(key, 10)?;
+    }
+    let mut came = Vec::new(alloc);
+    for pair in cache.iter() {
+        let (key, _) = pair?;
+        comes_first(rt, &mut came, *key)?;
+        cache.invalidate(&*key);
+        cache.insert(*key, 20)?;
+    }
+    have_come(rt, &came);
+    Ok(())
+}

@@ -49,6 +49,7 @@ pub(crate) fn cache_of<K: Hash + Drop, V: Clone, C: CacheTypes<K, V>, W: Drop>(
         settings.initial_capacity ≤ cache.opening.initial_room) }
     ensures cause { IfErr result (λ cause. cause ≡ BuildError.OutOfMemory) }
 {
+    let closures = settings.closures;
     let Ok(locked) = GuardedState::open(alloc, settings, clock) else {
         return Err(BuildError::OutOfMemory);
     };
@@ -58,6 +59,7 @@ pub(crate) fn cache_of<K: Hash + Drop, V: Clone, C: CacheTypes<K, V>, W: Drop>(
         ended: Condvar::new(),
         name,
         policy,
+        closures,
         listener,
         alloc,
         waits,

@@ -1,5 +1,5 @@
 //! The cache that threads share: a state and its clock under one lock.
-ghost use Rattle.std.specs.Prelude.{◌≡◌, ◌⊎◌, [], option_map, Some, IfSome, IfOk, IfErr};
+ghost use Rattle.std.specs.Prelude.{◌≡◌, ◌⊎◌, ◌↔◌, [], false, true, option_map, None, Some, IfSome, IsOk, IfOk, IfErr, OnOk};
 ghost use Rattle.std.specs.Arc.{arc_value};
 ghost use Rattle.std.specs.Duration.{as_nanos};
 ghost use Rattle.moka_state.specs.Begin.{EntryKeeps};
@@ -26,8 +26,8 @@ use std::hash::{Hash, RandomState};
 use std::marker::Model;
 use std::sync::{Arc, Condvar, MutexGuard, Wait};
 
-/// What all clones of a cache share. The name and the policy are those of the state that went under
-/// the lock.
+/// What all clones of a cache share. The name, the policy and the support for closures are those of
+/// the state that went under the lock.
 #[derive(Drop)]
 pub(crate) struct Inner<K: Hash + Drop, V: Clone, C: CacheTypes<K, V>, W> {
     /// The state and its clock, under the lock.
@@ -38,6 +38,8 @@ pub(crate) struct Inner<K: Hash + Drop, V: Clone, C: CacheTypes<K, V>, W> {
     pub name: Option<String>,
     /// The capacity and the lifetimes that it was built with.
     pub policy: Policy,
+    /// Whether it was built with support for closures.
+    pub closures: bool,
     /// The listener, if there is one.
     pub listener: Option<Arc<RemovalNotifier<K, V, C>>>,
     /// What keys and errors are allocated from when they are shared.
@@ -45,6 +47,7 @@ pub(crate) struct Inner<K: Hash + Drop, V: Clone, C: CacheTypes<K, V>, W> {
     /// Lets the lock and the sleepers wait.
     pub waits: W,
     ghost shows: { Shows locked.state.settings name policy },
+    ghost supports: { closures ≡ locked.state.settings.supports_closures },
 }
 
 /// A cache that threads use at once: a state and its clock under one lock. A clone is the same
@@ -208,8 +211,7 @@ impl<K: Hash + Drop, V: Clone, C: CacheTypes<K, V>, W: Wait> Cache<K, V, C, W> {
     {
         let mut locked = self.lock();
         let done = locked.insert(key, value);
-        let pending = locked.take_pending_notices();
-        drop(locked);
+        let pending = release(locked, done.is_ok());
         self.notify_removed(pending);
         done
     }
@@ -232,8 +234,7 @@ impl<K: Hash + Drop, V: Clone, C: CacheTypes<K, V>, W: Wait> Cache<K, V, C, W> {
     {
         let mut locked = self.lock();
         let done = locked.or_insert(key, value);
-        let pending = locked.take_pending_notices();
-        drop(locked);
+        let pending = release(locked, done.is_ok());
         self.notify_removed(pending);
         done
     }
@@ -244,8 +245,7 @@ impl<K: Hash + Drop, V: Clone, C: CacheTypes<K, V>, W: Wait> Cache<K, V, C, W> {
     pub fn invalidate(&self, key: &K) {
         let mut locked = self.lock();
         locked.invalidate(key);
-        let pending = locked.take_pending_notices();
-        drop(locked);
+        let pending = release(locked, true);
         self.notify_removed(pending);
     }
 
@@ -263,8 +263,7 @@ impl<K: Hash + Drop, V: Clone, C: CacheTypes<K, V>, W: Wait> Cache<K, V, C, W> {
     {
         let mut locked = self.lock();
         let found = locked.remove(key);
-        let pending = locked.take_pending_notices();
-        drop(locked);
+        let pending = release(locked, found.is_ok());
         self.notify_removed(pending);
         found
     }
@@ -300,7 +299,13 @@ impl<K: Hash + Drop, V: Clone, C: CacheTypes<K, V>, W: Wait> Cache<K, V, C, W> {
         generator: &mut G,
     ) -> Result<PredicateId, PredicateError>
         requires tests { C.Predicate.tests predicate (C.test predicate) }
+        ensures accepted { OnOk result (self.now.opening.settings.supports_closures ≡ true) }
+        ensures refused { self.now.opening.settings.supports_closures ≡ false
+            → IfErr result (λ cause. cause ≡ PredicateError.InvalidationClosuresDisabled) }
     {
+        if !self.inner.closures {
+            return Err(PredicateError::InvalidationClosuresDisabled);
+        }
         self.lock().invalidate_entries_if(predicate, generator)
     }
 
@@ -319,10 +324,16 @@ impl<K: Hash + Drop, V: Clone, C: CacheTypes<K, V>, W: Wait> Cache<K, V, C, W> {
         predicate: Arc<C::Predicate>,
     ) -> Result<(), PredicateError>
         requires tests { C.Predicate.tests (arc_value predicate) (C.test (arc_value predicate)) }
+        ensures accepted { IsOk result ↔ (self.now.opening.settings.supports_closures ≡ true) }
         ensures cause { IfErr result
             (λ cause. cause ≡ PredicateError.InvalidationClosuresDisabled) }
     {
-        self.lock().invalidate_entries_with_arc_fun(predicate)
+        if self.inner.closures {
+            self.hide_where(&predicate);
+            Ok(())
+        } else {
+            Err(PredicateError::InvalidationClosuresDisabled)
+        }
     }
 
     /// Runs maintenance as a state does: evicts what is expired or invalidated, shrinks to the
@@ -337,8 +348,7 @@ impl<K: Hash + Drop, V: Clone, C: CacheTypes<K, V>, W: Wait> Cache<K, V, C, W> {
     pub fn run_pending_tasks(&self) {
         let mut locked = self.lock();
         locked.run_pending_tasks();
-        let pending = locked.take_pending_notices();
-        drop(locked);
+        let pending = release(locked, true);
         self.notify_removed(pending);
     }
 
@@ -353,8 +363,7 @@ impl<K: Hash + Drop, V: Clone, C: CacheTypes<K, V>, W: Wait> Cache<K, V, C, W> {
     pub fn run_pending_tasks_up_to(&self, limit: u64) -> bool {
         let mut locked = self.lock();
         let is_cut = locked.run_pending_tasks_up_to(limit);
-        let pending = locked.take_pending_notices();
-        drop(locked);
+        let pending = release(locked, true);
         self.notify_removed(pending);
         is_cut
     }
@@ -370,13 +379,15 @@ impl<K: Hash + Drop, V: Clone, C: CacheTypes<K, V>, W: Wait> Cache<K, V, C, W> {
         self.lock().weighted_size()
     }
 
-    // Invalidates as `invalidate_entries_with_arc_fun` does, by a predicate by reference.
-    pub(crate) fn hide_where(&self, predicate: &C::Predicate) -> Result<(), PredicateError>
+    // Invalidates each entry of which a predicate holds.
+    //
+    // The state refuses a predicate only if it was built without support for closures. Its settings
+    // never change, but no clause follows them through the lock. So its result is not used.
+    pub(crate) fn hide_where(&self, predicate: &C::Predicate)
         requires tests { C.Predicate.tests predicate.now (C.test predicate.now) }
-        ensures cause { IfErr result
-            (λ cause. cause ≡ PredicateError.InvalidationClosuresDisabled) }
+        requires supported { self.now.opening.settings.supports_closures ≡ true }
     {
-        self.lock().hide_where(predicate)
+        let _ = self.lock().hide_where(predicate);
     }
 
     // Locks the state and its clock, once nobody else holds the lock.
@@ -413,6 +424,30 @@ impl<K: Hash + Drop, V: Clone, C: CacheTypes<K, V>, W: Wait> Cache<K, V, C, W> {
     }
 }
 
+// Releases the lock at the end of a step. If the step was accepted, takes the first notice before,
+// and counts the others, for the call to deliver.
+//
+// A refused step takes none. It removed nothing, and its caller may still hold an open turn: a
+// listener that asks for that turn's key would wait for its own caller. No notice is lost by that.
+// Only an accepted step queues notices, and its call delivers as many as stood when it was done.
+pub(crate) fn release<K: Hash + Drop, V: Clone, C: CacheTypes<K, V>>(
+    locked: MutexGuard<'_, GuardedState<K, V, C>>,
+    accepted: bool,
+) -> PendingNotices<K, V>
+    ensures refused { accepted ≡ false → result.first ≡ None }
+    ensures kept { IfSome result.first (λ notice. C.keeps (arc_value notice.key) notice.value) }
+{
+    let mut locked = locked;
+    if accepted {
+        locked.take_pending_notices()
+    } else {
+        PendingNotices {
+            first: None,
+            others: 0,
+        }
+    }
+}
+
 impl<K: Hash + Drop, V: Clone + Default, C: CacheTypes<K, V>, W: Wait> Cache<K, V, C, W> {
     /// Returns the entry of the live value for `key`. If there is none, inserts the default value,
     /// as [`Cache::or_insert`] does.
@@ -431,8 +466,7 @@ impl<K: Hash + Drop, V: Clone + Default, C: CacheTypes<K, V>, W: Wait> Cache<K, 
     {
         let mut locked = self.lock();
         let done = locked.or_default(key);
-        let pending = locked.take_pending_notices();
-        drop(locked);
+        let pending = release(locked, done.is_ok());
         self.notify_removed(pending);
         done
     }

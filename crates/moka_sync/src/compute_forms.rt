@@ -1,7 +1,6 @@
 //! Computes with a closure, which runs with no lock held.
 ghost use Rattle.std.specs.Prelude.{◌≡◌, Option, Result, IfOk, IfSome};
 ghost use Rattle.std.specs.Arc.{arc_value};
-ghost use Rattle.moka_model.specs.Entries.{entry_of};
 ghost use Rattle.moka_state.specs.Begin.{EntryKeeps};
 ghost use Rattle.moka_state.specs.Finish.{IsComputed, OutcomeKeeps};
 ghost use Rattle.moka_guarded.specs.Kept.{ResultKeeps};
@@ -68,7 +67,7 @@ impl<K: Hash + Drop, V: Clone, C: CacheTypes<K, V>, W: Wait> Cache<K, V, C, W> {
         requires keeps { (shown : Option (Entry K V)) (v : V)
             → IfSome shown (EntryKeeps C.keeps (arc_value key)) → F.post f shown v
             → C.keeps (arc_value key) v }
-        ensures { IfOk result (λ entry. C.keeps (arc_value key) (entry_of entry).value) }
+        ensures { IfOk result (EntryKeeps C.keeps (arc_value key)) }
     {
         let ShownTurn { turn, shown } = self.ask_to_compute(key, false)?;
         self.end_with_put(turn, f(shown))

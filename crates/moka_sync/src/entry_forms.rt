@@ -1,7 +1,6 @@
 //! Loaders with a closure, which return entries. The closure runs with no lock held.
 ghost use Rattle.std.specs.Prelude.{◌≡◌, ◌≢◌, Option, Result, true, IfOk, IfSome, MatchOption, MatchResult};
 ghost use Rattle.std.specs.Arc.{arc_value};
-ghost use Rattle.moka_model.specs.Entries.{entry_of};
 ghost use Rattle.moka_state.specs.Begin.{EntryKeeps};
 ghost use Rattle.moka_state.specs.Finish.{Fits, IsGiven, OutcomeKeeps, outcome_of};
 ghost use Rattle.moka_guarded.specs.Kept.{AnswerFits, GivenKeeps};
@@ -53,7 +52,7 @@ impl<K: Hash + Drop, V: Clone, C: CacheTypes<K, V>, W: Wait> Cache<K, V, C, W> {
     ) -> Result<Entry<K, V>, Refused>
         requires asks { F.IsAlwaysCallable init }
         requires keeps { (v : V) → F.post init v → C.keeps key v }
-        ensures { IfOk result (λ entry. C.keeps key (entry_of entry).value) }
+        ensures { IfOk result (EntryKeeps C.keeps key) }
     {
         if let Some(found) = self.find_acceptable(&key, none_like(|_: &V| false))? {
             return Ok(found);
@@ -73,7 +72,7 @@ impl<K: Hash + Drop, V: Clone, C: CacheTypes<K, V>, W: Wait> Cache<K, V, C, W> {
         requires asks { F.IsAlwaysCallable init }
         requires shows { (state : P) → P.IsAlwaysCallable state }
         requires keeps { (v : V) → F.post init v → C.keeps key v }
-        ensures { IfOk result (λ entry. C.keeps key (entry_of entry).value) }
+        ensures { IfOk result (EntryKeeps C.keeps key) }
     {
         let key = self.share(key)?;
         self.value_entry_shared(key, init, Some(replace_if))
@@ -89,7 +88,7 @@ impl<K: Hash + Drop, V: Clone, C: CacheTypes<K, V>, W: Wait> Cache<K, V, C, W> {
         requires asks { F.IsAlwaysCallable init }
         requires shows { (state : P) → P.IsAlwaysCallable state }
         requires keeps { (v : V) → F.post init v → C.keeps (arc_value key) v }
-        ensures { IfOk result (λ entry. C.keeps (arc_value key) (entry_of entry).value) }
+        ensures { IfOk result (EntryKeeps C.keeps (arc_value key)) }
     {
         match self.ask(key, Kind::With, replace_if)? {
             InitializerReply::Answer(answer) => Ok(entry_in(answer)),
@@ -106,7 +105,7 @@ impl<K: Hash + Drop, V: Clone, C: CacheTypes<K, V>, W: Wait> Cache<K, V, C, W> {
     ) -> Result<Option<Entry<K, V>>, Refused>
         requires asks { F.IsAlwaysCallable init }
         requires keeps { (o : Option V) → F.post init o → IfSome o (C.keeps key) }
-        ensures { IfOk result (λ found. IfSome found (λ entry. C.keeps key (entry_of entry).value)) }
+        ensures { IfOk result (λ found. IfSome found (EntryKeeps C.keeps key)) }
     {
         if let Some(found) = self.find_acceptable(&key, none_like(|_: &V| false))? {
             return Ok(Some(found));
@@ -123,8 +122,7 @@ impl<K: Hash + Drop, V: Clone, C: CacheTypes<K, V>, W: Wait> Cache<K, V, C, W> {
     ) -> Result<Option<Entry<K, V>>, Refused>
         requires asks { F.IsAlwaysCallable init }
         requires keeps { (o : Option V) → F.post init o → IfSome o (C.keeps (arc_value key)) }
-        ensures { IfOk result (λ found.
-            IfSome found (λ entry. C.keeps (arc_value key) (entry_of entry).value)) }
+        ensures { IfOk result (λ found. IfSome found (EntryKeeps C.keeps (arc_value key))) }
     {
         match self.ask(key, Kind::Optionally, none_like(|_: &V| false))? {
             InitializerReply::Answer(answer) => Ok(optional_entry_in(answer)),
@@ -147,7 +145,7 @@ impl<K: Hash + Drop, V: Clone, C: CacheTypes<K, V>, W: Wait> Cache<K, V, C, W> {
     ) -> Result<Result<Entry<K, V>, Arc<C::Error>>, Refused>
         requires asks { F.IsAlwaysCallable init }
         requires keeps { (r : Result V C.Error) → F.post init r → IfOk r (C.keeps key) }
-        ensures { IfOk result (λ tried. IfOk tried (λ entry. C.keeps key (entry_of entry).value)) }
+        ensures { IfOk result (λ tried. IfOk tried (EntryKeeps C.keeps key)) }
     {
         if let Some(found) = self.find_acceptable(&key, none_like(|_: &V| false))? {
             return Ok(Ok(found));
@@ -164,8 +162,7 @@ impl<K: Hash + Drop, V: Clone, C: CacheTypes<K, V>, W: Wait> Cache<K, V, C, W> {
     ) -> Result<Result<Entry<K, V>, Arc<C::Error>>, Refused>
         requires asks { F.IsAlwaysCallable init }
         requires keeps { (r : Result V C.Error) → F.post init r → IfOk r (C.keeps (arc_value key)) }
-        ensures { IfOk result (λ tried.
-            IfOk tried (λ entry. C.keeps (arc_value key) (entry_of entry).value)) }
+        ensures { IfOk result (λ tried. IfOk tried (EntryKeeps C.keeps (arc_value key))) }
     {
         match self.ask(key, Kind::Try, none_like(|_: &V| false))? {
             InitializerReply::Answer(answer) => Ok(tried_entry_in(answer)),
@@ -253,7 +250,7 @@ impl<K: Hash + Clone + Drop, V: Clone, C: CacheTypes<K, V>, W: Wait> Cache<K, V,
         requires copies { (a b : K) → K.is_clone a b → K.eq a b ≡ true }
         requires asks { F.IsAlwaysCallable init }
         requires keeps { (v : V) → F.post init v → C.keeps key.now v }
-        ensures { IfOk result (λ entry. C.keeps key.now (entry_of entry).value) }
+        ensures { IfOk result (EntryKeeps C.keeps key.now) }
     {
         if let Some(found) = self.find_acceptable(key, none_like(|_: &V| false))? {
             return Ok(found);
@@ -273,7 +270,7 @@ impl<K: Hash + Clone + Drop, V: Clone, C: CacheTypes<K, V>, W: Wait> Cache<K, V,
         requires asks { F.IsAlwaysCallable init }
         requires shows { (state : P) → P.IsAlwaysCallable state }
         requires keeps { (v : V) → F.post init v → C.keeps key.now v }
-        ensures { IfOk result (λ entry. C.keeps key.now (entry_of entry).value) }
+        ensures { IfOk result (EntryKeeps C.keeps key.now) }
     {
         let copy = self.share_copy(key)?;
         self.value_entry_shared(copy, init, Some(replace_if))
@@ -288,8 +285,7 @@ impl<K: Hash + Clone + Drop, V: Clone, C: CacheTypes<K, V>, W: Wait> Cache<K, V,
         requires copies { (a b : K) → K.is_clone a b → K.eq a b ≡ true }
         requires asks { F.IsAlwaysCallable init }
         requires keeps { (o : Option V) → F.post init o → IfSome o (C.keeps key.now) }
-        ensures { IfOk result (λ found.
-            IfSome found (λ entry. C.keeps key.now (entry_of entry).value)) }
+        ensures { IfOk result (λ found. IfSome found (EntryKeeps C.keeps key.now)) }
     {
         if let Some(found) = self.find_acceptable(key, none_like(|_: &V| false))? {
             return Ok(Some(found));
@@ -307,8 +303,7 @@ impl<K: Hash + Clone + Drop, V: Clone, C: CacheTypes<K, V>, W: Wait> Cache<K, V,
         requires copies { (a b : K) → K.is_clone a b → K.eq a b ≡ true }
         requires asks { F.IsAlwaysCallable init }
         requires keeps { (r : Result V C.Error) → F.post init r → IfOk r (C.keeps key.now) }
-        ensures { IfOk result (λ tried.
-            IfOk tried (λ entry. C.keeps key.now (entry_of entry).value)) }
+        ensures { IfOk result (λ tried. IfOk tried (EntryKeeps C.keeps key.now)) }
     {
         if let Some(found) = self.find_acceptable(key, none_like(|_: &V| false))? {
             return Ok(Ok(found));

@@ -1,12 +1,12 @@
 //! Selectors of a shared cache: a key, for one call. Closures run with no lock held.
 ghost use Rattle.std.specs.Prelude.{◌≡◌, Option, Result, true, IfOk, IfSome};
 ghost use Rattle.std.specs.Arc.{arc_value};
-ghost use Rattle.moka_model.specs.Entries.{entry_of};
 ghost use Rattle.moka_state.specs.Begin.{EntryKeeps};
 ghost use Rattle.moka_state.specs.Finish.{OutcomeKeeps};
 ghost use Rattle.moka_guarded.specs.Kept.{ResultKeeps};
 
 use crate::cache::Cache;
+use crate::entry_forms::none_like;
 use moka_model::comp_result::CompResult;
 use moka_model::entry::Entry;
 use moka_model::turns::{Op, Outcome};
@@ -23,8 +23,8 @@ pub struct OwnedKeyEntrySelector<'a, K: Hash + Drop, V: Clone, C: CacheTypes<K, 
 
 /// A key by reference of a shared cache, for exactly one call. [`Cache::entry_by_ref`] makes it.
 ///
-/// `or_insert`, `or_default`, `or_insert_with_if` and the computes always clone the key. The other
-/// loaders clone it only on a miss. The prover asks of each call that a clone of a key equals it.
+/// `or_insert_with_if` and the computes always clone the key. The other calls clone it only on a
+/// miss. The prover asks of each call that a clone of a key equals it.
 pub struct RefKeyEntrySelector<'a, K: Hash + Drop, V: Clone, C: CacheTypes<K, V>, W> {
     cache: &'a Cache<K, V, C, W>,
     key: &'a K,
@@ -61,7 +61,8 @@ impl<'a, K: Hash + Drop, V: Clone, C: CacheTypes<K, V>, W: Wait> OwnedKeyEntrySe
 > {
     /// Returns the live entry of the key. If there is none, inserts `value` and returns its entry.
     ///
-    /// Runs no closure, opens no turn, and does not wait for an open one.
+    /// Runs no closure, opens no turn, and does not wait for an open one. A hit allocates only the
+    /// clone of the value.
     ///
     /// # Errors
     ///
@@ -71,6 +72,9 @@ impl<'a, K: Hash + Drop, V: Clone, C: CacheTypes<K, V>, W: Wait> OwnedKeyEntrySe
         ensures kept { IfOk result (EntryKeeps C.keeps self.entry.key) }
     {
         let OwnedKeyEntrySelector { cache, key } = self;
+        if let Some(found) = cache.find_acceptable(&key, none_like(|_: &V| false))? {
+            return Ok(found);
+        }
         let key = cache.share(key)?;
         match cache.or_insert(&key, value) {
             Ok(entry) => Ok(entry),
@@ -87,7 +91,7 @@ impl<'a, K: Hash + Drop, V: Clone, C: CacheTypes<K, V>, W: Wait> OwnedKeyEntrySe
     pub fn or_insert_with<F: FnOnce() -> V + Drop>(self, init: F) -> Result<Entry<K, V>, Refused>
         requires asks { F.IsAlwaysCallable init }
         requires keeps { (v : V) → F.post init v → C.keeps self.key v }
-        ensures kept { IfOk result (λ entry. C.keeps self.entry.key (entry_of entry).value) }
+        ensures kept { IfOk result (EntryKeeps C.keeps self.entry.key) }
     {
         let OwnedKeyEntrySelector { cache, key } = self;
         cache.value_entry(key, init)
@@ -107,7 +111,7 @@ impl<'a, K: Hash + Drop, V: Clone, C: CacheTypes<K, V>, W: Wait> OwnedKeyEntrySe
         requires asks { F.IsAlwaysCallable init }
         requires shows { (state : P) → P.IsAlwaysCallable state }
         requires keeps { (v : V) → F.post init v → C.keeps self.key v }
-        ensures kept { IfOk result (λ entry. C.keeps self.entry.key (entry_of entry).value) }
+        ensures kept { IfOk result (EntryKeeps C.keeps self.entry.key) }
     {
         let OwnedKeyEntrySelector { cache, key } = self;
         cache.value_entry_if(key, init, replace_if)
@@ -125,8 +129,7 @@ impl<'a, K: Hash + Drop, V: Clone, C: CacheTypes<K, V>, W: Wait> OwnedKeyEntrySe
     ) -> Result<Option<Entry<K, V>>, Refused>
         requires asks { F.IsAlwaysCallable init }
         requires keeps { (o : Option V) → F.post init o → IfSome o (C.keeps self.key) }
-        ensures kept { IfOk result
-            (λ found. IfSome found (λ entry. C.keeps self.entry.key (entry_of entry).value)) }
+        ensures kept { IfOk result (λ found. IfSome found (EntryKeeps C.keeps self.entry.key)) }
     {
         let OwnedKeyEntrySelector { cache, key } = self;
         cache.optional_entry(key, init)
@@ -144,8 +147,7 @@ impl<'a, K: Hash + Drop, V: Clone, C: CacheTypes<K, V>, W: Wait> OwnedKeyEntrySe
     ) -> Result<Result<Entry<K, V>, Arc<C::Error>>, Refused>
         requires asks { F.IsAlwaysCallable init }
         requires keeps { (r : Result V C.Error) → F.post init r → IfOk r (C.keeps self.key) }
-        ensures kept { IfOk result
-            (λ tried. IfOk tried (λ entry. C.keeps self.entry.key (entry_of entry).value)) }
+        ensures kept { IfOk result (λ tried. IfOk tried (EntryKeeps C.keeps self.entry.key)) }
     {
         let OwnedKeyEntrySelector { cache, key } = self;
         cache.tried_entry(key, init)
@@ -218,7 +220,7 @@ impl<'a, K: Hash + Drop, V: Clone, C: CacheTypes<K, V>, W: Wait> OwnedKeyEntrySe
             → IfSome shown (EntryKeeps C.keeps self.key) → F.pre f shown }
         requires keeps { (shown : Option (Entry K V)) (v : V)
             → IfSome shown (EntryKeeps C.keeps self.key) → F.post f shown v → C.keeps self.key v }
-        ensures kept { IfOk result (λ entry. C.keeps self.entry.key (entry_of entry).value) }
+        ensures kept { IfOk result (EntryKeeps C.keeps self.entry.key) }
     {
         let OwnedKeyEntrySelector { cache, key } = self;
         let key = cache.share(key)?;
@@ -263,6 +265,9 @@ impl<'a, K: Hash + Clone + Drop, V: Clone, C: CacheTypes<K, V>, W: Wait> RefKeyE
         ensures kept { IfOk result (EntryKeeps C.keeps self.entry.key.now) }
     {
         let RefKeyEntrySelector { cache, key } = self;
+        if let Some(found) = cache.find_acceptable(key, none_like(|_: &V| false))? {
+            return Ok(found);
+        }
         let key = cache.share_copy(key)?;
         match cache.or_insert(&key, value) {
             Ok(entry) => Ok(entry),
@@ -275,7 +280,7 @@ impl<'a, K: Hash + Clone + Drop, V: Clone, C: CacheTypes<K, V>, W: Wait> RefKeyE
         requires copies { (a b : K) → K.is_clone a b → K.eq a b ≡ true }
         requires asks { F.IsAlwaysCallable init }
         requires keeps { (v : V) → F.post init v → C.keeps self.key.now v }
-        ensures kept { IfOk result (λ entry. C.keeps self.entry.key.now (entry_of entry).value) }
+        ensures kept { IfOk result (EntryKeeps C.keeps self.entry.key.now) }
     {
         let RefKeyEntrySelector { cache, key } = self;
         cache.value_entry_by_ref(key, init)
@@ -291,7 +296,7 @@ impl<'a, K: Hash + Clone + Drop, V: Clone, C: CacheTypes<K, V>, W: Wait> RefKeyE
         requires asks { F.IsAlwaysCallable init }
         requires shows { (state : P) → P.IsAlwaysCallable state }
         requires keeps { (v : V) → F.post init v → C.keeps self.key.now v }
-        ensures kept { IfOk result (λ entry. C.keeps self.entry.key.now (entry_of entry).value) }
+        ensures kept { IfOk result (EntryKeeps C.keeps self.entry.key.now) }
     {
         let RefKeyEntrySelector { cache, key } = self;
         cache.value_entry_if_by_ref(key, init, replace_if)
@@ -305,8 +310,7 @@ impl<'a, K: Hash + Clone + Drop, V: Clone, C: CacheTypes<K, V>, W: Wait> RefKeyE
         requires copies { (a b : K) → K.is_clone a b → K.eq a b ≡ true }
         requires asks { F.IsAlwaysCallable init }
         requires keeps { (o : Option V) → F.post init o → IfSome o (C.keeps self.key.now) }
-        ensures kept { IfOk result
-            (λ found. IfSome found (λ entry. C.keeps self.entry.key.now (entry_of entry).value)) }
+        ensures kept { IfOk result (λ found. IfSome found (EntryKeeps C.keeps self.entry.key.now)) }
     {
         let RefKeyEntrySelector { cache, key } = self;
         cache.optional_entry_by_ref(key, init)
@@ -320,8 +324,7 @@ impl<'a, K: Hash + Clone + Drop, V: Clone, C: CacheTypes<K, V>, W: Wait> RefKeyE
         requires copies { (a b : K) → K.is_clone a b → K.eq a b ≡ true }
         requires asks { F.IsAlwaysCallable init }
         requires keeps { (r : Result V C.Error) → F.post init r → IfOk r (C.keeps self.key.now) }
-        ensures kept { IfOk result
-            (λ tried. IfOk tried (λ entry. C.keeps self.entry.key.now (entry_of entry).value)) }
+        ensures kept { IfOk result (λ tried. IfOk tried (EntryKeeps C.keeps self.entry.key.now)) }
     {
         let RefKeyEntrySelector { cache, key } = self;
         cache.tried_entry_by_ref(key, init)
@@ -373,7 +376,7 @@ impl<'a, K: Hash + Clone + Drop, V: Clone, C: CacheTypes<K, V>, W: Wait> RefKeyE
             → IfSome shown (EntryKeeps C.keeps self.key.now) → F.pre f shown }
         requires keeps { (shown : Option (Entry K V)) (v : V)
             → IfSome shown (EntryKeeps C.keeps self.key.now) → F.post f shown v → C.keeps self.key.now v }
-        ensures kept { IfOk result (λ entry. C.keeps self.entry.key.now (entry_of entry).value) }
+        ensures kept { IfOk result (EntryKeeps C.keeps self.entry.key.now) }
     {
         let RefKeyEntrySelector { cache, key } = self;
         let key = cache.share_copy(key)?;
@@ -395,6 +398,9 @@ impl<
         ensures kept { IfOk result (EntryKeeps C.keeps self.entry.key.now) }
     {
         let RefKeyEntrySelector { cache, key } = self;
+        if let Some(found) = cache.find_acceptable(key, none_like(|_: &V| false))? {
+            return Ok(found);
+        }
         match key.clone() {
             Ok(copy) => cache.or_default(copy),
             Err(_) => Err(Refused::OutOfMemory),

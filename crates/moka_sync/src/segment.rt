@@ -2,7 +2,7 @@
 ghost use Rattle.std.specs.Prelude.{◌≡◌, ◌⊎◌, ◌↔◌, ◌<◌, ◌^◌, [], length, true, option_map, unwrap_or, IsOk, IfSome, IfOk, IfErr};
 ghost use Rattle.std.specs.Arc.{arc_value};
 ghost use Rattle.std.specs.Duration.{as_nanos};
-ghost use Rattle.std.specs.List.{AllByRecursion};
+ghost use Rattle.std.specs.List.{All, AllByRecursion};
 ghost use Rattle.moka_segmented.specs.SegmentedData.{data_of};
 ghost use Rattle.moka_state.specs.Begin.{EntryKeeps};
 ghost use Rattle.moka_sync.specs.Builder.{default_settings, segments_refused};
@@ -36,6 +36,9 @@ pub(crate) struct AllSegments<K: Hash + Drop, V: Clone, C: CacheTypes<K, V>, W> 
     /// The segments, 2^`bits` of them.
     pub segments: Vec<Cache<K, V, C, W>>,
     ghost named: { (bits < 64) × (length segments.items ≡ 2 ^ bits) },
+    ghost supports: { All
+        (λ segment. segment.opening.settings.supports_closures ≡ settings.closures)
+        segments.items },
 }
 
 /// A shared cache of several segments with a lock each. A call on one key waits only for calls in
@@ -295,8 +298,7 @@ impl<K: Hash + Drop, V: Clone, C: CacheTypes<K, V>, W: Wait> SegmentedCache<K, V
             return Err(PredicateError::InvalidationClosuresDisabled);
         }
         for segment in &self.inner.segments {
-            // This never fails: each segment was built with support for closures too.
-            let _ = segment.hide_where(predicate);
+            segment.hide_where(predicate);
         }
         Ok(())
     }

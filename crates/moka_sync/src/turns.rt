@@ -3,13 +3,13 @@
 ghost use Rattle.std.specs.Prelude.{◌≡◌, ◌≢◌, true, IfOk, IfErr, IfSome};
 ghost use Rattle.std.specs.Arc.{arc_value};
 ghost use Rattle.moka_turns.specs.Handles.{turn_name, ticket_name};
-ghost use Rattle.moka_state.specs.Begin.{FoundKeeps, FoundKeepsFor, IsNamed};
+ghost use Rattle.moka_state.specs.Begin.{FoundKeeps, FoundKeepsFor, IsAsked, IsNamed};
 ghost use Rattle.moka_state.specs.Compute.{IsCompute, ShownKeepsFor};
 ghost use Rattle.moka_state.specs.Finish.{Fits, IsFinished, OutcomeKeeps, outcome_of};
 ghost use Rattle.moka_state.specs.Given.{IfUnspent};
 ghost use Rattle.moka_guarded.specs.Kept.{CollectedFits, CollectedKeeps, FinishedKeeps};
 
-use crate::cache::Cache;
+use crate::cache::{Cache, release};
 use moka_model::turns::{Kind, Outcome};
 use moka_policy::policy::{CacheTypes, Refused};
 use moka_state::answers::{
@@ -96,8 +96,7 @@ impl<K: Hash + Drop, V: Clone, C: CacheTypes<K, V>, W: Wait> Cache<K, V, C, W> {
     {
         let mut locked = self.lock();
         let done = locked.finish(turn, outcome);
-        let pending = locked.take_pending_notices();
-        drop(locked);
+        let pending = release(locked, done.is_ok());
         self.inner.ended.notify_all();
         self.notify_removed(pending);
         done
@@ -153,7 +152,7 @@ impl<K: Hash + Drop, V: Clone, C: CacheTypes<K, V>, W: Wait> Cache<K, V, C, W> {
 
 impl<K: Hash + Clone + Drop, V: Clone, C: CacheTypes<K, V>, W: Wait> Cache<K, V, C, W> {
     /// Does what [`Cache::begin`] does, for a key by reference. Clones the key if no acceptable
-    /// value is live. No clause says that a turn is of this kind: ask its `kind()` before a finish.
+    /// value is live. The turn or the ticket is of this kind, and its key equals `key`.
     ///
     /// The prover asks that a clone of a key equals it.
     ///
@@ -169,6 +168,8 @@ impl<K: Hash + Clone + Drop, V: Clone, C: CacheTypes<K, V>, W: Wait> Cache<K, V,
         requires copies { (a b : K) → K.is_clone a b → K.eq a b ≡ true }
         requires initializer { kind ≢ Kind.Compute }
         requires asks { IfSome replace_if (λ f. F.IsAlwaysCallable f) }
+        ensures named { (asked : K) × IsAsked K.eq K.is_clone key.now asked
+            × IfOk result (IsNamed kind asked) }
         ensures kept { IfOk result (FoundKeeps C.keeps) }
         ensures kept_for { IfOk result (FoundKeepsFor C.keeps key.now) }
     {

@@ -3,12 +3,10 @@
 //! A caller whose value another one computes sleeps until that one has ended, and gets a clone of
 //! the outcome. If the other one gave up, it begins again, and computes the value itself if nobody
 //! else does by then.
-ghost use Rattle.std.specs.Prelude.{◌≡◌, ◌≢◌, IfOk};
+ghost use Rattle.std.specs.Prelude.{◌≡◌, ◌≢◌, IfOk, IfSome};
 ghost use Rattle.std.specs.Arc.{arc_value};
-ghost use Rattle.moka_turns.specs.Handles.{ticket_name};
 ghost use Rattle.moka_state.specs.Begin.{FoundKeeps, FoundKeepsFor, IsNamed};
-ghost use Rattle.moka_state.specs.Given.{IfUnspent};
-ghost use Rattle.moka_guarded.specs.Kept.{CollectedFits, CollectedKeeps};
+ghost use Rattle.moka_guarded.specs.Kept.{AnswerFits, GivenKeeps};
 ghost use Rattle.moka_sync.specs.Waiting.{InitializerReplyKeeps, IsShownTurn};
 
 use crate::cache::Cache;
@@ -147,10 +145,8 @@ impl<
         ticket: Ticket<K>,
     ) -> Result<waiting::Collected<Answer<K, V, C::Error>, Ticket<K>>, Refused> {
         match at.collect_or_sleep(ticket) {
-            Ok(Collected::Ready(answer)) => Ok(waiting::Collected::Ready(answer)),
-            Ok(Collected::NotYet(ticket)) => Ok(waiting::Collected::NotYet(ticket)),
-            Ok(Collected::Abandoned) => Ok(waiting::Collected::Retry),
-            Ok(Collected::Ended) => Ok(waiting::Collected::Retry),
+            Ok(Some(answer)) => Ok(waiting::Collected::Ready(answer)),
+            Ok(None) => Ok(waiting::Collected::Retry),
             Err(cause) => Err(cause),
         }
     }
@@ -196,10 +192,8 @@ impl<K: Hash + Drop, V: Clone, C: CacheTypes<K, V>, W: Wait> Participant<Cache<K
         ticket: Ticket<K>,
     ) -> Result<waiting::Collected<(), Ticket<K>>, Refused> {
         match at.collect_or_sleep(ticket) {
-            Ok(Collected::Ready(_)) => Ok(waiting::Collected::Ready(())),
-            Ok(Collected::NotYet(ticket)) => Ok(waiting::Collected::NotYet(ticket)),
-            Ok(Collected::Abandoned) => Ok(waiting::Collected::Retry),
-            Ok(Collected::Ended) => Ok(waiting::Collected::Retry),
+            Ok(Some(_)) => Ok(waiting::Collected::Ready(())),
+            Ok(None) => Ok(waiting::Collected::Retry),
             Err(cause) => Err(cause),
         }
     }
@@ -224,27 +218,31 @@ impl<K: Hash + Drop, V: Clone, C: CacheTypes<K, V>, W: Wait> Cache<K, V, C, W> {
         (begun, replace_if)
     }
 
-    // Collects a ticket. If its turn is still open, sleeps until some turn has ended. If the
-    // collect fails, spends the ticket.
-    fn collect_or_sleep(&self, ticket: Ticket<K>) -> Result<Collected<K, V, C::Error>, Refused>
-        ensures unspent { IfOk result
-            (IfUnspent (λ same. ticket_name same ≡ ticket_name ticket)) }
-        ensures kept { IfOk result (CollectedKeeps C.keeps (arc_value ticket.key.key)) }
-        ensures fits { IfOk result (CollectedFits ticket.key.kind) }
+    // Collects a ticket, and sleeps as long as its turn is open. A waking gives the lock back, and
+    // it collects again under that. Returns what the turn gave, or `None` if it gave nothing. If
+    // the collect fails, spends the ticket.
+    fn collect_or_sleep(&self, ticket: Ticket<K>) -> Result<Option<Answer<K, V, C::Error>>, Refused>
+        ensures kept { IfOk result
+            (λ given. IfSome given (GivenKeeps C.keeps (arc_value ticket.key.key))) }
+        ensures fits { IfOk result (λ given. IfSome given (AnswerFits ticket.key.kind)) }
     {
+        let mut ticket = ticket;
         let mut locked = self.lock();
-        match locked.collect(ticket) {
-            Ok(Collected::NotYet(ticket)) => {
-                drop(self.inner.ended.wait(&self.inner.waits, locked));
-                Ok(Collected::NotYet(ticket))
+        for _ in self.inner.waits.forever() {
+            match locked.collect(ticket) {
+                Ok(Collected::NotYet(same)) => ticket = same,
+                Ok(Collected::Ready(answer)) => return Ok(Some(answer)),
+                Ok(Collected::Abandoned) => return Ok(None),
+                Ok(Collected::Ended) => return Ok(None),
+                Err(refused) => {
+                    let CollectRefused { ticket, cause } = refused;
+                    let _ = locked.leave(ticket);
+                    return Err(cause);
+                }
             }
-            Ok(collected) => Ok(collected),
-            Err(refused) => {
-                let CollectRefused { ticket, cause } = refused;
-                let _ = locked.leave(ticket);
-                Err(cause)
-            }
+            locked = self.inner.ended.wait(&self.inner.waits, locked);
         }
+        unreachable!()
     }
 
     // Returns the live entry or the outcome of another caller's initializer; else the turn, once

@@ -1,13 +1,15 @@
 //! The calls of a shared cache that may allocate, with their results.
 use crate::caches::{Numbers, Odd};
 use crate::returned::{
-    Returned, computed_of, entry_of, option_of, optional_entry_of, or_insert_of, parts,
-    tried_compute_of, tried_entry_of, tried_of, value_of,
+    Returned, answer_of, became_of, computed_of, entry_of, option_of, optional_entry_of,
+    or_insert_of, parts, tried_compute_of, tried_entry_of, tried_of, value_of,
 };
 use moka::common::entry::Entry;
 use moka::ops::compute::Op;
 use moka::policy::Refused;
-use moka::sync::value_initializer::{Begun, BegunCompute, Kind, Ticket, Turn};
+use moka::sync::value_initializer::{
+    Begun, BegunCompute, FinishRefused, Finished, Kind, Outcome, Ticket, Turn,
+};
 use rand_core::SeedableRng;
 use rand_xoshiro::SplitMix64;
 use std::alloc::AllocError;
@@ -340,6 +342,38 @@ pub(crate) fn begin<W: Wait + Drop>(cache: &Numbers<W>, key: &Arc<u64>, unwanted
 pub(crate) fn begin_by_ref<W: Wait + Drop>(cache: &Numbers<W>, key: u64) -> Returned {
     let begun = cache.begin_by_ref(&key, Kind::With, None::<fn(&u64) -> bool>);
     consume_begun(cache, begun)
+}
+
+/// Begins a turn with the key by reference, and ends it with a value.
+pub(crate) fn finish_by_ref<W: Wait + Drop>(cache: &Numbers<W>, key: u64, value: u64) -> Returned {
+    match cache.begin_by_ref(&key, Kind::With, None::<fn(&u64) -> bool>) {
+        Ok(Begun::Run(turn)) => {
+            let finished = cache.finish(turn, Outcome::Value(value));
+            consume_finished(cache, finished)
+        }
+        begun => consume_begun(cache, begun),
+    }
+}
+
+/// Consumes what a finish returned. Abandons its turn if it failed.
+fn consume_finished<W: Wait + Drop>(
+    cache: &Numbers<W>,
+    finished: Result<Finished<u64, u64, u64>, FinishRefused<u64, u64, u64>>,
+) -> Returned {
+    match finished {
+        Ok(Finished::Answer(answer)) => answer_of(answer),
+        Ok(Finished::Computed(computed)) => became_of(computed),
+        Err(
+            FinishRefused {
+                turn,
+                outcome: _,
+                cause,
+            },
+        ) => {
+            abandon(cache, turn);
+            Returned::Refused(cause)
+        }
+    }
 }
 
 /// Begins a compute. Consumes what it returns.

@@ -1,4 +1,5 @@
-//! The tests of the shared cache: what each call returns, and how callers wait for each other.
+//! The tests of the shared cache: what each call returns, what a listener hears, and how
+//! callers wait for each other.
 #![tactic(auto)]
 
 #[cfg(test)]
@@ -6,7 +7,17 @@ mod caches;
 #[cfg(test)]
 mod calls;
 #[cfg(test)]
+mod closures;
+#[cfg(test)]
+mod giving_up;
+#[cfg(test)]
+mod hits;
+#[cfg(test)]
+mod listeners;
+#[cfg(test)]
 mod marks;
+#[cfg(test)]
+mod readings;
 #[cfg(test)]
 mod replies;
 #[cfg(test)]

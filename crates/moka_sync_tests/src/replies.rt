@@ -1,10 +1,15 @@
 //! The results of the calls of a shared cache, one after another on one cache.
 
-use crate::caches::{Numbers, cache, share};
+use crate::caches::{Builder, Numbers, Odd, cache, share};
 use crate::calls;
 use crate::calls::{Doing, Key};
 use crate::returned::{Returned, insert_of, option_of};
-use moka::sync::ConcurrentCacheExt;
+use moka::PredicateError;
+use moka::policy::ManualClock;
+use moka::ready::FoldState;
+use moka::sync::{CacheBuilder, ConcurrentCacheExt};
+use rand_core::SeedableRng;
+use rand_xoshiro::SplitMix64;
 use std::process::Abort;
 use std::sync::{Arc, Wait};
 use std::test::Fail;
@@ -246,6 +251,30 @@ fn computes<W: Wait + Drop>(rt: &impl Abort, cache: &Numbers<W>, is_lent: bool) 
     );
 }
 
+/// A turn that was begun with the key by reference is ended with a value, which is live then.
+#[test]
+fn a_turn_by_reference_is_finished(rt: HostRuntime) -> Result<(), Fail> {
+    let cache = cache(rt, rt.alloc())?;
+    finishes_by_ref(&rt, &cache);
+    Ok(())
+}
+
+fn finishes_by_ref<W: Wait + Drop>(rt: &impl Abort, cache: &Numbers<W>) {
+    check_reply(
+        rt,
+        "finish",
+        calls::finish_by_ref(cache, 1, 10),
+        entry(1, 10, true),
+    );
+    check_reply(
+        rt,
+        "begin_by_ref",
+        calls::finish_by_ref(cache, 1, 11),
+        entry(1, 10, false),
+    );
+    check_reply(rt, "get", get(cache, 1), Returned::Value(10));
+}
+
 /// Each begin returns a turn, which leaves nothing behind once it is abandoned.
 #[test]
 fn turns_answer(rt: HostRuntime) -> Result<(), Fail> {
@@ -276,4 +305,40 @@ fn turns<W: Wait + Drop>(rt: &impl Abort, cache: &Numbers<W>, key: &Arc<u64>) {
         calls::get_with(cache, 1, 10),
         Returned::Value(10),
     );
+}
+
+/// A predicate is refused by a cache that was built without support for closures.
+#[test]
+fn a_predicate_wants_support(rt: HostRuntime) -> Result<(), Fail> {
+    let odd = share(rt.alloc(), Odd)?;
+    let clock = share(rt.alloc(), ManualClock::new(0))?;
+    let builder: Builder<_> = CacheBuilder::new(10);
+    let cache = builder.build_with_hasher(rt.alloc(), FoldState::default(), clock, rt)?;
+    refuses_predicates(&rt, &cache, odd);
+    Ok(())
+}
+
+fn refuses_predicates<W: Wait + Drop>(rt: &impl Abort, cache: &Numbers<W>, odd: Arc<Odd>) {
+    let disabled = Some(PredicateError::InvalidationClosuresDisabled);
+    let mut generator = SplitMix64::seed_from_u64(7);
+    let refused = cache.invalidate_entries_if(Odd, &mut generator).err();
+    assert_eq!(rt; refused, disabled);
+    assert_eq!(rt; cache.invalidate_entries_with_arc_fun(odd).err(), disabled);
+}
+
+/// A predicate is accepted by a cache that was built with support for closures.
+#[test]
+fn a_shared_predicate_is_accepted(rt: HostRuntime) -> Result<(), Fail> {
+    let odd = share(rt.alloc(), Odd)?;
+    let cache = cache(rt, rt.alloc())?;
+    hides_the_odd_one(&rt, &cache, odd);
+    Ok(())
+}
+
+fn hides_the_odd_one<W: Wait + Drop>(rt: &impl Abort, cache: &Numbers<W>, odd: Arc<Odd>) {
+    check_reply(rt, "insert", insert(cache, 1, 11), Returned::Done);
+    check_reply(rt, "insert", insert(cache, 2, 20), Returned::Done);
+    assert_eq!(rt; cache.invalidate_entries_with_arc_fun(odd), Ok(()));
+    check_reply(rt, "get", get(cache, 1), Returned::Nothing);
+    check_reply(rt, "get", get(cache, 2), Returned::Value(20));
 }

@@ -1,17 +1,14 @@
-//! Threads that share a cache. Closures, listeners and the steps of an iteration leave it free for
-//! others, and callers wait for each other's turns.
+//! Threads that share a cache. Closures leave it free for others, and callers wait for each other's
+//! turns.
 ghost use Rattle.std.specs.Prelude.{◌≡◌, ◌≢◌};
 ghost use Rattle.moka_model.specs.declared.turns.Kind.{Kind};
 
 use crate::caches::{Numbers, cache, share};
 use crate::calls::{abandon, clone, get, insert, leave, next_of};
-use crate::marks::{Marks, count_so_far, mark, new_marks, pause, reaches};
-use moka::notification::RemovalCause;
+use crate::marks::{Marks, count_so_far, inside_until_done, mark, new_marks, pause, reaches};
 use moka::ops::compute::Op;
-use moka::policy::{Listener, ManualClock, NoExpiry, NoPredicate, NoWeigher, Refused};
-use moka::ready::{FoldState, ReadyTypes};
+use moka::policy::Refused;
 use moka::sync::value_initializer::{Begun, FinishRefused, Kind, Outcome, Turn};
-use moka::sync::{Cache, CacheBuilder};
 use std::alloc::Global;
 use std::process::Abort;
 use std::rt::Clock;
@@ -19,17 +16,9 @@ use std::sync::{Arc, Wait};
 use std::test::Fail;
 use std::thread;
 use std::thread::{JoinHandle, Threads};
-use std::time::Duration;
-
-/// Counts itself as arrived, and waits until another thread is done. Returns how many are.
-fn inside_until_done(rt: &impl Clock, marks: &Marks) -> u64 {
-    mark(&marks.arrived);
-    reaches(rt, &marks.done, 1);
-    count_so_far(&marks.done)
-}
 
 /// The result of a lookup.
-type Found = Result<Option<u64>, Refused>;
+pub(crate) type Found = Result<Option<u64>, Refused>;
 
 /// Looks up a key once another thread is inside a closure, and counts itself as done.
 fn gets_once_one_is_inside<W: Wait + Clock + Drop>(
@@ -169,181 +158,8 @@ fn has_replied<W: Wait + Abort + Drop>(rt: &W, cache: &Numbers<W>, found: Found,
     assert_eq!(rt; found, Ok(Some(20)));
 }
 
-/// A listener that counts itself as arrived, and waits until another thread is done.
-#[derive(Drop)]
-struct Slow<W> {
-    marks: Arc<Marks>,
-    rt: W,
-}
-
-impl<W: Clock> Listener<u64, u64> for Slow<W> {
-    ghost use Rattle.std.specs.Prelude.{⊤};
-
-    ghost hears = { λ _ _ _. ⊤ };
-
-    fn removed(&self, _key: Arc<u64>, _value: u64, _cause: RemovalCause)
-        requires { ⊤ }
-    {
-        if inside_until_done(&self.rt, &self.marks) == 1 {
-            mark(&self.marks.in_time);
-        }
-    }
-}
-
-/// The types of a cache with this listener.
-type SlowTypes<W> = ReadyTypes<
-    FoldState,
-    NoWeigher,
-    NoExpiry,
-    Arc<ManualClock>,
-    NoPredicate,
-    u64,
-    Slow<W>,
->;
-
-/// A cache with this listener.
-type Heard<W> = Cache<u64, u64, SlowTypes<W>, W>;
-
-/// A call that removes the expired entry of key 1.
-#[derive(Clone, Copy, Debug)]
-enum Leaves {
-    Insert,
-    OrInsert,
-    OrDefault,
-    Invalidate,
-    Remove,
-    Maintenance,
-    PartOfOne,
-    Finish,
-}
-
-const LEAVES: [Leaves; 8] = [
-    Leaves::Insert,
-    Leaves::OrInsert,
-    Leaves::OrDefault,
-    Leaves::Invalidate,
-    Leaves::Remove,
-    Leaves::Maintenance,
-    Leaves::PartOfOne,
-    Leaves::Finish,
-];
-
-fn lets_one_leave<W: Wait + Clock + Drop>(cache: &Heard<W>, key: &Arc<u64>, call: Leaves) -> bool {
-    match call {
-        Leaves::Insert => cache.insert(1, 11).is_ok(),
-        Leaves::OrInsert => cache.or_insert(key, 11).is_ok(),
-        Leaves::OrDefault => cache.or_default(1).is_ok(),
-        Leaves::Invalidate => {
-            cache.invalidate(&1);
-            true
-        }
-        Leaves::Remove => cache.remove(&1).is_ok(),
-        Leaves::Maintenance => {
-            cache.run_pending_tasks();
-            true
-        }
-        Leaves::PartOfOne => !cache.run_pending_tasks_up_to(1),
-        Leaves::Finish => cache.get_with(1, || 11).is_ok(),
-    }
-}
-
-/// A `get` returns while the listener runs.
-#[test]
-fn a_get_answers_while_the_listener_runs(rt: HostRuntime) -> Result<(), Fail> {
-    for call in LEAVES {
-        hear_slowly(rt, rt.alloc(), call)?;
-    }
-    Ok(())
-}
-
-fn hear_slowly<W>(rt: W, alloc: Global, call: Leaves) -> Result<(), Fail>
-where
-    W: Wait + Clock + Threads + Abort + Copy + Drop + Send + Sync + 'static,
-{
-    let key = share(alloc, 1)?;
-    let marks = new_marks(alloc)?;
-    let clock = share(alloc, ManualClock::new(0))?;
-    let cache = slow_cache(rt, alloc, &clock, &marks)?;
-    a_get_replies_in_between(&rt, &cache, &clock, (&key, &marks), call)
-}
-
-/// Builds a cache with a time to live of one second and the slow listener.
-fn slow_cache<W: Wait + Clock + Copy + Drop>(
-    rt: W,
-    alloc: Global,
-    clock: &Arc<ManualClock>,
-    marks: &Arc<Marks>,
-) -> Result<Heard<W>, Fail> {
-    let (clock, marks) = (clock.clone()?, marks.clone()?);
-    let builder: CacheBuilder<u64, u64, SlowTypes<W>, _> = CacheBuilder::new(100);
-    Ok(
-        builder
-            .time_to_live(Duration::from_secs(1))
-            .eviction_listener(Slow { marks, rt })
-            .build_with_hasher(alloc, FoldState::default(), clock, rt)?,
-    )
-}
-
-/// Inserts keys 1 and 2, of which key 1 has expired then.
-fn let_one_expire<W: Wait + Clock + Drop>(
-    cache: &Heard<W>,
-    clock: &ManualClock,
-) -> Result<(), Fail> {
-    cache.insert(1, 10)?;
-    clock.set(1_000_000_000);
-    cache.insert(2, 20)?;
-    Ok(())
-}
-
-fn a_get_replies_in_between<W>(
-    rt: &W,
-    cache: &Heard<W>,
-    clock: &ManualClock,
-    shared: (&Arc<u64>, &Arc<Marks>),
-    call: Leaves,
-) -> Result<(), Fail>
-where
-    W: Wait + Clock + Threads + Abort + Copy + Drop + Send + Sync + 'static,
-{
-    let (key, marks) = shared;
-    let_one_expire(cache, clock)?;
-    let child = gets_while_it_hears(rt, cache, marks)?;
-    assert!(rt; lets_one_leave(cache, key, call), "{call:?}");
-    was_in_time(rt, marks, child.join(rt), call);
-    Ok(())
-}
-
-/// Looks up key 2 in a thread of its own, once the listener runs.
-fn gets_while_it_hears<W>(
-    rt: &W,
-    cache: &Heard<W>,
-    marks: &Arc<Marks>,
-) -> Result<JoinHandle<Found>, Fail>
-where
-    W: Wait + Clock + Threads + Copy + Drop + Send + Sync + 'static,
-{
-    let (theirs, others, handle) = (cache.clone()?, marks.clone()?, *rt);
-    Ok(thread::spawn(rt, move || gets_once_it_hears(&handle, &theirs, &others))?)
-}
-
-fn was_in_time(rt: &impl Abort, marks: &Marks, found: Found, call: Leaves) {
-    assert_eq!(rt; found, Ok(Some(20)));
-    assert_eq!(rt;
-        count_so_far(&marks.in_time),
-        1,
-        "it was answered while the listener ran: {call:?}"
-    );
-}
-
-fn gets_once_it_hears<W: Wait + Clock + Drop>(rt: &W, cache: &Heard<W>, marks: &Marks) -> Found {
-    reaches(rt, &marks.arrived, 1);
-    let found = cache.get(&2);
-    mark(&marks.done);
-    found
-}
-
 /// The result of a loader.
-type Given = Result<u64, Refused>;
+pub(crate) type Given = Result<u64, Refused>;
 
 /// The number of threads.
 const THREADS: u64 = 4;
@@ -459,12 +275,13 @@ fn asks_for_any<W: Wait + Drop>(cache: &Numbers<W>, marks: &Marks) -> Given {
     cache.get_with(1, || count_own(marks))
 }
 
-fn asks_for_another<W: Wait + Drop>(cache: &Numbers<W>, marks: &Marks) -> Given {
+/// Loads by a closure of its own, and turns down the live value. Its predicate counts it as arrived.
+pub(crate) fn asks_for_another<W: Wait + Drop>(cache: &Numbers<W>, marks: &Marks) -> Given {
     cache.get_with_if(1, || count_own(marks), |_| turns_it_down(marks))
 }
 
 /// Returns a turn of a kind, whatever is live.
-fn begin_running<W: Wait + Drop>(
+pub(crate) fn begin_running<W: Wait + Drop>(
     rt: &impl Abort,
     cache: &Numbers<W>,
     key: &Arc<u64>,

@@ -129,15 +129,19 @@ pub(crate) struct Heard<W> {
     pub alloc: Global,
 }
 
-/// A shared cache and what its listener heard. Each call goes through a clone of the cache of the
-/// call before.
+/// A shared cache, a clone of it, and what its listener heard. The calls go through the two by
+/// turns.
 #[derive(Drop)]
 pub(crate) struct SharedNumbers<W: Wait + Drop> {
+    /// The one that the next call goes through.
     pub cache: Numbers<W>,
+    /// The one that the call behind it goes through.
+    pub other: Numbers<W>,
     pub heard: Heard<W>,
 }
 
-/// The same with four segments.
+/// The same with four segments and no second cache. Each call goes through a clone of the cache of
+/// the call before: with two such caches in one struct the prover runs out of steps.
 #[derive(Drop)]
 pub(crate) struct SharedSegments<W: Wait + Drop> {
     pub cache: SegmentedNumbers<W>,
@@ -249,7 +253,12 @@ pub(crate) fn cache<W: Wait + Copy + Drop>(rt: W, alloc: Global) -> Result<Share
         Err(BuildError::OutOfMemory) => create_cache(&heard)?,
         built => built?,
     };
-    Ok(SharedNumbers { cache, heard })
+    let other = cache.clone()?;
+    Ok(SharedNumbers {
+        cache,
+        other,
+        heard,
+    })
 }
 
 fn create_segmented_cache<W: Wait + Copy + Drop>(

@@ -1,0 +1,46 @@
+//! The history of a recorded cache, and its steps on an owned cache.
+
+use anyhow::{Result, bail, ensure};
+use moka::policy::CacheTypes;
+use moka::ready::PlainRecorded;
+use moka::state::{CacheState, Reply, Step};
+use moka::sync::recorded::{Entries, Naming, Pass, RecordedCache};
+use std::sync::Wait;
+
+/// Closes the cache. Returns its history.
+pub(crate) fn history<C: CacheTypes<u64, u64>, L: Naming, W: Wait + Drop>(
+    cache: RecordedCache<u64, u64, C, L, W>,
+    passes: Vec<Pass<u64, u64, C, L>>,
+) -> Result<Entries<Step<u64, u64, C>, Reply<u64, u64, C>>> {
+    let Ok((entries, _)) = cache.close(passes) else {
+        bail!("a pass is missing");
+    };
+    Ok(entries)
+}
+
+// Returns the value of a reply that has one.
+fn value<C: CacheTypes<u64, u64>>(reply: Reply<u64, u64, C>) -> Option<u64> {
+    match reply {
+        Reply::Entered(entry) => Some(entry.into_value()),
+        _ => None,
+    }
+}
+
+// Makes a step. Returns the value of its reply.
+fn make(
+    fresh: &mut CacheState<u64, u64, PlainRecorded>,
+    step: Step<u64, u64, PlainRecorded>,
+) -> Option<u64> {
+    value(fresh.step(step))
+}
+
+/// Makes the steps of a history on an owned cache, and compares the values of the replies.
+pub(crate) fn replay(
+    entries: Entries<Step<u64, u64, PlainRecorded>, Reply<u64, u64, PlainRecorded>>,
+    mut fresh: CacheState<u64, u64, PlainRecorded>,
+) -> Result<()> {
+    for (_, step, reply) in entries {
+        ensure!(make(&mut fresh, step) == value(reply), "another reply");
+    }
+    Ok(())
+}

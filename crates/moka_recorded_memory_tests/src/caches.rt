@@ -1,0 +1,70 @@
+//! The caches under test: texts by numbers.
+ghost use Rattle.std.specs.Prelude.{◌≡◌, [], IfOk, None};
+
+use moka_model::turns::Kind;
+use moka_policy::policy::{EvictionPolicy, Refused};
+use moka_presets::ready::{FoldState, PlainRecorded};
+use moka_recorded::recorded_cache;
+use moka_state::state::{CacheState, Settings};
+use moka_state::turn_name::TurnName;
+use moka_state::view::StateView;
+use std::alloc::{AllocError, Global};
+use std::sync::Arc;
+
+pub(crate) type Opened<C> = recorded_cache::Opened<u64, String, C>;
+
+pub(crate) type Pass<C, L> = recorded_cache::Pass<u64, String, C, L>;
+
+pub(crate) type Recorded<C, L, W> = recorded_cache::RecordedCache<u64, String, C, L, W>;
+
+/// An owned cache of texts.
+pub(crate) type Texts = CacheState<u64, String, PlainRecorded>;
+
+/// Creates the owned cache that is recorded, with this capacity or without a bound.
+pub(crate) fn state(alloc: Global, max_capacity: Option<u64>) -> Result<Texts, Refused>
+    ensures { IfOk result (λ state. ⟦<PlainRecorded as StateView<u64, String>>⟧.stands_for
+        (⟦<PlainRecorded as StateView<u64, String>>⟧.settings state.settings) state []) }
+{
+    CacheState::new(alloc, settings(alloc, max_capacity)?)
+}
+
+fn settings(
+    alloc: Global,
+    max_capacity: Option<u64>,
+) -> Result<Settings<u64, String, PlainRecorded>, Refused>
+    ensures limit { IfOk result (λ settings. settings.flush_limit ≡ None) }
+    ensures weigher { IfOk result (λ settings. settings.weigher ≡ None) }
+    ensures expiry { IfOk result (λ settings. settings.expiry ≡ None) }
+{
+    let Ok(hasher) = Arc::new(alloc, FoldState::default()) else {
+        return Err(Refused::OutOfMemory);
+    };
+    Ok(Settings {
+        name: None,
+        time_to_live: None,
+        time_to_idle: None,
+        max_capacity,
+        initial_capacity: 0,
+        eviction_policy: EvictionPolicy::lru(),
+        weigher: None,
+        expiry: None,
+        closures: false,
+        flush_limit: None,
+        first_number: 0,
+        hasher,
+    })
+}
+
+/// Creates a text.
+pub(crate) fn text(alloc: Global, it: &str) -> Result<String, AllocError> {
+    String::from_str(alloc, it)
+}
+
+/// Creates the name of a turn of the kind `With`.
+pub(crate) fn name(alloc: Global, number: u64, key: u64) -> Result<TurnName<u64>, AllocError> {
+    Ok(TurnName {
+        number,
+        kind: Kind::With,
+        key: Arc::new(alloc, key)?,
+    })
+}
