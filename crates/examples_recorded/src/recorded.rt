@@ -8,7 +8,6 @@ use moka::state::{CacheState, StateView};
 use moka::sync::CacheBuilder;
 use moka::sync::recorded::{Job, Naming, Opened, Pass, RecordedCache, run_both};
 use std::alloc::Global;
-use std::marker::Brand;
 use std::rt::Runtime;
 use std::sync::ledger::Blank;
 use std::sync::{Arc, Wait};
@@ -29,9 +28,8 @@ impl<L: Naming, W: Wait + Drop> Job<Squares<L, W>, SquaresPass<L>, Option<u64>> 
     }
 }
 
-fn run<L: Naming + Send + Sync, W: Wait + Threads + Copy + Drop + Send + Sync>(
+fn run<L: Naming + Send + Sync, W: AllocGlobal + Wait + Threads + Copy + Drop + Send + Sync>(
     rt: W,
-    alloc: Global,
     state: CacheState<u64, u64, PlainRecorded>,
     fresh: CacheState<u64, u64, PlainRecorded>,
     opened: Opened<u64, u64, PlainRecorded>,
@@ -42,9 +40,9 @@ fn run<L: Naming + Send + Sync, W: Wait + Threads + Copy + Drop + Send + Sync>(
     requires table { (opened.table ≡ L.table) × (opened.history ≡ []) }
     requires ledger { (blank.name ≡ L.name) × (blank.parts ≡ L.parts) × (2 ≡ L.parts) }
 {
-    let mut passes = Vec::new(alloc);
-    let squares = Squares::<L, W>::new_into(alloc, state, opened, blank, 2, rt, &mut passes)?;
-    let load = Load(alloc);
+    let mut passes = Vec::new(rt.alloc());
+    let squares = Squares::<L, W>::new_into(rt.alloc(), state, opened, blank, 2, rt, &mut passes)?;
+    let load = Load(rt.alloc());
     let loaded = run_both(&rt, &squares, passes.as_mut_slice(), &load, &load);
     replay(history(squares, passes)?, fresh)?;
     Ok(loaded)
@@ -56,7 +54,7 @@ pub fn main<R: Runtime + AllocGlobal + Wait + Threads + Copy + Send + Sync>(rt: 
     let state = CacheBuilder::new(100).build_state(alloc, FoldState::default())?;
     let fresh = CacheBuilder::new(100).build_state(alloc, FoldState::default())?;
     let opened = Opened::new(alloc)?;
-    let loaded = run::<Brand, R>(rt, alloc, state, fresh, opened, Blank::new(2))?;
+    let loaded = run::<std::marker::Brand, R>(rt, state, fresh, opened, Blank::new(2))?;
     println!(rt; "loaded and replayed: {loaded:?}")?;
     Ok(())
 }

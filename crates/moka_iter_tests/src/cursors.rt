@@ -1,9 +1,9 @@
 //! Iteration by a cursor over owned caches that change between two calls.
-use moka_policy::policy::EvictionPolicy;
+use moka_policy::policy::{EvictionPolicy, Refused};
 use moka_presets::ready::{FoldState, Plain};
 use moka_state::state::{CacheState, Settings};
 use moka_state_iter::cursor::WalkCursor;
-use std::alloc::Global;
+use std::alloc::{AllocError, Global};
 use std::process::Abort;
 use std::slice;
 use std::sync::Arc;
@@ -13,7 +13,7 @@ use std::time::Duration;
 pub(crate) type State = CacheState<u64, Arc<u64>, Plain>;
 
 /// Creates a cache that stores these keys from moment 0, each with ten times itself as its value.
-fn state(alloc: Global, keys: &[u64]) -> Result<State, Fail> {
+fn state(alloc: Global, keys: &[u64]) -> Result<State, AllocError> {
     let settings = Settings {
         name: None,
         max_capacity: Some(100),
@@ -28,13 +28,15 @@ fn state(alloc: Global, keys: &[u64]) -> Result<State, Fail> {
         first_number: 0,
         hasher: Arc::new(alloc, FoldState::default())?,
     };
-    let mut state = CacheState::new(alloc, settings)?;
+    let Ok(mut state) = CacheState::new(alloc, settings) else {
+        return Err(AllocError);
+    };
     fill(&mut state, alloc, keys)?;
     Ok(state)
 }
 
 /// Creates a cache for each list of keys.
-pub(crate) fn states(alloc: Global, lists: &[&[u64]]) -> Result<Vec<State>, Fail> {
+pub(crate) fn states(alloc: Global, lists: &[&[u64]]) -> Result<Vec<State>, AllocError> {
     let mut states = Vec::with_capacity(alloc, lists.len())?;
     for keys in lists {
         states.push(state(alloc, keys)?)?;
@@ -42,15 +44,24 @@ pub(crate) fn states(alloc: Global, lists: &[&[u64]]) -> Result<Vec<State>, Fail
     Ok(states)
 }
 
-fn fill(state: &mut State, alloc: Global, keys: &[u64]) -> Result<(), Fail> {
+fn fill(state: &mut State, alloc: Global, keys: &[u64]) -> Result<(), AllocError> {
     for key in keys {
         insert(state, alloc, *key, key.wrapping_mul(10), 0)?;
     }
     Ok(())
 }
 
-fn insert(state: &mut State, alloc: Global, key: u64, value: u64, now: u64) -> Result<(), Fail> {
-    Ok(state.insert(key, Arc::new(alloc, value)?, now)?)
+fn insert(
+    state: &mut State,
+    alloc: Global,
+    key: u64,
+    value: u64,
+    now: u64,
+) -> Result<(), AllocError> {
+    match state.insert(key, Arc::new(alloc, value)?, now) {
+        Ok(()) => Ok(()),
+        Err(_) => Err(AllocError),
+    }
 }
 
 const SECOND: u64 = 1_000_000_000;
@@ -101,6 +112,18 @@ fn do_between(between: Between, state: &mut State, alloc: Global, other: u64) ->
     Ok(0)
 }
 
+// Returns the next pair by its numbers, or the error that comes.
+fn try_next(
+    cursor: &mut WalkCursor<u64>,
+    states: &[State],
+    now: u64,
+) -> Option<Result<(u64, u64), Refused>> {
+    match cursor.next(states, now)? {
+        Ok((key, value)) => Some(Ok((*key, *value))),
+        Err(cause) => Some(Err(cause)),
+    }
+}
+
 // Returns the next pair by its numbers.
 fn next(
     rt: &impl Abort,
@@ -108,13 +131,9 @@ fn next(
     states: &[State],
     now: u64,
 ) -> Option<(u64, u64)> {
-    match cursor.next(states, now)? {
-        Ok((key, value)) => Some((*key, *value)),
-        Err(_) => {
-            assert!(rt; false, "memory is there");
-            None
-        }
-    }
+    let found = try_next(cursor, states, now)?;
+    assert!(rt; found.is_ok(), "memory is there");
+    found.ok()
 }
 
 // Checks what comes next in an iteration over one cache.
@@ -192,6 +211,67 @@ fn is_reached_once_it_is_needed(
     assert_eq!(rt; next(rt, &mut cursor, states, 0), Some((2, 20)));
     assert_eq!(rt; next(rt, &mut cursor, states, 0), None);
     Ok(())
+}
+
+/// A key that has come, is removed and is inserted again does not come a second time.
+#[test]
+fn a_key_that_came_does_not_come_again(rt: HostRuntime) -> Result<(), Fail> {
+    comes_once(&rt, rt.alloc(), &mut state(rt.alloc(), &[1, 2])?)
+}
+
+fn comes_once(rt: &impl Abort, alloc: Global, state: &mut State) -> Result<(), Fail> {
+    let mut cursor = WalkCursor::new();
+    let first = renew_next(rt, alloc, &mut cursor, state)?;
+    let second = renew_next(rt, alloc, &mut cursor, state)?;
+    assert_eq!(rt; (first.min(second), first.max(second)), (1, 2));
+    comes(rt, &mut cursor, state, 0, None);
+    Ok(())
+}
+
+// Returns the next key. Removes it from the cache, and inserts it again.
+fn renew_next(
+    rt: &impl Abort,
+    alloc: Global,
+    cursor: &mut WalkCursor<u64>,
+    state: &mut State,
+) -> Result<u64, Fail> {
+    let (key, _) = next(rt, cursor, slice::from_ref(state), 0).ok_or("a pair")?;
+    do_between(Between::Removed, state, alloc, key)?;
+    insert(state, alloc, key, 7, 0)?;
+    Ok(key)
+}
+
+/// The keys of four segments, the first of which is empty.
+const SEGMENTS: [&[u64]; 4] = [&[], &[1, 10], &[100], &[1000]];
+
+/// A walk goes on behind a segment whose keys find no memory. It does so whichever allocation
+/// fails: `scripts/refused_memory` tries each.
+#[test]
+fn a_walk_goes_on_where_memory_is_refused(rt: HostRuntime) -> Result<(), Fail> {
+    let built = match states(rt.alloc(), &SEGMENTS) {
+        Ok(built) => built,
+        Err(_) => states(rt.alloc(), &SEGMENTS)?,
+    };
+    goes_on(&rt, &built);
+    Ok(())
+}
+
+/// Checks that all keys come, or one error for a segment and the keys of all others.
+fn goes_on(rt: &impl Abort, states: &[State]) {
+    let mut cursor = WalkCursor::new();
+    let mut came: u64 = 0;
+    let mut errors: u64 = 0;
+    for _ in 0..5 {
+        match try_next(&mut cursor, states, 0) {
+            Some(Ok((key, _))) => came = came.wrapping_add(key),
+            Some(Err(_)) => errors = errors.wrapping_add(1),
+            None => {}
+        }
+    }
+    match errors {
+        0 => assert_eq!(rt; came, 1111),
+        _ => assert!(rt; errors == 1 && [1100, 1011, 111].contains(&came), "{came}"),
+    }
 }
 
 /// An iteration over no segments yields nothing.

@@ -54,17 +54,49 @@ impl ScanningGet<u64, Arc<u64>> for Scarce<'_> {
 }
 
 /// Which request fails, and how many pairs come then.
-///
+type Refusal = (u64, usize);
+
 /// The segments have the keys 1 and 2, none, and 3. So the first request is for the keys of the
 /// first segment, the next two are for its values, and so on.
-const REFUSALS: [(u64, usize); 7] = [(0, 1), (1, 2), (2, 2), (3, 3), (4, 2), (5, 2), (6, 3)];
+const REFUSALS: [Refusal; 7] = [(0, 1), (1, 2), (2, 2), (3, 3), (4, 2), (5, 2), (6, 3)];
+
+/// The segments have no key, the keys 1 and 2, 3, and 4. The second request is for the keys of the
+/// second segment.
+const REFUSALS_OF_FOUR: [Refusal; 9] = [
+    (0, 4),
+    (1, 2),
+    (2, 3),
+    (3, 3),
+    (4, 3),
+    (5, 3),
+    (6, 3),
+    (7, 3),
+    (8, 4),
+];
 
 /// A failed request yields one error, and the iteration goes on.
 #[test]
 fn what_is_refused_is_passed_over_as_one_error(rt: HostRuntime) -> Result<(), Fail> {
-    let states = states(rt.alloc(), &[&[1, 2], &[], &[3]])?;
-    for (refused, pairs) in REFUSALS {
-        is_passed_over(&rt, rt.alloc(), &states, refused, pairs)?;
+    let three = states(rt.alloc(), &[&[1, 2], &[], &[3]])?;
+    are_passed_over(&rt, rt.alloc(), &three, &REFUSALS)?;
+    let four = states(rt.alloc(), &[&[], &[1, 2], &[3], &[4]])?;
+    are_passed_over(&rt, rt.alloc(), &four, &REFUSALS_OF_FOUR)
+}
+
+/// Checks an iteration for each row. In the last row no request fails.
+fn are_passed_over(
+    rt: &impl Abort,
+    alloc: Global,
+    states: &[State],
+    rows: &[Refusal],
+) -> Result<(), Fail> {
+    for (row, (refused, pairs)) in rows.iter().enumerate() {
+        let errors = if row.wrapping_add(1) < rows.len() {
+            1
+        } else {
+            0
+        };
+        is_passed_over(rt, alloc, states, *refused, (*pairs, errors))?;
     }
     Ok(())
 }
@@ -75,13 +107,12 @@ fn is_passed_over(
     alloc: Global,
     states: &[State],
     refused: u64,
-    pairs: usize,
+    wanted: (usize, usize),
 ) -> Result<(), Fail> {
     let requests = Cell::new(0);
     let caches = share_requests(alloc, states, &requests, refused)?;
-    let (came, errors) = walk_all(rt, alloc, &caches)?;
-    assert_eq!(rt; came, pairs, "request {refused}");
-    assert_eq!(rt; errors, if refused < 6 { 1 } else { 0 });
+    let found = walk_all(rt, alloc, &caches)?;
+    assert_eq!(rt; found, wanted, "request {refused}");
     Ok(())
 }
 

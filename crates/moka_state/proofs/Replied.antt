@@ -35,6 +35,14 @@ pub IfOk-so : {A B : Type 0} {C : Type 0} {P Q S : A → Type 0} (r : Result A B
 IfOk-so (Ok x) p q so = so x p q
 IfOk-so (Err e) p q so = tt
 
+pub IfOk-three : {A B : Type 0} {P Q R S : A → Type 0} (r : Result A B) → ((x : A) → P x → Q x → R x → S x) → IfOk r P → IfOk r Q → IfOk r R → IfOk r S
+IfOk-three (Ok x) all p q s = all x p q s
+IfOk-three (Err e) all p q s = tt
+
+pub IfOk-four : {A B : Type 0} {P Q R S U : A → Type 0} (r : Result A B) → ((x : A) → P x → Q x → R x → S x → U x) → IfOk r P → IfOk r Q → IfOk r R → IfOk r S → IfOk r U
+IfOk-four (Ok x) all p q s u = all x p q s u
+IfOk-four (Err e) all p q s u = tt
+
 module _ {K V : Type 0} (is_clone : V → V → Type 0) where
   -- a notice is that of its own removal
   own-notice : (n : Option (Notice K V)) → IsNoticeFor is_clone (option_map removal_of n) n

@@ -25,6 +25,8 @@ use Rattle.moka_state.specs.declared.step.Step.TheVariants.{OrInsert, Begin, Beg
 use Rattle.moka_state.specs.declared.step.Reply.{Reply}
 use Rattle.moka_state.specs.declared.step.Reply.TheVariants.{Found, Contains, Done, Counted, Left, Noticed, Refused, PredicateRefused}
 use Rattle.moka_state.specs.declared.step.Reply.TheVariants.{Entered, Run, Wait, Nothing, Failed, Computed, NotYet, Abandoned, Ended}
+use Rattle.moka_state.specs.declared.handed_out.HandedOut.{HandedOut}
+use Rattle.moka_state.specs.HandedOut.{HandsOut}
 use Rattle.moka_state.specs.Replies.{IsRefusal}
 use Rattle.moka_state.specs.Step.{IsRun, after_all}
 
@@ -108,6 +110,12 @@ module _ {V : Type 0} (is_clone : V → V → Type 0) where
     IsSaid returned Ended = IsCopiedReply is_clone returned calls.HasEnded
     IsSaid returned (Refused cause) = ⊥
     IsSaid returned (PredicateRefused cause) = ⊥
+
+    -- The second reply says what the first says, with these clones of what that hands out; a failure is the same.
+    abbrev pub IsSaidAgain : Reply K V C H W X P F L T E S → HandedOut K V E → Reply K V C H W X P F L T E S → Type 0
+    IsSaidAgain reply out again =
+        ((returned : calls.Reply K V E) → IsSaid returned reply → HandsOut is_clone returned out → IsSaid returned again)
+        × (IsRefusal reply → again ≡ reply)
 
     -- Both are the same reply of the specification, or they are the same failure.
     abbrev pub SameReply : Reply K V C H W X P F L T E S → Reply K V C H W X P F L T E S → Type 0

@@ -56,25 +56,29 @@ fn entry_with_clones<K: Drop, V: Clone>(
 // Returns the same result of a compute, with the given clones.
 fn result_with_clones<K: Drop, V: Clone, E: Drop>(
     computed: &CompResult<K, V>,
-    out: HandedOut<K, V, E>,
+    out: &mut HandedOut<K, V, E>,
 ) -> Option<CompResult<K, V>>
     ensures { (answer : calls.Reply K V E) → IsCopiedReply V.is_clone answer (of_computed computed.now)
-        → HandsOut V.is_clone answer out
+        → HandsOut V.is_clone answer out.old
         → IsSomeAnd result (λ again. IsCopiedReply V.is_clone answer (of_computed again)) }
 {
     match computed {
-        CompResult::StillNone(_) => Some(CompResult::StillNone(out.key?)),
+        CompResult::StillNone(_) => Some(CompResult::StillNone(out.key.take()?)),
         CompResult::Unchanged(entry) => {
-            Some(CompResult::Unchanged(entry_with_clones(entry, out.key, out.value)?))
+            Some(CompResult::Unchanged(entry_with_clones(entry, out.key.take(), out.value.take())?))
         }
         CompResult::Inserted(entry) => {
-            Some(CompResult::Inserted(entry_with_clones(entry, out.key, out.value)?))
+            Some(CompResult::Inserted(entry_with_clones(entry, out.key.take(), out.value.take())?))
         }
         CompResult::ReplacedWith(entry) => {
-            Some(CompResult::ReplacedWith(entry_with_clones(entry, out.key, out.value)?))
+            Some(CompResult::ReplacedWith(entry_with_clones(
+                entry,
+                out.key.take(),
+                out.value.take(),
+            )?))
         }
         CompResult::Removed(entry) => {
-            Some(CompResult::Removed(entry_with_clones(entry, out.key, out.value)?))
+            Some(CompResult::Removed(entry_with_clones(entry, out.key.take(), out.value.take())?))
         }
     }
 }
@@ -82,29 +86,31 @@ fn result_with_clones<K: Drop, V: Clone, E: Drop>(
 impl<K: Eq + Drop, V: Clone, C: CacheTypes<K, V>> Reply<K, V, C> {
     // Returns the reply of an accepted step with the given clones in it, or `None` if one is
     // missing.
-    fn try_with_clones(&self, out: HandedOut<K, V, C::Error>) -> Option<Reply<K, V, C>>
+    fn try_with_clones(&self, out: &mut HandedOut<K, V, C::Error>) -> Option<Reply<K, V, C>>
         ensures { (answer : calls.Reply K V C.Error) → IsSaid V.is_clone answer self.now
-            → HandsOut V.is_clone answer out → IsSomeAnd result (IsSaid V.is_clone answer) }
+            → HandsOut V.is_clone answer out.old → IsSomeAnd result (IsSaid V.is_clone answer) }
     {
         match self {
-            Reply::Found(_) => Some(Reply::Found(out.value)),
+            Reply::Found(_) => Some(Reply::Found(out.value.take())),
             Reply::Contains(is_live) => Some(Reply::Contains(*is_live)),
             Reply::Done => Some(Reply::Done),
             Reply::Counted(count) => Some(Reply::Counted(*count)),
             Reply::Left(has_left) => Some(Reply::Left(*has_left)),
-            Reply::Noticed(_) => Some(Reply::Noticed(out.notice)),
+            Reply::Noticed(_) => Some(Reply::Noticed(out.notice.take())),
             Reply::Entered(entry) => Some(Reply::Entered(entry_with_clones(
-                entry, out.key, out.value,
+                entry,
+                out.key.take(),
+                out.value.take(),
             )?)),
-            Reply::Run(name, None) => Some(Reply::Run(name_with_key(name, out.name)?, None)),
+            Reply::Run(name, None) => Some(Reply::Run(name_with_key(name, out.name.take())?, None)),
             Reply::Run(name, Some(entry)) => {
-                let name = name_with_key(name, out.name)?;
-                let entry = entry_with_clones(entry, out.key, out.value)?;
+                let name = name_with_key(name, out.name.take())?;
+                let entry = entry_with_clones(entry, out.key.take(), out.value.take())?;
                 Some(Reply::Run(name, Some(entry)))
             }
-            Reply::Wait(name) => Some(Reply::Wait(name_with_key(name, out.name)?)),
+            Reply::Wait(name) => Some(Reply::Wait(name_with_key(name, out.name.take())?)),
             Reply::Nothing => Some(Reply::Nothing),
-            Reply::Failed(_) => Some(Reply::Failed(out.error?)),
+            Reply::Failed(_) => Some(Reply::Failed(out.error.take()?)),
             Reply::Computed(computed) => Some(Reply::Computed(result_with_clones(computed, out)?)),
             Reply::NotYet => Some(Reply::NotYet),
             Reply::Abandoned => Some(Reply::Abandoned),
@@ -121,14 +127,17 @@ impl<K: Eq + Drop, V: Clone, C: CacheTypes<K, V>> Reply<K, V, C> {
             → HandsOut V.is_clone answer out → IsSaid V.is_clone answer result }
         ensures refused { IsRefusal self.now → result ≡ self.now }
     {
-        match self {
+        let mut out = out;
+        let again = match self {
             Reply::Refused(cause) => Reply::Refused(*cause),
             Reply::PredicateRefused(cause) => Reply::PredicateRefused(*cause),
-            accepted => match accepted.try_with_clones(out) {
+            accepted => match accepted.try_with_clones(&mut out) {
                 Some(reply) => reply,
                 None => Reply::Nothing,
             },
-        }
+        };
+        drop(out);
+        again
     }
 
     /// Checks whether the step failed for lack of memory.

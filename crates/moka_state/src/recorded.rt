@@ -1,14 +1,18 @@
 //! Recorded steps: each is done once, and returned twice more with its reply, for a history and for
 //! the caller.
-ghost use Rattle.std.specs.Prelude.{◌≡◌, IfOk, IfErr, OnErr};
-ghost use Rattle.moka_state.specs.Recorded.{OneReply, OneStep, Records, WantsMemory};
+ghost use Rattle.std.specs.Prelude.{◌≡◌, IfOk, IfErr, IfSome, OnErr};
+ghost use Rattle.moka_model.specs.Calls.{accepted, reply_of};
+ghost use Rattle.moka_state.specs.HandedOut.{HandsOut};
+ghost use Rattle.moka_state.specs.Recorded.{IsSaidAgain, IsStepCopy, OneReply, OneStep, Records, WantsMemory};
 ghost use Rattle.moka_state.specs.Step.{IsReplyTo, StepKeeps, ReplyKeeps, after_reply, call_of};
 
+use crate::handed_out::HandedOut;
 use crate::state::State;
 use crate::step::{Reply, Step};
 use moka_expiration::view::StateView;
 use moka_policy::policy::{CacheTypes, Refused};
 use moka_rows::rows::RowStore;
+use std::alloc::AllocError;
 use std::hash::Hash;
 
 /// A step and its reply.
@@ -53,24 +57,97 @@ impl<K: Hash + Drop, V: Clone, C: CacheTypes<K, V>, R: RowStore<K, V>> State<K, 
         ensures refused { OnErr result (self.new ≡ self.old) }
         ensures cause { IfErr result (λ cause. cause ≡ Refused.OutOfMemory) }
     {
-        let Ok(first) = step.clone() else {
-            return Err(Refused::OutOfMemory);
-        };
-        let Ok(second) = step.clone() else {
-            return Err(Refused::OutOfMemory);
-        };
-        let Ok(one) = self.clones_for_step(&step) else {
-            return Err(Refused::OutOfMemory);
-        };
-        let Ok(other) = self.clones_for_step(&step) else {
+        let Ok((first, second)) = self.prepare_twice(&step) else {
+            drop(step);
             return Err(Refused::OutOfMemory);
         };
         let reply = self.step(step);
-        if reply.wants_memory() {
-            return Err(Refused::OutOfMemory);
-        }
-        let first_reply = reply.with_clones(one);
-        let second_reply = reply.with_clones(other);
-        Ok((reply, (first, first_reply), (second, second_reply)))
+        with_entries(reply, first, second)
     }
+
+    // Clones a step twice, each time with what it will hand out.
+    fn prepare_twice(
+        &self,
+        step: &Step<K, V, C>,
+    ) -> Result<(Prepared<K, V, C>, Prepared<K, V, C>), AllocError>
+        ensures steps { IfOk result (λ made. OneStep V.is_clone step.now made.0.step made.1.step) }
+        ensures first { IfOk result (λ made.
+            ⟦<C as StateView<K, V>>⟧.at_each_history self.now (λ settings steps.
+            IfSome (reply_of (accepted K.eq settings steps (call_of C.test step.now)))
+            (λ answer. HandsOut V.is_clone answer made.0.out))) }
+        ensures second { IfOk result (λ made.
+            ⟦<C as StateView<K, V>>⟧.at_each_history self.now (λ settings steps.
+            IfSome (reply_of (accepted K.eq settings steps (call_of C.test step.now)))
+            (λ answer. HandsOut V.is_clone answer made.1.out))) }
+    {
+        let first = self.prepare(step)?;
+        match self.prepare(step) {
+            Ok(second) => Ok((first, second)),
+            Err(refused) => {
+                drop(first);
+                Err(refused)
+            }
+        }
+    }
+
+    // Clones a step, with what it will hand out.
+    fn prepare(&self, step: &Step<K, V, C>) -> Result<Prepared<K, V, C>, AllocError>
+        ensures step { IfOk result (λ made. IsStepCopy V.is_clone step.now made.step) }
+        ensures out { IfOk result (λ made.
+            ⟦<C as StateView<K, V>>⟧.at_each_history self.now (λ settings steps.
+            IfSome (reply_of (accepted K.eq settings steps (call_of C.test step.now)))
+            (λ answer. HandsOut V.is_clone answer made.out))) }
+    {
+        let copy = Step::clone(step)?;
+        match self.clones_for_step(step) {
+            Ok(out) => Ok(Prepared { step: copy, out }),
+            Err(refused) => {
+                drop(copy);
+                Err(refused)
+            }
+        }
+    }
+}
+
+// A clone of a step, and clones of what the step will hand out.
+#[derive(Drop)]
+struct Prepared<K: Eq + Drop, V: Clone, C: CacheTypes<K, V>> {
+    step: Step<K, V, C>,
+    out: HandedOut<K, V, C::Error>,
+}
+
+// Returns a reply, and it again beside each of two clones of its step. Fails if the step failed
+// with `OutOfMemory`.
+fn with_entries<K: Eq + Drop, V: Clone, C: CacheTypes<K, V>>(
+    reply: Reply<K, V, C>,
+    first: Prepared<K, V, C>,
+    second: Prepared<K, V, C>,
+) -> Result<(Reply<K, V, C>, Entry<K, V, C>, Entry<K, V, C>), Refused>
+    ensures reply { IfOk result (λ done. done.0 ≡ reply) }
+    ensures given { IfOk result (λ done. ¬ (WantsMemory done.0)) }
+    ensures first { IfOk result (λ done. (done.1.0 ≡ first.step)
+        × IsSaidAgain V.is_clone reply first.out done.1.1) }
+    ensures second { IfOk result (λ done. (done.2.0 ≡ second.step)
+        × IsSaidAgain V.is_clone reply second.out done.2.1) }
+    ensures refused { IfErr result (λ cause. (cause ≡ Refused.OutOfMemory) × WantsMemory reply) }
+{
+    if reply.wants_memory() {
+        drop((reply, first, second));
+        return Err(Refused::OutOfMemory);
+    }
+    let first = entry_of(&reply, first);
+    let second = entry_of(&reply, second);
+    Ok((reply, first, second))
+}
+
+// Returns the entry of a reply for one clone of its step.
+fn entry_of<K: Eq + Drop, V: Clone, C: CacheTypes<K, V>>(
+    reply: &Reply<K, V, C>,
+    prepared: Prepared<K, V, C>,
+) -> Entry<K, V, C>
+    ensures step { result.0 ≡ prepared.step }
+    ensures reply { IsSaidAgain V.is_clone reply.now prepared.out result.1 }
+{
+    let Prepared { step, out } = prepared;
+    (step, reply.with_clones(out))
 }

@@ -59,25 +59,6 @@ pub(crate) fn reaches(rt: &impl Clock, count: &AtomicU64, wanted: u64) -> bool {
     false
 }
 
-/// Does what `reaches` does, but gives up as soon as `other` is not 0.
-pub(crate) fn reaches_before(
-    rt: &impl Clock,
-    count: &AtomicU64,
-    wanted: u64,
-    other: &AtomicU64,
-) -> bool {
-    for _ in 0..TURNS {
-        if count_so_far(other) > 0 {
-            return false;
-        }
-        if count_so_far(count) >= wanted {
-            return true;
-        }
-        thread::sleep(rt, Duration::from_millis(1));
-    }
-    false
-}
-
 /// Sleeps 30 ms, so that others come to a point that no count shows.
 pub(crate) fn pause(rt: &impl Clock) {
     thread::sleep(rt, Duration::from_millis(30));

@@ -159,7 +159,7 @@ fn has_replied<W: Wait + Abort + Drop>(rt: &W, cache: &Numbers<W>, found: Found,
 }
 
 /// The result of a loader.
-pub(crate) type Given = Result<u64, Refused>;
+type Given = Result<u64, Refused>;
 
 /// The number of threads.
 const THREADS: u64 = 4;
@@ -276,12 +276,12 @@ fn asks_for_any<W: Wait + Drop>(cache: &Numbers<W>, marks: &Marks) -> Given {
 }
 
 /// Loads by a closure of its own, and turns down the live value. Its predicate counts it as arrived.
-pub(crate) fn asks_for_another<W: Wait + Drop>(cache: &Numbers<W>, marks: &Marks) -> Given {
+fn asks_for_another<W: Wait + Drop>(cache: &Numbers<W>, marks: &Marks) -> Given {
     cache.get_with_if(1, || count_own(marks), |_| turns_it_down(marks))
 }
 
 /// Returns a turn of a kind, whatever is live.
-pub(crate) fn begin_running<W: Wait + Drop>(
+fn begin_running<W: Wait + Drop>(
     rt: &impl Abort,
     cache: &Numbers<W>,
     key: &Arc<u64>,
