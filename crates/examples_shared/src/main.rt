@@ -6,6 +6,7 @@ mod clock;
 mod listener;
 mod loading;
 mod read_through;
+mod stock;
 mod threads;
 
 use anyhow::Result;
@@ -13,7 +14,7 @@ use std::env;
 use std::process::ExitCode;
 
 const USAGE: &str = "usage: examples_shared NAME .., each NAME one of: \
-    clock listener loading read_through threads";
+    clock listener loading read_through stock threads";
 
 fn main(rt: HostRuntime) -> Result<ExitCode> {
     let mut is_known = false;
@@ -25,6 +26,7 @@ fn main(rt: HostRuntime) -> Result<ExitCode> {
             "listener" => listener::main(rt)?,
             "loading" => loading::main(rt)?,
             "read_through" => read_through::main(rt)?,
+            "stock" => stock::main(rt)?,
             "threads" => threads::main(rt)?,
             _ => is_known = false,
         }

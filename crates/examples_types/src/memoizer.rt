@@ -1,6 +1,6 @@
 //! A memoizer. Each result is proved to be what the function computes, cached or not.
 
-ghost use Rattle.std.specs.Prelude.{◌≡◌, IfOk};
+ghost use Rattle.std.specs.Prelude.{◌≡◌, false, IfOk};
 ghost use Rattle.std.proofs.Math.Path.{◌∙◌, ap};
 ghost use Rattle.std.proofs.lemmas.Bool.{eqb-true};
 ghost use Rattle.examples_types.specs.Triangle.{triangle};
@@ -39,6 +39,21 @@ pub(crate) fn sum_to(n: u32) -> u64
     n * (n + 1) / 2
 }
 
+/// Returns the same, and would compute a cached sum anew if it were wrong. The closure may require
+/// the value invariant of the value that it is shown, so it is proved that no sum is.
+fn get_checked_sum(
+    cache: &mut CacheState<u32, u64, Keeping<Triangles>>,
+    n: u32,
+) -> Result<u64, Refused>
+    ensures { IfOk result (λ value. value ≡ triangle n) }
+{
+    let is_wrong = |sum: &u64|
+        requires { sum.now ≡ triangle n }
+        ensures { result ≡ false }
+    { *sum != sum_to(n) };
+    cache.get_with_if(n, || sum_to(n), is_wrong, 0)
+}
+
 /// Why the example failed.
 #[derive(Debug, Drop, Error)]
 pub(crate) enum Failed {
@@ -63,5 +78,6 @@ fn run(
     for n in [10, 4, 10] {
         println!(rt; "{n}: {}", get_sum(cache, n)?)?;
     }
+    println!(rt; "checked: {}", get_checked_sum(cache, 10)?)?;
     Ok(())
 }

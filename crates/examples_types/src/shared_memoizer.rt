@@ -1,7 +1,7 @@
 //! A memoizer for threads, with a time to live of a minute by a clock that runs. Each result is
 //! proved to be what the function computes.
 
-ghost use Rattle.std.specs.Prelude.{◌≡◌, IfOk};
+ghost use Rattle.std.specs.Prelude.{◌≡◌, false, IfOk};
 ghost use Rattle.examples_types.specs.Triangle.{triangle};
 
 use crate::memoizer::{Triangles, sum_to};
@@ -24,12 +24,28 @@ fn get_sum<R: Runtime + Wait>(numbers: &Numbers<R>, n: u32) -> Result<u64, Refus
     numbers.get_with(n, || sum_to(n))
 }
 
+/// Returns the same, and would compute a cached sum anew if it were wrong. The closure may require
+/// the value invariant of each value that it is shown.
+fn get_checked_sum<R: Runtime + Wait>(numbers: &Numbers<R>, n: u32) -> Result<u64, Refused>
+    ensures { IfOk result (λ value. value ≡ triangle n) }
+{
+    let is_wrong = |sum: &u64|
+        requires { sum.now ≡ triangle n }
+        ensures { result ≡ false }
+    { *sum != sum_to(n) };
+    numbers.get_with_if(n, || sum_to(n), is_wrong)
+}
+
 /// Runs the example.
 pub fn main<R: Runtime + AllocGlobal + Wait + Copy>(rt: R) -> Result<()> {
     let (alloc, hasher, clock) = (rt.alloc(), FoldState::default(), RunningClock::new(rt)?);
     let builder = CacheBuilder::new(100).time_to_live(Duration::from_secs(60));
     let numbers = builder.build_with_hasher(alloc, hasher, clock, rt)?;
     let same = numbers.clone()?;
-    println!(rt; "{} and {}", get_sum(&numbers, 10)?, get_sum(&same, 10)?)?;
+    println!(rt;
+        "{} and {}",
+        get_sum(&numbers, 10)?,
+        get_checked_sum(&same, 10)?
+    )?;
     Ok(())
 }

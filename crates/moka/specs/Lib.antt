@@ -41,6 +41,7 @@ pub use Rattle.moka_recorded_laws.specs.LegalRun
 pub use Rattle.moka_recorded_laws.specs.RunLaws
 pub use Rattle.moka_sync.specs.Builder
 pub use Rattle.moka_sync.specs.Cache
+pub use Rattle.moka_sync.specs.ReplaceIf
 pub use Rattle.moka_iter.specs.Cursors
 pub use Rattle.moka_iter.specs.Histories
 pub use Rattle.moka_iter.specs.Iters

@@ -12,11 +12,10 @@ ghost use Rattle.moka_guarded.specs.Guarded.{GuardedData, AtClockMoment};
 
 use moka_model::notification::Notice;
 use moka_policy::policy::{CacheTypes, Clock, Policy, Refused};
+use moka_state::discards::Discarded;
 use moka_state::predicate_error::PredicateError;
-use moka_state::predicate_id::PredicateId;
 use moka_state::state::{CacheState, InsertRefused, Settings};
 use moka_state::view::StateView;
-use rand_core::Rng;
 use std::alloc::Global;
 use std::hash::Hash;
 use std::marker::Model;
@@ -60,7 +59,8 @@ impl<K: Hash + Drop, V: Clone, C: CacheTypes<K, V>> Model for GuardedState<K, V,
 }
 
 impl<K: Hash + Drop, V: Clone, C: CacheTypes<K, V>> GuardedState<K, V, C> {
-    /// Creates a state of these settings, with the clock that gives the moments of its calls.
+    /// Creates a state of these settings, with the clock that gives the moments of its calls. The state
+    /// keeps what its calls no longer need until it is taken.
     ///
     /// # Errors
     ///
@@ -90,8 +90,17 @@ impl<K: Hash + Drop, V: Clone, C: CacheTypes<K, V>> GuardedState<K, V, C> {
         ensures room { IfOk result (λ it. settings.initial_capacity ≤ it.state.initial_room) }
         ensures cause { IfErr result (λ cause. cause ≡ Refused.OutOfMemory) }
     {
-        let state = CacheState::new(alloc, settings)?;
+        let mut state = CacheState::new(alloc, settings)?;
+        state.defer_drops();
         Ok(GuardedState { state, clock })
+    }
+
+    /// Returns the keys and values that the last call no longer needed, to be dropped with no lock
+    /// held. Changes nothing else.
+    pub fn take_discarded(&mut self) -> Discarded<K, V, C::Error>
+        ensures { self.new ≡ self.old }
+    {
+        self.state.take_discarded()
     }
 
     /// Returns the capacity and the lifetimes that the state was built with.
@@ -183,24 +192,6 @@ impl<K: Hash + Drop, V: Clone, C: CacheTypes<K, V>> GuardedState<K, V, C> {
         ensures { ⟦<C as StateView<K, V>>⟧.follows self.old.state InvalidateAll self.new.state }
     {
         self.state.invalidate_all();
-    }
-
-    /// Invalidates each entry of which `predicate` holds, and returns a new id.
-    ///
-    /// # Errors
-    ///
-    /// As the state's `invalidate_entries_if`. Nothing is invalidated.
-    pub fn invalidate_entries_if<G: Rng>(
-        &mut self,
-        predicate: C::Predicate,
-        generator: &mut G,
-    ) -> Result<PredicateId, PredicateError>
-        requires tests { C.Predicate.tests predicate (C.test predicate) }
-        ensures step { OnOk result (⟦<C as StateView<K, V>>⟧.follows
-            self.old.state (InvalidateIf (C.test predicate)) self.new.state) }
-        ensures refused { OnErr result (self.new.state ≡ self.old.state) }
-    {
-        self.state.invalidate_entries_if(predicate, generator)
     }
 
     /// Invalidates each entry of which `predicate` holds.

@@ -1,11 +1,11 @@
 //! The calls of turns under the lock of a shared cache, and those that return entries. Each fails
 //! as the state's call does, and then changes nothing.
-ghost use Rattle.std.specs.Prelude.{◌≡◌, ◌≢◌, Bool, Option, Some, true, IfOk, IfErr, IfSome, OnOk, OnErr};
+ghost use Rattle.std.specs.Prelude.{◌≡◌, ◌≢◌, ℕ, Bool, Option, Some, true, IfOk, IfErr, IfSome, OnOk, OnErr};
 ghost use Rattle.std.specs.Arc.{arc_value};
 ghost use Rattle.moka_model.specs.Steps.{events_in};
 ghost use Rattle.moka_model.specs.Calls.{Abandon, Begin, BeginCompute, Collect, Finish, Leave, OrInsert, live_at};
 ghost use Rattle.moka_turns.specs.Handles.{turn_name, ticket_name};
-ghost use Rattle.moka_state.specs.Begin.{BeginEnds, EntryKeeps, FoundKeeps, FoundKeepsFor, GivesBegun, GivesLook, IsAsked, IsNamed, IsSaidOf, LookEnds};
+ghost use Rattle.moka_state.specs.Begin.{BeginEnds, EntryKeeps, FoundKeeps, FoundKeepsFor, GivesBegun, GivesLook, IsAsked, IsNamed, IsSaidOf, IsShownKept, LookEnds, TakesLive};
 ghost use Rattle.moka_state.specs.Compute.{ComputeBegins, IsCompute, ShownKeepsFor};
 ghost use Rattle.moka_state.specs.Finish.{FinishEnds, Fits, OutcomeKeeps, outcome_of};
 ghost use Rattle.moka_state.specs.Given.{Gives, IfUnspent, of_collect, of_done};
@@ -52,7 +52,8 @@ impl<K: Hash + Drop, V: Clone, C: CacheTypes<K, V>> GuardedState<K, V, C> {
         key: &K,
         replace_if: Option<F>,
     ) -> Result<Option<Entry<K, V>>, Refused>
-        requires asks { IfSome replace_if (λ f. F.IsAlwaysCallable f) }
+        requires asks { (now : ℕ) → IfSome replace_if (TakesLive K.eq C.keeps
+            ⟦<C as StateView<K, V>>⟧.settings F.FnMut key.now now self.old.state) }
         ensures step { AtClockMoment (C.Clock.tells self.old.clock) (λ now.
             (said : Option Bool) × LookEnds
             (λ given. ⟦<C as StateView<K, V>>⟧.at_each_history self.old.state (λ settings steps.
@@ -70,19 +71,20 @@ impl<K: Hash + Drop, V: Clone, C: CacheTypes<K, V>> GuardedState<K, V, C> {
     }
 
     /// Returns the live entry of `key` if it is acceptable. Otherwise returns a ticket if a turn of
-    /// the key and the kind is open, else a new turn.
+    /// the key and the kind is open, else a new turn. Leaves `replace_if` to the caller.
     pub fn begin<F: FnMut(&V) -> bool + Drop>(
         &mut self,
         key: &Arc<K>,
         kind: Kind,
-        replace_if: Option<F>,
+        replace_if: &mut Option<F>,
     ) -> Result<Begun<K, V>, Refused>
         requires initializer { kind ≢ Kind.Compute }
-        requires asks { IfSome replace_if (λ f. F.IsAlwaysCallable f) }
+        requires asks { (now : ℕ) → IfSome replace_if.old (TakesLive K.eq C.keeps
+            ⟦<C as StateView<K, V>>⟧.settings F.FnMut (arc_value key.now) now self.old.state) }
         ensures step { AtClockMoment (C.Clock.tells self.old.clock) (λ now.
             (said : Option Bool) × BeginEnds
             (λ given. ⟦<C as StateView<K, V>>⟧.at_each_history self.old.state (λ settings steps.
-            IsSaidOf F.FnMut replace_if
+            IsSaidOf F.FnMut replace_if.old
             (live_at K.eq settings (arc_value key.now) now (events_in steps)) said
             × GivesBegun K.eq V.is_clone V.is_infallible settings steps
             (Begin (arc_value key.now) kind said now) true given))
@@ -92,9 +94,11 @@ impl<K: Hash + Drop, V: Clone, C: CacheTypes<K, V>> GuardedState<K, V, C> {
         ensures named { IfOk result (IsNamed kind (arc_value key.now)) }
         ensures kept { IfOk result (FoundKeeps C.keeps) }
         ensures kept_for { IfOk result (FoundKeepsFor C.keeps (arc_value key.now)) }
+        ensures left { IsShownKept (C.keeps (arc_value key.now)) F.FnMut
+            replace_if.old replace_if.new }
     {
         let now = self.clock.now();
-        self.state.begin(key, kind, replace_if, now)
+        self.state.begin_reusing(key, kind, replace_if, now)
     }
 
     /// Begins a compute of `key`: returns a turn, or a ticket if another compute of the key is
@@ -194,7 +198,8 @@ impl<K: Hash + Clone + Drop, V: Clone, C: CacheTypes<K, V>> GuardedState<K, V, C
     ) -> Result<Begun<K, V>, Refused>
         requires copies { (a b : K) → K.is_clone a b → K.eq a b ≡ true }
         requires initializer { kind ≢ Kind.Compute }
-        requires asks { IfSome replace_if (λ f. F.IsAlwaysCallable f) }
+        requires asks { (now : ℕ) → IfSome replace_if (TakesLive K.eq C.keeps
+            ⟦<C as StateView<K, V>>⟧.settings F.FnMut key.now now self.old.state) }
         ensures step { AtClockMoment (C.Clock.tells self.old.clock) (λ now.
             (asked : K) × IsAsked K.eq K.is_clone key.now asked × (said : Option Bool) × BeginEnds
             (λ given. ⟦<C as StateView<K, V>>⟧.at_each_history self.old.state (λ settings steps.

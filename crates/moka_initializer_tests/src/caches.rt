@@ -41,7 +41,7 @@ impl SteadyPredicate<u64, u64> for Odd {
     ghost test = { λ _ _ value. nat_eq (value % 2) 1 };
 }
 
-type Hasher = BuildHasherDefault<NumberHash>;
+pub(crate) type Hasher = BuildHasherDefault<NumberHash>;
 
 /// The types of the cache. Initializers may fail with a number.
 pub(crate) type Types = ReadyTypes<Hasher, NoWeigher, NoExpiry, ManualClock, Odd, u64>;

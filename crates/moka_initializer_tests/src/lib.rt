@@ -9,6 +9,8 @@ mod closures;
 #[cfg(test)]
 mod computes;
 #[cfg(test)]
+mod drops;
+#[cfg(test)]
 mod forms;
 #[cfg(test)]
 mod or_inserts;

@@ -188,6 +188,45 @@ fn a_ticket_tells_that_a_value_was_replaced(rt: HostRuntime) -> Result<(), Fail>
     check_over_all(&rt, rt.alloc(), WIDE, &REPLACING_TURN)
 }
 
+/// Entries that live for 40 seconds at most, and for 25 without an access.
+const EXPIRING: Rules = Rules {
+    may_expire: true,
+    ..WIDE
+};
+
+/// The first `or_insert` finds the value in its last nanosecond, which is an access. The second one
+/// comes when the time to live is over.
+const EXPIRED_VALUE: [Row; 6] = [
+    (Stepped::Insert("old"), 5, 0, Returned::Done),
+    (
+        Stepped::OrInsert("new"),
+        5,
+        25 * SECOND - 1,
+        Returned::Entry((5, b'o', false, false)),
+    ),
+    (
+        Stepped::OrInsert("new"),
+        5,
+        40 * SECOND,
+        Returned::Entry((5, b'n', true, false)),
+    ),
+    (
+        Stepped::TakeNotice,
+        5,
+        40 * SECOND,
+        Returned::Noticed(5, b'o', RemovalCause::Expired),
+    ),
+    (Stepped::TakeNotice, 5, 40 * SECOND, Returned::Nothing),
+    (Stepped::Get, 5, 40 * SECOND, Returned::Value(b'n')),
+];
+
+/// An `or_insert` overwrites an expired value, which gets a notice. Its entry is fresh, and says
+/// that no live value was replaced.
+#[test]
+fn an_or_insert_overwrites_an_expired_value(rt: HostRuntime) -> Result<(), Fail> {
+    check_over_all(&rt, rt.alloc(), EXPIRING, &EXPIRED_VALUE)
+}
+
 /// Returns what `or_insert_with_if` returns for key 1.
 fn or_insert_with_if<S: Subject + Drop>(
     player: &mut Player<S>,

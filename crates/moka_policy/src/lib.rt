@@ -1,5 +1,5 @@
 //! The types that a cache is made of: its policy, weigher, expiry, predicate, frequency source,
-//! listener, clock and hasher of numbers. Also the errors of cache builders.
+//! listener, clock and hasher of numbers. Also the errors of cache builders and of writes.
 #![tactic(auto)]
 
 pub mod builder_utils;
@@ -9,4 +9,5 @@ pub mod frequency;
 pub mod listener;
 pub mod policy;
 pub mod predicate;
+pub mod refused;
 pub mod weigher;

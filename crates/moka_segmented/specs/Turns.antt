@@ -1,11 +1,24 @@
 -- What the calls of turns give if there are several segments.
-use Rattle.std.specs.Prelude.{Bool, List, Result}
+use Rattle.std.specs.Prelude.{◌≡◌, ℕ, Bool, Option, Some, List, slice_get, Result}
+use Rattle.std.specs.Fn.{Mut}
+use denote.Ref.{Bor}
 use Rattle.moka_policy.specs.declared.policy.Refused.{Refused}
 use Rattle.moka_model.specs.Calls.{Call, Reply}
+use Rattle.moka_model.specs.Lives.{Settings}
+use Rattle.moka_expiration.specs.StateData.{SettingsData, StateData}
 use Rattle.moka_state.specs.declared.answers.Begun.{Begun}
 use Rattle.moka_state.specs.Given.{Gives}
-use Rattle.moka_state.specs.Begin.{GivesBegun}
+use Rattle.moka_state.specs.Begin.{GivesBegun, TakesLive}
 use Rattle.moka_segment_model.specs.Segments.{SegmentedSettings, segment_of_place, place_of, share_settings, steps_in}
+use Rattle.moka_segmented.specs.SegmentedData.{SegmentedData}
+
+-- The closure may be called at the value that is live for the key in a segment, which satisfies the invariant with the
+-- key.
+abbrev pub TakesLiveIn : {K V H W X F E P : Type 0} → (K → K → Bool) → (K → V → Type 0) → (SettingsData H W X → Settings K V) →
+    Mut P (Bor V × Unit {0}) Bool → K → ℕ → SegmentedData K V H W X F E → P → Type 0
+TakesLiveIn {K} {V} {H} {W} {X} {F} {E} eq keeps settings_in call key at cache f =
+    (i : ℕ) (state : StateData K V H W X F E) → slice_get cache.segments i ≡ Some state
+    → TakesLive eq keeps settings_in call key at state f
 
 module _ {K V E : Type 0} (eq : K → K → Bool) (is_clone : V → V → Type 0) (is_infallible : V → Type 0)
     (settings : SegmentedSettings K V) (calls : List (Call K V E)) (call : Call K V E) where

@@ -6,7 +6,7 @@ ghost use Rattle.moka_state.specs.Begin.{FoundKeeps, IsAsked, IsNamed, IsSaidOf}
 ghost use Rattle.moka_state.specs.Forms.{IfRefusedUnasked, IsOptional, IsTried, IsValue, optional_outcome, tried_outcome};
 ghost use Rattle.moka_segment_model.specs.Segments.{live_in};
 ghost use Rattle.moka_segmented.specs.Forms.{IsFormIn};
-ghost use Rattle.moka_segmented.specs.Turns.{GivesBegunIn};
+ghost use Rattle.moka_segmented.specs.Turns.{GivesBegunIn, TakesLiveIn};
 
 use crate::segment::Segmented;
 use crate::segmented_view::SegmentedStateView;
@@ -14,6 +14,7 @@ use moka_model::turns::{Kind, Outcome};
 use moka_policy::policy::{CacheTypes, Refused};
 use moka_rows::rows::RowStore;
 use moka_state::answers::Begun;
+use moka_state::view::StateView;
 use std::hash::Hash;
 use std::sync::Arc;
 
@@ -42,7 +43,8 @@ impl<K: Hash + Clone + Drop, V: Clone, C: CacheTypes<K, V>, R: RowStore<K, V>> S
     ) -> Result<Begun<K, V>, Refused>
         requires copies { (a b : K) → K.is_clone a b → K.eq a b ≡ true }
         requires initializer { kind ≢ Kind.Compute }
-        requires asks { IfSome replace_if (λ f. F.IsAlwaysCallable f) }
+        requires asks { IfSome replace_if (TakesLiveIn K.eq C.keeps
+            ⟦<C as StateView<K, V>>⟧.settings F.FnMut key.now now self.old) }
         ensures begins { (asked : K) × IsAsked K.eq K.is_clone key.now asked × (said : Option Bool)
             × ⟦<C as SegmentedStateView<K, V>>⟧.at_each_list self.old (λ settings calls.
             IsSaidOf F.FnMut replace_if (live_in C.Error K.eq settings calls asked now) said

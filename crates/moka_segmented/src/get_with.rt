@@ -6,12 +6,14 @@ ghost use Rattle.moka_state.specs.Begin.{IsSaidOf};
 ghost use Rattle.moka_state.specs.Forms.{IfRefusedUnasked, IsOptional, IsTried, IsValue, optional_outcome, tried_outcome};
 ghost use Rattle.moka_segment_model.specs.Segments.{live_in};
 ghost use Rattle.moka_segmented.specs.Forms.{IsFormIn};
+ghost use Rattle.moka_segmented.specs.Turns.{TakesLiveIn};
 
 use crate::segment::Segmented;
 use crate::segmented_view::SegmentedStateView;
 use moka_model::turns::{Kind, Outcome};
 use moka_policy::policy::{CacheTypes, Refused};
 use moka_rows::rows::RowStore;
+use moka_state::view::StateView;
 use std::hash::Hash;
 use std::sync::Arc;
 
@@ -66,7 +68,8 @@ impl<K: Hash + Drop, V: Clone, C: CacheTypes<K, V>, R: RowStore<K, V>> Segmented
         now: u64,
     ) -> Result<V, Refused>
         requires asks { F.IsAlwaysCallable init }
-        requires shows { P.IsAlwaysCallable replace_if }
+        requires shows { TakesLiveIn K.eq C.keeps ⟦<C as StateView<K, V>>⟧.settings P.FnMut
+            key now self.old replace_if }
         requires keeps { (v : V) → F.post init v → C.keeps key v }
         ensures form { (said : Option Bool) × (given : Option V)
             × (reply : Result (calls.Reply K V C.Error) Refused)

@@ -9,7 +9,7 @@ ghost use Rattle.moka_state.specs.Compute.{IsCompute, ShownKeeps};
 ghost use Rattle.moka_state.specs.Finish.{Fits, IsFinished, OutcomeKeeps, outcome_of};
 ghost use Rattle.moka_state.specs.Given.{IfUnspent, of_begin_compute, of_collect, of_done, of_finish};
 ghost use Rattle.moka_segment_model.specs.Segments.{live_in};
-ghost use Rattle.moka_segmented.specs.Turns.{GivesIn, GivesBegunIn};
+ghost use Rattle.moka_segmented.specs.Turns.{GivesIn, GivesBegunIn, TakesLiveIn};
 
 use crate::segment::Segmented;
 use crate::segmented_view::SegmentedStateView;
@@ -20,6 +20,7 @@ use moka_state::answers::{
     Begun, BegunCompute, CollectRefused, Collected, FinishRefused, Finished,
 };
 use moka_state::handles::{Ticket, Turn};
+use moka_state::view::StateView;
 use std::hash::Hash;
 use std::sync::Arc;
 
@@ -49,7 +50,8 @@ impl<K: Hash + Drop, V: Clone, C: CacheTypes<K, V>, R: RowStore<K, V>> Segmented
         now: u64,
     ) -> Result<Begun<K, V>, Refused>
         requires initializer { kind ≢ Kind.Compute }
-        requires asks { IfSome replace_if (λ f. F.IsAlwaysCallable f) }
+        requires asks { IfSome replace_if (TakesLiveIn K.eq C.keeps
+            ⟦<C as StateView<K, V>>⟧.settings F.FnMut (arc_value key.now) now self.old) }
         ensures begins { (said : Option Bool)
             × ⟦<C as SegmentedStateView<K, V>>⟧.at_each_list self.old (λ settings calls.
             IsSaidOf F.FnMut replace_if

@@ -1,5 +1,5 @@
-//! A predicate over four segments, for which an allocation may fail: it invalidates the entries of
-//! all segments, or only those of the first ones, and then says so.
+//! A predicate over four segments, for which an allocation may fail. It invalidates entries in all
+//! segments, or fails and invalidates none: it runs at once, and allocates before that.
 
 use crate::caches::{
     FourLocks, Odd, OwnedSegments, SEGMENTS, four_locks, new_heard, owned_segments, share,
@@ -80,72 +80,59 @@ fn store_all<H: Hides>(rt: &impl Abort, alloc: Global, cache: &mut H) {
     }
 }
 
-/// Returns how many of the first segments have their odd entry invalidated. Checks that no other
-/// segment has, and that all even entries are live.
+/// Returns in how many segments the odd entry is invalidated. Checks that all even entries are
+/// live.
 fn hidden_segments<H: Hides>(rt: &impl Abort, cache: &H) -> usize {
-    let mut hidden = 0;
+    let mut hidden: usize = 0;
     for segment in 0..SEGMENTS {
-        if !cache.is_live(odd_key(segment)) {
-            assert_eq!(rt; hidden, segment, "a segment before it is not hidden");
-            hidden = segment.wrapping_add(1);
+        let odd = odd_key(segment);
+        if !cache.is_live(odd) {
+            hidden = hidden.wrapping_add(1);
         }
-        let even = odd_key(segment).wrapping_add(1);
+        let even = odd.wrapping_add(1);
         assert!(rt; cache.is_live(even), "the predicate does not hold of it");
     }
     hidden
 }
 
-/// Checks what a predicate left: all odd entries are invalidated, or at most those of the first
-/// `most` segments and an allocation failed. Returns whether one did.
-fn check_hidden<H: Hides>(
-    rt: &impl Abort,
-    cache: &H,
-    hid: Result<(), PredicateError>,
-    most: usize,
-) -> bool {
-    let hidden = hidden_segments(rt, cache);
-    match hid {
-        Ok(()) => assert_eq!(rt; hidden, SEGMENTS),
-        Err(cause) => {
-            assert_eq!(rt; cause, PredicateError::OutOfMemory);
-            assert!(rt; hidden <= most, "{hidden} segments are hidden");
-        }
-    }
+/// Checks that the odd entries of all segments are invalidated, or that an allocation failed and
+/// none is. Returns whether one failed.
+fn check_hidden<H: Hides>(rt: &impl Abort, cache: &H, hid: Result<(), PredicateError>) -> bool {
+    let wanted = match hid {
+        Ok(()) => (Ok(()), SEGMENTS),
+        Err(_) => (Err(PredicateError::OutOfMemory), 0),
+    };
+    assert_eq!(rt; (hid, hidden_segments(rt, cache)), wanted);
     hid.is_err()
 }
 
 /// Invalidates the odd entries by both calls, each once more if an allocation fails.
-fn hides_all_or_the_first<H: Hides>(
-    rt: &impl Abort,
-    alloc: Global,
-    cache: &mut H,
-    most: usize,
-) -> Result<(), Fail> {
+fn hides_all_or_none<H: Hides>(rt: &impl Abort, alloc: Global, cache: &mut H) -> Result<(), Fail> {
     store_all(rt, alloc, cache);
     let hid = cache.hide_odd();
-    if check_hidden(rt, cache, hid, most) {
+    if check_hidden(rt, cache, hid) {
         assert_eq!(rt; cache.hide_odd(), Ok(()));
     }
     store_all(rt, alloc, cache);
     let hid = cache.hide_odd_shared(share(alloc, Odd)?);
-    if check_hidden(rt, cache, hid, most) {
+    if check_hidden(rt, cache, hid) {
         assert_eq!(rt; cache.hide_odd_shared(share(alloc, Odd)?), Ok(()));
     }
     assert_eq!(rt; hidden_segments(rt, cache), SEGMENTS);
     Ok(())
 }
 
-/// On a shared cache a predicate that fails has invalidated the entries of the first segments.
+/// With segments, a predicate that fails has invalidated nothing.
 #[test]
-fn a_refused_predicate_hides_the_first_segments(rt: HostRuntime) -> Result<(), Fail> {
+fn a_refused_predicate_hides_no_segment(rt: HostRuntime) -> Result<(), Fail> {
     let heard = new_heard(rt.alloc())?;
     let mut shared = four_locks(rt, rt.alloc(), &heard, 100, EvictionPolicy::lru())?;
-    hides_all_or_the_first(&rt, rt.alloc(), &mut shared, SEGMENTS)
+    hides_all_or_none(&rt, rt.alloc(), &mut shared)
 }
 
 /// On an owned cache a predicate that fails has invalidated nothing.
 #[test]
 fn a_refused_predicate_hides_no_owned_segment(rt: HostRuntime) -> Result<(), Fail> {
     let mut cache = owned_segments(rt.alloc(), 100, EvictionPolicy::lru())?;
-    hides_all_or_the_first(&rt, rt.alloc(), &mut cache, 0)
+    hides_all_or_none(&rt, rt.alloc(), &mut cache)
 }

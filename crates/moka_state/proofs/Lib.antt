@@ -22,6 +22,7 @@ pub mod Removing
 pub mod Replied
 pub mod Runs
 pub mod Sound
+pub mod Takes
 pub mod TurnSteps
 pub mod Turns
 pub mod Views

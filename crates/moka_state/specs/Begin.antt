@@ -1,22 +1,40 @@
 -- The begin of a turn.
-use Rattle.std.specs.Prelude.{⊤, ◌≡◌, ◌≢◌, ◌⊎◌, ℕ, Bool, true, false, Option, Some, None, List, Result, Ok, Err, OnOk, OnErr}
+use Rattle.std.specs.Prelude.{⊤, ◌≡◌, ◌≢◌, ◌⊎◌, ℕ, max, Bool, true, false, Option, Some, None, List, Result, Ok, Err, OnOk, OnErr}
 use Rattle.std.specs.Arc.{arc_value}
 use denote.Ref.{Bor}
-use Rattle.std.specs.Fn.{Mut}
+use Rattle.std.specs.Fn.{Mut, TakesAt}
 use Rattle.moka_policy.specs.declared.policy.Refused.{Refused}
 use Rattle.moka_policy.specs.declared.policy.Refused.TheVariants as causes
 use Rattle.moka_model.specs.declared.turns.Kind.{Kind}
 use Rattle.moka_model.specs.declared.turns.Kind.TheVariants.{Compute}
 use Rattle.moka_model.specs.declared.entry.Entry.{Entry}
 use Rattle.moka_model.specs.Entries.{entry_of}
-use Rattle.moka_model.specs.Lives.{Settings, Write}
+use Rattle.moka_model.specs.Lives.{Settings, Write, is_live}
+use Rattle.moka_model.specs.Turns.{IsIn}
 use Rattle.moka_model.specs.Steps.{AcceptedStep, events_in}
 use Rattle.moka_model.specs.Calls.{Call, Begin, Entered, IsWait, IfReplied, accepted, acceptable, live_at}
-use Rattle.moka_expiration.specs.StateData.{StateData}
-use Rattle.moka_table.specs.LiveEntry.{IsSaid}
+use Rattle.moka_expiration.specs.StateData.{SettingsData, StateData}
+use Rattle.moka_table.specs.LiveEntry.{IsCalledOnce, IsSaid}
+use Rattle.moka_state.specs.State.{all_writes}
 use Rattle.moka_state.specs.declared.answers.Begun.{Begun}
 use Rattle.moka_state.specs.declared.answers.Begun.TheVariants as begins
 use Rattle.moka_state.specs.Given.{Gives, of_begin}
+
+-- The closure may be called at each value that satisfies the invariant.
+abbrev pub TakesKept : {V P : Type 0} → (V → Type 0) → Mut P (Bor V × Unit {0}) Bool → P → Type 0
+TakesKept {V} keeps call f = (v : V) → keeps v → TakesAt call f v
+
+-- The closure may be called at the value that is live for the key, which satisfies the invariant with the key. Live
+-- means at the moment, or at the latest one if that is later.
+abbrev pub TakesLive : {K V H W X F E P : Type 0} → (K → K → Bool) → (K → V → Type 0) → (SettingsData H W X → Settings K V) →
+    Mut P (Bor V × Unit {0}) Bool → K → ℕ → StateData K V H W X F E → P → Type 0
+TakesLive {K} {V} eq keeps settings_in call key at state f =
+    (w : Write K V) → IsIn w (all_writes state) → eq w.key key ≡ true
+    → is_live (settings_in state.settings) w (max state.books.latest at) ≡ true → keeps key w.value → TakesAt call f w.value
+
+-- The closure is as it was, or was called once, at a value that satisfies the invariant.
+abbrev pub IsShownKept : {V P : Type 0} → (V → Type 0) → Mut P (Bor V × Unit {0}) Bool → Option P → Option P → Type 0
+IsShownKept {V} keeps call old new = (new ≡ old) ⊎ ((v : V) × keeps v × IsCalledOnce call old v new)
 
 -- What `replace_if` returns for the live value; none if no value is live or there is no `replace_if`.
 abbrev pub IsSaidOf : {K V F : Type 0} → Mut F (Bor V × Unit {0}) Bool → Option F → Option (Write K V) → Option Bool → Type 0

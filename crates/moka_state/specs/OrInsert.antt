@@ -5,7 +5,7 @@ use Rattle.moka_model.specs.declared.entry.Entry.{Entry}
 use Rattle.moka_model.specs.Entries.{entry_of}
 use Rattle.moka_model.specs.Calls.{Reply, Entered}
 use Rattle.moka_expiration.specs.StateData.{StateData}
-use Rattle.moka_state.specs.declared.or_insert.OrInsertRefused.{OrInsertRefused}
+use Rattle.moka_policy.specs.declared.refused.OrInsertRefused.{OrInsertRefused}
 
 module _ {K V E : Type 0} where
   -- The result of an `or_insert`, as a reply of the specification.

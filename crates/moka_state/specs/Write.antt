@@ -3,7 +3,7 @@ use Rattle.std.specs.Prelude.{◌≡◌, ◌↔◌, ◌⊎◌, true, false, Resu
 use Rattle.moka_policy.specs.declared.policy.Refused.TheVariants.{OutOfMemory, NumbersUsedUp}
 use Rattle.moka_model.specs.Numbers.{greatest_number, stores_nothing}
 use Rattle.moka_expiration.specs.StateData.{StateData}
-use Rattle.moka_state.specs.declared.state.InsertRefused.{InsertRefused}
+use Rattle.moka_policy.specs.declared.refused.InsertRefused.{InsertRefused}
 
 -- A write of a value under a key ends, between an old state and a new one. If it succeeds, `follows` holds. If it
 -- fails, nothing has changed, and the key and the value come back. It fails with `NumbersUsedUp` exactly if it needs a

@@ -8,6 +8,7 @@ ghost use Rattle.moka_turns.specs.Represents.{end_of};
 ghost use Rattle.moka_turns.specs.CollectState.{IfEnded, IfNotYet};
 ghost use Rattle.moka_state.specs.Given.{IfUnspent, collected_as, of_collected};
 
+use moka_deferred::deferred::Deferred;
 use moka_model::comp_result::CompResult;
 use moka_model::entry::Entry;
 use moka_model::turns::Outcome;
@@ -79,8 +80,13 @@ pub struct FinishRefused<K, V, E> {
     pub cause: Refused,
 }
 
-// Returns what a ticket gets from the end of its turn. An entry has the ticket's key.
-fn collected_end<K: Drop, V, E>(key: Arc<K>, end: TurnEnd<V, E>) -> Collected<K, V, E>
+// Returns what a ticket gets from the end of its turn. An entry has the ticket's key, which is discarded
+// without one.
+fn collected_end<K: Drop, V, E>(
+    key: Arc<K>,
+    end: TurnEnd<V, E>,
+    discards: &mut Deferred<Arc<K>>,
+) -> Collected<K, V, E>
     ensures reply { (name : Name K) → arc_value key ≡ name.key →
         of_collected result ≡ reply_by name (end_of end) }
     ensures spent { (name : Name K) → IfUnspent (λ ticket. ticket_name ticket ≡ name) result }
@@ -90,15 +96,30 @@ fn collected_end<K: Drop, V, E>(key: Arc<K>, end: TurnEnd<V, E>) -> Collected<K,
             let entry = Entry::new(key, value, false, is_replaced);
             Collected::Ready(Answer::Entry(entry))
         }
-        TurnEnd::Nothing => Collected::Ready(Answer::Nothing),
-        TurnEnd::Failed(error) => Collected::Ready(Answer::Failed(error)),
-        TurnEnd::Computed => Collected::Ended,
-        TurnEnd::Abandoned => Collected::Abandoned,
+        TurnEnd::Nothing => {
+            discards.discard(key);
+            Collected::Ready(Answer::Nothing)
+        }
+        TurnEnd::Failed(error) => {
+            discards.discard(key);
+            Collected::Ready(Answer::Failed(error))
+        }
+        TurnEnd::Computed => {
+            discards.discard(key);
+            Collected::Ended
+        }
+        TurnEnd::Abandoned => {
+            discards.discard(key);
+            Collected::Abandoned
+        }
     }
 }
 
 /// Converts what the table of turns returns for a ticket into what its caller gets.
-pub(crate) fn into_collected<K: Drop, V, E>(found: CollectState<K, V, E>) -> Collected<K, V, E>
+pub(crate) fn into_collected<K: Drop, V, E>(
+    found: CollectState<K, V, E>,
+    discards: &mut Deferred<Arc<K>>,
+) -> Collected<K, V, E>
     ensures reply { (name : Name K) → IfEnded (λ key. arc_value key ≡ name.key) found →
         of_collected result ≡ collected_as name found }
     ensures unspent { (name : Name K) → IfNotYet (λ ticket. ticket_name ticket ≡ name) found →
@@ -106,6 +127,6 @@ pub(crate) fn into_collected<K: Drop, V, E>(found: CollectState<K, V, E>) -> Col
 {
     match found {
         CollectState::NotYet(ticket) => Collected::NotYet(ticket),
-        CollectState::Ended(key, end) => collected_end(key, end),
+        CollectState::Ended(key, end) => collected_end(key, end, discards),
     }
 }

@@ -3,7 +3,7 @@ ghost use Rattle.std.specs.Prelude.{◌≡◌, ◌≢◌, Bool, Option, None, tr
 ghost use Rattle.std.specs.Arc.{arc_value};
 ghost use Rattle.moka_model.specs.Steps.{events_in};
 ghost use Rattle.moka_model.specs.Calls.{Begin, acceptable, live_at};
-ghost use Rattle.moka_state.specs.Begin.{BeginEnds, EntryKeeps, FoundKeeps, FoundKeepsFor, GivesBegun, GivesLook, IfWait, IsAsked, IsNamed, IsSaidOf, LookEnds};
+ghost use Rattle.moka_state.specs.Begin.{BeginEnds, EntryKeeps, FoundKeeps, FoundKeepsFor, GivesBegun, GivesLook, IfWait, IsAsked, IsNamed, IsSaidOf, IsShownKept, LookEnds, TakesLive};
 ghost use Rattle.moka_state.specs.Hashes.{IsHashOf};
 
 use crate::answers::Begun;
@@ -47,7 +47,8 @@ impl<K: Hash + Drop, V: Clone, C: CacheTypes<K, V>, R: RowStore<K, V>> State<K, 
         now: u64,
     ) -> Result<Begun<K, V>, Refused>
         requires initializer { kind ≢ Kind.Compute }
-        requires asks { IfSome replace_if (λ f. F.IsAlwaysCallable f) }
+        requires asks { IfSome replace_if (TakesLive K.eq C.keeps
+            ⟦<C as StateView<K, V>>⟧.settings F.FnMut (arc_value key.now) now self.old) }
         ensures begins { (said : Option Bool) × BeginEnds
             (λ given. ⟦<C as StateView<K, V>>⟧.at_each_history self.old (λ settings steps.
             IsSaidOf F.FnMut replace_if
@@ -62,8 +63,44 @@ impl<K: Hash + Drop, V: Clone, C: CacheTypes<K, V>, R: RowStore<K, V>> State<K, 
         ensures kept_for { IfOk result (FoundKeepsFor C.keeps (arc_value key.now)) }
         ensures settings { self.new.settings ≡ self.old.settings }
     {
+        let mut replace_if = replace_if;
+        self.begin_reusing(key, kind, &mut replace_if, now)
+    }
+
+    /// Works like [`State::begin`], and leaves `replace_if` to the caller, for a later begin. It was
+    /// called at most once, at a value that satisfies `keeps` with `key`.
+    ///
+    /// # Errors
+    ///
+    /// As [`State::begin`].
+    pub fn begin_reusing<F: FnMut(&V) -> bool + Drop>(
+        &mut self,
+        key: &Arc<K>,
+        kind: Kind,
+        replace_if: &mut Option<F>,
+        now: u64,
+    ) -> Result<Begun<K, V>, Refused>
+        requires initializer { kind ≢ Kind.Compute }
+        requires asks { IfSome replace_if.old (TakesLive K.eq C.keeps
+            ⟦<C as StateView<K, V>>⟧.settings F.FnMut (arc_value key.now) now self.old) }
+        ensures begins { (said : Option Bool) × BeginEnds
+            (λ given. ⟦<C as StateView<K, V>>⟧.at_each_history self.old (λ settings steps.
+            IsSaidOf F.FnMut replace_if.old
+            (live_at K.eq settings (arc_value key.now) now (events_in steps)) said
+            × GivesBegun K.eq V.is_clone V.is_infallible settings steps
+            (Begin (arc_value key.now) kind said now) true given))
+            (⟦<C as StateView<K, V>>⟧.follows self.old
+            (Begin (arc_value key.now) kind said now) self.new)
+            self.old self.new result }
+        ensures named { IfOk result (IsNamed kind (arc_value key.now)) }
+        ensures kept { IfOk result (FoundKeeps C.keeps) }
+        ensures kept_for { IfOk result (FoundKeepsFor C.keeps (arc_value key.now)) }
+        ensures left { IsShownKept (C.keeps (arc_value key.now)) F.FnMut
+            replace_if.old replace_if.new }
+        ensures settings { self.new.settings ≡ self.old.settings }
+    {
         let hash = self.hash(&**key);
-        match self.acceptable_entry(&**key, hash, replace_if, now) {
+        match self.find_acceptable_entry(&**key, hash, replace_if, now) {
             Ok(Some(entry)) => Ok(Begun::Found(entry)),
             Ok(None) => match key.clone() {
                 Ok(shared) => self.begin_turn(shared, hash, kind, now, true),
@@ -96,7 +133,8 @@ impl<K: Hash + Drop, V: Clone, C: CacheTypes<K, V>, R: RowStore<K, V>> State<K, 
     ) -> Result<Option<Entry<K, V>>, Refused>
         requires hash { IsHashOf (⟦<C as StateView<K, V>>⟧.settings self.old.settings)
             key.now hash }
-        requires asks { IfSome replace_if (λ f. F.IsAlwaysCallable f) }
+        requires asks { IfSome replace_if (TakesLive K.eq C.keeps
+            ⟦<C as StateView<K, V>>⟧.settings F.FnMut key.now now self.old) }
         ensures looks { (said : Option Bool) × LookEnds
             (λ given. ⟦<C as StateView<K, V>>⟧.at_each_history self.old (λ settings steps.
             IsSaidOf F.FnMut replace_if
@@ -108,6 +146,36 @@ impl<K: Hash + Drop, V: Clone, C: CacheTypes<K, V>, R: RowStore<K, V>> State<K, 
         ensures live { ⟦<C as StateView<K, V>>⟧.at_each_history self.old (λ settings steps.
             OnErr result (IsSome (live_at K.eq settings key.now now (events_in steps)))) }
         ensures kept { IfOk result (λ found. IfSome found (EntryKeeps C.keeps key.now)) }
+        ensures settings { self.new.settings ≡ self.old.settings }
+    {
+        let mut replace_if = replace_if;
+        self.find_acceptable_entry(key, hash, &mut replace_if, now)
+    }
+
+    // Works like `acceptable_entry`, and leaves `replace_if` to the caller.
+    pub(crate) fn find_acceptable_entry<F: FnMut(&V) -> bool + Drop>(
+        &mut self,
+        key: &K,
+        hash: u64,
+        replace_if: &mut Option<F>,
+        now: u64,
+    ) -> Result<Option<Entry<K, V>>, Refused>
+        requires hash { IsHashOf (⟦<C as StateView<K, V>>⟧.settings self.old.settings)
+            key.now hash }
+        requires asks { IfSome replace_if.old (TakesLive K.eq C.keeps
+            ⟦<C as StateView<K, V>>⟧.settings F.FnMut key.now now self.old) }
+        ensures looks { (said : Option Bool) × LookEnds
+            (λ given. ⟦<C as StateView<K, V>>⟧.at_each_history self.old (λ settings steps.
+            IsSaidOf F.FnMut replace_if.old
+            (live_at K.eq settings key.now now (events_in steps)) said
+            × GivesLook K.eq V.is_clone V.is_infallible settings steps key.now said now given))
+            ((kind : Kind) → kind ≢ Kind.Compute → ⟦<C as StateView<K, V>>⟧.follows self.old
+            (Begin key.now kind said now) self.new)
+            self.old self.new result }
+        ensures live { ⟦<C as StateView<K, V>>⟧.at_each_history self.old (λ settings steps.
+            OnErr result (IsSome (live_at K.eq settings key.now now (events_in steps)))) }
+        ensures kept { IfOk result (λ found. IfSome found (EntryKeeps C.keeps key.now)) }
+        ensures left { IsShownKept (C.keeps key.now) F.FnMut replace_if.old replace_if.new }
         ensures settings { self.new.settings ≡ self.old.settings }
     {
         let now = self.latest.max(now);
@@ -190,7 +258,8 @@ impl<K: Hash + Clone + Drop, V: Clone, C: CacheTypes<K, V>, R: RowStore<K, V>> S
     ) -> Result<Begun<K, V>, Refused>
         requires copies { (a b : K) → K.is_clone a b → K.eq a b ≡ true }
         requires initializer { kind ≢ Kind.Compute }
-        requires asks { IfSome replace_if (λ f. F.IsAlwaysCallable f) }
+        requires asks { IfSome replace_if (TakesLive K.eq C.keeps
+            ⟦<C as StateView<K, V>>⟧.settings F.FnMut key.now now self.old) }
         ensures begins { (asked : K) × IsAsked K.eq K.is_clone key.now asked × (said : Option Bool)
             × BeginEnds
             (λ given. ⟦<C as StateView<K, V>>⟧.at_each_history self.old (λ settings steps.
@@ -218,7 +287,8 @@ impl<K: Hash + Clone + Drop, V: Clone, C: CacheTypes<K, V>, R: RowStore<K, V>> S
     ) -> Result<Begun<K, V>, Refused>
         requires copies { (a b : K) → K.is_clone a b → K.eq a b ≡ true }
         requires initializer { kind ≢ Kind.Compute }
-        requires asks { IfSome replace_if (λ f. F.IsAlwaysCallable f) }
+        requires asks { IfSome replace_if (TakesLive K.eq C.keeps
+            ⟦<C as StateView<K, V>>⟧.settings F.FnMut key.now now self.old) }
         ensures begins { (asked : K) × IsAsked K.eq K.is_clone key.now asked × (said : Option Bool)
             × BeginEnds
             (λ given. ⟦<C as StateView<K, V>>⟧.at_each_history self.old (λ settings steps.

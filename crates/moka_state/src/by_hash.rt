@@ -144,6 +144,8 @@ impl<K: Hash + Drop, V: Clone, C: CacheTypes<K, V>, R: RowStore<K, V>> State<K, 
     {
         if self.housekeeper.max_capacity == Some(0) {
             self.latest = self.latest.max(now);
+            self.table.discard_key(key.into_unused());
+            self.discards.value.discard(value);
             return Ok(());
         }
         if self.next_number == u64::MAX {

@@ -13,6 +13,7 @@ ghost use Rattle.moka_state.specs.Hashes.{IsHashOf};
 use crate::answers::{BegunCompute, FinishRefused, Finished};
 use crate::finish::plan_for;
 use crate::state::State;
+use moka_deferred::deferred::Deferred;
 use moka_expiration::live_value::copy_of_live;
 use moka_expiration::view::StateView;
 use moka_model::comp_result::CompResult;
@@ -39,7 +40,7 @@ struct Shown<K, V> {
 }
 
 // Clones a value if `keep` is true.
-fn clone_if<V: Clone>(value: &V, keep: bool) -> Result<Option<V>, AllocError>
+pub(crate) fn clone_if<V: Clone>(value: &V, keep: bool) -> Result<Option<V>, AllocError>
     ensures { IfOk result (IsCopyOf V.is_clone (if keep then Some value.now else None)) }
 {
     if !keep {
@@ -52,13 +53,14 @@ fn clone_if<V: Clone>(value: &V, keep: bool) -> Result<Option<V>, AllocError>
 }
 
 // Finds what is live for a key at a moment, with a clone to save if `keep` is true. Can fail
-// only if a value is live.
+// only if a value is live. Discards the entry if the clone fails.
 fn find_live<K: Eq + Drop, V: Clone, R: RowStore<K, V>>(
     table: &Table<K, V, R>,
     key: &K,
     hash: u64,
     keep: bool,
     now: u64,
+    discards: &mut Deferred<Entry<K, V>>,
 ) -> Result<Option<Shown<K, V>>, AllocError>
     ensures { IfOk result
         (IsShown K.eq V.is_clone keep key.now hash now (entries table.now)) }
@@ -71,12 +73,17 @@ fn find_live<K: Eq + Drop, V: Clone, R: RowStore<K, V>>(
         return Ok(None);
     }
     let entry = table.entry(number)?;
-    let saved = clone_if(&row.value, keep)?;
-    Ok(Some(Shown {
-        number,
-        entry,
-        saved,
-    }))
+    match clone_if(&row.value, keep) {
+        Ok(saved) => Ok(Some(Shown {
+            number,
+            entry,
+            saved,
+        })),
+        Err(refused) => {
+            discards.discard(entry);
+            Err(refused)
+        }
+    }
 }
 
 // Makes the result of a compute that does nothing.
@@ -209,7 +216,8 @@ impl<K: Hash + Drop, V: Clone, C: CacheTypes<K, V>, R: RowStore<K, V>> State<K, 
         if next == u64::MAX {
             return Err(Refused::NumbersUsedUp);
         }
-        let Ok(found) = find_live(&self.table, &*wanted.key, hash, keep, now) else {
+        let entries = &mut self.discards.entry;
+        let Ok(found) = find_live(&self.table, &*wanted.key, hash, keep, now, entries) else {
             return Err(Refused::OutOfMemory);
         };
         let Some(shown) = found else {
@@ -224,7 +232,13 @@ impl<K: Hash + Drop, V: Clone, C: CacheTypes<K, V>, R: RowStore<K, V>> State<K, 
             entry,
             saved,
         } = shown;
-        let turn = self.turns.open_shown(wanted, next, true, saved)?;
+        let turn = match self.turns.open_shown(wanted, next, true, saved) {
+            Ok(turn) => turn,
+            Err(cause) => {
+                self.discards.entry.discard(entry);
+                return Err(cause);
+            }
+        };
         self.housekeeper
             .hit(&mut self.table, number, hash, now, &self.behaviour);
         self.latest = now;
@@ -303,7 +317,8 @@ impl<K: Hash + Drop, V: Clone, C: CacheTypes<K, V>, R: RowStore<K, V>> State<K, 
         };
         let now = self.latest.max(now);
         let Some(number) = self.table.find(turn.key(), hash) else {
-            let (key, _) = self.turns.finish_computed(turn);
+            let (key, open) = self.turns.finish_computed(turn);
+            self.turns.discards.opened.discard(open);
             self.latest = now;
             return Ok(Finished::Computed(CompResult::StillNone(key)));
         };
@@ -313,7 +328,8 @@ impl<K: Hash + Drop, V: Clone, C: CacheTypes<K, V>, R: RowStore<K, V>> State<K, 
             return Err(refusal(turn, Op::Remove, Refused::OutOfMemory));
         };
         self.table.evict(number, cause);
-        let (key, _open) = self.turns.finish_computed(turn);
+        let (key, open) = self.turns.finish_computed(turn);
+        self.turns.discards.opened.discard(open);
         self.latest = now;
         Ok(Finished::Computed(removed_result(key, found)))
     }
@@ -367,8 +383,11 @@ impl<K: Hash + Drop, V: Clone, C: CacheTypes<K, V>, R: RowStore<K, V>> State<K, 
             return Err(refusal(turn, Op::Put(value), Refused::OutOfMemory));
         };
         self.latest = self.latest.max(now);
+        self.discards.value.discard(value);
         let (key, open) = self.turns.finish_computed(turn);
-        Ok(Finished::Computed(put_result(key, copy, open.shown)))
+        let was_shown = open.shown;
+        self.turns.discards.opened.discard(open);
+        Ok(Finished::Computed(put_result(key, copy, was_shown)))
     }
 
     // Ends a compute that puts a value which is stored.
@@ -402,6 +421,7 @@ impl<K: Hash + Drop, V: Clone, C: CacheTypes<K, V>, R: RowStore<K, V>> State<K, 
         };
         let weight = self.behaviour.weight(turn.key(), &value);
         let Ok(place) = plan_for(&mut self.table, &turn, hash, self.alloc) else {
+            self.discards.reply.discard(reply);
             return Err(refusal(turn, Op::Put(value), Refused::OutOfMemory));
         };
         let now = self.latest.max(now);
@@ -421,6 +441,8 @@ impl<K: Hash + Drop, V: Clone, C: CacheTypes<K, V>, R: RowStore<K, V>> State<K, 
         self.latest = now;
         self.next_number += 1;
         let (key, open) = self.turns.finish_computed(turn);
-        Ok(Finished::Computed(put_result(key, reply, open.shown)))
+        let was_shown = open.shown;
+        self.turns.discards.opened.discard(open);
+        Ok(Finished::Computed(put_result(key, reply, was_shown)))
     }
 }

@@ -5,7 +5,7 @@ ghost use Rattle.moka_model.specs.Entries.{entry_of};
 ghost use Rattle.moka_model.specs.Steps.{events_in};
 ghost use Rattle.moka_model.specs.Calls.{Begin, Finish, OrInsert, accepted, live_at};
 ghost use Rattle.moka_turns.specs.Handles.{turn_name};
-ghost use Rattle.moka_state.specs.Begin.{EntryKeeps, IsSaidOf};
+ghost use Rattle.moka_state.specs.Begin.{EntryKeeps, IsSaidOf, TakesLive};
 ghost use Rattle.moka_state.specs.EntryForms.{of_optional, of_tried};
 ghost use Rattle.moka_state.specs.Finish.{Fits};
 ghost use Rattle.moka_state.specs.Forms.{EndsTurn, IfRefusedUnasked, IsForm, optional_outcome, tried_outcome};
@@ -90,7 +90,8 @@ impl<K: Hash + Drop, V: Clone, C: CacheTypes<K, V>, R: RowStore<K, V>> State<K, 
         now: u64,
     ) -> Result<Entry<K, V>, Refused>
         requires asks { F.IsAlwaysCallable init }
-        requires shows { P.IsAlwaysCallable replace_if }
+        requires shows { TakesLive K.eq C.keeps ⟦<C as StateView<K, V>>⟧.settings P.FnMut
+            key now self.old replace_if }
         requires keeps { (v : V) → F.post init v → C.keeps key v }
         ensures form { (said : Option Bool) × (given : Option V)
             × ⟦<C as StateView<K, V>>⟧.at_each_history self.old (λ settings steps.

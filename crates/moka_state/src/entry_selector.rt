@@ -6,7 +6,7 @@ ghost use Rattle.moka_model.specs.Steps.{events_in};
 ghost use Rattle.moka_model.specs.Calls as calls;
 ghost use Rattle.moka_model.specs.Calls.{Begin, BeginCompute, OrInsert, live_at};
 ghost use Rattle.moka_state.specs.contracts.state.State.{the_row};
-ghost use Rattle.moka_state.specs.Begin.{EntryKeeps, IsSaidOf};
+ghost use Rattle.moka_state.specs.Begin.{EntryKeeps, IsSaidOf, TakesLive};
 ghost use Rattle.moka_state.specs.ComputeForms.{IsComputeForm, IsErrorOf, IsUpserted, of_computing, of_trying, unless_failed};
 ghost use Rattle.moka_state.specs.EntryForms.{of_optional, of_tried};
 ghost use Rattle.moka_state.specs.Finish.{OutcomeKeeps};
@@ -167,7 +167,8 @@ impl<'a, K: Hash + Drop, V: Clone, C: CacheTypes<K, V>, R: RowStore<K, V>> State
         replace_if: P,
     ) -> Result<Entry<K, V>, Refused>
         requires asks { F.IsAlwaysCallable init }
-        requires shows { P.IsAlwaysCallable replace_if }
+        requires shows { TakesLive K.eq C.keeps ⟦<C as StateView<K, V>>⟧.settings P.FnMut
+            self.key self.at self.state.now replace_if }
         requires keeps { (v : V) → F.post init v → C.keeps self.key v }
         ensures form { (said : Option Bool) × (given : Option V)
             × ⟦<C as StateView<K, V>>⟧.at_each_history self.entry.state.now (λ settings steps.

@@ -15,7 +15,9 @@ ghost use Rattle.moka_state.specs.Given.{Gives, of_answer};
 ghost use Rattle.moka_state.specs.Finish.{FinishEnds, Fits, IsCopiesOf, OutcomeKeeps, outcome_of};
 
 use crate::answers::{Answer, FinishRefused, Finished};
+use crate::compute::clone_if;
 use crate::state::State;
+use moka_deferred::deferred::Deferred;
 use moka_expiration::view::StateView;
 use moka_model::entry::Entry;
 use moka_model::turns::Outcome;
@@ -33,25 +35,32 @@ use std::sync::Arc;
 // What the end of a turn with a value needs beside the write. The caller gets a share of the key
 // and a clone of the value. Waiting callers, if any, get another clone.
 #[derive(Drop)]
-struct Copies<K, V> {
+pub(crate) struct Copies<K, V> {
     key: Arc<K>,
     reply: V,
     saved: Option<V>,
 }
 
 impl<K: Drop, V: Clone> Copies<K, V> {
-    // Makes the clones for the end of a turn that `waiting` callers wait for.
-    fn new(turn: &Turn<K>, value: &V, waiting: u64) -> Result<Self, AllocError>
+    // Makes the clones for the end of a turn that `waiting` callers wait for. Discards the first one if
+    // the second one fails.
+    fn new(
+        turn: &Turn<K>,
+        value: &V,
+        waiting: u64,
+        discards: &mut Deferred<V>,
+    ) -> Result<Self, AllocError>
         ensures { IfOk result (IsCopiesOf V.is_clone turn.now value.now waiting) }
     {
         let key = turn.shared_key()?;
         let reply = value.clone()?;
-        let saved = if waiting > 0 {
-            Some(value.clone()?)
-        } else {
-            None
-        };
-        Ok(Copies { key, reply, saved })
+        match clone_if(value, waiting > 0) {
+            Ok(saved) => Ok(Copies { key, reply, saved }),
+            Err(refused) => {
+                discards.discard(reply);
+                Err(refused)
+            }
+        }
     }
 }
 
@@ -191,10 +200,11 @@ impl<K: Hash + Drop, V: Clone, C: CacheTypes<K, V>, R: RowStore<K, V>> State<K, 
         let Some(waiting) = self.turns.waiting_for(&turn) else {
             return Err(refusal(turn, value, Refused::UnknownTurn));
         };
-        let Ok(copies) = Copies::new(&turn, &value, waiting) else {
+        let Ok(copies) = Copies::new(&turn, &value, waiting, &mut self.discards.reply) else {
             return Err(refusal(turn, value, Refused::OutOfMemory));
         };
         self.latest = self.latest.max(now);
+        self.discards.value.discard(value);
         let answer = conclude(&mut self.turns, turn, copies, false);
         Ok(Finished::Answer(answer))
     }
@@ -225,11 +235,12 @@ impl<K: Hash + Drop, V: Clone, C: CacheTypes<K, V>, R: RowStore<K, V>> State<K, 
         if self.next_number == u64::MAX {
             return Err(refusal(turn, value, Refused::NumbersUsedUp));
         }
-        let Ok(copies) = Copies::new(&turn, &value, waiting) else {
+        let Ok(copies) = Copies::new(&turn, &value, waiting, &mut self.discards.reply) else {
             return Err(refusal(turn, value, Refused::OutOfMemory));
         };
         let weight = self.behaviour.weight(turn.key(), &value);
         let Ok(place) = plan_for(&mut self.table, &turn, hash, self.alloc) else {
+            self.discards.copies.discard(copies);
             return Err(refusal(turn, value, Refused::OutOfMemory));
         };
         let now = self.latest.max(now);

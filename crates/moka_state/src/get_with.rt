@@ -5,7 +5,7 @@ ghost use Rattle.moka_model.specs.Steps.{events_in};
 ghost use Rattle.moka_model.specs.Calls as calls;
 ghost use Rattle.moka_model.specs.Calls.{Begin, Finish, accepted, live_at};
 ghost use Rattle.moka_turns.specs.Handles.{turn_name};
-ghost use Rattle.moka_state.specs.Begin.{BeginEnds, FoundKeepsFor, GivesBegun, IfWait, IsNamed, IsSaidOf};
+ghost use Rattle.moka_state.specs.Begin.{BeginEnds, FoundKeepsFor, GivesBegun, IfWait, IsNamed, IsSaidOf, TakesLive};
 ghost use Rattle.moka_state.specs.Finish.{Fits, IsGiven, OutcomeKeeps, outcome_of};
 ghost use Rattle.moka_state.specs.Forms.{EndsTurn, IfRefusedUnasked, IsFailed, IsForm, IsOptional, IsTried, IsValue, of_end, optional_outcome, tried_outcome};
 
@@ -94,7 +94,8 @@ impl<K: Hash + Drop, V: Clone, C: CacheTypes<K, V>, R: RowStore<K, V>> State<K, 
         now: u64,
     ) -> Result<V, Refused>
         requires asks { F.IsAlwaysCallable init }
-        requires shows { P.IsAlwaysCallable replace_if }
+        requires shows { TakesLive K.eq C.keeps ⟦<C as StateView<K, V>>⟧.settings P.FnMut
+            key now self.old replace_if }
         requires keeps { (v : V) → F.post init v → C.keeps key v }
         ensures form { (said : Option Bool) × (given : Option V)
             × (reply : Result (calls.Reply K V C.Error) Refused)
@@ -207,7 +208,8 @@ impl<K: Hash + Drop, V: Clone, C: CacheTypes<K, V>, R: RowStore<K, V>> State<K, 
         now: u64,
     ) -> Result<Begun<K, V>, Refused>
         requires initializer { kind ≢ Kind.Compute }
-        requires asks { IfSome replace_if (λ f. F.IsAlwaysCallable f) }
+        requires asks { IfSome replace_if (TakesLive K.eq C.keeps
+            ⟦<C as StateView<K, V>>⟧.settings F.FnMut key now self.old) }
         ensures begins { (said : Option Bool) × BeginEnds
             (λ given. ⟦<C as StateView<K, V>>⟧.at_each_history self.old (λ settings steps.
             IsSaidOf F.FnMut replace_if (live_at K.eq settings key now (events_in steps)) said

@@ -8,6 +8,7 @@ pub mod by_hash;
 pub mod by_ref;
 pub mod compute;
 mod compute_forms;
+pub mod discards;
 mod entry_forms;
 pub mod entry_selector;
 pub mod finish;

@@ -15,31 +15,13 @@ use crate::state::State;
 use moka_expiration::view::StateView;
 use moka_model::entry::Entry;
 use moka_policy::policy::{CacheTypes, FrequencySource, Refused};
+pub use moka_policy::refused::OrInsertRefused;
 use moka_rows::rows::RowStore;
+use moka_table::into_arc::UnusedKey;
 use moka_table::write_slot::NewValue;
 use std::alloc::AllocError;
 use std::hash::Hash;
 use std::sync::Arc;
-use thiserror::Error;
-
-/// The error of a failed [`State::or_insert`], with the value that it was given.
-#[derive(Debug, Drop, Error)]
-#[error("or_insert failed ({cause}) and changed nothing: the value is handed back, to try again with \
-     more memory, or with another cache if its numbers are used up")]
-pub struct OrInsertRefused<V> {
-    /// The value, as it was given.
-    pub value: V,
-    /// Why the call failed.
-    pub cause: Refused,
-}
-
-impl<V: Drop> From<OrInsertRefused<V>> for Refused {
-    ghost from_gives = { λ refused cause. cause ≡ refused.cause };
-
-    fn from(refused: OrInsertRefused<V>) -> Refused {
-        refused.cause
-    }
-}
 
 // Makes the entry of a value that is to be written, from a share of its key and a clone of the
 // value.
@@ -121,7 +103,10 @@ impl<K: Hash + Drop, V: Clone, C: CacheTypes<K, V>, R: RowStore<K, V>> State<K, 
         ensures settings { self.new.settings ≡ self.old.settings }
     {
         match self.acceptable_entry(&**key, hash, none_like(|_: &V| false), now) {
-            Ok(Some(entry)) => Ok(entry),
+            Ok(Some(entry)) => {
+                self.discards.value.discard(value);
+                Ok(entry)
+            }
             Ok(None) => self.write_missing(key, hash, value, now),
             Err(cause) => Err(OrInsertRefused { value, cause }),
         }
@@ -162,11 +147,15 @@ impl<K: Hash + Drop, V: Clone, C: CacheTypes<K, V>, R: RowStore<K, V>> State<K, 
         if self.housekeeper.max_capacity == Some(0) {
             self.housekeeper.source.note(hash);
             self.latest = self.latest.max(now);
+            self.discards.value.discard(value);
             return Ok(entry);
         }
         match self.note_and_write(key, hash, value, now) {
             Ok(()) => Ok(entry),
-            Err(refused) => Err(refused),
+            Err(refused) => {
+                self.discards.entry.discard(entry);
+                Err(refused)
+            }
         }
     }
 
@@ -192,14 +181,25 @@ impl<K: Hash + Drop, V: Clone, C: CacheTypes<K, V>, R: RowStore<K, V>> State<K, 
         ensures settings { self.new.settings ≡ self.old.settings }
     {
         if self.wants_number() {
+            self.table.discard_key(UnusedKey::Owned(key));
+            self.discards.value.discard(value);
             return Err(Refused::NumbersUsedUp);
         }
-        let Ok(key) = Arc::new(self.alloc, key) else {
-            return Err(Refused::OutOfMemory);
+        let key = match Arc::new(self.alloc, key) {
+            Ok(key) => key,
+            Err(failed) => {
+                self.table.discard_key(UnusedKey::Owned(failed.value));
+                self.discards.value.discard(value);
+                return Err(Refused::OutOfMemory);
+            }
         };
         match self.write_missing(&key, hash, value, now) {
             Ok(entry) => Ok(entry),
-            Err(refused) => Err(refused.cause),
+            Err(OrInsertRefused { value, cause }) => {
+                self.table.discard_key(UnusedKey::Shared(key));
+                self.discards.value.discard(value);
+                Err(cause)
+            }
         }
     }
 
@@ -312,9 +312,17 @@ impl<K: Hash + Drop, V: Clone + Default, C: CacheTypes<K, V>, R: RowStore<K, V>>
     {
         let value = V::default();
         match self.acceptable_entry(&key, hash, none_like(|_: &V| false), now) {
-            Ok(Some(found)) => Ok(found),
+            Ok(Some(found)) => {
+                self.table.discard_key(UnusedKey::Owned(key));
+                self.discards.value.discard(value);
+                Ok(found)
+            }
             Ok(None) => self.write_default(key, hash, value, now),
-            Err(cause) => Err(cause),
+            Err(cause) => {
+                self.table.discard_key(UnusedKey::Owned(key));
+                self.discards.value.discard(value);
+                Err(cause)
+            }
         }
     }
 }

@@ -18,6 +18,7 @@ ghost use Rattle.moka_state.specs.State.{StateData, settings_of, books_by, all_w
 ghost use Rattle.moka_state.specs.Write.{WriteEnds};
 ghost use Rattle.moka_turns.specs.Views.{turns_of};
 
+use crate::discards::Discards;
 use moka_expiration::behaviour::Behaviour;
 use moka_expiration::expiration_policy::ExpirationPolicy;
 use moka_expiration::view::StateView;
@@ -26,6 +27,7 @@ use moka_ghost::snapshot::SharedSnapshot;
 use moka_housekeeper::housekeeper::Housekeeper;
 use moka_model::notification::Notice;
 use moka_policy::policy::{CacheTypes, EvictionPolicy, FrequencySource, Policy, Refused};
+pub use moka_policy::refused::InsertRefused;
 use moka_rows::rows::RowStore;
 use moka_table::table::Table;
 use moka_turns::table::TurnTable;
@@ -34,7 +36,6 @@ use std::hash::Hash;
 use std::marker::Model;
 use std::sync::Arc;
 use std::time::Duration;
-use thiserror::Error;
 
 /// The settings that a cache is built from.
 #[derive(Drop)]
@@ -71,27 +72,6 @@ pub struct Settings<K: Eq, V: Clone, C: CacheTypes<K, V>> {
     pub hasher: Arc<C::Hasher>,
 }
 
-/// The error of a failed [`State::insert`], with the key and the value that it was given.
-#[derive(Debug, Drop, Error)]
-#[error("insert failed ({cause}) and changed nothing: key and value are handed back, to try again with \
-     more memory, or with another cache if its numbers are used up")]
-pub struct InsertRefused<K, V> {
-    /// The key, as it was given.
-    pub key: K,
-    /// The value, as it was given.
-    pub value: V,
-    /// Why the call failed.
-    pub cause: Refused,
-}
-
-impl<K: Drop, V: Drop> From<InsertRefused<K, V>> for Refused {
-    ghost from_gives = { λ refused cause. cause ≡ refused.cause };
-
-    fn from(refused: InsertRefused<K, V>) -> Refused {
-        refused.cause
-    }
-}
-
 /// An owned cache over a row store `R`: a plain value that is called through `&mut`.
 ///
 /// A moment (`now`) is a number of nanoseconds, counted from any origin. A moment before the latest
@@ -112,6 +92,7 @@ pub struct State<K: Hash + Drop, V: Clone, C: CacheTypes<K, V>, R: RowStore<K, V
     pub(crate) next_number: u64,
     pub(crate) behaviour: Behaviour<K, V, C>,
     pub(crate) turns: TurnTable<K, V, C::Error>,
+    pub(crate) discards: Discards<K, V>,
     pub(crate) alloc: Global,
     // The table as it was when the cache was built. Only contracts use it.
     opening: SharedSnapshot<Table<K, V, R>>,
@@ -211,6 +192,7 @@ impl<K: Hash + Drop, V: Clone, C: CacheTypes<K, V>, R: RowStore<K, V>> State<K, 
                 settings.expiry,
             ),
             turns: TurnTable::new(alloc),
+            discards: Discards::new(),
             alloc,
         })
     }

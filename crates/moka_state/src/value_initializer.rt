@@ -105,6 +105,6 @@ impl<K: Hash + Drop, V: Clone, C: CacheTypes<K, V>, R: RowStore<K, V>> State<K, 
             Ok(found) => found,
             Err(refused) => return Err(refused),
         };
-        Ok(into_collected(found))
+        Ok(into_collected(found, &mut self.discards.key))
     }
 }

@@ -1,1 +1,3 @@
+pub mod Lent
+pub mod ReplaceIf
 pub mod Waiting

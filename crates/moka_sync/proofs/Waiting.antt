@@ -1,5 +1,5 @@
 -- What the waiting loop returns to callers of a cache.
-use Rattle.std.proofs.Common.{◌≡◌, ℕ, Option, ap, ◌∙◌, subst, refl}
+use Rattle.std.proofs.Common.{◌≡◌, ℕ, Option, ap, ◌∙◌, subst, sym, refl}
 use Rattle.std.specs.Arc.{arc_value}
 use Rattle.moka_model.specs.declared.turns.Kind.{Kind}
 use Rattle.moka_model.specs.declared.turns.Kind.TheVariants.{Compute}
@@ -14,31 +14,39 @@ use Rattle.moka_turns.specs.declared.handles.Turn.{Turn}
 use Rattle.moka_turns.specs.declared.handles.Ticket.{Ticket}
 use Rattle.moka_state.specs.declared.answers.Answer.{Answer}
 use Rattle.moka_sync.specs.declared.value_initializer.ShownTurn.{ShownTurn}
-use Rattle.moka_sync.specs.Waiting.{InitializerData, ComputerData, IsTurnFor, IsTicketFor, IsSameTicket, IsGivenTo, IsShownTurn, BeginReturns, CollectReturns, BeginComputeReturns, CollectComputeReturns}
+use Rattle.moka_sync.specs.Waiting.{AsksSame, InitializerData, ComputerData, IsTurnFor, IsTicketFor, IsSameTicket, IsGivenTo, IsShownTurn, BeginReturns, CollectReturns, BeginComputeReturns, CollectComputeReturns}
 
 -- a ticket that comes back is for the same kind and key
 same-ticket : {K : Type 0} (kind : Kind) (key : K) (ticket same : Ticket K) → IsTicketFor kind key ticket → IsSameTicket ticket same → IsTicketFor kind key same
 same-ticket kind key ticket same of is = (ap (λ name. name.kind) is ∙ of.0, ap (λ name. name.key) is ∙ of.1)
 
+-- a caller that asks the same later
+still-asks : {K P : Type 0} (caller old new : InitializerData K P) → AsksSame caller old → AsksSame old new → AsksSame caller new
+still-asks caller old new is same = (same.0 ∙ is.0, same.1 ∙ is.1)
+
 module _ {K V E : Type 0} (keeps : K → V → Type 0) where
-  abbrev pub BeginsAs : InitializerData K → Begun (Answer K V E) (Turn K) (Ticket K) → InitializerData K → Type 0
-  BeginsAs old reply new = (new ≡ old) × BeginReturns keeps old reply
-
-  abbrev pub CollectsAs : InitializerData K → Ticket K → Collected (Answer K V E) (Ticket K) → InitializerData K → Type 0
-  CollectsAs old ticket reply new = (new ≡ old) × CollectReturns keeps ticket reply
-
   given-for : (kind : Kind) (key : K) (ticket : Ticket K) (reply : Collected (Answer K V E) (Ticket K)) → IsTicketFor kind key ticket → CollectReturns keeps ticket reply → HoldsOfCollected (IsGivenTo keeps kind key) (IsTicketFor kind key) reply
   given-for kind key ticket (Ready answer) of tells = subst (λ k. IsGivenTo keeps kind k answer) of.1 (subst (λ it. IsGivenTo keeps it (arc_value ticket.key.key) answer) of.0 tells)
   given-for kind key ticket (NotYet same) of tells = same-ticket kind key ticket same of tells
   given-for kind key ticket Retry of tells = tt
 
+module _ {K V E P : Type 0} (keeps : K → V → Type 0) where
+  abbrev pub BeginsAs : InitializerData K P → Begun (Answer K V E) (Turn K) (Ticket K) → InitializerData K P → Type 0
+  BeginsAs old reply new = AsksSame old new × BeginReturns keeps old reply
+
+  abbrev pub CollectsAs : InitializerData K P → Ticket K → Collected (Answer K V E) (Ticket K) → InitializerData K P → Type 0
+  CollectsAs old ticket reply new = (new ≡ old) × CollectReturns keeps ticket reply
+
+  begins-for : (caller old : InitializerData K P) (reply : Begun (Answer K V E) (Turn K) (Ticket K)) → AsksSame caller old → BeginReturns keeps old reply → BeginReturns keeps caller reply
+  begins-for caller old reply is returns = rw (is.0, is.1) at returns
+
   -- an initializer gets an answer or the turn, for its kind and key
-  pub asked : (most : Option ℕ) (caller : InitializerData K) (waited : Joined (Answer K V E) (Turn K)) (then : InitializerData K) → Ends BeginsAs CollectsAs most caller waited then → HoldsOfJoined (IsGivenTo keeps caller.kind caller.key) (IsTurnFor caller.kind caller.key) waited
+  pub asked : (most : Option ℕ) (caller : InitializerData K P) (waited : Joined (Answer K V E) (Turn K)) (then : InitializerData K P) → Ends BeginsAs CollectsAs most caller waited then → HoldsOfJoined (IsGivenTo keeps caller.kind caller.key) (IsTurnFor caller.kind caller.key) waited
   asked most caller waited then ends =
-      (ends-hold BeginsAs CollectsAs (λ it. it ≡ caller) (IsGivenTo keeps caller.kind caller.key) (IsTurnFor caller.kind caller.key) (IsTicketFor caller.kind caller.key)
-      (λ old reply new is begun. (begun.0 ∙ is, subst (λ (it : InitializerData K). BeginReturns keeps it reply) is begun.1))
-      (λ old ticket reply new is of collected. (collected.0 ∙ is, given-for caller.kind caller.key ticket reply of collected.1))
-      most caller waited then refl ends).1
+      (ends-hold BeginsAs CollectsAs (AsksSame caller) (IsGivenTo keeps caller.kind caller.key) (IsTurnFor caller.kind caller.key) (IsTicketFor caller.kind caller.key)
+      (λ old reply new is begun. (still-asks caller old new is begun.0, begins-for caller old reply is begun.1))
+      (λ old ticket reply new is of collected. (subst (AsksSame caller) (sym collected.0) is, given-for keeps caller.kind caller.key ticket reply of collected.1))
+      most caller waited then (refl, refl) ends).1
 
 module _ {K V : Type 0} (keeps : K → V → Type 0) where
   abbrev pub BeginsComputing : ComputerData K → Begun (Unit {0}) (ShownTurn K V) (Ticket K) → ComputerData K → Type 0

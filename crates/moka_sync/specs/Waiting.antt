@@ -1,5 +1,5 @@
 -- What callers that wait for each other's turns ask for, and what they get.
-use Rattle.std.specs.Prelude.{◌≡◌, IfSome}
+use Rattle.std.specs.Prelude.{◌≡◌, IfSome, Option}
 use Rattle.std.specs.Arc.{arc_value}
 use Rattle.moka_model.specs.declared.turns.Kind.{Kind}
 use Rattle.moka_model.specs.declared.turns.Kind.TheVariants.{Compute}
@@ -16,10 +16,16 @@ use Rattle.moka_sync.specs.declared.value_initializer.InitializerReply.{Initiali
 use Rattle.moka_sync.specs.declared.value_initializer.InitializerReply.TheVariants as replies
 use Rattle.moka_sync.specs.declared.value_initializer.ShownTurn.{ShownTurn}
 
--- A caller that asks for a key as an initializer of some kind.
-pub record InitializerData (K : Type 0) : Type 0 where
+-- A caller that asks for a key as an initializer of some kind. Its closure, if it has one, may ask to replace a live
+-- value.
+pub record InitializerData (K P : Type 0) : Type 0 where
   pub key : K
   pub kind : Kind
+  pub replace_if : Option P
+
+-- A caller asks for the same key, as an initializer of the same kind. Its closure may have been called.
+abbrev pub AsksSame : {K P : Type 0} → InitializerData K P → InitializerData K P → Type 0
+AsksSame old new = (new.key ≡ old.key) × (new.kind ≡ old.kind)
 
 -- A caller that asks for a key to compute its value.
 pub record ComputerData (K : Type 0) : Type 0 where
@@ -43,7 +49,7 @@ module _ {K V E : Type 0} (keeps : K → V → Type 0) where
   IsGivenTo kind key answer = GivenKeeps keeps key answer × AnswerFits kind answer
 
   -- What a begin returns to an initializer: an answer, a turn or a ticket, each for its kind and key.
-  abbrev pub BeginReturns : InitializerData K → Begun (Answer K V E) (Turn K) (Ticket K) → Type 0
+  abbrev pub BeginReturns : {P : Type 0} → InitializerData K P → Begun (Answer K V E) (Turn K) (Ticket K) → Type 0
   BeginReturns it reply = HoldsOfBegun (IsGivenTo it.kind it.key) (IsTurnFor it.kind it.key) (IsTicketFor it.kind it.key) reply
 
   -- What a collect returns: an answer for the kind and the key of the ticket, or the ticket itself.

@@ -14,6 +14,8 @@ use moka_model::entry::Entry;
 use moka_model::notification::Notice;
 use moka_policy::builder_utils::BuildError;
 use moka_policy::policy::{CacheTypes, Policy, Refused};
+use moka_predicate_ids::predicate_id::new_predicate_id;
+use moka_state::discards::Discarded;
 use moka_state::or_insert::OrInsertRefused;
 use moka_state::predicate_error::PredicateError;
 use moka_state::predicate_id::PredicateId;
@@ -60,6 +62,8 @@ pub(crate) struct Inner<K: Hash + Drop, V: Clone, C: CacheTypes<K, V>, W> {
 /// The weigher, the expiry, predicates, the frequency source and `replace_if` run under the lock.
 /// Initializers, closures of computes and the listener run with no lock held, so they may use the
 /// cache.
+///
+/// What a call no longer needs is dropped once the lock is released.
 ///
 /// A failed call leaves the cache unchanged, except that loaders and computes may have recorded
 /// lookups and drawn sequence numbers.
@@ -211,8 +215,8 @@ impl<K: Hash + Drop, V: Clone, C: CacheTypes<K, V>, W: Wait> Cache<K, V, C, W> {
     {
         let mut locked = self.lock();
         let done = locked.insert(key, value);
-        let pending = release(locked, done.is_ok());
-        self.notify_removed(pending);
+        let rest = release(locked, done.is_ok());
+        self.settle(rest);
         done
     }
 
@@ -234,8 +238,8 @@ impl<K: Hash + Drop, V: Clone, C: CacheTypes<K, V>, W: Wait> Cache<K, V, C, W> {
     {
         let mut locked = self.lock();
         let done = locked.or_insert(key, value);
-        let pending = release(locked, done.is_ok());
-        self.notify_removed(pending);
+        let rest = release(locked, done.is_ok());
+        self.settle(rest);
         done
     }
 
@@ -245,8 +249,8 @@ impl<K: Hash + Drop, V: Clone, C: CacheTypes<K, V>, W: Wait> Cache<K, V, C, W> {
     pub fn invalidate(&self, key: &K) {
         let mut locked = self.lock();
         locked.invalidate(key);
-        let pending = release(locked, true);
-        self.notify_removed(pending);
+        let rest = release(locked, true);
+        self.settle(rest);
     }
 
     /// Removes the entry of `key`, live or expired, and returns a clone of its live value. The
@@ -263,8 +267,8 @@ impl<K: Hash + Drop, V: Clone, C: CacheTypes<K, V>, W: Wait> Cache<K, V, C, W> {
     {
         let mut locked = self.lock();
         let found = locked.remove(key);
-        let pending = release(locked, found.is_ok());
-        self.notify_removed(pending);
+        let rest = release(locked, found.is_ok());
+        self.settle(rest);
         found
     }
 
@@ -306,7 +310,11 @@ impl<K: Hash + Drop, V: Clone, C: CacheTypes<K, V>, W: Wait> Cache<K, V, C, W> {
         if !self.inner.closures {
             return Err(PredicateError::InvalidationClosuresDisabled);
         }
-        self.lock().invalidate_entries_if(predicate, generator)
+        let Ok(id) = new_predicate_id(self.inner.alloc, generator) else {
+            return Err(PredicateError::OutOfMemory);
+        };
+        self.hide_where(&predicate);
+        Ok(id)
     }
 
     /// Invalidates as [`Cache::invalidate_entries_if`] does, by a shared predicate and without an
@@ -348,8 +356,8 @@ impl<K: Hash + Drop, V: Clone, C: CacheTypes<K, V>, W: Wait> Cache<K, V, C, W> {
     pub fn run_pending_tasks(&self) {
         let mut locked = self.lock();
         locked.run_pending_tasks();
-        let pending = release(locked, true);
-        self.notify_removed(pending);
+        let rest = release(locked, true);
+        self.settle(rest);
     }
 
     /// Runs maintenance, but evicts at most `limit` entries. Returns whether something is left to
@@ -363,8 +371,8 @@ impl<K: Hash + Drop, V: Clone, C: CacheTypes<K, V>, W: Wait> Cache<K, V, C, W> {
     pub fn run_pending_tasks_up_to(&self, limit: u64) -> bool {
         let mut locked = self.lock();
         let is_cut = locked.run_pending_tasks_up_to(limit);
-        let pending = release(locked, true);
-        self.notify_removed(pending);
+        let rest = release(locked, true);
+        self.settle(rest);
         is_cut
     }
 
@@ -395,9 +403,19 @@ impl<K: Hash + Drop, V: Clone, C: CacheTypes<K, V>, W: Wait> Cache<K, V, C, W> {
         self.inner.locked.lock(&self.inner.waits)
     }
 
+    // Drops what a step no longer needed, and calls the listener, with no lock held.
+    pub(crate) fn settle(&self, rest: Rest<K, V, C::Error>)
+        requires { IfSome rest.pending.first
+            (λ notice. C.keeps (arc_value notice.key) notice.value) }
+    {
+        let Rest { pending, discarded } = rest;
+        drop(discarded);
+        self.notify_removed(pending);
+    }
+
     // Calls the listener with no lock held: for the first notice, and for at most `others` more.
     // Each of these is taken under the lock by itself.
-    pub(crate) fn notify_removed(&self, pending: PendingNotices<K, V>)
+    fn notify_removed(&self, pending: PendingNotices<K, V>)
         requires { IfSome pending.first (λ notice. C.keeps (arc_value notice.key) notice.value) }
     {
         let PendingNotices { first, others } = pending;
@@ -424,28 +442,48 @@ impl<K: Hash + Drop, V: Clone, C: CacheTypes<K, V>, W: Wait> Cache<K, V, C, W> {
     }
 }
 
-// Releases the lock at the end of a step. If the step was accepted, takes the first notice before,
-// and counts the others, for the call to deliver.
+/// What is left to be done after a step, once the lock is released.
+#[derive(Drop)]
+pub(crate) struct Rest<K: Drop, V: Drop, E: Drop> {
+    /// The notices to deliver.
+    pub pending: PendingNotices<K, V>,
+    /// What the step no longer needed, to be dropped.
+    pub discarded: Discarded<K, V, E>,
+}
+
+// Releases the lock after a step that queues no notice, and returns what the step no longer needed.
+pub(crate) fn unlock<K: Hash + Drop, V: Clone, C: CacheTypes<K, V>>(
+    locked: MutexGuard<'_, GuardedState<K, V, C>>,
+) -> Discarded<K, V, C::Error> {
+    let mut locked = locked;
+    locked.take_discarded()
+}
+
+// Releases the lock at the end of a step. Returns what the step no longer needed. If the step was
+// accepted, takes the first notice before, and counts the others, for the call to deliver.
 //
-// A refused step takes none. It removed nothing, and its caller may still hold an open turn: a
+// A refused step takes no notice. It removed nothing, and its caller may still hold an open turn: a
 // listener that asks for that turn's key would wait for its own caller. No notice is lost by that.
 // Only an accepted step queues notices, and its call delivers as many as stood when it was done.
 pub(crate) fn release<K: Hash + Drop, V: Clone, C: CacheTypes<K, V>>(
     locked: MutexGuard<'_, GuardedState<K, V, C>>,
     accepted: bool,
-) -> PendingNotices<K, V>
-    ensures refused { accepted ≡ false → result.first ≡ None }
-    ensures kept { IfSome result.first (λ notice. C.keeps (arc_value notice.key) notice.value) }
+) -> Rest<K, V, C::Error>
+    ensures refused { accepted ≡ false → result.pending.first ≡ None }
+    ensures kept { IfSome result.pending.first
+        (λ notice. C.keeps (arc_value notice.key) notice.value) }
 {
     let mut locked = locked;
-    if accepted {
+    let discarded = locked.take_discarded();
+    let pending = if accepted {
         locked.take_pending_notices()
     } else {
         PendingNotices {
             first: None,
             others: 0,
         }
-    }
+    };
+    Rest { pending, discarded }
 }
 
 impl<K: Hash + Drop, V: Clone + Default, C: CacheTypes<K, V>, W: Wait> Cache<K, V, C, W> {
@@ -466,8 +504,8 @@ impl<K: Hash + Drop, V: Clone + Default, C: CacheTypes<K, V>, W: Wait> Cache<K, 
     {
         let mut locked = self.lock();
         let done = locked.or_default(key);
-        let pending = release(locked, done.is_ok());
-        self.notify_removed(pending);
+        let rest = release(locked, done.is_ok());
+        self.settle(rest);
         done
     }
 }

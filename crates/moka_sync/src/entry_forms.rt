@@ -1,9 +1,10 @@
 //! Loaders with a closure, which return entries. The closure runs with no lock held.
-ghost use Rattle.std.specs.Prelude.{◌≡◌, ◌≢◌, Option, Result, true, IfOk, IfSome, MatchOption, MatchResult};
+ghost use Rattle.std.specs.Prelude.{◌≡◌, ◌≢◌, None, Option, Result, true, IfOk, IfSome, MatchOption, MatchResult};
 ghost use Rattle.std.specs.Arc.{arc_value};
 ghost use Rattle.moka_state.specs.Begin.{EntryKeeps};
 ghost use Rattle.moka_state.specs.Finish.{Fits, IsGiven, OutcomeKeeps, outcome_of};
 ghost use Rattle.moka_guarded.specs.Kept.{AnswerFits, GivenKeeps};
+ghost use Rattle.moka_sync.specs.ReplaceIf.{TakesKeptAgain};
 
 use crate::cache::Cache;
 use crate::value_initializer::InitializerReply;
@@ -16,22 +17,19 @@ use std::hash::Hash;
 use std::sync::{Arc, Wait};
 
 // Returns `None`, in place of a closure of this type.
-pub(crate) fn none_like<F: Drop>(_closure: F) -> Option<F> {
+pub(crate) fn none_like<F: Drop>(_closure: F) -> Option<F>
+    ensures { result ≡ None }
+{
     None
 }
 
 impl<K: Hash + Drop, V: Clone, C: CacheTypes<K, V>, W: Wait> Cache<K, V, C, W> {
-    // Returns the live entry of a key, unless `replace_if` returns true for its value. A hit
-    // allocates only the clone and shares the key; a miss changes nothing.
-    pub(crate) fn find_acceptable<F: FnMut(&V) -> bool + Drop>(
-        &self,
-        key: &K,
-        replace_if: Option<F>,
-    ) -> Result<Option<Entry<K, V>>, Refused>
-        requires asks { IfSome replace_if (λ f. F.IsAlwaysCallable f) }
+    // Returns the live entry of a key. A hit allocates only the clone and shares the key; a miss changes
+    // nothing.
+    pub(crate) fn find_live(&self, key: &K) -> Result<Option<Entry<K, V>>, Refused>
         ensures { IfOk result (λ found. IfSome found (EntryKeeps C.keeps key.now)) }
     {
-        self.lock().find_acceptable(key, replace_if)
+        self.lock().find_acceptable(key, none_like(|_: &V| false))
     }
 
     // Moves a value into an `Arc`. Fails only with `OutOfMemory`.
@@ -54,7 +52,7 @@ impl<K: Hash + Drop, V: Clone, C: CacheTypes<K, V>, W: Wait> Cache<K, V, C, W> {
         requires keeps { (v : V) → F.post init v → C.keeps key v }
         ensures { IfOk result (EntryKeeps C.keeps key) }
     {
-        if let Some(found) = self.find_acceptable(&key, none_like(|_: &V| false))? {
+        if let Some(found) = self.find_live(&key)? {
             return Ok(found);
         }
         let key = self.share(key)?;
@@ -70,7 +68,7 @@ impl<K: Hash + Drop, V: Clone, C: CacheTypes<K, V>, W: Wait> Cache<K, V, C, W> {
         replace_if: P,
     ) -> Result<Entry<K, V>, Refused>
         requires asks { F.IsAlwaysCallable init }
-        requires shows { (state : P) → P.IsAlwaysCallable state }
+        requires shows { TakesKeptAgain (C.keeps key) P.FnMut replace_if }
         requires keeps { (v : V) → F.post init v → C.keeps key v }
         ensures { IfOk result (EntryKeeps C.keeps key) }
     {
@@ -86,7 +84,7 @@ impl<K: Hash + Drop, V: Clone, C: CacheTypes<K, V>, W: Wait> Cache<K, V, C, W> {
         replace_if: Option<P>,
     ) -> Result<Entry<K, V>, Refused>
         requires asks { F.IsAlwaysCallable init }
-        requires shows { (state : P) → P.IsAlwaysCallable state }
+        requires shows { IfSome replace_if (TakesKeptAgain (C.keeps (arc_value key)) P.FnMut) }
         requires keeps { (v : V) → F.post init v → C.keeps (arc_value key) v }
         ensures { IfOk result (EntryKeeps C.keeps (arc_value key)) }
     {
@@ -107,7 +105,7 @@ impl<K: Hash + Drop, V: Clone, C: CacheTypes<K, V>, W: Wait> Cache<K, V, C, W> {
         requires keeps { (o : Option V) → F.post init o → IfSome o (C.keeps key) }
         ensures { IfOk result (λ found. IfSome found (EntryKeeps C.keeps key)) }
     {
-        if let Some(found) = self.find_acceptable(&key, none_like(|_: &V| false))? {
+        if let Some(found) = self.find_live(&key)? {
             return Ok(Some(found));
         }
         let key = self.share(key)?;
@@ -147,7 +145,7 @@ impl<K: Hash + Drop, V: Clone, C: CacheTypes<K, V>, W: Wait> Cache<K, V, C, W> {
         requires keeps { (r : Result V C.Error) → F.post init r → IfOk r (C.keeps key) }
         ensures { IfOk result (λ tried. IfOk tried (EntryKeeps C.keeps key)) }
     {
-        if let Some(found) = self.find_acceptable(&key, none_like(|_: &V| false))? {
+        if let Some(found) = self.find_live(&key)? {
             return Ok(Ok(found));
         }
         let key = self.share(key)?;
@@ -252,7 +250,7 @@ impl<K: Hash + Clone + Drop, V: Clone, C: CacheTypes<K, V>, W: Wait> Cache<K, V,
         requires keeps { (v : V) → F.post init v → C.keeps key.now v }
         ensures { IfOk result (EntryKeeps C.keeps key.now) }
     {
-        if let Some(found) = self.find_acceptable(key, none_like(|_: &V| false))? {
+        if let Some(found) = self.find_live(key)? {
             return Ok(found);
         }
         let copy = self.share_copy(key)?;
@@ -268,7 +266,7 @@ impl<K: Hash + Clone + Drop, V: Clone, C: CacheTypes<K, V>, W: Wait> Cache<K, V,
     ) -> Result<Entry<K, V>, Refused>
         requires copies { (a b : K) → K.is_clone a b → K.eq a b ≡ true }
         requires asks { F.IsAlwaysCallable init }
-        requires shows { (state : P) → P.IsAlwaysCallable state }
+        requires shows { TakesKeptAgain (C.keeps key.now) P.FnMut replace_if }
         requires keeps { (v : V) → F.post init v → C.keeps key.now v }
         ensures { IfOk result (EntryKeeps C.keeps key.now) }
     {
@@ -287,7 +285,7 @@ impl<K: Hash + Clone + Drop, V: Clone, C: CacheTypes<K, V>, W: Wait> Cache<K, V,
         requires keeps { (o : Option V) → F.post init o → IfSome o (C.keeps key.now) }
         ensures { IfOk result (λ found. IfSome found (EntryKeeps C.keeps key.now)) }
     {
-        if let Some(found) = self.find_acceptable(key, none_like(|_: &V| false))? {
+        if let Some(found) = self.find_live(key)? {
             return Ok(Some(found));
         }
         let copy = self.share_copy(key)?;
@@ -305,7 +303,7 @@ impl<K: Hash + Clone + Drop, V: Clone, C: CacheTypes<K, V>, W: Wait> Cache<K, V,
         requires keeps { (r : Result V C.Error) → F.post init r → IfOk r (C.keeps key.now) }
         ensures { IfOk result (λ tried. IfOk tried (EntryKeeps C.keeps key.now)) }
     {
-        if let Some(found) = self.find_acceptable(key, none_like(|_: &V| false))? {
+        if let Some(found) = self.find_live(key)? {
             return Ok(Ok(found));
         }
         let copy = self.share_copy(key)?;

@@ -4,9 +4,9 @@ ghost use Rattle.std.specs.Arc.{arc_value};
 ghost use Rattle.moka_state.specs.Begin.{EntryKeeps};
 ghost use Rattle.moka_state.specs.Finish.{OutcomeKeeps};
 ghost use Rattle.moka_guarded.specs.Kept.{ResultKeeps};
+ghost use Rattle.moka_sync.specs.ReplaceIf.{TakesKeptAgain};
 
 use crate::cache::Cache;
-use crate::entry_forms::none_like;
 use moka_model::comp_result::CompResult;
 use moka_model::entry::Entry;
 use moka_model::turns::{Op, Outcome};
@@ -72,7 +72,7 @@ impl<'a, K: Hash + Drop, V: Clone, C: CacheTypes<K, V>, W: Wait> OwnedKeyEntrySe
         ensures kept { IfOk result (EntryKeeps C.keeps self.entry.key) }
     {
         let OwnedKeyEntrySelector { cache, key } = self;
-        if let Some(found) = cache.find_acceptable(&key, none_like(|_: &V| false))? {
+        if let Some(found) = cache.find_live(&key)? {
             return Ok(found);
         }
         let key = cache.share(key)?;
@@ -109,7 +109,7 @@ impl<'a, K: Hash + Drop, V: Clone, C: CacheTypes<K, V>, W: Wait> OwnedKeyEntrySe
         replace_if: P,
     ) -> Result<Entry<K, V>, Refused>
         requires asks { F.IsAlwaysCallable init }
-        requires shows { (state : P) → P.IsAlwaysCallable state }
+        requires shows { TakesKeptAgain (C.keeps self.key) P.FnMut replace_if }
         requires keeps { (v : V) → F.post init v → C.keeps self.key v }
         ensures kept { IfOk result (EntryKeeps C.keeps self.entry.key) }
     {
@@ -265,7 +265,7 @@ impl<'a, K: Hash + Clone + Drop, V: Clone, C: CacheTypes<K, V>, W: Wait> RefKeyE
         ensures kept { IfOk result (EntryKeeps C.keeps self.entry.key.now) }
     {
         let RefKeyEntrySelector { cache, key } = self;
-        if let Some(found) = cache.find_acceptable(key, none_like(|_: &V| false))? {
+        if let Some(found) = cache.find_live(key)? {
             return Ok(found);
         }
         let key = cache.share_copy(key)?;
@@ -294,7 +294,7 @@ impl<'a, K: Hash + Clone + Drop, V: Clone, C: CacheTypes<K, V>, W: Wait> RefKeyE
     ) -> Result<Entry<K, V>, Refused>
         requires copies { (a b : K) → K.is_clone a b → K.eq a b ≡ true }
         requires asks { F.IsAlwaysCallable init }
-        requires shows { (state : P) → P.IsAlwaysCallable state }
+        requires shows { TakesKeptAgain (C.keeps self.key.now) P.FnMut replace_if }
         requires keeps { (v : V) → F.post init v → C.keeps self.key.now v }
         ensures kept { IfOk result (EntryKeeps C.keeps self.entry.key.now) }
     {
@@ -398,7 +398,7 @@ impl<
         ensures kept { IfOk result (EntryKeeps C.keeps self.entry.key.now) }
     {
         let RefKeyEntrySelector { cache, key } = self;
-        if let Some(found) = cache.find_acceptable(key, none_like(|_: &V| false))? {
+        if let Some(found) = cache.find_live(key)? {
             return Ok(found);
         }
         match key.clone() {

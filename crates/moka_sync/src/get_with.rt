@@ -2,6 +2,7 @@
 //! Concurrent calls for one key and kind are coalesced: one runs its closure, the others wait for
 //! the outcome.
 ghost use Rattle.std.specs.Prelude.{◌≡◌, Option, Result, true, IfOk, IfSome};
+ghost use Rattle.moka_sync.specs.ReplaceIf.{TakesKeptAgain};
 
 use crate::cache::Cache;
 use crate::entry_forms::none_like;
@@ -45,8 +46,9 @@ impl<K: Hash + Drop, V: Clone, C: CacheTypes<K, V>, W: Wait> Cache<K, V, C, W> {
     /// Does what [`Cache::get_with`] does, but treats a live value as absent if `replace_if`
     /// returns true for it.
     ///
-    /// `replace_if` runs under the lock, and may run more than once. A hit allocates for the key
-    /// too.
+    /// `replace_if` runs under the lock, and may run more than once: once in each begin, at the live
+    /// value. The prover asks that it may be called at each value that satisfies `keeps` with `key`,
+    /// and again after each such call. A hit allocates for the key too.
     ///
     /// Deprecated in moka in favour of `entry` and `or_insert_with_if`.
     ///
@@ -60,7 +62,7 @@ impl<K: Hash + Drop, V: Clone, C: CacheTypes<K, V>, W: Wait> Cache<K, V, C, W> {
         replace_if: P,
     ) -> Result<V, Refused>
         requires asks { F.IsAlwaysCallable init }
-        requires shows { (state : P) → P.IsAlwaysCallable state }
+        requires shows { TakesKeptAgain (C.keeps key) P.FnMut replace_if }
         requires keeps { (v : V) → F.post init v → C.keeps key v }
         ensures kept { IfOk result (C.keeps key) }
     {

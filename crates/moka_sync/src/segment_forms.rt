@@ -1,6 +1,7 @@
 //! Loaders and selectors of a shared cache of several segments, each in the segment of its key.
 //! Closures run with no lock held.
 ghost use Rattle.std.specs.Prelude.{◌≡◌, Option, Result, true, IfOk, IfSome};
+ghost use Rattle.moka_sync.specs.ReplaceIf.{TakesKeptAgain};
 
 use crate::entry_selector::{OwnedKeyEntrySelector, RefKeyEntrySelector};
 use crate::segment::SegmentedCache;
@@ -47,7 +48,7 @@ impl<K: Hash + Drop, V: Clone, C: CacheTypes<K, V>, W: Wait> SegmentedCache<K, V
         replace_if: P,
     ) -> Result<V, Refused>
         requires asks { F.IsAlwaysCallable init }
-        requires shows { (state : P) → P.IsAlwaysCallable state }
+        requires shows { TakesKeptAgain (C.keeps key) P.FnMut replace_if }
         requires keeps { (v : V) → F.post init v → C.keeps key v }
         ensures kept { IfOk result (C.keeps key) }
     {

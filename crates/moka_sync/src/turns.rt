@@ -3,13 +3,13 @@
 ghost use Rattle.std.specs.Prelude.{◌≡◌, ◌≢◌, true, IfOk, IfErr, IfSome};
 ghost use Rattle.std.specs.Arc.{arc_value};
 ghost use Rattle.moka_turns.specs.Handles.{turn_name, ticket_name};
-ghost use Rattle.moka_state.specs.Begin.{FoundKeeps, FoundKeepsFor, IsAsked, IsNamed};
+ghost use Rattle.moka_state.specs.Begin.{FoundKeeps, FoundKeepsFor, IsAsked, IsNamed, TakesKept};
 ghost use Rattle.moka_state.specs.Compute.{IsCompute, ShownKeepsFor};
 ghost use Rattle.moka_state.specs.Finish.{Fits, IsFinished, OutcomeKeeps, outcome_of};
 ghost use Rattle.moka_state.specs.Given.{IfUnspent};
 ghost use Rattle.moka_guarded.specs.Kept.{CollectedFits, CollectedKeeps, FinishedKeeps};
 
-use crate::cache::{Cache, release};
+use crate::cache::{Cache, release, unlock};
 use moka_model::turns::{Kind, Outcome};
 use moka_policy::policy::{CacheTypes, Refused};
 use moka_state::answers::{
@@ -25,9 +25,10 @@ impl<K: Hash + Drop, V: Clone, C: CacheTypes<K, V>, W: Wait> Cache<K, V, C, W> {
     /// Looks the key up, as [`Cache::get`] does. Returns `Found` with the live entry, unless
     /// `replace_if` returns true for its value. Otherwise returns `Wait` with a ticket if a turn of
     /// this key and kind is open. Else returns `Run` with a turn, which the caller has to end.
-    /// `replace_if` runs under the lock. Never waits for a turn.
+    /// `replace_if` runs under the lock, at most once. Never waits for a turn.
     ///
-    /// The kind is not `Compute`.
+    /// The kind is not `Compute`. The prover asks that `replace_if` may be called once, at a value
+    /// that satisfies `keeps` with `key`.
     ///
     /// # Errors
     ///
@@ -41,12 +42,13 @@ impl<K: Hash + Drop, V: Clone, C: CacheTypes<K, V>, W: Wait> Cache<K, V, C, W> {
         replace_if: Option<F>,
     ) -> Result<Begun<K, V>, Refused>
         requires initializer { kind ≢ Kind.Compute }
-        requires asks { IfSome replace_if (λ f. F.IsAlwaysCallable f) }
+        requires asks { IfSome replace_if (TakesKept (C.keeps (arc_value key.now)) F.FnMut) }
         ensures named { IfOk result (IsNamed kind (arc_value key.now)) }
         ensures kept { IfOk result (FoundKeeps C.keeps) }
         ensures kept_for { IfOk result (FoundKeepsFor C.keeps (arc_value key.now)) }
     {
-        self.lock().begin(key, kind, replace_if)
+        let mut replace_if = replace_if;
+        self.begin_reusing(key, kind, &mut replace_if)
     }
 
     /// Begins a compute of `key`.
@@ -64,7 +66,10 @@ impl<K: Hash + Drop, V: Clone, C: CacheTypes<K, V>, W: Wait> Cache<K, V, C, W> {
         ensures named { IfOk result (IsCompute (arc_value key.now)) }
         ensures kept { IfOk result (ShownKeepsFor C.keeps (arc_value key.now)) }
     {
-        self.lock().begin_compute(key, keep)
+        let mut locked = self.lock();
+        let begun = locked.begin_compute(key, keep);
+        drop(unlock(locked));
+        begun
     }
 
     /// Ends a turn with an outcome, and wakes the callers that wait for it. Stores a value as
@@ -96,9 +101,9 @@ impl<K: Hash + Drop, V: Clone, C: CacheTypes<K, V>, W: Wait> Cache<K, V, C, W> {
     {
         let mut locked = self.lock();
         let done = locked.finish(turn, outcome);
-        let pending = release(locked, done.is_ok());
+        let rest = release(locked, done.is_ok());
         self.inner.ended.notify_all();
-        self.notify_removed(pending);
+        self.settle(rest);
         done
     }
 
@@ -111,8 +116,11 @@ impl<K: Hash + Drop, V: Clone, C: CacheTypes<K, V>, W: Wait> Cache<K, V, C, W> {
     pub fn abandon(&self, turn: Turn<K>) -> Result<(), Refused>
         ensures cause { IfErr result (λ cause. cause ≡ Refused.UnknownTurn) }
     {
-        let done = self.lock().abandon(turn);
+        let mut locked = self.lock();
+        let done = locked.abandon(turn);
+        let discarded = unlock(locked);
         self.inner.ended.notify_all();
+        drop(discarded);
         done
     }
 
@@ -124,7 +132,10 @@ impl<K: Hash + Drop, V: Clone, C: CacheTypes<K, V>, W: Wait> Cache<K, V, C, W> {
     pub fn leave(&self, ticket: Ticket<K>) -> Result<(), Refused>
         ensures cause { IfErr result (λ cause. cause ≡ Refused.UnknownTicket) }
     {
-        self.lock().leave(ticket)
+        let mut locked = self.lock();
+        let done = locked.leave(ticket);
+        drop(unlock(locked));
+        done
     }
 
     /// Returns what came of a ticket's turn. Never waits for a turn.
@@ -146,7 +157,10 @@ impl<K: Hash + Drop, V: Clone, C: CacheTypes<K, V>, W: Wait> Cache<K, V, C, W> {
         ensures handed_back { IfErr result (λ refused.
             ticket_name refused.ticket ≡ ticket_name ticket) }
     {
-        self.lock().collect(ticket)
+        let mut locked = self.lock();
+        let collected = locked.collect(ticket);
+        drop(unlock(locked));
+        collected
     }
 }
 
@@ -167,12 +181,16 @@ impl<K: Hash + Clone + Drop, V: Clone, C: CacheTypes<K, V>, W: Wait> Cache<K, V,
     ) -> Result<Begun<K, V>, Refused>
         requires copies { (a b : K) → K.is_clone a b → K.eq a b ≡ true }
         requires initializer { kind ≢ Kind.Compute }
-        requires asks { IfSome replace_if (λ f. F.IsAlwaysCallable f) }
+        requires asks { IfSome replace_if (TakesKept (C.keeps key.now) F.FnMut) }
         ensures named { (asked : K) × IsAsked K.eq K.is_clone key.now asked
             × IfOk result (IsNamed kind asked) }
         ensures kept { IfOk result (FoundKeeps C.keeps) }
         ensures kept_for { IfOk result (FoundKeepsFor C.keeps key.now) }
     {
-        self.lock().begin_by_ref(key, kind, replace_if)
+        let mut replace_if = replace_if;
+        let mut locked = self.lock();
+        let begun = locked.begin_by_ref(key, kind, replace_if.as_mut());
+        drop(unlock(locked));
+        begun
     }
 }

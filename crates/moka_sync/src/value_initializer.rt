@@ -5,12 +5,12 @@
 //! else does by then.
 ghost use Rattle.std.specs.Prelude.{◌≡◌, ◌≢◌, IfOk, IfSome};
 ghost use Rattle.std.specs.Arc.{arc_value};
-ghost use Rattle.moka_state.specs.Begin.{FoundKeeps, FoundKeepsFor, IsNamed};
+ghost use Rattle.moka_state.specs.Begin.{FoundKeeps, FoundKeepsFor, IsNamed, IsShownKept, TakesKept};
 ghost use Rattle.moka_guarded.specs.Kept.{AnswerFits, GivenKeeps};
+ghost use Rattle.moka_sync.specs.ReplaceIf.{TakesKeptAgain};
 ghost use Rattle.moka_sync.specs.Waiting.{InitializerReplyKeeps, IsShownTurn};
 
-use crate::cache::Cache;
-use crate::entry_forms::none_like;
+use crate::cache::{Cache, unlock};
 use moka_model::entry::Entry;
 use moka_model::turns::Kind;
 use moka_policy::policy::{CacheTypes, Refused};
@@ -62,9 +62,13 @@ impl<K, V, P: FnMut(&V) -> bool> Model for Initializer<K, V, P> {
     ghost use Rattle.moka_model.specs.declared.turns.Kind.TheVariants.{Compute};
     ghost use Rattle.moka_sync.specs.Waiting.{InitializerData};
 
-    ghost Value = { InitializerData K };
+    ghost Value = { InitializerData K P };
 
-    ghost view = { λ it. record { key = arc_value it.key; kind = it.kind } };
+    ghost view = { λ it. record {
+      key = arc_value it.key;
+      kind = it.kind;
+      replace_if = it.replace_if;
+    } };
 
     ghost invariant = { λ it. it.kind ≢ Compute };
 }
@@ -81,7 +85,11 @@ impl<K> Model for Computer<K> {
 impl<K, V, P: FnMut(&V) -> bool> Initializer<K, V, P> {
     fn new(key: Arc<K>, kind: Kind, replace_if: Option<P>) -> Self
         requires { kind ≢ Kind.Compute }
-        ensures { result ≡ record { key = arc_value key; kind = kind } }
+        ensures { result ≡ record {
+          key = arc_value key;
+          kind = kind;
+          replace_if = replace_if;
+        } }
     {
         Initializer {
             key,
@@ -99,8 +107,9 @@ impl<
     W: Wait,
     P: FnMut(&V) -> bool + Drop,
 > Participant<Cache<K, V, C, W>, Answer<K, V, C::Error>> for Initializer<K, V, P> {
-    ghost use Rattle.std.specs.Prelude.{◌≡◌, ⊤};
-    ghost use Rattle.moka_sync.specs.Waiting.{BeginReturns, CollectReturns};
+    ghost use Rattle.std.specs.Prelude.{◌≡◌, ⊤, IfSome};
+    ghost use Rattle.moka_sync.specs.ReplaceIf.{TakesKeptAgain};
+    ghost use Rattle.moka_sync.specs.Waiting.{AsksSame, BeginReturns, CollectReturns};
 
     type Turn = Turn<K>;
 
@@ -108,9 +117,9 @@ impl<
 
     type Refused = Refused;
 
-    ghost ready = { λ _. (state : P) → P.IsAlwaysCallable state };
+    ghost ready = { λ it. IfSome it.replace_if (TakesKeptAgain (C.keeps it.key) P.FnMut) };
 
-    ghost begun = { λ _ old reply new. (new ≡ old) × BeginReturns C.keeps old reply };
+    ghost begun = { λ _ old reply new. AsksSame old new × BeginReturns C.keeps old reply };
 
     ghost collected = { λ _ old ticket reply new. (new ≡ old)
         × CollectReturns C.keeps ticket reply };
@@ -123,15 +132,7 @@ impl<
         &mut self,
         at: &Cache<K, V, C, W>,
     ) -> Result<waiting::Begun<Answer<K, V, C::Error>, Turn<K>, Ticket<K>>, Refused> {
-        let begun = match self.replace_if.take() {
-            Some(replace_if) => {
-                let (begun, replace_if) = at.begin_if(&self.key, self.kind, replace_if);
-                self.replace_if = Some(replace_if);
-                begun
-            }
-            None => at.begin(&self.key, self.kind, none_like(|_: &V| false)),
-        };
-        match begun {
+        match at.begin_reusing(&self.key, self.kind, &mut self.replace_if) {
             Ok(Begun::Found(entry)) => Ok(waiting::Begun::Found(Answer::Entry(entry))),
             Ok(Begun::Run(turn)) => Ok(waiting::Begun::Run(turn)),
             Ok(Begun::Wait(ticket)) => Ok(waiting::Begun::Wait(ticket)),
@@ -200,22 +201,25 @@ impl<K: Hash + Drop, V: Clone, C: CacheTypes<K, V>, W: Wait> Participant<Cache<K
 }
 
 impl<K: Hash + Drop, V: Clone, C: CacheTypes<K, V>, W: Wait> Cache<K, V, C, W> {
-    // Begins, and gives `replace_if` back, so that a later begin can use it again.
-    fn begin_if<P: FnMut(&V) -> bool + Drop>(
+    // Begins, and leaves `replace_if` to the caller, so that a later begin can use it again.
+    pub(crate) fn begin_reusing<P: FnMut(&V) -> bool + Drop>(
         &self,
         key: &Arc<K>,
         kind: Kind,
-        replace_if: P,
-    ) -> (Result<Begun<K, V>, Refused>, P)
+        replace_if: &mut Option<P>,
+    ) -> Result<Begun<K, V>, Refused>
         requires initializer { kind ≢ Kind.Compute }
-        requires shows { (state : P) → P.IsAlwaysCallable state }
-        ensures named { IfOk result.0 (IsNamed kind (arc_value key.now)) }
-        ensures kept { IfOk result.0 (FoundKeeps C.keeps) }
-        ensures kept_for { IfOk result.0 (FoundKeepsFor C.keeps (arc_value key.now)) }
+        requires asks { IfSome replace_if.old (TakesKept (C.keeps (arc_value key.now)) P.FnMut) }
+        ensures named { IfOk result (IsNamed kind (arc_value key.now)) }
+        ensures kept { IfOk result (FoundKeeps C.keeps) }
+        ensures kept_for { IfOk result (FoundKeepsFor C.keeps (arc_value key.now)) }
+        ensures left { IsShownKept (C.keeps (arc_value key.now)) P.FnMut
+            replace_if.old replace_if.new }
     {
-        let mut replace_if = replace_if;
-        let begun = self.begin(key, kind, Some(&mut replace_if));
-        (begun, replace_if)
+        let mut locked = self.lock();
+        let begun = locked.begin(key, kind, replace_if);
+        drop(unlock(locked));
+        begun
     }
 
     // Collects a ticket, and sleeps as long as its turn is open. A waking gives the lock back, and
@@ -229,18 +233,23 @@ impl<K: Hash + Drop, V: Clone, C: CacheTypes<K, V>, W: Wait> Cache<K, V, C, W> {
         let mut ticket = ticket;
         let mut locked = self.lock();
         for _ in self.inner.waits.forever() {
-            match locked.collect(ticket) {
-                Ok(Collected::NotYet(same)) => ticket = same,
-                Ok(Collected::Ready(answer)) => return Ok(Some(answer)),
-                Ok(Collected::Abandoned) => return Ok(None),
-                Ok(Collected::Ended) => return Ok(None),
+            let ended = match locked.collect(ticket) {
+                Ok(Collected::NotYet(same)) => {
+                    ticket = same;
+                    locked = self.inner.ended.wait(&self.inner.waits, locked);
+                    continue;
+                }
+                Ok(Collected::Ready(answer)) => Ok(Some(answer)),
+                Ok(Collected::Abandoned) => Ok(None),
+                Ok(Collected::Ended) => Ok(None),
                 Err(refused) => {
                     let CollectRefused { ticket, cause } = refused;
                     let _ = locked.leave(ticket);
-                    return Err(cause);
+                    Err(cause)
                 }
-            }
-            locked = self.inner.ended.wait(&self.inner.waits, locked);
+            };
+            drop(unlock(locked));
+            return ended;
         }
         unreachable!()
     }
@@ -255,7 +264,8 @@ impl<K: Hash + Drop, V: Clone, C: CacheTypes<K, V>, W: Wait> Cache<K, V, C, W> {
         replace_if: Option<P>,
     ) -> Result<InitializerReply<K, V, C::Error>, Refused>
         requires initializer { kind ≢ Kind.Compute }
-        requires shows { (state : P) → P.IsAlwaysCallable state }
+        requires shows { IfSome replace_if
+            (TakesKeptAgain (C.keeps (arc_value key)) P.FnMut) }
         ensures { IfOk result (InitializerReplyKeeps C.keeps kind (arc_value key)) }
     {
         let mut caller = Initializer::new(key, kind, replace_if);

@@ -9,6 +9,8 @@ mod calls;
 #[cfg(test)]
 mod closures;
 #[cfg(test)]
+mod drops;
+#[cfg(test)]
 mod giving_up;
 #[cfg(test)]
 mod hits;

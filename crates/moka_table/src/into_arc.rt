@@ -5,6 +5,15 @@ ghost use Rattle.std.specs.Arc.{arc_value};
 use std::alloc::Global;
 use std::sync::Arc;
 
+/// A key that a write no longer needs, to be dropped.
+#[derive(Drop)]
+pub enum UnusedKey<K> {
+    /// A key that is not in an `Arc`.
+    Owned(K),
+    /// A key in an `Arc`.
+    Shared(Arc<K>),
+}
+
 /// A key that can be put into an `Arc`.
 pub trait IntoArc<K>: Drop {
     /// The key itself.
@@ -22,6 +31,9 @@ pub trait IntoArc<K>: Drop {
     fn into_arc(self, alloc: Global) -> Result<Arc<K>, Self>
         ensures shared { IfOk result (λ shared. arc_value shared ≡ key_of self) }
         ensures handed_back { IfErr result (λ key. key ≡ self) };
+
+    /// Returns the key as one that is not needed.
+    fn into_unused(self) -> UnusedKey<K>;
 }
 
 /// A key that is not in an `Arc` yet.
@@ -44,6 +56,12 @@ impl<K: Drop> IntoArc<K> for Owned<K> {
             Err(failed) => Err(Owned(failed.value)),
         }
     }
+
+    #[inline(always)]
+    fn into_unused(self) -> UnusedKey<K> {
+        let Owned(key) = self;
+        UnusedKey::Owned(key)
+    }
 }
 
 impl<K: Drop> IntoArc<K> for Arc<K> {
@@ -62,5 +80,10 @@ impl<K: Drop> IntoArc<K> for Arc<K> {
         ensures succeeds { IsOk result }
     {
         Ok(self)
+    }
+
+    #[inline(always)]
+    fn into_unused(self) -> UnusedKey<K> {
+        UnusedKey::Shared(self)
     }
 }

@@ -1,8 +1,9 @@
 //! Lookups of live values: which of them are acceptable to the caller, and what they return.
 ghost use Rattle.std.specs.Prelude.{◌≡◌, Bool, Option, IsSome, IfSome, IfOk, option_map, slice_get};
+ghost use Rattle.std.specs.Fn.{TakesAt};
 ghost use Rattle.moka_model.specs.Entries.{entry_of};
 ghost use Rattle.moka_rows.specs.Rows.{row_under};
-ghost use Rattle.moka_table.specs.LiveEntry.{Accepts, IsSaid, IsEntryOfRow, is_yes};
+ghost use Rattle.moka_table.specs.LiveEntry.{Accepts, IsCalledOnce, IsSaid, IsEntryOfRow, LeavesShown, TakesLiveRow, is_yes};
 ghost use Rattle.moka_table.specs.Notices.{IsNoticeOf};
 ghost use Rattle.moka_table.specs.Table.{entries, removal_of};
 
@@ -13,13 +14,14 @@ use moka_rows::rows::RowStore;
 use std::alloc::AllocError;
 
 // Returns whether there is a closure and it asks to replace the value.
-fn asks_to_replace<V, F: FnMut(&V) -> bool + Drop>(value: &V, replace_if: Option<F>) -> bool
-    requires { IfSome replace_if (λ f. F.IsAlwaysCallable f) }
-    ensures { (said : Option Bool) × IsSaid F.FnMut replace_if value.now said
+fn asks_to_replace<V, F: FnMut(&V) -> bool + Drop>(value: &V, replace_if: &mut Option<F>) -> bool
+    requires { IfSome replace_if.old (λ f. TakesAt F.FnMut f value.now) }
+    ensures says { (said : Option Bool) × IsSaid F.FnMut replace_if.old value.now said
         × (result ≡ is_yes said) }
+    ensures left { IsCalledOnce F.FnMut replace_if.old value.now replace_if.new }
 {
     match replace_if {
-        Some(mut replace_if) => replace_if(value),
+        Some(replace_if) => replace_if(value),
         None => false,
     }
 }
@@ -27,18 +29,21 @@ fn asks_to_replace<V, F: FnMut(&V) -> bool + Drop>(value: &V, replace_if: Option
 impl<K: Eq + Drop, V: Clone, R: RowStore<K, V>> Table<K, V, R> {
     /// Returns the number of a key's row if its value is live at `now` and acceptable.
     ///
-    /// A value is acceptable unless `replace_if` returns `true` for it. `replace_if` is called only
-    /// with a live value.
+    /// A value is acceptable unless `replace_if` returns `true` for it. `replace_if` is called at
+    /// most once, and only with the live value. The caller may call it again later.
     pub fn find_acceptable<F: FnMut(&V) -> bool + Drop>(
         &self,
         key: &K,
         hash: u64,
-        replace_if: Option<F>,
+        replace_if: &mut Option<F>,
         now: u64,
     ) -> Option<usize>
-        requires { IfSome replace_if (λ f. F.IsAlwaysCallable f) }
-        ensures { (said : Option Bool) × Accepts K.eq F.FnMut replace_if key.now hash now
-            (entries self.now) said result }
+        requires { IfSome replace_if.old
+            (TakesLiveRow K.eq F.FnMut key.now hash now (entries self.now)) }
+        ensures accepts { (said : Option Bool) × Accepts K.eq F.FnMut replace_if.old key.now
+            hash now (entries self.now) said result }
+        ensures left { LeavesShown K.eq F.FnMut key.now hash now (entries self.now)
+            replace_if.old replace_if.new }
     {
         let number = self.find(key, hash)?;
         let row = self.row(number);

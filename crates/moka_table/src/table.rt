@@ -8,6 +8,8 @@ ghost use Rattle.moka_rows.specs.Visits.{one_more};
 ghost use Rattle.moka_table.specs.Lookup.{IsLookupOf};
 ghost use Rattle.moka_table.specs.Table.{Contents, entries, weight_of, weight_in, AreShown, SameRows, UsesRow, TakesRow, EvictsOne, IsConsistent};
 
+use crate::into_arc::UnusedKey;
+use moka_deferred::deferred::Deferred;
 use moka_model::notification::{Notice, RemovalCause};
 use moka_rows::rows::{Access, EntryInfo, Order, Previous, Row, RowStore};
 use std::alloc::{AllocError, Global};
@@ -64,6 +66,8 @@ pub struct Table<K: Eq + Drop, V: Drop, R: RowStore<K, V>> {
     may_hide: bool,
     // For at least how many more rows and notices there is room.
     sure: usize,
+    // The key of a write that was not stored, since its row has an equal one.
+    pub(crate) unused_key: Deferred<UnusedKey<K>>,
 }
 
 /// For how many rows room is made at once when there may be none.
@@ -101,6 +105,7 @@ impl<K: Eq + Drop, V: Drop, R: RowStore<K, V>> Table<K, V, R> {
             },
             may_hide: false,
             sure: 0,
+            unused_key: Deferred::new(),
         }
     }
 
@@ -117,6 +122,29 @@ impl<K: Eq + Drop, V: Drop, R: RowStore<K, V>> Table<K, V, R> {
         let mut table = Table::new(alloc);
         table.reserve(capacity)?;
         Ok(table)
+    }
+
+    /// Keeps keys that writes no longer need until they are taken.
+    pub fn defer(&mut self)
+        ensures { self.new ≡ self.old }
+    {
+        self.unused_key.defer();
+    }
+
+    /// Discards a key that a write does not need.
+    #[inline(always)]
+    pub fn discard_key(&mut self, key: UnusedKey<K>)
+        ensures { self.new ≡ self.old }
+    {
+        self.unused_key.discard(key);
+    }
+
+    /// Returns the key that the last write did not need, if it is kept.
+    #[inline(always)]
+    pub fn take_unused_key(&mut self) -> Option<UnusedKey<K>>
+        ensures { self.new ≡ self.old }
+    {
+        self.unused_key.take()
     }
 
     /// Returns the notice that is taken next, if there is one.

@@ -4,8 +4,9 @@ ghost use Rattle.moka_table.specs.WriteSlot.{IsSlotFor, IsSlotNow, HasSlot, IsIn
 ghost use Rattle.moka_expiration.specs.ExpirationPolicy.{IsDated};
 ghost use Rattle.moka_table.specs.Table.{entries, SameRows};
 
-use crate::into_arc::IntoArc;
+use crate::into_arc::{IntoArc, UnusedKey};
 use crate::table::{Lookup, Table};
+use moka_deferred::deferred::Deferred;
 use moka_expiration::behaviour::Behaviour;
 use moka_expiration::expiration_policy::ExpirationPolicy;
 use moka_expiration::view::BehaviourView;
@@ -52,18 +53,26 @@ const FLUSH_POINT: usize = 64;
 
 impl<K: Drop> Lookup<K> {
     /// Returns the slot of a write of a key, given where its row is. A key without a row is put
-    /// into an `Arc`.
+    /// into an `Arc`, and a key with one is discarded.
     ///
     /// # Errors
     ///
     /// - The key itself: an allocation failed.
     #[inline(always)]
-    pub fn slot<S: IntoArc<K>>(self, key: S, alloc: Global) -> Result<WriteSlot<K>, S>
+    pub fn slot<S: IntoArc<K>>(
+        self,
+        key: S,
+        alloc: Global,
+        unused: &mut Deferred<UnusedKey<K>>,
+    ) -> Result<WriteSlot<K>, S>
         ensures slot { IfOk result (IsSlotFor (S.key_of key) self) }
         ensures handed_back { IfErr result (λ back. back ≡ key) }
     {
         match self {
-            Lookup::Stored { number, key } => Ok(WriteSlot::Occupied { number, key }),
+            Lookup::Stored { number, key: own } => {
+                unused.discard(key.into_unused());
+                Ok(WriteSlot::Occupied { number, key: own })
+            }
             Lookup::Absent => match key.into_arc(alloc) {
                 Ok(key) => Ok(WriteSlot::Vacant { key }),
                 Err(key) => Err(key),
@@ -74,18 +83,22 @@ impl<K: Drop> Lookup<K> {
 
 impl<K: Eq + Drop, V: Drop, R: RowStore<K, V>> Table<K, V, R> {
     /// Returns the slot of a write of a key that was looked up before some rows were removed. Its
-    /// own row may be one of them. Does not allocate.
+    /// own row may be one of them. Discards the key if it has a row. Does not allocate.
     #[inline(always)]
-    pub fn slot_now(&self, lookup: Lookup<K>, key: Arc<K>, hash: u64) -> WriteSlot<K>
-        ensures { IsSlotNow K.eq hash lookup key (entries self.now) result }
+    pub fn slot_now(&mut self, lookup: Lookup<K>, key: Arc<K>, hash: u64) -> WriteSlot<K>
+        ensures slot { IsSlotNow K.eq hash lookup key (entries self.old) result }
+        ensures same { self.new ≡ self.old }
     {
         match lookup {
             Lookup::Absent => WriteSlot::Vacant { key },
             Lookup::Stored { key: stored, .. } => match self.find(&*key, hash) {
-                Some(number) => WriteSlot::Occupied {
-                    number,
-                    key: stored,
-                },
+                Some(number) => {
+                    self.unused_key.discard(UnusedKey::Shared(key));
+                    WriteSlot::Occupied {
+                        number,
+                        key: stored,
+                    }
+                }
                 None => WriteSlot::Vacant { key },
             },
         }
@@ -114,7 +127,7 @@ impl<K: Eq + Drop, V: Drop, R: RowStore<K, V>> Table<K, V, R> {
             return Err(key);
         };
         if self.waiting_len() < FLUSH_POINT {
-            match lookup.slot(key, alloc) {
+            match lookup.slot(key, alloc, &mut self.unused_key) {
                 Ok(slot) => Ok(WritePlan::Now(slot)),
                 Err(key) => Err(key),
             }

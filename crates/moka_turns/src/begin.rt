@@ -62,6 +62,7 @@ impl<K: Eq + Drop, V: Clone, E: Drop> TurnTable<K, V, E> {
             return self.wait_for(key, may_wait);
         }
         if number == u64::MAX {
+            self.discards.key.discard(key);
             return Err(Refused::NumbersUsedUp);
         }
         self.open(key, number)
@@ -130,7 +131,10 @@ impl<K: Eq + Drop, V: Clone, E: Drop> TurnTable<K, V, E> {
     {
         match self.wait(&key) {
             Some(number) => Ok(Ticket { key, number }),
-            None => Err(Refused::NumbersUsedUp),
+            None => {
+                self.discards.key.discard(key);
+                Err(Refused::NumbersUsedUp)
+            }
         }
     }
 
@@ -190,22 +194,26 @@ impl<K: Eq + Drop, V: Clone, E: Drop> TurnTable<K, V, E> {
         ensures unchanged { OnErr result (IsUnchanged self.old.opened self.new.opened
             × IsUnchanged self.old.ended self.new.ended) }
     {
+        let turn = OpenTurn {
+            number,
+            shown,
+            saved,
+            unspent: 0,
+        };
         let Ok(()) = self.reserve() else {
+            self.discards.key.discard(key);
+            self.discards.opened.discard(turn);
             return Err(Refused::OutOfMemory);
         };
         let Ok(shared) = key.key.clone() else {
+            self.discards.key.discard(key);
+            self.discards.opened.discard(turn);
             return Err(Refused::OutOfMemory);
         };
         let own = TurnKey {
             hash: key.hash,
             kind: key.kind,
             key: shared,
-        };
-        let turn = OpenTurn {
-            number,
-            shown,
-            saved,
-            unspent: 0,
         };
         self.add(key, turn);
         Ok(Turn { key: own, number })

@@ -4,6 +4,7 @@
 
 pub mod begin;
 pub mod by_name;
+pub mod discards;
 pub mod handles;
 pub mod table;
 pub mod turn_key;

@@ -12,6 +12,7 @@ ghost use Rattle.moka_turns.specs.CollectState.{IsTold, IfNotYet, IfEnded, IsUns
 ghost use Rattle.moka_turns.specs.Open.{IsOpenAs, IsOpenWith, IsOpenFor};
 ghost use Rattle.moka_turns.specs.Table.{with_unspent, one_less, retained_ended, HasRoom};
 
+use crate::discards::TurnDiscards;
 use crate::handles::{CollectRefused, Ticket, Turn};
 use crate::turn_key::TurnKey;
 use indexmap::IndexMap;
@@ -82,6 +83,8 @@ pub enum CollectState<K, V, E> {
 pub struct TurnTable<K: Eq + Drop, V: Drop, E: Drop> {
     opened: Open<K, V>,
     ended: Ended<K, V, E>,
+    /// What calls no longer need.
+    pub discards: TurnDiscards<K, V, E>,
     ghost room: { index_map_len opened ≤ spare ended },
 }
 
@@ -95,6 +98,7 @@ impl<K: Eq + Drop, V: Drop, E: Drop> TurnTable<K, V, E> {
         TurnTable {
             opened: IndexMap::with_hasher(alloc, BuildHasherDefault::new()),
             ended: IndexMap::with_hasher(alloc, BuildHasherDefault::new()),
+            discards: TurnDiscards::new(),
         }
     }
 
@@ -168,6 +172,8 @@ impl<K: Eq + Drop, V: Drop, E: Drop> TurnTable<K, V, E> {
                 Ok(_) => {}
                 Err(_) => unreachable!(),
             }
+        } else {
+            self.discards.key.discard(key);
         }
         turn
     }
@@ -200,6 +206,18 @@ impl<K: Eq + Drop, V: Drop, E: Drop> TurnTable<K, V, E> {
             ended.unspent -= 1;
         }
         None
+    }
+
+    // Spends a ticket of an ended turn, and discards the turn if it was the last one.
+    fn spend_ended(&mut self, number: u64)
+        requires { IsSome (get nat_eq self.old.ended number) }
+        ensures spent { IfSome (get nat_eq self.old.ended number)
+            (λ turn. Updates nat_eq self.old.ended self.new.ended number (retained_ended (one_less turn))) }
+        ensures opened { self.new.opened ≡ self.old.opened }
+    {
+        if let Some(ended) = self.leave_ended(number) {
+            self.discards.ended.discard(ended);
+        }
     }
 
     // Returns whether an ended turn has at most one unspent ticket.
@@ -284,9 +302,11 @@ impl<K: Eq + Drop, V: Clone, E: Drop> TurnTable<K, V, E> {
     {
         let Turn { key, number } = turn;
         if !self.is_open(&key, number) {
+            self.discards.key.discard(key);
             return false;
         }
-        self.end(key, TurnEnd::Abandoned);
+        let ended = self.end(key, TurnEnd::Abandoned);
+        self.discards.opened.discard(ended);
         true
     }
 
@@ -334,12 +354,15 @@ impl<K: Eq + Drop, V: Clone, E: Drop> TurnTable<K, V, E> {
         let Ticket { key, number } = ticket;
         if self.is_awaited(&key, number) {
             self.leave_open(&key);
+            self.discards.key.discard(key);
             return true;
         }
         if self.is_ended_for(&key, number) {
-            self.leave_ended(number);
+            self.spend_ended(number);
+            self.discards.key.discard(key);
             return true;
         }
+        self.discards.key.discard(key);
         false
     }
 
@@ -451,7 +474,7 @@ impl<K: Eq + Drop, V: Clone, E: Drop> TurnTable<K, V, E> {
             return Err(CollectRefused { ticket, cause });
         };
         let Ticket { key, number } = ticket;
-        self.leave_ended(number);
+        self.spend_ended(number);
         let TurnKey { key, .. } = key;
         Ok(CollectState::Ended(key, end))
     }
@@ -514,7 +537,11 @@ impl<K: Eq + Drop, V: Clone, E: Drop> TurnTable<K, V, E> {
         let Turn { key, number: _ } = turn;
         match end {
             Some(end) => self.end(key, end),
-            None => self.close(&key),
+            None => {
+                let opened = self.close(&key);
+                self.discards.key.discard(key);
+                opened
+            }
         }
     }
 

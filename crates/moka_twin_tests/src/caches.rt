@@ -129,19 +129,14 @@ pub(crate) struct Heard<W> {
     pub alloc: Global,
 }
 
-/// A shared cache, a clone of it, and what its listener heard. The calls go through the two by
-/// turns.
+/// A shared cache, and what its listener heard.
 #[derive(Drop)]
 pub(crate) struct SharedNumbers<W: Wait + Drop> {
-    /// The one that the next call goes through.
     pub cache: Numbers<W>,
-    /// The one that the call behind it goes through.
-    pub other: Numbers<W>,
     pub heard: Heard<W>,
 }
 
-/// The same with four segments and no second cache. Each call goes through a clone of the cache of
-/// the call before: with two such caches in one struct the prover runs out of steps.
+/// The same with four segments.
 #[derive(Drop)]
 pub(crate) struct SharedSegments<W: Wait + Drop> {
     pub cache: SegmentedNumbers<W>,
@@ -196,6 +191,16 @@ impl<W: Wait + Copy + Drop> Heard<W> {
 
     fn clock(&self) -> Result<Clock, AllocError> {
         Ok(self.clock.clone()?)
+    }
+
+    /// Returns the same clock and the same queue.
+    fn share(&self) -> Result<Self, AllocError> {
+        Ok(Heard {
+            clock: self.clock.clone()?,
+            queue: self.queue.clone()?,
+            waits: self.waits,
+            alloc: self.alloc,
+        })
     }
 
     /// Returns the listener that fills this queue.
@@ -253,12 +258,31 @@ pub(crate) fn cache<W: Wait + Copy + Drop>(rt: W, alloc: Global) -> Result<Share
         Err(BuildError::OutOfMemory) => create_cache(&heard)?,
         built => built?,
     };
-    let other = cache.clone()?;
-    Ok(SharedNumbers {
-        cache,
-        other,
-        heard,
-    })
+    Ok(SharedNumbers { cache, heard })
+}
+
+/// A shared cache that can be cloned, with what its listener heard.
+pub(crate) trait Shares: Sized {
+    /// Clones the cache. Both have the same clock and the same listener.
+    fn share(&self) -> Result<Self, AllocError>;
+}
+
+impl<W: Wait + Copy + Drop> Shares for SharedNumbers<W> {
+    fn share(&self) -> Result<Self, AllocError> {
+        Ok(SharedNumbers {
+            cache: self.cache.clone()?,
+            heard: self.heard.share()?,
+        })
+    }
+}
+
+impl<W: Wait + Copy + Drop> Shares for SharedSegments<W> {
+    fn share(&self) -> Result<Self, AllocError> {
+        Ok(SharedSegments {
+            cache: self.cache.clone()?,
+            heard: self.heard.share()?,
+        })
+    }
 }
 
 fn create_segmented_cache<W: Wait + Copy + Drop>(

@@ -16,13 +16,11 @@ use moka::sync::value_initializer::{Kind, Ticket, Turn};
 use rand_core::SeedableRng;
 use rand_xoshiro::SplitMix64;
 use std::alloc::Global;
-use std::mem;
 use std::sync::{Arc, Wait};
 
 impl<W: Wait + Drop> Subject for SharedNumbers<W> {
     fn set_moment(&mut self, now: u64) {
         self.heard.set(now);
-        mem::swap(&mut self.cache, &mut self.other);
     }
 
     fn next_removal(&mut self) -> Option<Left> {

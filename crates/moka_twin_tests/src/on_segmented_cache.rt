@@ -19,9 +19,6 @@ use std::sync::{Arc, Wait};
 impl<W: Wait + Drop> Subject for SharedSegments<W> {
     fn set_moment(&mut self, now: u64) {
         self.heard.set(now);
-        if let Ok(clone) = self.cache.clone() {
-            self.cache = clone;
-        }
     }
 
     fn next_removal(&mut self) -> Option<Left> {

@@ -9,18 +9,16 @@ use std::process::Abort;
 use std::sync::Wait;
 use std::test::Fail;
 
-/// Compares a cache with its twin by a list, with keys passed by value.
+/// Compares a cache with its twin by a list, with keys passed by value or by reference.
 fn compare_cache<W: Wait + Abort + Copy + Drop>(
     rt: W,
     alloc: Global,
     calls: &[Timed],
+    is_lent: bool,
 ) -> Result<(), Fail> {
     let mut twin = state(alloc)?;
     let mut shared = cache(rt, alloc)?;
-    let pass = Pass {
-        from: 0,
-        is_lent: false,
-    };
+    let pass = Pass { from: 0, is_lent };
     let mut causes = Causes::NONE;
     reply_alike(&rt, alloc, &mut shared, &mut twin, calls, pass, &mut causes)
 }
@@ -44,31 +42,43 @@ fn compare_segments<W: Wait + Abort + Copy + Drop>(
 /// A call about one key changes nothing if an allocation fails.
 #[test]
 fn a_refused_call_of_a_key_changes_nothing(rt: HostRuntime) -> Result<(), Fail> {
-    compare_cache(rt, rt.alloc(), &KEYS)
+    compare_cache(rt, rt.alloc(), &KEYS, false)
 }
 
 /// A call about all keys changes nothing if an allocation fails.
 #[test]
 fn a_refused_call_of_all_changes_nothing(rt: HostRuntime) -> Result<(), Fail> {
-    compare_cache(rt, rt.alloc(), &OF_ALL)
+    compare_cache(rt, rt.alloc(), &OF_ALL, false)
 }
 
 /// A loader changes nothing if an allocation fails.
 #[test]
 fn a_refused_form_changes_nothing(rt: HostRuntime) -> Result<(), Fail> {
-    compare_cache(rt, rt.alloc(), &FORMS)
+    compare_cache(rt, rt.alloc(), &FORMS, false)
 }
 
 /// A call of a selector changes nothing if an allocation fails.
 #[test]
 fn a_refused_call_of_a_selector_changes_nothing(rt: HostRuntime) -> Result<(), Fail> {
-    compare_cache(rt, rt.alloc(), &SELECTORS)
+    compare_cache(rt, rt.alloc(), &SELECTORS, false)
+}
+
+/// A loader with its key by reference changes nothing if an allocation fails.
+#[test]
+fn a_refused_form_by_reference_changes_nothing(rt: HostRuntime) -> Result<(), Fail> {
+    compare_cache(rt, rt.alloc(), &FORMS, true)
+}
+
+/// A call of a selector with its key by reference changes nothing if an allocation fails.
+#[test]
+fn a_refused_selector_by_reference_changes_nothing(rt: HostRuntime) -> Result<(), Fail> {
+    compare_cache(rt, rt.alloc(), &SELECTORS, true)
 }
 
 /// A call about a turn changes nothing if an allocation fails.
 #[test]
 fn a_refused_call_of_a_turn_changes_nothing(rt: HostRuntime) -> Result<(), Fail> {
-    compare_cache(rt, rt.alloc(), &TURNS)
+    compare_cache(rt, rt.alloc(), &TURNS, false)
 }
 
 /// With segments, a call about one key changes nothing if an allocation fails.

@@ -1,7 +1,7 @@
-//! Runs a cache and its twin side by side. After each call of a list their results and their
-//! removals agree.
+//! Runs a cache, by turns with a clone of it, and their twin side by side. After each call of a list
+//! the results and the removals agree.
 
-use crate::caches::ROOM;
+use crate::caches::{ROOM, Shares};
 use crate::calls::{All, Call};
 use crate::lists::Timed;
 use crate::returned::NO_MEMORY;
@@ -47,8 +47,9 @@ pub(crate) struct Pass {
     pub is_lent: bool,
 }
 
-/// Makes each call of a list on both, and checks that they agree.
-pub(crate) fn reply_alike<S: Subject + Turns, T: Subject + Turns>(
+/// Makes each call of a list on a shared cache and on its twin, and checks that they agree. The
+/// calls go through the cache and a clone of it by turns.
+pub(crate) fn reply_alike<S: Subject + Turns + Shares + Drop, T: Subject + Turns>(
     rt: &impl Abort,
     alloc: Global,
     shared: &mut S,
@@ -57,17 +58,37 @@ pub(crate) fn reply_alike<S: Subject + Turns, T: Subject + Turns>(
     pass: Pass,
     causes: &mut Causes,
 ) -> Result<(), Fail> {
-    for (second, call) in calls {
-        let now = pass.from.wrapping_add(*second).wrapping_mul(1_000_000_000);
-        shared.set_moment(now);
-        twin.set_moment(now);
-        if let Call::Walk = call {
-            walk_alike(rt, shared, twin)?;
+    let mut clone = shared.share()?;
+    for (place, timed) in calls.iter().enumerate() {
+        if place % 2 == 0 {
+            timed_alike(rt, alloc, shared, twin, *timed, pass, causes)?;
         } else {
-            call_alike(rt, alloc, shared, twin, *call, pass.is_lent)?;
+            timed_alike(rt, alloc, &mut clone, twin, *timed, pass, causes)?;
         }
-        hear_alike(rt, shared, twin, *call, causes);
     }
+    Ok(())
+}
+
+/// Makes a call on both at its moment, and checks that they agree.
+fn timed_alike<S: Subject + Turns, T: Subject + Turns>(
+    rt: &impl Abort,
+    alloc: Global,
+    shared: &mut S,
+    twin: &mut T,
+    timed: Timed,
+    pass: Pass,
+    causes: &mut Causes,
+) -> Result<(), Fail> {
+    let (second, call) = timed;
+    let now = pass.from.wrapping_add(second).wrapping_mul(1_000_000_000);
+    shared.set_moment(now);
+    twin.set_moment(now);
+    if let Call::Walk = call {
+        walk_alike(rt, shared, twin)?;
+    } else {
+        call_alike(rt, alloc, shared, twin, call, pass.is_lent)?;
+    }
+    hear_alike(rt, shared, twin, call, causes);
     Ok(())
 }
 

@@ -1,6 +1,6 @@
 //! Each shared cache returns the same as its twin, in all its calls.
 
-use crate::caches::{NAME, cache, segmented_cache, segmented_state, state};
+use crate::caches::{NAME, Shares, cache, segmented_cache, segmented_state, state};
 use crate::lists::{FORMS, KEYS, OF_ALL, SELECTORS, TURNS, Timed};
 use crate::side_by_side::{Causes, Pass, reply_alike};
 use crate::subject::Subject;
@@ -16,7 +16,7 @@ const LISTS: [&[Timed]; 5] = [&KEYS, &OF_ALL, &FORMS, &SELECTORS, &TURNS];
 
 /// Runs all lists on both, with keys by value and by reference. Checks that removals had every
 /// cause.
-fn are_twins<S: Subject + Turns, T: Subject + Turns>(
+fn are_twins<S: Subject + Turns + Shares + Drop, T: Subject + Turns>(
     rt: &impl Abort,
     alloc: Global,
     shared: &mut S,

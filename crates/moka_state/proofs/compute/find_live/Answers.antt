@@ -8,13 +8,13 @@ returns-then-is_dead g c =
     let dead = sym (ap (λ (i : EntryInfo). i.is_hidden || has_come i.deadline c.args.now) c.info.ensures) ∙ sym c.is_dead.ensures ∙ c.if-is_dead.true in
     inr (c.in-Some.number, c.row-row.result.now, c.row-row.ensures, rw c.row-row.ensures at c.in-Some.ensures.found, ap not dead)
 
-pub returns : goal.returns
-returns g c =
+pub returns-in-Ok : goal.returns-in-Ok
+returns-in-Ok g c =
     let alive = sym (ap (λ (i : EntryInfo). i.is_hidden || has_come i.deadline c.args.now) c.info.ensures) ∙ sym c.is_dead.ensures ∙ c.if-is_dead.false in (
       c.row-row.result.now,
       c.row-row.ensures,
       rw c.row-row.ensures at c.in-Some.ensures.found,
       ap not alive,
       rw c.row-row.ensures at c.in_ok-entry.ensures,
-      c.in_ok-saved.ensures,
+      c.in-Ok.ensures,
     )

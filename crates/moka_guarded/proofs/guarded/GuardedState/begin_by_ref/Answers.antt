@@ -12,3 +12,7 @@ invariant_of-self g c =
 
 pub returns-clause-step : goal.returns-clause-step
 returns-clause-step g c = rw (← c.self.view_is) (c.now-now.result, c.now-now.ensures, c.begin_by_ref.ensures.begins)
+
+-- The call's moment is one of those that the closure may be called at.
+pub begin_by_ref-requires-clause-asks : goal.begin_by_ref-requires-clause-asks
+begin_by_ref-requires-clause-asks g c = rw (← c.self.view_is) at (c.requires.asks c.now-now.result)

@@ -11,3 +11,7 @@ invariant_of-self g c =
 
 pub returns-clause-step : goal.returns-clause-step
 returns-clause-step g c = rw (← c.self.view_is) (c.now-now.result, c.now-now.ensures, c.acceptable_entry.ensures.looks)
+
+-- The call's moment is one of those that the closure may be called at.
+pub acceptable_entry-requires-clause-asks : goal.acceptable_entry-requires-clause-asks
+acceptable_entry-requires-clause-asks g c = rw (← c.self.view_is) at (c.requires.asks c.now-now.result)

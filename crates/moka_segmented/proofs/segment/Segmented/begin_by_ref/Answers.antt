@@ -1,4 +1,5 @@
-use Rattle.std.proofs.Common.{true, refl}
+use Rattle.std.proofs.Common.{true, refl, length}
+use Rattle.std.proofs.lemmas.Option.{slice_get_read}
 use Rattle.std.specs.Arc.{arc_value}
 use Rattle.moka_expiration.specs.Behaviour.{hash_by, behaviour_by}
 use Rattle.moka_expiration.specs.StateData.{estimates}
@@ -9,7 +10,7 @@ use Rattle.moka_segmented.specs.SegmentedData.{SegmentedData, data_of, segmented
 use Rattle.moka_segmented.proofs.Asked.{routed-asked}
 use Rattle.moka_segmented.proofs.Forms.{hash-alike, routing-alike}
 use Rattle.moka_segmented.proofs.Hashing.{all-hash-set}
-use Rattle.moka_segmented.proofs.Routed.{OnOk-by, OnErr-by, Routing, routed-follows, routed-history, data-same}
+use Rattle.moka_segmented.proofs.Routed.{IfSome-by, OnOk-by, OnErr-by, Routing, routed-follows, routed-history, data-same}
 use Rattle.moka_segmented.proofs.segment.Segmented.begin_by_ref.Goals as goal
 
 pub returns-clause-begins : goal.returns-clause-begins
@@ -49,3 +50,12 @@ pub invariant_of-self : goal.invariant_of-self
 invariant_of-self g c =
     let it = c.self.inside in
     all-hash-set _ it.segments.items c.place_of-place.result.index c.index_mut.result.now c.begin_by_ref.new.self c.index_mut.ensures.value c.begin_by_ref.ensures.settings c.self.invariant
+
+-- the segment is one of the segments
+pub begin_by_ref-requires-clause-asks : goal.begin_by_ref-requires-clause-asks
+begin_by_ref-requires-clause-asks g c =
+    let it = c.self.inside in
+    let within = rw (← c.self.view_is) at c.place_of-place.ensures.within in
+    let here = slice_get_read it.segments.items (length it.segments.items) c.place_of-place.result.index c.index_mut.result.now refl within c.index_mut.ensures.value in
+    let asks = rw (← c.self.view_is) at c.requires.asks in
+    IfSome-by c.args.replace_if (λ f takes. takes c.place_of-place.result.index c.index_mut.result.now here) asks

@@ -1,13 +1,30 @@
-use Rattle.std.proofs.Common.{◌≡◌, ◌<◌, length, Some, ap, sym, ◌∙◌, refl, arith, ⊎_elim}
+use Rattle.std.proofs.Common.{◌≡◌, ◌<◌, ◌^◌, length, Some, ap, sym, ◌∙◌, refl, arith, ⊎_elim}
 use Rattle.std.specs.List.{slice_get}
 use Rattle.std.proofs.lemmas.Bool.Decides.{eqb_tells}
 use Rattle.std.proofs.lemmas.Option.{slice_get_read, slice_get_past}
-use Rattle.moka_expiration.specs.StateData.{StateData}
+use Rattle.moka_expiration.specs.StateData.{SettingsData, StateData}
 use Rattle.moka_segmented.specs.SegmentedData.{SegmentedData, data_of}
-use Rattle.moka_segmented.proofs.Hashing.{all-hash-by}
+use Rattle.moka_segmented.proofs.Hashing.{all-hash-by, all-hash-set}
 use Rattle.moka_segmented.proofs.Broadcast.{below-or-past}
 use Rattle.moka_segmented.proofs.Routed.{not-both, set-same, same-data}
 use Rattle.moka_segmented.proofs.segment.Segmented.check_closures_enabled.Goals as goal
+
+pub loop-index-init : goal.loop-index-init
+loop-index-init g c =
+    rw (← c.self.view_is) (record { bits = refl; settings = refl; hashed = c.self.invariant.3; same = refl; supported = λ i lt. absurd (let no : ⊥ = omega (arith, lt) in no) })
+
+pub invariant_of-self-in_err-predicate_room : goal.invariant_of-self-in_err-predicate_room
+invariant_of-self-in_err-predicate_room g c =
+    let was = c.loop-index.invariant in
+    let now = c.loop-index.self-inside.segments.items in
+    let bits : c.loop-index.self-inside.bits ≡ c.self.inside.bits = was.bits ∙ sym (ap (λ (d : SegmentedData _ _ _ _ _ _ _). d.bits) c.self.view_is) in
+    let settings = was.settings ∙ sym (ap (λ (d : SegmentedData _ _ _ _ _ _ _). d.settings) c.self.view_is) in
+    let limit : c.loop-index.self-inside.settings.flush_limit ≡ c.self.inside.settings.flush_limit = ap (λ (it : SettingsData _ _ _). it.flush_limit) settings in
+    let items = was.same ∙ sym (ap (λ (d : SegmentedData _ _ _ _ _ _ _). d.segments) c.self.view_is) in
+    let count = ap length items ∙ c.self.invariant.1 ∙ ap (λ n. 2 ^ n) (sym bits) in
+    all-hash-set _ now c.loop-index.index c.index_mut.result.now c.predicate_room.new.self c.index_mut.ensures.value
+    (ap (λ (state : StateData _ _ _ _ _ _ _). state.settings) c.predicate_room.ensures.same)
+    (rw bits c.self.invariant.0, count, rw limit c.self.invariant.2, was.hashed)
 
 pub loop-index-preserved : goal.loop-index-preserved
 loop-index-preserved g c =

@@ -1,4 +1,5 @@
-use Rattle.std.proofs.Common.{Some, option_map}
+use Rattle.std.proofs.Common.{Some, option_map, refl, length}
+use Rattle.std.proofs.lemmas.Option.{slice_get_read}
 use Rattle.moka_model.specs.declared.turns.Kind.TheVariants.{With}
 use Rattle.moka_model.specs.declared.turns.Outcome.TheVariants.{Value}
 use Rattle.moka_model.specs.Steps.{events_in}
@@ -39,3 +40,12 @@ pub invariant_of-self : goal.invariant_of-self
 invariant_of-self g c =
     let it = c.self.inside in
     all-hash-set _ it.segments.items c.place_of-place.result.index c.index_mut.result.now c.get_with_if.new.self c.index_mut.ensures.value c.get_with_if.ensures.settings c.self.invariant
+
+-- the segment is one of the segments
+pub get_with_if-requires-clause-shows : goal.get_with_if-requires-clause-shows
+get_with_if-requires-clause-shows g c =
+    let it = c.self.inside in
+    let within = rw (← c.self.view_is) at c.place_of-place.ensures.within in
+    let here = slice_get_read it.segments.items (length it.segments.items) c.place_of-place.result.index c.index_mut.result.now refl within c.index_mut.ensures.value in
+    let shows = rw (← c.self.view_is) at c.requires.shows in
+    shows c.place_of-place.result.index c.index_mut.result.now here

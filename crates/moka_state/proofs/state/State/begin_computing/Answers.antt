@@ -201,7 +201,7 @@ returns-clause-begins g c = record {
       let opened = none-open eq g.V.Clone.is_clone hash_of (turns steps) _ _ keeps q hash c.is_awaitable.result c.is_awaitable.ensures c.if-is_awaitable.false in
       let shown = rw (c.deref.ensures, c.max-now.ensures, c.in-Some.is) at c.in-Ok.ensures in
       let it = shows-live eq g.V.Clone.is_clone laws _ s.table _ s.latest s.next_number given steps there s.housekeeper.lives refl c.self.invariant.0.dated hash_of alike c.self.invariant.0.hashed key c.args.keep c.args.now c.args.hash hash (omega (arith, c.max-now.ensures)) c.in-Some.shown shown in
-      compute-runs eq g.V.Clone.is_clone g.V.Clone.is_infallible given steps key c.args.keep c.args.now opened s.next_number counted c.if-next.false (turn_name c.in_ok-turn-2.turn) c.in_ok-turn-2.ensures.name (Some (stored_write it.0)) it.1 (Some (entry_of c.in-Some.shown.entry)) it.2;
+      compute-runs eq g.V.Clone.is_clone g.V.Clone.is_infallible given steps key c.args.keep c.args.now opened s.next_number counted c.if-next.false (turn_name c.in-Ok-open_shown.turn) c.in-Ok-open_shown.ensures.name (Some (stored_write it.0)) it.1 (Some (entry_of c.in-Some.shown.entry)) it.2;
   stands = λ given steps stands.
       let s = c.self.inside in
       let eq = g.K.PartialEq.eq in
@@ -220,7 +220,7 @@ returns-clause-begins g c = record {
       let it = shows-live eq g.V.Clone.is_clone laws _ s.table _ s.latest s.next_number given steps there s.housekeeper.lives refl c.self.invariant.0.dated hash_of alike c.self.invariant.0.hashed key c.args.keep c.args.now c.args.hash hash (omega (arith, c.max-now.ensures)) c.in-Some.shown shown in
       let becomes = shows-hit eq g.V.Clone.is_clone laws _ s.table _ s.latest s.next_number given steps there s.housekeeper.lives refl c.self.invariant.0.dated hash_of alike c.self.invariant.0.hashed key c.args.keep c.args.now c.args.hash hash (omega (arith, c.max-now.ensures)) c.in-Some.shown c.hit.new.table shown (rw c.max-now.ensures at c.hit.ensures.used) c.hit.ensures.notices _ (estimates-noted g.C.Frequency.FrequencySource.noted g.C.Frequency.FrequencySource.count s.housekeeper.source c.hit.new.self.source c.args.hash _ c.hit.ensures.noted hash) in
       let value : Option g.row.V.Denot = cond c.args.keep (Some it.0.value) None in
-      let left = c.in_ok-turn-2.ensures.opens hash_of (turns steps) value alike hash it.3 keeps in
+      let left = c.in-Ok-open_shown.ensures.opens hash_of (turns steps) value alike hash it.3 keeps in
       rw (c.hit.ensures.lives, c.hit.ensures.max_capacity, c.max-now.ensures) (move-stands eq given _ _ _ steps there (BeginCompute key c.args.keep c.args.now) (Drawn ∷ Looked key c.args.now ∷ []) _
       (after-compute-runs eq g.V.Clone.is_clone g.V.Clone.is_infallible given steps key c.args.keep c.args.now opened s.next_number counted (Some (stored_write it.0)) it.1) _
       (view-becomes eq laws given _ _ _ Drawn

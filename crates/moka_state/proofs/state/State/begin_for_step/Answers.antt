@@ -1,4 +1,4 @@
-use Rattle.std.proofs.Common.{false, unwrap_or, ap, ◌∙◌}
+use Rattle.std.proofs.Common.{false, unwrap_or, ap, ◌∙◌, [], ◌∷◌}
 use Rattle.std.specs.Arc.{arc_value}
 use Rattle.moka_model.specs.Calls.{Begin, live_at}
 use Rattle.moka_model.specs.Steps.{events_in}
@@ -36,3 +36,7 @@ returns-in-None-clause-stands g c =
     rw c.in-None.is (OnOk-by c.begin-in-None.result (λ follows given steps stands.
     let nothing = unasked g.F.FnMut (live_at g.K.PartialEq.eq given (arc_value c.args.key.now) c.args.now (events_in steps)) begins.0 (begins.1.reply given steps stands).0 in
     rw nothing at (follows given steps stands)) begins.1.stands)
+
+-- What may always be called may be called at the live value.
+pub begin-requires-clause-asks : goal.begin-requires-clause-asks
+begin-requires-clause-asks g c = λ w stored same live kept y shows. (c.requires.asks.at ((y, tt) ∷ [])).0

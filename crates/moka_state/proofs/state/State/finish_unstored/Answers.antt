@@ -63,10 +63,10 @@ returns-in_default-new g c = rw c.refusal-in_default-new.ensures (record {
       finish-memory eq given steps (turn_name c.args.turn) (Value c.args.value) c.args.now c.requires.fits g.V.Clone.is_clone g.V.Clone.is_infallible t.0 t.1 tt (λ out. left out);
   stands = tt;
   given = tt;
-  refused = refl;
+  refused = rw (← c.self.view_is) refl;
   turn_back = c.with_hash-turn.ensures.name;
   outcome_back = refl;
-  settings = refl;
+  settings = rw (← c.self.view_is) refl;
 })
 
 pub returns : goal.returns

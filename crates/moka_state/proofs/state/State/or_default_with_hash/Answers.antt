@@ -14,7 +14,7 @@ returns-in-Ok-Some-clause-ends g c =
     let value = c.default-value.result in (
       value,
       c.default-value.ensures,
-      record {
+      rw c.discard_key.ensures (record {
         reply = λ given steps stands.
             let it = looks.1.reply given steps stands in
             let begins = rw (unsaid _ _ _ looks.0 c.none_like.ensures it.0) at (it.1 With (λ no. cc)) in
@@ -23,9 +23,9 @@ returns-in-Ok-Some-clause-ends g c =
             let it = looks.1.reply given steps stands in
             let said = unsaid _ _ _ looks.0 c.none_like.ensures it.0 in
             let begins = rw said at (it.1 With (λ no. cc)) in
-            subst (StandsFor eq g.V.Clone.is_clone given _) (or-used eq g.V.Clone.is_clone g.V.Clone.is_infallible given steps key value c.args.now (entry_of c.in-Ok-Some.found) begins) (rw said at (looks.1.stands With (λ no. cc) given steps stands));
+            subst (StandsFor eq g.V.Clone.is_clone given _) (or-used eq g.V.Clone.is_clone g.V.Clone.is_infallible given steps key value c.args.now (entry_of c.in-Ok-Some.found) begins) (rw (said, ← c.self.view_is) at (looks.1.stands With (λ no. cc) given steps stands));
         refused = tt;
-      },
+      }),
     )
 
 pub returns-in-Ok-None-clause-ends : goal.returns-in-Ok-None-clause-ends

@@ -21,7 +21,7 @@ returns-in-Ok-Some-clause-ends g c =
           let it = looks.1.reply given steps stands in
           let said = unsaid _ _ _ looks.0 c.none_like.ensures it.0 in
           let begins = rw said at (it.1 With (λ no. cc)) in
-          subst (StandsFor eq g.V.Clone.is_clone given _) (or-used eq g.V.Clone.is_clone g.V.Clone.is_infallible given steps key c.args.value c.args.now (entry_of c.in-Ok-Some.entry) begins) (rw said at (looks.1.stands With (λ no. cc) given steps stands));
+          subst (StandsFor eq g.V.Clone.is_clone given _) (or-used eq g.V.Clone.is_clone g.V.Clone.is_infallible given steps key c.args.value c.args.now (entry_of c.in-Ok-Some.entry) begins) (rw (said, ← c.self.view_is) at (looks.1.stands With (λ no. cc) given steps stands));
       refused = tt;
     }
 

@@ -18,7 +18,7 @@ pub returns-then-eq-clause-ends : goal.returns-then-eq-clause-ends
 returns-then-eq-clause-ends g c =
     let s = c.self.inside in
     let nothing = nothing-at s.housekeeper.max_capacity c.if-eq.ensures in
-    rw (← c.self.view_is, c.max-self-inside.ensures) (record {
+    rw (← c.self.view_is, c.max-self-inside.ensures, c.discard_key.ensures) (record {
       stands = λ given steps stands.
           stands-after g.K.PartialEq.eq given _ steps stands (Insert (g.S.IntoArc.key_of c.args.key) c.args.value c.args.now) _ _ refl
           (view-nothing g.K.PartialEq.eq g.met.K.Eq.laws given _ (events_in steps) (view-of g.K.PartialEq.eq given _ steps stands) _ (g.S.IntoArc.key_of c.args.key) c.args.value c.args.now nothing

@@ -48,7 +48,7 @@ returns-clause-collects g c hash_of ts respects compose hashed sound keeps =
     let named = kept eq laws copies hash_of respects ts sound _ _ keeps q hashed number row.0 row.1 row.2 in
     let its = ended-number eq laws copies hash_of respects ts sound _ _ keeps q hashed number row.0 row.1 in
     let it = the_ended eq laws copies hash_of respects ts sound _ _ keeps q hashed number row.0 row.1 in
-    rw (named, c.leave_ended.ensures.opened, its) (
+    rw (named, c.spend_ended.ensures.opened, its) (
       copied-twice copies compose _ _ _ it.2.end (given-there _ _ row.0 row.1 c.in-Ok.ensures.copy),
-      leave-keeps eq laws copies hash_of respects ts sound _ _ keeps q hashed number row.0 row.1 _ (given-there _ _ row.0 row.1 c.leave_ended.ensures.spent).0,
+      leave-keeps eq laws copies hash_of respects ts sound _ _ keeps q hashed number row.0 row.1 _ (given-there _ _ row.0 row.1 c.spend_ended.ensures.spent).0,
     )

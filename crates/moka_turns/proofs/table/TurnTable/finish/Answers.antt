@@ -24,9 +24,9 @@ returns-in-None-clause-finishes g c hash_of ts final respects hashed sound copie
     let eq = g.K.PartialEq.eq in
     let laws = g.met.K.Eq.laws in
     let copies = g.V.Clone.is_clone in
-    let there = sym c.close.ensures.turn in
-    let number = abandoned-number eq laws copies hash_of respects ts sound _ _ keeps c.args.turn.key hashed c.close.result there in
-    let its = given-there _ _ c.close.result there c.requires.1 in
-    let alone : 0 < c.close.result.unspent → ⊥ = λ some. nobody c.args.end c.in-None.is (its.1 some) in
+    let there = sym c.close-opened.ensures.turn in
+    let number = abandoned-number eq laws copies hash_of respects ts sound _ _ keeps c.args.turn.key hashed c.close-opened.result there in
+    let its = given-there _ _ c.close-opened.result there c.requires.1 in
+    let alone : 0 < c.close-opened.result.unspent → ⊥ = λ some. nobody c.args.end c.in-None.is (its.1 some) in
     rw (← (number ∙ its.0))
-    (end-keeps eq laws copies hash_of respects ts sound _ _ keeps c.args.turn.key hashed c.close.result there c.args.turn.key refl (laws.refl _) ends.Nothing final (λ some. absurd (alone some)) _ _ (λ p. by_kinds eq c.args.turn.key p _ _ _ (c.close.ensures.opened.0 p)) (λ some. absurd (alone some)) (λ none m. ap (λ t. get nat_eq t m) c.close.ensures.ended))
+    (end-keeps eq laws copies hash_of respects ts sound _ _ keeps c.args.turn.key hashed c.close-opened.result there c.args.turn.key refl (laws.refl _) ends.Nothing final (λ some. absurd (alone some)) _ _ (λ p. by_kinds eq c.args.turn.key p _ _ _ (c.close-opened.ensures.opened.0 p)) (λ some. absurd (alone some)) (λ none m. ap (λ t. get nat_eq t m) c.close-opened.ensures.ended))

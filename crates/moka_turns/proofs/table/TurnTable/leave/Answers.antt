@@ -39,9 +39,9 @@ returns-then-is_ended_for-clause-leaves g c hash_of ts respects hashed sound kee
     let row = passes-there (is_ended_for eq laws copies hash_of respects ts sound _ _ keeps q hashed number) _ _ (its-kinds eq q _ _ c.is_ended_for.ensures) c.if-is_ended_for.true in
     let named = kept eq laws copies hash_of respects ts sound _ _ keeps q hashed number row.0 row.1 row.2 in
     let its = ended-number eq laws copies hash_of respects ts sound _ _ keeps q hashed number row.0 row.1 in
-    rw (named, c.leave_ended.ensures.opened, its) (
+    rw (named, c.spend_ended.ensures.opened, its) (
       refl,
-      leave-keeps eq laws copies hash_of respects ts sound _ _ keeps q hashed number row.0 row.1 _ (given-there _ _ row.0 row.1 c.leave_ended.ensures.spent).0,
+      leave-keeps eq laws copies hash_of respects ts sound _ _ keeps q hashed number row.0 row.1 _ (given-there _ _ row.0 row.1 c.spend_ended.ensures.spent).0,
     )
 
 pub returns-clause-leaves : goal.returns-clause-leaves
