@@ -122,6 +122,20 @@ fn refused_in(found: &[Returned]) -> Option<usize> {
     found.iter().position(|returned| *returned == NO_MEMORY)
 }
 
+/// Makes a run, without the step at this place. Returns the results, or `None` if the run or one of
+/// its steps is refused.
+fn run_whole<S: Subject + Drop>(
+    player: &mut Player<S>,
+    skipped: usize,
+) -> Result<Option<Vec<Returned>>, AllocError> {
+    let found = run(player, skipped)?;
+    let is_whole = match &found {
+        Some(found) => refused_in(found.as_slice()).is_none(),
+        None => false,
+    };
+    Ok(if is_whole { found } else { None })
+}
+
 /// Checks the results of a run against those of one without the step at this place.
 fn are_alike(rt: &impl Abort, found: &[Returned], wanted: &[Returned], skipped: usize) {
     assert_eq!(rt; found.get(..skipped), wanted.get(..skipped));
@@ -137,7 +151,8 @@ fn behind(results: &[Returned], place: usize) -> &[Returned] {
 }
 
 /// Makes a run on a new cache. If the run or a step of it is refused, checks that the cache goes on
-/// as a twin that is not given what was refused.
+/// as a twin that is not given what was refused. Makes the run of the twin again on a new cache if it
+/// is the one refused.
 fn check_run<S: Subject + Drop>(rt: &impl Abort, alloc: Global) -> Result<(), Fail> {
     let mut one: Player<S> = Player::new(alloc, SMALL)?;
     check_run_in(rt, alloc, &mut one)
@@ -152,7 +167,13 @@ fn check_run_in<S: Subject + Drop>(
     let mut twin: Player<S> = Player::new(alloc, SMALL)?;
     if let Some(found) = found {
         let skipped = refused_in(found.as_slice()).unwrap_or(NONE);
-        let wanted = run(&mut twin, skipped)?.unwrap_or(Vec::new(alloc));
+        let wanted = match run_whole(&mut twin, skipped)? {
+            Some(wanted) => wanted,
+            None => {
+                twin = Player::new(alloc, SMALL)?;
+                run(&mut twin, skipped)?.unwrap_or(Vec::new(alloc))
+            }
+        };
         are_alike(rt, found.as_slice(), wanted.as_slice(), skipped);
     }
     steps_alike(rt, one, &mut twin, &later(Kind::With), At::row(0))?;

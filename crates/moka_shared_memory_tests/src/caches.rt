@@ -158,7 +158,7 @@ pub(crate) fn new_heard(alloc: Global) -> Result<Heard, AllocError> {
 }
 
 /// Returns a builder of caches of this capacity, which accept predicates.
-fn builder<V: Clone, C: CacheTypes<u64, V>>(
+pub(crate) fn builder<V: Clone, C: CacheTypes<u64, V>>(
     capacity: u64,
     policy: EvictionPolicy,
 ) -> CacheBuilder<u64, V, C, Single> {

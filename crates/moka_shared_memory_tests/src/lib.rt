@@ -9,6 +9,8 @@ mod caches;
 #[cfg(test)]
 mod calls;
 #[cfg(test)]
+mod defaults;
+#[cfg(test)]
 mod flights;
 #[cfg(test)]
 mod forms;
