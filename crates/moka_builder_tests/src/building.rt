@@ -5,6 +5,7 @@ use moka::ready::{FoldState, Plain};
 use moka::state::{CacheState, InsertRefused};
 use moka::sync::builder::Single;
 use moka::sync::{Cache, CacheBuilder};
+use moka_test_support::sharing::share;
 use std::alloc::{AllocError, Global};
 use std::hash::BuildHasherDefault;
 use std::process::Abort;
@@ -186,14 +187,6 @@ fn build_state_once(alloc: Global) -> Result<State, BuildError> {
 
 fn build_shared(rt: HostRuntime, clock: Clock) -> Result<Shared<HostRuntime>, BuildError> {
     create_builder(rt.alloc())?.build_with_hasher(rt.alloc(), hasher(), clock, rt)
-}
-
-// Wraps a value in an `Arc`. Retries once if the allocation fails.
-fn share<T: Drop>(alloc: Global, value: T) -> Result<Arc<T>, AllocError> {
-    match Arc::new(alloc, value) {
-        Ok(value) => Ok(value),
-        Err(failed) => Ok(Arc::new(alloc, failed.value)?),
-    }
 }
 
 // An owned cache whose build fails with `OutOfMemory` can be built anew, with the same result.

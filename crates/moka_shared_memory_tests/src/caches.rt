@@ -15,6 +15,7 @@ use moka::state::CacheState;
 use moka::sync::builder::Single;
 use moka::sync::segment::SegmentedState;
 use moka::sync::{Cache, CacheBuilder, SegmentedCache};
+use moka_test_support::sharing::share;
 use std::alloc::{AllocError, Global};
 use std::hash::{BuildHasher, BuildHasherDefault};
 use std::marker::PhantomData;
@@ -143,14 +144,6 @@ pub(crate) type OwnedSegments = SegmentedState<u64, u64, OwnedTypes>;
 
 /// The number of segments.
 pub(crate) const SEGMENTS: usize = 4;
-
-/// Wraps a value in an `Arc`. Retries once if the allocation fails.
-pub(crate) fn share<T: Drop>(alloc: Global, value: T) -> Result<Arc<T>, AllocError> {
-    match Arc::new(alloc, value) {
-        Ok(value) => Ok(value),
-        Err(failed) => Ok(Arc::new(alloc, failed.value)?),
-    }
-}
 
 /// Creates what a listener has heard at first. Retries once if the allocation fails.
 pub(crate) fn new_heard(alloc: Global) -> Result<Heard, AllocError> {

@@ -19,8 +19,6 @@ mod later;
 #[cfg(test)]
 mod lists;
 #[cfg(test)]
-mod marks;
-#[cfg(test)]
 mod memory;
 #[cfg(test)]
 mod predicates;

@@ -3,7 +3,7 @@
 ghost use Rattle.std.specs.Prelude.{◌≡◌, ◌≢◌};
 ghost use Rattle.moka_model.specs.declared.turns.Kind.{Kind};
 
-use crate::caches::{Heard, four_locks, heard_after, new_heard, one_lock, share};
+use crate::caches::{Heard, four_locks, heard_after, new_heard, one_lock};
 use crate::flights::consume_begun;
 use crate::shared::Shared;
 use crate::twin::LAST;
@@ -11,6 +11,7 @@ use crate::values::text;
 use moka::notification::RemovalCause;
 use moka::policy::{EvictionPolicy, Refused};
 use moka::sync::value_initializer::{Begun, Kind, Ticket, Turn};
+use moka_test_support::sharing::share;
 use std::alloc::Global;
 use std::process::Abort;
 use std::sync::Arc;

@@ -2,12 +2,13 @@
 //! segments, or fails and invalidates none: it runs at once, and allocates before that.
 
 use crate::caches::{
-    FourLocks, Odd, OwnedSegments, SEGMENTS, four_locks, new_heard, owned_segments, share,
+    FourLocks, Odd, OwnedSegments, SEGMENTS, four_locks, new_heard, owned_segments,
 };
 use crate::shared::Shared;
 use crate::values::text;
 use moka::PredicateError;
 use moka::policy::{EvictionPolicy, Refused};
+use moka_test_support::sharing::share;
 use std::alloc::Global;
 use std::process::Abort;
 use std::sync::{Arc, Wait};

@@ -2,13 +2,14 @@
 //! one has done.
 ghost use Rattle.std.specs.Prelude.{ℕ, IfOk};
 
-use crate::caches::{Heard, Owned, OwnedSegments, OwnedTypes, heard_after, share};
+use crate::caches::{Heard, Owned, OwnedSegments, OwnedTypes, heard_after};
 use crate::calls::{Doing, ERROR, Form, Key, Plain};
 use crate::values::{Parts, Returned, became_of, parts};
 use moka::ops::compute::Op;
 use moka::policy::Refused;
 use moka::step::{Reply, Step};
 use moka::sync::value_initializer::{Kind, Outcome, TurnName};
+use moka_test_support::sharing::share;
 use std::alloc::{AllocError, Global};
 use std::process::Abort;
 use std::sync::Arc;

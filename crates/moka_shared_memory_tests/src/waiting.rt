@@ -2,12 +2,12 @@
 //! woken and gets a turn of its own.
 
 use crate::caches::{FourLocks, OneLock, four_locks, new_heard, one_lock};
-use crate::marks::{Marks, comes, count_so_far, mark, new_marks, pause};
 use crate::shared::Shared;
 use crate::twin::LAST;
 use crate::values::{NO_MEMORY, Returned, number_of, text, value_of};
 use moka::common::entry::Entry;
 use moka::policy::{EvictionPolicy, Refused};
+use moka_test_support::marks::{Marks, count_so_far, mark, new_marks, pause, reaches};
 use std::alloc::{AllocError, Global};
 use std::process::Abort;
 use std::rt::Clock;
@@ -54,7 +54,7 @@ trait Meets<R: Clock>: Sized {
 /// Is the body of the first closure, which returns `value` once the second caller waits.
 fn once_it_waits(rt: &impl Clock, marks: &Marks, form: Form, value: String) -> String {
     mark(&marks.inside);
-    comes(rt, &marks.arrived);
+    reaches(rt, &marks.arrived, 1);
     if let Form::Upsert = form {
         pause(rt);
     }
@@ -185,7 +185,7 @@ fn calls_second<R: Clock, M: Meets<R>>(
     values: (String, String),
 ) -> Both {
     let (value, again) = values;
-    comes(rt, &marks.inside);
+    reaches(rt, &marks.inside, 1);
     let returned = second_call(cache, marks, form, value);
     let last = if returned == NO_MEMORY {
         second_call(cache, marks, form, again)
@@ -251,7 +251,7 @@ where
     let values = two_texts(alloc, FIRST)?;
     let child = start_second(rt, alloc, cache, &marks, form)?;
     let first = calls_first(rt, cache, &marks, form, values);
-    assert!(rt; comes(rt, &marks.done), "the second caller is woken");
+    assert!(rt; reaches(rt, &marks.done, 1), "the second caller is woken");
     let asks = count_so_far(&marks.asks);
     are_right(rt, form, first, child.join(rt), asks);
     Ok(())

@@ -1,7 +1,6 @@
 //! The caches under test, with four segments. Each key is its own hash, so its two highest bits
 //! choose its segment.
 
-use crate::marks::{Marks, inside_until_done, mark, reaches};
 use moka::notification::RemovalCause;
 use moka::policy::{
     EvictionPolicy, Listener, ManualClock, NoExpiry, NoPredicate, NoWeigher, NumberHash, Refused,
@@ -9,6 +8,7 @@ use moka::policy::{
 use moka::ready::ReadyTypes;
 use moka::sync::builder::Single;
 use moka::sync::{CacheBuilder, SegmentedCache};
+use moka_test_support::marks::{Marks, inside_until_done, mark, reaches};
 use std::alloc::{AllocError, Global};
 use std::hash::BuildHasherDefault;
 use std::rt::Clock;
@@ -70,14 +70,6 @@ pub(crate) const THIRD: u64 = 1 << 63;
 
 /// The first key of the fourth segment.
 pub(crate) const FOURTH: u64 = THIRD | SECOND;
-
-/// Wraps a value in an `Arc`. Retries once if the allocation fails.
-pub(crate) fn share<T: Drop>(alloc: Global, value: T) -> Result<Arc<T>, AllocError> {
-    match Arc::new(alloc, value) {
-        Ok(value) => Ok(value),
-        Err(failed) => Ok(Arc::new(alloc, failed.value)?),
-    }
-}
 
 /// Returns the builder of a cache with a capacity of 100.
 pub(crate) fn builder<W: Clock + Drop>() -> Builder<W> {

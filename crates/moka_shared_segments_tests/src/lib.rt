@@ -11,8 +11,6 @@ mod listeners;
 #[cfg(test)]
 mod locks;
 #[cfg(test)]
-mod marks;
-#[cfg(test)]
 mod waiting;
 #[cfg(test)]
 mod walks;

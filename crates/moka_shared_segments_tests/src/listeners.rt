@@ -1,7 +1,7 @@
 //! The listener runs with no lock held.
 
 use crate::caches::{Builder, Found, Numbers, Slow, builder, gets_beside, insert, open_cache};
-use crate::marks::{Marks, count_so_far, new_marks};
+use moka_test_support::marks::{Marks, count_so_far, new_marks};
 use std::alloc::Global;
 use std::process::Abort;
 use std::rt::Clock;

@@ -2,8 +2,8 @@
 //! that decides on a replacement only with that of its segment.
 
 use crate::caches::{FOURTH, Found, Numbers, SECOND, THIRD, cache, get, gets_beside, insert};
-use crate::marks::{Marks, inside_until_done, new_marks};
 use moka::ops::compute::Op;
+use moka_test_support::marks::{Marks, inside_until_done, new_marks};
 use std::alloc::Global;
 use std::process::Abort;
 use std::rt::Clock;

@@ -2,10 +2,11 @@
 ghost use Rattle.std.specs.Prelude.{◌≡◌, ◌≢◌};
 ghost use Rattle.moka_model.specs.declared.turns.Kind.{Kind};
 
-use crate::caches::{FOURTH, Numbers, SECOND, THIRD, cache, clone, get, insert, share};
-use crate::marks::{Marks, count_so_far, mark, new_marks, pause, reaches};
+use crate::caches::{FOURTH, Numbers, SECOND, THIRD, cache, clone, get, insert};
 use moka::policy::Refused;
 use moka::sync::value_initializer::{Begun, FinishRefused, Kind, Outcome, Turn};
+use moka_test_support::marks::{Marks, count_so_far, mark, new_marks, pause, reaches};
+use moka_test_support::sharing::share;
 use std::alloc::Global;
 use std::process::Abort;
 use std::rt::Clock;

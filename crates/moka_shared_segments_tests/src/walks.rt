@@ -1,9 +1,9 @@
 //! An iteration holds no lock between two of its steps, and goes on while entries are written.
 
 use crate::caches::{FOURTH, Hasher, Numbers, SECOND, THIRD, Types, builder, cache, clone, insert};
-use crate::marks::{Marks, count_so_far, mark, new_marks, reaches};
 use moka::policy::ManualClock;
 use moka::sync::{Cache, Iter};
+use moka_test_support::marks::{Marks, count_so_far, mark, new_marks, reaches};
 use std::alloc::Global;
 use std::process::Abort;
 use std::rt::Clock;

@@ -6,6 +6,7 @@ use moka::policy::{EvictionPolicy, Listener, ManualClock, NoExpiry, NoWeigher, P
 use moka::ready::{FoldState, ReadyTypes, SteadyPredicate};
 use moka::sync::builder::Single;
 use moka::sync::{Cache, CacheBuilder};
+use moka_test_support::sharing::share;
 use std::alloc::{AllocError, Global};
 use std::collections::VecDeque;
 use std::sync::{Arc, Mutex, Wait};
@@ -69,14 +70,6 @@ pub(crate) type Types<W> = ReadyTypes<FoldState, NoWeigher, NoExpiry, Clock, Odd
 pub(crate) type Numbers<W> = Cache<u64, u64, Types<W>, W>;
 
 pub(crate) type Builder<W> = CacheBuilder<u64, u64, Types<W>, Single>;
-
-/// Wraps a value in an `Arc`. Retries once if the allocation fails.
-pub(crate) fn share<T: Drop>(alloc: Global, value: T) -> Result<Arc<T>, AllocError> {
-    match Arc::new(alloc, value) {
-        Ok(value) => Ok(value),
-        Err(failed) => Ok(Arc::new(alloc, failed.value)?),
-    }
-}
 
 /// Returns a builder of caches of this capacity, with a time to live of ten seconds, which accept
 /// predicates.

@@ -1,11 +1,12 @@
 //! A closure as the listener of a shared cache.
 
-use crate::caches::{Notes, Queue, share};
+use crate::caches::{Notes, Queue};
 use moka::notification::RemovalCause;
 use moka::policy::{ListenBy, Listener, ManualClock};
 use moka::ready::{FoldState, Listening};
 use moka::sync::builder::Single;
 use moka::sync::{Cache, CacheBuilder};
+use moka_test_support::sharing::share;
 use std::alloc::Global;
 use std::collections::VecDeque;
 use std::process::Abort;

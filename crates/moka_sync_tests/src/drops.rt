@@ -5,8 +5,6 @@ ghost use Rattle.std.specs.Cmp.Rules.{comparing, hashing};
 ghost use Rattle.std.specs.Ordering.{on};
 ghost use Rattle.std.specs.Hash as fed;
 
-use crate::caches::share;
-use crate::marks::{Marks, count_so_far, inside_until_done, mark, new_marks, reaches};
 use moka::copies::CopiesCompose;
 use moka::policy::{ManualClock, NoExpiry, NoWeigher, Predicate, Refused};
 use moka::ready::{FoldState, ReadyTypes, SteadyPredicate};
@@ -16,6 +14,8 @@ use moka::sync::value_initializer::{
     Turn,
 };
 use moka::sync::{Cache, CacheBuilder};
+use moka_test_support::marks::{Marks, count_so_far, inside_until_done, mark, new_marks, reaches};
+use moka_test_support::sharing::share;
 use rand_core::SeedableRng;
 use rand_xoshiro::SplitMix64;
 use std::alloc::{AllocError, Global};
@@ -160,7 +160,7 @@ fn watching<W: Clock + Copy + Drop>(rt: W, marks: &Arc<Marks>) -> Result<Watch<W
     })
 }
 
-fn watched<W: Clock + Copy + Drop>(
+fn make_watched<W: Clock + Copy + Drop>(
     number: u64,
     rt: W,
     marks: &Arc<Marks>,
@@ -226,7 +226,7 @@ where
     W: Wait + Clock + Threads + Abort + Copy + Drop + Send + Sync + 'static,
 {
     let (key, marks) = shared;
-    let one = watched(1, *rt, marks)?;
+    let one = make_watched(1, *rt, marks)?;
     let child = gets_while_it_drops(rt, cache, marks)?;
     assert!(rt; drops_one(cache, key, one, unneeded), "{unneeded:?}");
     was_in_time(rt, marks, child.join(rt), unneeded);

@@ -8,14 +8,14 @@
 //! A loader abandons its turn if its value cannot be stored. Here that is the value 0, since no
 //! clone of 0 can be made.
 
-use crate::caches::share;
-use crate::marks::{Marks, count_so_far, mark, new_marks, reaches};
 use moka::copies::CopiesCompose;
 use moka::policy::{ManualClock, Refused};
 use moka::ready::{FoldState, Plain};
 use moka::sync::builder::Single;
 use moka::sync::value_initializer::{Begun, Kind, Turn};
 use moka::sync::{Cache, CacheBuilder};
+use moka_test_support::marks::{Marks, count_so_far, mark, new_marks, reaches};
+use moka_test_support::sharing::share;
 use std::alloc::{AllocError, Global};
 use std::process::Abort;
 use std::rt::Clock;

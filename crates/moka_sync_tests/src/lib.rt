@@ -17,8 +17,6 @@ mod hits;
 #[cfg(test)]
 mod listeners;
 #[cfg(test)]
-mod marks;
-#[cfg(test)]
 mod readings;
 #[cfg(test)]
 mod replies;

@@ -1,13 +1,13 @@
 //! Listeners of a shared cache. They run with no lock held, and never for a step that was refused.
 
-use crate::caches::share;
-use crate::marks::{Marks, count_so_far, inside_until_done, mark, new_marks, reaches};
 use crate::waiting::Found;
 use moka::notification::RemovalCause;
 use moka::policy::{Listener, ManualClock, NoExpiry, NoPredicate, NoWeigher, Refused};
 use moka::ready::{FoldState, ReadyTypes};
 use moka::sync::builder::Single;
 use moka::sync::{Cache, CacheBuilder};
+use moka_test_support::marks::{Marks, count_so_far, inside_until_done, mark, new_marks, reaches};
+use moka_test_support::sharing::share;
 use std::alloc::Global;
 use std::process::Abort;
 use std::rt::Clock;

@@ -1,12 +1,13 @@
 //! How often a shared cache reads its clock: once each time that it takes the lock for a call that
 //! has a moment.
 
-use crate::caches::{Notes, Odd, share};
+use crate::caches::{Notes, Odd};
 use moka::policy::{Clock, NoExpiry, NoWeigher, Refused};
 use moka::ready::{FoldState, ReadyTypes};
 use moka::sync::builder::Single;
 use moka::sync::value_initializer::{Begun, Kind};
 use moka::sync::{Cache, CacheBuilder};
+use moka_test_support::sharing::share;
 use std::alloc::Global;
 use std::process::Abort;
 use std::sync::atomic::{AtomicU64, Ordering};

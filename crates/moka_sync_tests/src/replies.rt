@@ -1,6 +1,6 @@
 //! The results of the calls of a shared cache, one after another on one cache.
 
-use crate::caches::{Builder, Numbers, Odd, cache, share};
+use crate::caches::{Builder, Numbers, Odd, cache};
 use crate::calls;
 use crate::calls::{Doing, Key};
 use crate::returned::{Returned, insert_of, option_of};
@@ -8,6 +8,7 @@ use moka::PredicateError;
 use moka::policy::ManualClock;
 use moka::ready::FoldState;
 use moka::sync::{CacheBuilder, ConcurrentCacheExt};
+use moka_test_support::sharing::share;
 use rand_core::SeedableRng;
 use rand_xoshiro::SplitMix64;
 use std::process::Abort;
@@ -87,12 +88,13 @@ fn remove<W: Wait + Drop>(cache: &Numbers<W>, key: u64) -> Returned {
 #[test]
 fn initializers_answer(rt: HostRuntime) -> Result<(), Fail> {
     let cache = cache(rt, rt.alloc())?;
-    initializers(&rt, &cache);
+    load(&rt, &cache);
+    load_or_fail(&rt, &cache);
     by_reference(&rt, &cache);
     Ok(())
 }
 
-fn initializers<W: Wait + Drop>(rt: &impl Abort, cache: &Numbers<W>) {
+fn load<W: Wait + Drop>(rt: &impl Abort, cache: &Numbers<W>) {
     check_reply(
         rt,
         "get_with",
@@ -117,6 +119,9 @@ fn initializers<W: Wait + Drop>(rt: &impl Abort, cache: &Numbers<W>) {
         calls::get_with_if(cache, 1, 12, 10),
         Returned::Value(12),
     );
+}
+
+fn load_or_fail<W: Wait + Drop>(rt: &impl Abort, cache: &Numbers<W>) {
     check_reply(
         rt,
         "optionally_get_with",

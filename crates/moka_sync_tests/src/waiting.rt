@@ -3,12 +3,15 @@
 ghost use Rattle.std.specs.Prelude.{◌≡◌, ◌≢◌};
 ghost use Rattle.moka_model.specs.declared.turns.Kind.{Kind};
 
-use crate::caches::{Numbers, cache, share};
+use crate::caches::{Numbers, cache};
 use crate::calls::{abandon, clone, get, insert, leave, next_of};
-use crate::marks::{Marks, count_so_far, inside_until_done, mark, new_marks, pause, reaches};
 use moka::ops::compute::Op;
 use moka::policy::Refused;
 use moka::sync::value_initializer::{Begun, FinishRefused, Kind, Outcome, Turn};
+use moka_test_support::marks::{
+    Marks, count_so_far, inside_until_done, mark, new_marks, pause, reaches,
+};
+use moka_test_support::sharing::share;
 use std::alloc::Global;
 use std::process::Abort;
 use std::rt::Clock;

@@ -5,11 +5,85 @@ use moka::notification::RemovalCause;
 use moka::policy::Refused;
 use mokabox_interpreter::script::Status;
 use mokabox_syntax::output_line::{Became, Live, Measure, OutputLine, write_line};
+use std::alloc::Global;
+use std::process::Abort;
 use std::test::Fail;
 
-// Each `OutputLine` is printed as its line.
+/// Checks that an `OutputLine` is printed as this line.
+fn has_line(rt: &impl Abort, alloc: Global, output: &OutputLine, line: &str) -> Result<(), Fail> {
+    let mut written = Vec::new(alloc);
+    write_line(&mut written, output)?;
+    assert_eq!(rt; written.as_slice(), line.as_bytes(), "of {line:?}");
+    Ok(())
+}
+
+// Each `OutputLine` of a plain reply is printed as its line.
 #[test]
 fn answers_have_their_lines(rt: HostRuntime) -> Result<(), Fail> {
+    for (output, line) in [
+        (OutputLine::Done, "ok\n"),
+        (OutputLine::NotFound, "none\n"),
+        (OutputLine::Whether(true), "true\n"),
+        (OutputLine::Whether(false), "false\n"),
+        (OutputLine::Counted(0), "0\n"),
+        (OutputLine::Counted(u64::MAX), "18446744073709551615\n"),
+        (
+            OutputLine::Policy(Measure(Some(100)), Measure(None), Measure(Some(0)), 8),
+            "policy capacity 100 ttl none tti 0 segments 8\n",
+        ),
+        (OutputLine::Run(0), "run 0\n"),
+        (OutputLine::Waits(u64::MAX), "wait 18446744073709551615\n"),
+        (OutputLine::Nothing, "nothing\n"),
+        (OutputLine::NotYet, "not yet\n"),
+        (OutputLine::Abandoned, "abandoned\n"),
+        (OutputLine::Ended, "ended\n"),
+        (OutputLine::End, "end\n"),
+        (OutputLine::BadLine, "bad line\n"),
+    ] {
+        has_line(&rt, rt.alloc(), &output, line)?;
+    }
+    Ok(())
+}
+
+// Each failure of a call is printed as its line.
+#[test]
+fn failures_have_their_lines(rt: HostRuntime) -> Result<(), Fail> {
+    for (cause, line) in [
+        (Refused::OutOfMemory, "refused 1\n"),
+        (Refused::NumbersUsedUp, "refused 2\n"),
+        (Refused::UnknownTurn, "refused 3\n"),
+        (Refused::UnknownTicket, "refused 4\n"),
+        (Refused::TurnIsOpen, "refused 5\n"),
+    ] {
+        has_line(&rt, rt.alloc(), &OutputLine::Refused(cause), line)?;
+    }
+    for (cause, line) in [
+        (PredicateError::InvalidationClosuresDisabled, "error 1\n"),
+        (PredicateError::OutOfMemory, "error 2\n"),
+    ] {
+        has_line(&rt, rt.alloc(), &OutputLine::NotHidden(cause), line)?;
+    }
+    Ok(())
+}
+
+// Each failure of a builder is printed as its line.
+#[test]
+fn failures_to_build_have_their_lines(rt: HostRuntime) -> Result<(), Fail> {
+    for (cause, line) in [
+        (BuildError::NoSegments, "refused build 1\n"),
+        (BuildError::TooManySegments, "refused build 2\n"),
+        (BuildError::TimeToLiveTooLong, "refused build 3\n"),
+        (BuildError::TimeToIdleTooLong, "refused build 4\n"),
+        (BuildError::OutOfMemory, "refused build 5\n"),
+    ] {
+        has_line(&rt, rt.alloc(), &OutputLine::NotBuilt(cause), line)?;
+    }
+    Ok(())
+}
+
+// Each `OutputLine` with a value is printed as its line.
+#[test]
+fn values_have_their_lines(rt: HostRuntime) -> Result<(), Fail> {
     let text = String::from_str(rt.alloc(), "caf\u{e9}")?;
     let value = String::from_str(rt.alloc(), "a=b")?;
     let fresh = String::from_str(rt.alloc(), "a")?;
@@ -18,54 +92,11 @@ fn answers_have_their_lines(rt: HostRuntime) -> Result<(), Fail> {
     let replacing = String::from_str(rt.alloc(), "a")?;
     let error = String::from_str(rt.alloc(), "a")?;
     for (output, line) in [
-        (OutputLine::Done, "ok\n"),
         (OutputLine::Found(text), "some caf\u{e9}\n"),
-        (OutputLine::NotFound, "none\n"),
-        (OutputLine::Whether(true), "true\n"),
-        (OutputLine::Whether(false), "false\n"),
-        (OutputLine::Counted(0), "0\n"),
-        (OutputLine::Counted(u64::MAX), "18446744073709551615\n"),
-        (OutputLine::Refused(Refused::OutOfMemory), "refused 1\n"),
-        (OutputLine::Refused(Refused::NumbersUsedUp), "refused 2\n"),
-        (
-            OutputLine::NotBuilt(BuildError::NoSegments),
-            "refused build 1\n",
-        ),
-        (
-            OutputLine::NotBuilt(BuildError::TooManySegments),
-            "refused build 2\n",
-        ),
-        (
-            OutputLine::NotBuilt(BuildError::TimeToLiveTooLong),
-            "refused build 3\n",
-        ),
-        (
-            OutputLine::NotBuilt(BuildError::TimeToIdleTooLong),
-            "refused build 4\n",
-        ),
-        (
-            OutputLine::NotBuilt(BuildError::OutOfMemory),
-            "refused build 5\n",
-        ),
-        (
-            OutputLine::NotHidden(PredicateError::InvalidationClosuresDisabled),
-            "error 1\n",
-        ),
-        (
-            OutputLine::NotHidden(PredicateError::OutOfMemory),
-            "error 2\n",
-        ),
-        (
-            OutputLine::Policy(Measure(Some(100)), Measure(None), Measure(Some(0)), 8),
-            "policy capacity 100 ttl none tti 0 segments 8\n",
-        ),
         (
             OutputLine::Left(7, value, RemovalCause::Size),
             "notice 7 a=b Size\n",
         ),
-        (OutputLine::Refused(Refused::UnknownTurn), "refused 3\n"),
-        (OutputLine::Refused(Refused::UnknownTicket), "refused 4\n"),
-        (OutputLine::Refused(Refused::TurnIsOpen), "refused 5\n"),
         (
             OutputLine::Entered(7, fresh, true, false),
             "entry 7 a fresh\n",
@@ -79,19 +110,9 @@ fn answers_have_their_lines(rt: HostRuntime) -> Result<(), Fail> {
             OutputLine::Entered(0, replacing, false, true),
             "entry 0 a old replaced\n",
         ),
-        (OutputLine::Run(0), "run 0\n"),
-        (OutputLine::Waits(u64::MAX), "wait 18446744073709551615\n"),
-        (OutputLine::Nothing, "nothing\n"),
         (OutputLine::Failed(error), "failed a\n"),
-        (OutputLine::NotYet, "not yet\n"),
-        (OutputLine::Abandoned, "abandoned\n"),
-        (OutputLine::Ended, "ended\n"),
-        (OutputLine::End, "end\n"),
-        (OutputLine::BadLine, "bad line\n"),
     ] {
-        let mut written = Vec::new(rt.alloc());
-        write_line(&mut written, &output)?;
-        assert_eq!(rt; written.as_slice(), line.as_bytes(), "of {line:?}");
+        has_line(&rt, rt.alloc(), &output, line)?;
     }
     Ok(())
 }
@@ -131,9 +152,7 @@ fn answers_of_computes_have_their_lines(rt: HostRuntime) -> Result<(), Fail> {
             "removed 4 e\n",
         ),
     ] {
-        let mut written = Vec::new(rt.alloc());
-        write_line(&mut written, &output)?;
-        assert_eq!(rt; written.as_slice(), line.as_bytes(), "of {line:?}");
+        has_line(&rt, rt.alloc(), &output, line)?;
     }
     Ok(())
 }
