@@ -334,7 +334,7 @@ fn spends_a_ticket<W: Wait + Clock + Copy + Drop>(
 type Begins<W> = Result<Begun<Watched<W>, Watched<W>>, Refused>;
 
 fn begin<W: Wait + Clock + Copy + Drop>(cache: &Drops<W>, key: &Arc<Watched<W>>) -> Begins<W> {
-    cache.begin(key, Kind::With, None::<fn(&Watched<W>) -> bool>)
+    cache.begin(key, Kind::With, Some(|_: &Watched<W>| false))
 }
 
 /// Returns the turn that a begin returned.
