@@ -6,7 +6,7 @@ ghost use Rattle.std.specs.Ordering.{on};
 ghost use Rattle.std.specs.Hash as fed;
 
 use moka::copies::CopiesCompose;
-use moka::policy::{ManualClock, NoExpiry, NoWeigher, Predicate, Refused};
+use moka::policy::{ManualClock, NoExpiry, NoWeigher, Predicate};
 use moka::ready::{FoldState, ReadyTypes, SteadyPredicate};
 use moka::sync::builder::Single;
 use moka::sync::value_initializer::{
@@ -311,17 +311,35 @@ fn fills<W: Wait + Clock + Copy + Drop>(cache: &Drops<W>) -> bool {
     true
 }
 
-/// Finishes a turn with a value, and spends its only ticket.
+/// Opens a turn, finishes it with a value, and spends its only ticket.
 fn spends_a_ticket<W: Wait + Clock + Copy + Drop>(
     cache: &Drops<W>,
     key: &Arc<Watched<W>>,
     value: Watched<W>,
     collects: bool,
 ) -> bool {
-    let Some(turn) = turn_in(cache, begin(cache, key)) else {
-        return false;
-    };
-    let ticket = ticket_in(cache, begin(cache, key));
+    match cache.begin(key, Kind::With, Some(|_: &Watched<W>| false)) {
+        Ok(Begun::Run(turn)) => spends_its_ticket(cache, key, turn, value, collects),
+        Ok(Begun::Wait(ticket)) => {
+            let _ = cache.leave(ticket);
+            false
+        }
+        Ok(Begun::Found(_entry)) => false,
+        Err(_) => false,
+    }
+}
+
+/// Finishes a turn with a value, and spends its only ticket.
+fn spends_its_ticket<W: Wait + Clock + Copy + Drop>(
+    cache: &Drops<W>,
+    key: &Arc<Watched<W>>,
+    turn: Turn<Watched<W>>,
+    value: Watched<W>,
+    collects: bool,
+) -> bool
+    requires { turn.key.kind ≡ Kind.With }
+{
+    let ticket = begin_waiting(cache, key);
     let finished = finish(cache, turn, value);
     let is_spent = match ticket {
         Some(ticket) if collects => collect(cache, ticket),
@@ -331,34 +349,12 @@ fn spends_a_ticket<W: Wait + Clock + Copy + Drop>(
     finished.is_some() && is_spent
 }
 
-type Begins<W> = Result<Begun<Watched<W>, Watched<W>>, Refused>;
-
-fn begin<W: Wait + Clock + Copy + Drop>(cache: &Drops<W>, key: &Arc<Watched<W>>) -> Begins<W> {
-    cache.begin(key, Kind::With, Some(|_: &Watched<W>| false))
-}
-
-/// Returns the turn that a begin returned.
-fn turn_in<W: Wait + Clock + Copy + Drop>(
+/// Waits for an open turn. Returns the ticket, or `None` if there is no open turn.
+fn begin_waiting<W: Wait + Clock + Copy + Drop>(
     cache: &Drops<W>,
-    begun: Begins<W>,
-) -> Option<Turn<Watched<W>>> {
-    match begun {
-        Ok(Begun::Run(turn)) => Some(turn),
-        Ok(Begun::Wait(ticket)) => {
-            let _ = cache.leave(ticket);
-            None
-        }
-        Ok(Begun::Found(_entry)) => None,
-        Err(_) => None,
-    }
-}
-
-/// Returns the ticket that a begin returned.
-fn ticket_in<W: Wait + Clock + Copy + Drop>(
-    cache: &Drops<W>,
-    begun: Begins<W>,
+    key: &Arc<Watched<W>>,
 ) -> Option<Ticket<Watched<W>>> {
-    match begun {
+    match cache.begin(key, Kind::With, Some(|_: &Watched<W>| false)) {
         Ok(Begun::Wait(ticket)) => Some(ticket),
         Ok(Begun::Run(turn)) => {
             let _ = cache.abandon(turn);
