@@ -8,6 +8,7 @@ use moka::copies::CopiesCompose;
 use moka::ready::{FoldState, Plain};
 use moka::state::CacheState;
 use moka::sync::CacheBuilder;
+use std::alloc::Global;
 
 /// A user's session.
 #[derive(Clone, Debug, Drop)]
@@ -22,18 +23,22 @@ impl CopiesCompose for Visitor {
     ghost copies_compose = { Prim.search composing };
 }
 
+fn create_alice(alloc: Global) -> Result<Visitor> {
+    Ok(Visitor {
+        user: String::from_str(alloc, "Alice")?,
+        since: 7,
+        team: None,
+        rights: vec![in alloc; 1, 4]?,
+    })
+}
+
 /// Runs the example.
 pub fn main(rt: HostRuntime) -> Result<()> {
+    let alice = create_alice(rt.alloc())?;
     let mut visitors: CacheState<u64, Visitor, Plain> = CacheBuilder::new(100).build_state(
         rt.alloc(),
         FoldState::default(),
     )?;
-    let alice = Visitor {
-        user: String::from_str(rt.alloc(), "Alice")?,
-        since: 7,
-        team: None,
-        rights: vec![in rt.alloc(); 1, 4]?,
-    };
     visitors.insert(1, alice, 0)?;
     println!(rt; "{:?}", visitors.get(&1, 1)?)?;
     Ok(())
