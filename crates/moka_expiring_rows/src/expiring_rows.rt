@@ -1,12 +1,16 @@
 //! A row store that also stores the deadlines of its resident rows, in access order.
-ghost use Rattle.std.specs.Prelude.{◌≡◌, suc, true, false, ◌+◌, ◌<◌, ◌≤◌, ◌==◌, [], ◌∷◌, ◌++◌, length, filter, None, if◌then◌else◌};
+ghost use Rattle.std.specs.Prelude.{◌≡◌, suc, true, false, ◌+◌, ◌<◌, ◌≤◌, ◌==◌, if◌then◌else◌};
+ghost use Rattle.std.specs.Prelude.{[], ◌∷◌, ◌++◌, length, filter, None};
 ghost use Rattle.std.specs.Prelude.{IsSome, IfSome, IfNone, OnSome, OnOk};
 ghost use Rattle.std.specs.List.{AllByRecursion};
 ghost use Rattle.std.proofs.Props.{props};
-ghost use Rattle.moka_rows.specs.Rows.{row_under, without_row, first_number, expired_at, IsRowOf, NoneIsRowOf};
-ghost use Rattle.moka_expiry_index.specs.ExpiryIndex.{order_of, known_of, room_of as deadlines_room, PreservesRoom};
-ghost use Rattle.moka_slab.specs.Store.{admitted_in, waiting_in, room_of};
-ghost use Rattle.moka_expiring_rows.specs.RowDeadlines.{deadline_in, deadlines_in, without_deadline, CanStand, HasPlace, IsNoted, is_of_admitted};
+ghost use Rattle.moka_rows.specs.Rows.{row_under, IsRowOf, NoneIsRowOf};
+ghost use Rattle.moka_expiry_index.specs.ExpiryIndex.{order_of, known_of, PreservesRoom};
+ghost use Rattle.moka_expiry_index.specs.ExpiryIndex.{room_of as deadlines_room};
+ghost use Rattle.moka_slab.specs.Store.{admitted_in, waiting_in};
+ghost use Rattle.moka_expiring_rows.specs.RowDeadlines.{deadline_in, deadlines_in, CanStand};
+ghost use Rattle.moka_expiring_rows.specs.RowDeadlines.{without_deadline, is_of_admitted};
+ghost use Rattle.moka_expiring_rows.specs.RowDeadlines.{HasPlace, IsNoted};
 
 use moka_expiry_index::expiry_index::ExpiryIndex;
 use moka_rows::rows::{Access, EntryInfo, Order, Previous, Row, RowStore};
@@ -51,7 +55,8 @@ fn enlist(deadlines: &mut ExpiryIndex, is_whole: bool, number: usize, deadline: 
     ensures listed { result ≡ true → (is_whole ≡ true)
         × (order_of deadlines.new ≡ order_of deadlines.old ++ deadline_in number deadline) }
     ensures whole { is_whole ≡ true
-        → CanStand number deadline (known_of deadlines.old) (deadlines_room deadlines.old) (order_of deadlines.old)
+        → CanStand number deadline
+        (known_of deadlines.old) (deadlines_room deadlines.old) (order_of deadlines.old)
         → result ≡ true }
     ensures preserves { PreservesRoom deadlines.old deadlines.new }
 {
@@ -67,7 +72,8 @@ fn enlist(deadlines: &mut ExpiryIndex, is_whole: bool, number: usize, deadline: 
 fn delist(deadlines: &mut ExpiryIndex, is_whole: bool, number: usize, deadline: Option<u64>) -> bool
     ensures listed { result ≡ true → (is_whole ≡ true)
         × (order_of deadlines.new ≡ without_deadline number deadline (order_of deadlines.old)) }
-    ensures whole { is_whole ≡ true → HasPlace number deadline (known_of deadlines.old) → result ≡ true }
+    ensures whole { is_whole ≡ true
+        → HasPlace number deadline (known_of deadlines.old) → result ≡ true }
     ensures preserves { PreservesRoom deadlines.old deadlines.new }
 {
     match (deadline, number.checked_add(1)) {
@@ -126,31 +132,24 @@ fn list_all<K: Eq + Drop, V: Drop, R: RowStore<K, V>>(rows: &R, deadlines: &mut 
 
 /// Returns the deadline of a row if the row is resident, and else `None`.
 #[inline(always)]
-fn deadline_if_admitted(is_admitted: bool, deadline: Option<u64>) -> Option<u64>
-    ensures { result ≡ (if is_admitted then deadline else None) }
-{
-    if is_admitted { deadline } else { None }
-}
-
-/// Returns whether an order is that of the resident rows.
-#[inline(always)]
-fn is_of_admitted(order: Order) -> bool
-    ensures { result ≡ is_of_admitted order }
+fn deadline_if_admitted(order: Order, deadline: Option<u64>) -> Option<u64>
+    ensures { result ≡ (if is_of_admitted order then deadline else None) }
 {
     match order {
-        Order::Admitted => true,
-        Order::Waiting => false,
+        Order::Admitted => deadline,
+        Order::Waiting => None,
     }
 }
 
 impl<K: Eq + Drop, V: Drop> RowStore<K, V> for ExpiringRows<K, V> {
+    ghost use Rattle.moka_expiring_rows.specs.Ready.{admitted_of, waiting_of, rows_in, room_of};
     ghost use Rattle.moka_expiring_rows.specs.Ready.{WantsRoom, IsReady};
 
-    ghost waiting = { λ s. waiting_in s.rows };
+    ghost waiting = { waiting_of };
 
-    ghost admitted = { λ s. admitted_in s.rows };
+    ghost admitted = { admitted_of };
 
-    ghost room = { λ s. room_of s.rows };
+    ghost room = { room_of };
 
     fn new(alloc: Global) -> Self {
         ExpiringRows {
@@ -172,16 +171,13 @@ impl<K: Eq + Drop, V: Drop> RowStore<K, V> for ExpiringRows<K, V> {
     #[inline(always)]
     fn find(&self, key: &K, hash: u64, reads: &mut u64) -> Option<usize>
         requires { reads.old ≡ 0 }
-        ensures found { IfSome result (λ number.
-            IfSome (row_under number (admitted_in self.now.rows ++ waiting_in self.now.rows)) (IsRowOf K.eq key.now hash)) }
-        ensures stored { IfSome result
-            (λ number. IsSome (row_under number (admitted_in self.now.rows ++ waiting_in self.now.rows))) }
-        ensures absent { IfNone result
-            (NoneIsRowOf K.eq key.now hash (admitted_in self.now.rows ++ waiting_in self.now.rows)) }
-        ensures counted { reads.new ≤ length (admitted_in self.now.rows ++ waiting_in self.now.rows) }
+        ensures found { IfSome result
+            (λ number. IfSome (row_under number (rows_in self.now)) (IsRowOf K.eq key.now hash)) }
+        ensures stored { IfSome result (λ number. IsSome (row_under number (rows_in self.now))) }
+        ensures absent { IfNone result (NoneIsRowOf K.eq key.now hash (rows_in self.now)) }
+        ensures counted { reads.new ≤ length (rows_in self.now) }
         ensures read { OnSome result (0 < reads.new) }
-        ensures few { reads.new
-            ≤ length (filter (λ p. p.1.hash == hash) (admitted_in self.now.rows ++ waiting_in self.now.rows)) }
+        ensures few { reads.new ≤ length (filter (λ p. p.1.hash == hash) (rows_in self.now)) }
     {
         self.rows.find(key, hash, reads)
     }
@@ -213,10 +209,10 @@ impl<K: Eq + Drop, V: Drop> RowStore<K, V> for ExpiringRows<K, V> {
     /// - `AllocError`: an allocation failed, a row number has more than 32 bits, or more than 2^32
     ///   slots are needed.
     fn reserve(&mut self, more: usize) -> Result<(), AllocError>
-        ensures room { OnOk result (more ≤ room_of self.new.rows) }
-        ensures more { OnOk result (room_of self.old.rows ≤ room_of self.new.rows) }
-        ensures waiting { waiting_in self.new.rows ≡ waiting_in self.old.rows }
-        ensures admitted { admitted_in self.new.rows ≡ admitted_in self.old.rows }
+        ensures room { OnOk result (more ≤ room_of self.new) }
+        ensures more { OnOk result (room_of self.old ≤ room_of self.new) }
+        ensures waiting { waiting_of self.new ≡ waiting_of self.old }
+        ensures admitted { admitted_of self.new ≡ admitted_of self.old }
         ensures whole { OnOk result (self.new.is_whole ≡ true) }
         ensures ready { OnOk result (WantsRoom self.new → IsReady more self.new) }
     {
@@ -235,11 +231,11 @@ impl<K: Eq + Drop, V: Drop> RowStore<K, V> for ExpiringRows<K, V> {
 
     #[inline(always)]
     fn add(&mut self, row: Row<K, V>) -> usize
-        requires { 0 < room_of self.old.rows }
-        ensures fresh { row_under result (admitted_in self.old.rows ++ waiting_in self.old.rows) ≡ None }
-        ensures waiting { waiting_in self.new.rows ≡ waiting_in self.old.rows ++ (result, row) ∷ [] }
-        ensures admitted { admitted_in self.new.rows ≡ admitted_in self.old.rows }
-        ensures room { room_of self.old.rows ≤ room_of self.new.rows + 1 }
+        requires { 0 < room_of self.old }
+        ensures fresh { row_under result (rows_in self.old) ≡ None }
+        ensures waiting { waiting_of self.new ≡ waiting_of self.old ++ (result, row) ∷ [] }
+        ensures admitted { admitted_of self.new ≡ admitted_of self.old }
+        ensures room { room_of self.old ≤ room_of self.new + 1 }
     {
         self.has_deadlines |= row.info().deadline.is_some();
         let number = self.rows.add(row);
@@ -247,29 +243,26 @@ impl<K: Eq + Drop, V: Drop> RowStore<K, V> for ExpiringRows<K, V> {
         number
     }
 
-    /// Applies an access to a row. If no deadline is listed and this access gives none, only the
-    /// slab changes.
+    /// Applies an access to a row, and returns the row's metadata before it and the row's order.
+    /// If no deadline is listed and this access gives none, only the slab changes.
     #[inline(always)]
-    fn touch(&mut self, number: usize, touch: Access) {
+    fn touch(&mut self, number: usize, touch: Access) -> (EntryInfo, Order) {
+        let (info, order) = self.rows.touch(number, touch);
         if touch.deadline.is_none() && self.deadlines.is_unused() {
-            self.rows.touch(number, touch);
-            return;
+            return (info, order);
         }
-        let was = self.rows.row(number).info().deadline;
-        let is_admitted = self.rows.is_admitted(number);
-        self.rows.touch(number, touch);
-        let before = deadline_if_admitted(is_admitted, was);
-        let after = deadline_if_admitted(is_admitted, touch.deadline);
+        let before = deadline_if_admitted(order, info.deadline);
+        let after = deadline_if_admitted(order, touch.deadline);
         self.is_whole = relist(&mut self.deadlines, self.is_whole, number, before, after);
         self.has_deadlines |= touch.deadline.is_some();
+        (info, order)
     }
 
     #[inline(always)]
     fn overwrite(&mut self, number: usize, value: V, info: EntryInfo) -> Previous<V> {
         let taken = self.rows.overwrite(number, value, info);
-        let is_admitted = is_of_admitted(taken.order);
-        let before = deadline_if_admitted(is_admitted, taken.info.deadline);
-        let after = deadline_if_admitted(is_admitted, info.deadline);
+        let before = deadline_if_admitted(taken.order, taken.info.deadline);
+        let after = deadline_if_admitted(taken.order, info.deadline);
         self.is_whole = relist(&mut self.deadlines, self.is_whole, number, before, after);
         self.has_deadlines |= info.deadline.is_some();
         taken
@@ -329,7 +322,7 @@ impl<K: Eq + Drop, V: Drop> RowStore<K, V> for ExpiringRows<K, V> {
     #[inline(always)]
     fn remove(&mut self, number: usize) -> (Row<K, V>, Order) {
         let (row, order) = self.rows.remove(number);
-        let before = deadline_if_admitted(is_of_admitted(order), row.info().deadline);
+        let before = deadline_if_admitted(order, row.info().deadline);
         self.is_whole = delist(&mut self.deadlines, self.is_whole, number, before);
         (row, order)
     }

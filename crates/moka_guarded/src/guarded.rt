@@ -1,17 +1,19 @@
 //! What the lock of a shared cache guards, and its calls. Each is a call of the state, at a moment
 //! that the clock gives.
-ghost use Rattle.std.specs.Prelude.{◌≡◌, ◌≢◌, ◌≤◌, [], Some, None, length, map, option_map, IfOk, IfErr, IfSome, IsSome, OnOk, OnErr};
+ghost use Rattle.std.specs.Prelude.{◌≡◌, ◌≤◌, [], length, map, option_map, IfOk, IfErr, IfSome, OnOk, OnErr};
 ghost use Rattle.std.specs.Arc.{arc_value};
 ghost use Rattle.std.specs.Duration.{as_nanos};
-ghost use Rattle.moka_model.specs.Calls.{Get, ContainsKey, Insert, Invalidate, Remove, InvalidateAll, InvalidateIf, RunPendingTasks, RunPendingTasksUpTo, EntryCount, WeightedSize, TakeNotice, Found, Contains, Counted, Left, Noticed};
-ghost use Rattle.moka_policy.specs.Policy.{is_lru};
-ghost use Rattle.moka_state.specs.State.{all_writes, settings_of};
+ghost use Rattle.moka_model.specs.Calls.{Get, ContainsKey, Insert, Invalidate, Remove, InvalidateAll, InvalidateIf, RunPendingTasks, RunPendingTasksUpTo, EntryCount, WeightedSize, TakeNotice, Contains, Counted, Left, Noticed};
+ghost use Rattle.moka_state.specs.State.{all_writes};
 ghost use Rattle.moka_state.specs.Write.{WriteEnds};
 ghost use Rattle.moka_table.specs.Table.{removal_of};
 ghost use Rattle.moka_guarded.specs.Guarded.{GuardedData, AtClockMoment};
+ghost use Rattle.moka_state.specs.Ends.{ReadsLive, ScansLive};
+ghost use Rattle.moka_state.specs.Settings.{IsUsable, data_of};
 
 use moka_model::notification::Notice;
 use moka_policy::policy::{CacheTypes, Clock, Policy, Refused};
+use moka_state::call_view::CallView;
 use moka_state::discards::Discarded;
 use moka_state::predicate_error::PredicateError;
 use moka_state::state::{CacheState, InsertRefused, Settings};
@@ -70,20 +72,8 @@ impl<K: Hash + Drop, V: Clone, C: CacheTypes<K, V>> GuardedState<K, V, C> {
         settings: Settings<K, V, C>,
         clock: Arc<C::Clock>,
     ) -> Result<Self, Refused>
-        requires weighs { IfSome settings.weigher (λ weigher.
-            C.Weigher.weighs (arc_value weigher) (C.weight (arc_value weigher))) }
-        requires gives { IfSome settings.expiry (λ expiry.
-            C.Expiry.gives (arc_value expiry) (C.lifetimes (arc_value expiry))) }
-        requires limits { settings.flush_limit ≢ Some 0 }
-        requires unweighed { IsSome settings.flush_limit → settings.weigher ≡ None }
-        ensures settings { IfOk result (λ it. it.state.settings ≡ settings_of settings.name
-            settings.time_to_live settings.time_to_idle settings.max_capacity
-            settings.first_number settings.closures settings.flush_limit (record {
-              is_lru = is_lru settings.eviction_policy;
-              hasher = arc_value settings.hasher;
-              weigher = option_map arc_value settings.weigher;
-              expiry = option_map arc_value settings.expiry;
-            })) }
+        requires { IsUsable C.Weigher.weighs C.weight C.Expiry.gives C.lifetimes settings }
+        ensures settings { IfOk result (λ it. it.state.settings ≡ data_of settings) }
         ensures clock { IfOk result (λ it. it.clock ≡ arc_value clock) }
         ensures empty { IfOk result (λ it. ⟦<C as StateView<K, V>>⟧.stands_for
             (⟦<C as StateView<K, V>>⟧.settings it.state.settings) it.state []) }
@@ -122,10 +112,8 @@ impl<K: Hash + Drop, V: Clone, C: CacheTypes<K, V>> GuardedState<K, V, C> {
     /// - `OutOfMemory`: cloning the value failed. Nothing has changed.
     pub fn get(&mut self, key: &K) -> Result<Option<V>, Refused>
         ensures step { AtClockMoment (C.Clock.tells self.old.clock) (λ now.
-            OnOk result (⟦<C as StateView<K, V>>⟧.follows self.old.state
-            (Get key.now now) self.new.state)
-            × IfOk result (λ found. ⟦<C as StateView<K, V>>⟧.replies_with self.old.state
-            (Get key.now now) (Found found))) }
+            ReadsLive ⟦<C as CallView<K, V>>⟧.spec Get key.now now self.old.state self.new.state
+            result) }
         ensures kept { IfOk result (λ found. IfSome found (C.keeps key.now)) }
         ensures refused { IfErr result (λ cause.
             (cause ≡ Refused.OutOfMemory) × (self.new.state ≡ self.old.state)) }
@@ -162,7 +150,8 @@ impl<K: Hash + Drop, V: Clone, C: CacheTypes<K, V>> GuardedState<K, V, C> {
     /// Removes the entry of `key`, live or expired, if there is one.
     pub fn invalidate(&mut self, key: &K)
         ensures { AtClockMoment (C.Clock.tells self.old.clock) (λ now.
-            ⟦<C as StateView<K, V>>⟧.follows self.old.state (Invalidate key.now now) self.new.state) }
+            ⟦<C as StateView<K, V>>⟧.follows self.old.state (Invalidate key.now now)
+            self.new.state) }
     {
         let now = self.clock.now();
         self.state.invalidate(key, now);
@@ -175,10 +164,8 @@ impl<K: Hash + Drop, V: Clone, C: CacheTypes<K, V>> GuardedState<K, V, C> {
     /// - `OutOfMemory`: cloning the value failed. Nothing has changed.
     pub fn remove(&mut self, key: &K) -> Result<Option<V>, Refused>
         ensures step { AtClockMoment (C.Clock.tells self.old.clock) (λ now.
-            OnOk result (⟦<C as StateView<K, V>>⟧.follows self.old.state
-            (Remove key.now now) self.new.state)
-            × IfOk result (λ found. ⟦<C as StateView<K, V>>⟧.replies_with self.old.state
-            (Remove key.now now) (Found found))) }
+            ReadsLive ⟦<C as CallView<K, V>>⟧.spec Remove key.now now self.old.state self.new.state
+            result) }
         ensures kept { IfOk result (λ found. IfSome found (C.keeps key.now)) }
         ensures refused { IfErr result (λ cause.
             (cause ≡ Refused.OutOfMemory) × (self.new.state ≡ self.old.state)) }
@@ -258,7 +245,8 @@ impl<K: Hash + Drop, V: Clone, C: CacheTypes<K, V>> GuardedState<K, V, C> {
 
     /// Returns the total weight of the stored entries.
     pub fn weighted_size(&self) -> u64
-        ensures { ⟦<C as StateView<K, V>>⟧.replies_with self.now.state WeightedSize (Counted result) }
+        ensures { ⟦<C as StateView<K, V>>⟧.replies_with self.now.state WeightedSize
+            (Counted result) }
     {
         self.state.weighted_size()
     }
@@ -307,9 +295,8 @@ impl<K: Hash + Drop, V: Clone, C: CacheTypes<K, V>> GuardedState<K, V, C> {
     ///
     /// - `OutOfMemory`: cloning the value failed.
     pub fn scan_get(&self, key: &K) -> Result<Option<V>, Refused>
-        ensures step { AtClockMoment (C.Clock.tells self.now.clock) (λ now.
-            IfOk result (λ found. ⟦<C as StateView<K, V>>⟧.replies_with self.now.state
-            (Get key.now now) (Found found))) }
+        ensures step { AtClockMoment (C.Clock.tells self.now.clock)
+            (λ now. ScansLive ⟦<C as CallView<K, V>>⟧.spec Get key.now now self.now.state result) }
         ensures kept { IfOk result (λ found. IfSome found (C.keeps key.now)) }
         ensures cause { IfErr result (λ cause. cause ≡ Refused.OutOfMemory) }
     {

@@ -1,17 +1,17 @@
 //! The calls of turns under the lock of a shared cache, and those that return entries. Each fails
 //! as the state's call does, and then changes nothing.
-ghost use Rattle.std.specs.Prelude.{◌≡◌, ◌≢◌, ℕ, Bool, Option, Some, true, IfOk, IfErr, IfSome, OnOk, OnErr};
+ghost use Rattle.std.specs.Prelude.{◌≡◌, ◌≢◌, ℕ, Option, true, IfOk, IfErr, IfSome, OnOk, OnErr};
 ghost use Rattle.std.specs.Arc.{arc_value};
-ghost use Rattle.moka_model.specs.Steps.{events_in};
-ghost use Rattle.moka_model.specs.Calls.{Abandon, Begin, BeginCompute, Collect, Finish, Leave, OrInsert, live_at};
+ghost use Rattle.moka_model.specs.Calls.{Abandon, Collect, Leave};
 ghost use Rattle.moka_turns.specs.Handles.{turn_name, ticket_name};
-ghost use Rattle.moka_state.specs.Begin.{BeginEnds, EntryKeeps, FoundKeeps, FoundKeepsFor, GivesBegun, GivesLook, IsAsked, IsNamed, IsSaidOf, IsShownKept, LookEnds, TakesLive};
-ghost use Rattle.moka_state.specs.Compute.{ComputeBegins, IsCompute, ShownKeepsFor};
-ghost use Rattle.moka_state.specs.Finish.{FinishEnds, Fits, OutcomeKeeps, outcome_of};
-ghost use Rattle.moka_state.specs.Given.{Gives, IfUnspent, of_collect, of_done};
-ghost use Rattle.moka_state.specs.OrInsert.{OrInsertEnds, of_or_default, of_or_insert};
+ghost use Rattle.moka_state.specs.Begin.{EntryKeeps, FoundKeeps, FoundKeepsFor, IsAsked, IsNamed, IsSaidOf, IsShownKept, TakesLive};
+ghost use Rattle.moka_state.specs.Compute.{IsCompute, ShownKeepsFor};
+ghost use Rattle.moka_state.specs.Finish.{Fits, OutcomeKeeps, outcome_of};
+ghost use Rattle.moka_state.specs.Given.{IfUnspent, of_collect, of_done};
+ghost use Rattle.moka_state.specs.OrInsert.{of_or_default, of_or_insert};
 ghost use Rattle.moka_guarded.specs.Guarded.{AtClockMoment};
 ghost use Rattle.moka_guarded.specs.Kept.{CollectedFits, CollectedKeeps, FinishedKeeps};
+ghost use Rattle.moka_state.specs.Ends.{BeginsCompute, FinishesTurn, GivesAt, LoaderBegins, LoaderBeginsByRef, Looks, OrInserts};
 
 use crate::guarded::GuardedState;
 use moka_model::entry::Entry;
@@ -20,6 +20,7 @@ use moka_policy::policy::{CacheTypes, Clock, Refused};
 use moka_state::answers::{
     Begun, BegunCompute, CollectRefused, Collected, FinishRefused, Finished,
 };
+use moka_state::call_view::CallView;
 use moka_state::handles::{Ticket, Turn};
 use moka_state::or_insert::OrInsertRefused;
 use moka_state::view::StateView;
@@ -31,12 +32,8 @@ impl<K: Hash + Drop, V: Clone, C: CacheTypes<K, V>> GuardedState<K, V, C> {
     /// a clone of that value. A failed call hands back the value.
     pub fn or_insert(&mut self, key: &Arc<K>, value: V) -> Result<Entry<K, V>, OrInsertRefused<V>>
         requires { C.keeps (arc_value key.now) value }
-        ensures step { AtClockMoment (C.Clock.tells self.old.clock) (λ now. OrInsertEnds
-            (⟦<C as StateView<K, V>>⟧.at_each_history self.old.state (λ settings steps.
-            Gives K.eq V.is_clone V.is_infallible settings steps
-            (OrInsert (arc_value key.now) value now) (of_or_insert result)))
-            (⟦<C as StateView<K, V>>⟧.follows self.old.state
-            (OrInsert (arc_value key.now) value now) self.new.state)
+        ensures step { AtClockMoment (C.Clock.tells self.old.clock) (λ now.
+            OrInserts ⟦<C as CallView<K, V>>⟧.spec of_or_insert (arc_value key.now) value now
             self.old.state self.new.state result) }
         ensures kept { IfOk result (EntryKeeps C.keeps (arc_value key.now)) }
         ensures value_back { IfErr result (λ refused. refused.value ≡ value) }
@@ -55,13 +52,7 @@ impl<K: Hash + Drop, V: Clone, C: CacheTypes<K, V>> GuardedState<K, V, C> {
         requires asks { (now : ℕ) → IfSome replace_if (TakesLive K.eq C.keeps
             ⟦<C as StateView<K, V>>⟧.settings F.FnMut key.now now self.old.state) }
         ensures step { AtClockMoment (C.Clock.tells self.old.clock) (λ now.
-            (said : Option Bool) × LookEnds
-            (λ given. ⟦<C as StateView<K, V>>⟧.at_each_history self.old.state (λ settings steps.
-            IsSaidOf F.FnMut replace_if
-            (live_at K.eq settings key.now now (events_in steps)) said
-            × GivesLook K.eq V.is_clone V.is_infallible settings steps key.now said now given))
-            ((kind : Kind) → kind ≢ Kind.Compute → ⟦<C as StateView<K, V>>⟧.follows self.old.state
-            (Begin key.now kind said now) self.new.state)
+            Looks ⟦<C as CallView<K, V>>⟧.spec (IsSaidOf F.FnMut replace_if) key.now now
             self.old.state self.new.state result) }
         ensures kept { IfOk result (λ found. IfSome found (EntryKeeps C.keeps key.now)) }
     {
@@ -82,15 +73,8 @@ impl<K: Hash + Drop, V: Clone, C: CacheTypes<K, V>> GuardedState<K, V, C> {
         requires asks { (now : ℕ) → IfSome replace_if.old (TakesLive K.eq C.keeps
             ⟦<C as StateView<K, V>>⟧.settings F.FnMut (arc_value key.now) now self.old.state) }
         ensures step { AtClockMoment (C.Clock.tells self.old.clock) (λ now.
-            (said : Option Bool) × BeginEnds
-            (λ given. ⟦<C as StateView<K, V>>⟧.at_each_history self.old.state (λ settings steps.
-            IsSaidOf F.FnMut replace_if.old
-            (live_at K.eq settings (arc_value key.now) now (events_in steps)) said
-            × GivesBegun K.eq V.is_clone V.is_infallible settings steps
-            (Begin (arc_value key.now) kind said now) true given))
-            (⟦<C as StateView<K, V>>⟧.follows self.old.state
-            (Begin (arc_value key.now) kind said now) self.new.state)
-            self.old.state self.new.state result) }
+            LoaderBegins ⟦<C as CallView<K, V>>⟧.spec (IsSaidOf F.FnMut replace_if.old)
+            (arc_value key.now) kind now true self.old.state self.new.state result) }
         ensures named { IfOk result (IsNamed kind (arc_value key.now)) }
         ensures kept { IfOk result (FoundKeeps C.keeps) }
         ensures kept_for { IfOk result (FoundKeepsFor C.keeps (arc_value key.now)) }
@@ -104,13 +88,9 @@ impl<K: Hash + Drop, V: Clone, C: CacheTypes<K, V>> GuardedState<K, V, C> {
     /// Begins a compute of `key`: returns a turn, or a ticket if another compute of the key is
     /// open.
     pub fn begin_compute(&mut self, key: &Arc<K>, keep: bool) -> Result<BegunCompute<K, V>, Refused>
-        ensures step { AtClockMoment (C.Clock.tells self.old.clock) (λ now. ComputeBegins
-            (λ given. ⟦<C as StateView<K, V>>⟧.at_each_history self.old.state (λ settings steps.
-            Gives K.eq V.is_clone V.is_infallible settings steps
-            (BeginCompute (arc_value key.now) keep now) given))
-            (⟦<C as StateView<K, V>>⟧.follows self.old.state
-            (BeginCompute (arc_value key.now) keep now) self.new.state)
-            self.old.state self.new.state result) }
+        ensures step { AtClockMoment (C.Clock.tells self.old.clock) (λ now.
+            BeginsCompute ⟦<C as CallView<K, V>>⟧.spec (arc_value key.now) keep now self.old.state
+            self.new.state result) }
         ensures named { IfOk result (IsCompute (arc_value key.now)) }
         ensures kept { IfOk result (ShownKeepsFor C.keeps (arc_value key.now)) }
     {
@@ -126,13 +106,9 @@ impl<K: Hash + Drop, V: Clone, C: CacheTypes<K, V>> GuardedState<K, V, C> {
     ) -> Result<Finished<K, V, C::Error>, FinishRefused<K, V, C::Error>>
         requires fits { Fits C.Error turn.key.kind (outcome_of outcome) }
         requires kept { OutcomeKeeps (C.keeps (arc_value turn.key.key)) outcome }
-        ensures step { AtClockMoment (C.Clock.tells self.old.clock) (λ now. FinishEnds V.is_clone
-            (λ given. ⟦<C as StateView<K, V>>⟧.at_each_history self.old.state (λ settings steps.
-            Gives K.eq V.is_clone V.is_infallible settings steps
-            (Finish (turn_name turn) (outcome_of outcome) now) given))
-            (⟦<C as StateView<K, V>>⟧.follows self.old.state
-            (Finish (turn_name turn) (outcome_of outcome) now) self.new.state)
-            self.old.state self.new.state turn outcome result) }
+        ensures step { AtClockMoment (C.Clock.tells self.old.clock) (λ now.
+            FinishesTurn ⟦<C as CallView<K, V>>⟧.spec turn outcome now self.old.state self.new.state
+            result) }
         ensures kept { IfOk result (FinishedKeeps C.keeps (arc_value turn.key.key)) }
     {
         let now = self.clock.now();
@@ -141,9 +117,8 @@ impl<K: Hash + Drop, V: Clone, C: CacheTypes<K, V>> GuardedState<K, V, C> {
 
     /// Ends a turn without an outcome. The turn is spent in any case.
     pub fn abandon(&mut self, turn: Turn<K>) -> Result<(), Refused>
-        ensures reply { ⟦<C as StateView<K, V>>⟧.at_each_history self.old.state (λ settings steps.
-            Gives K.eq V.is_clone V.is_infallible settings steps (Abandon (turn_name turn))
-            (of_done result)) }
+        ensures reply { GivesAt ⟦<C as CallView<K, V>>⟧.spec self.old.state
+            (Abandon (turn_name turn)) (of_done result) }
         ensures step { OnOk result (⟦<C as StateView<K, V>>⟧.follows self.old.state
             (Abandon (turn_name turn)) self.new.state) }
         ensures refused { OnErr result (self.new.state ≡ self.old.state) }
@@ -154,9 +129,8 @@ impl<K: Hash + Drop, V: Clone, C: CacheTypes<K, V>> GuardedState<K, V, C> {
 
     /// Spends a ticket and collects nothing. The ticket is spent in any case.
     pub fn leave(&mut self, ticket: Ticket<K>) -> Result<(), Refused>
-        ensures reply { ⟦<C as StateView<K, V>>⟧.at_each_history self.old.state (λ settings steps.
-            Gives K.eq V.is_clone V.is_infallible settings steps (Leave (ticket_name ticket))
-            (of_done result)) }
+        ensures reply { GivesAt ⟦<C as CallView<K, V>>⟧.spec self.old.state
+            (Leave (ticket_name ticket)) (of_done result) }
         ensures step { OnOk result (⟦<C as StateView<K, V>>⟧.follows self.old.state
             (Leave (ticket_name ticket)) self.new.state) }
         ensures refused { OnErr result (self.new.state ≡ self.old.state) }
@@ -171,9 +145,8 @@ impl<K: Hash + Drop, V: Clone, C: CacheTypes<K, V>> GuardedState<K, V, C> {
         &mut self,
         ticket: Ticket<K>,
     ) -> Result<Collected<K, V, C::Error>, CollectRefused<K>>
-        ensures reply { ⟦<C as StateView<K, V>>⟧.at_each_history self.old.state (λ settings steps.
-            Gives K.eq V.is_clone V.is_infallible settings steps (Collect (ticket_name ticket))
-            (of_collect result)) }
+        ensures reply { GivesAt ⟦<C as CallView<K, V>>⟧.spec self.old.state
+            (Collect (ticket_name ticket)) (of_collect result) }
         ensures step { OnOk result (⟦<C as StateView<K, V>>⟧.follows self.old.state
             (Collect (ticket_name ticket)) self.new.state) }
         ensures unspent { IfOk result
@@ -201,15 +174,8 @@ impl<K: Hash + Clone + Drop, V: Clone, C: CacheTypes<K, V>> GuardedState<K, V, C
         requires asks { (now : ℕ) → IfSome replace_if (TakesLive K.eq C.keeps
             ⟦<C as StateView<K, V>>⟧.settings F.FnMut key.now now self.old.state) }
         ensures step { AtClockMoment (C.Clock.tells self.old.clock) (λ now.
-            (asked : K) × IsAsked K.eq K.is_clone key.now asked × (said : Option Bool) × BeginEnds
-            (λ given. ⟦<C as StateView<K, V>>⟧.at_each_history self.old.state (λ settings steps.
-            IsSaidOf F.FnMut replace_if (live_at K.eq settings asked now (events_in steps)) said
-            × GivesBegun K.eq V.is_clone V.is_infallible settings steps
-            (Begin asked kind said now) true given))
-            (⟦<C as StateView<K, V>>⟧.follows self.old.state
-            (Begin asked kind said now) self.new.state)
-            self.old.state self.new.state result
-            × IfOk result (IsNamed kind asked)) }
+            LoaderBeginsByRef ⟦<C as CallView<K, V>>⟧.spec (IsAsked K.eq K.is_clone key.now)
+            (IsSaidOf F.FnMut replace_if) kind now true self.old.state self.new.state result) }
         ensures kept { IfOk result (FoundKeeps C.keeps) }
         ensures kept_for { IfOk result (FoundKeepsFor C.keeps key.now) }
     {
@@ -222,14 +188,9 @@ impl<K: Hash + Drop, V: Clone + Default, C: CacheTypes<K, V>> GuardedState<K, V,
     /// Does what [`GuardedState::or_insert`] does, with the default value. A failed call drops the key.
     pub fn or_default(&mut self, key: K) -> Result<Entry<K, V>, Refused>
         requires { (value : V) → V.is_default value → C.keeps key value }
-        ensures step { AtClockMoment (C.Clock.tells self.old.clock) (λ now.
-            (value : V) × V.is_default value × OrInsertEnds
-            (⟦<C as StateView<K, V>>⟧.at_each_history self.old.state (λ settings steps.
-            Gives K.eq V.is_clone V.is_infallible settings steps
-            (OrInsert key value now) (of_or_default result)))
-            (⟦<C as StateView<K, V>>⟧.follows self.old.state
-            (OrInsert key value now) self.new.state)
-            self.old.state self.new.state result) }
+        ensures step { AtClockMoment (C.Clock.tells self.old.clock) (λ now. (value : V)
+            × V.is_default value × OrInserts ⟦<C as CallView<K, V>>⟧.spec of_or_default key value
+            now self.old.state self.new.state result) }
         ensures kept { IfOk result (EntryKeeps C.keeps key) }
     {
         let now = self.clock.now();

@@ -104,7 +104,7 @@ order-flagged o d x e f g zs absent s h = record {
   flagged = λ k q. s.others k (λ is. absent (subst (λ t. IsAmong t zs) is q)) ∙ h.flagged k q;
 }
 
-mutual-same : (o d : List Node) → ((k : ℕ) → next_of d k ≡ next_of o k) → ((k : ℕ) → prev_of d k ≡ prev_of o k) → IsMutual o → IsMutual d
+pub mutual-same : (o d : List Node) → ((k : ℕ) → next_of d k ≡ next_of o k) → ((k : ℕ) → prev_of d k ≡ prev_of o k) → IsMutual o → IsMutual d
 mutual-same o d next prev m = record {
   forth = λ k. prev (next_of d k) ∙ ap (prev_of o) (next k) ∙ m.forth k;
   back = λ k. next (prev_of d k) ∙ ap (next_of o) (prev k) ∙ m.back k;

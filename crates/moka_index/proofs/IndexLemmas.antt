@@ -4,9 +4,8 @@ use Rattle.std.specs.Prelude.{◌⊎◌}
 use Rattle.std.proofs.lemmas.Bool.{cases_eq, ne_eqb}
 use Rattle.indexmap.specs.IndexMap.{IndexMap}
 use Rattle.moka_index.specs.Paths.{IsAmong, IsAbsent, without, IsChain}
-use Rattle.moka_index.specs.Nodes.{same_of, hash_of}
 use Rattle.moka_index.specs.BucketHeads.{first_in}
-use Rattle.moka_index.specs.Deques.{admitted_in, waiting_in, places_in, Stands}
+use Rattle.moka_index.specs.Deques.{admitted_in, waiting_in, hash_in, same_in, places_in, Stands}
 use Rattle.moka_index.specs.Chains.{IsChained, numbers_in, chain_in, IsIndexed}
 use Rattle.moka_index.specs.Deques.{LeadsTo, chain_from}
 use Rattle.moka_index.specs.declared.deques.Deques.{Deques}
@@ -59,19 +58,19 @@ pub number-above : (o : Deques) (k : ℕ) → Stands o k → 2 ≤ k
 number-above o k q = stands-above o.nodes.items (admitted_in o) (waiting_in o) k o.ringed q
 
 module _ {S : Type 0} where
-  pub chained-in : (o : Deques) (bucket_heads : IndexMap ℕ ℕ S) → IsIndexed o bucket_heads → Chained (same_of o.nodes.items) (hash_of o.nodes.items) (first_in bucket_heads) (numbers_in o) (chain_in o bucket_heads)
-  chained-in o bucket_heads h = chained (same_of o.nodes.items) (hash_of o.nodes.items) (first_in bucket_heads) (numbers_in o) (chain_in o bucket_heads) h
+  pub chained-in : (o : Deques) (bucket_heads : IndexMap ℕ ℕ S) → IsIndexed o bucket_heads → Chained (same_in o) (hash_in o) (first_in bucket_heads) (numbers_in o) (chain_in o bucket_heads)
+  chained-in o bucket_heads h = chained (same_in o) (hash_in o) (first_in bucket_heads) (numbers_in o) (chain_in o bucket_heads) h
 
   -- the chains of the numbers in the orders are those that the links form
-  chain-is : (o : Deques) (bucket_heads : IndexMap ℕ ℕ S) (chain : ℕ → List ℕ) → Chained (same_of o.nodes.items) (hash_of o.nodes.items) (first_in bucket_heads) (numbers_in o) chain → (h : ℕ) → chain_in o bucket_heads h ≡ chain h
+  chain-is : (o : Deques) (bucket_heads : IndexMap ℕ ℕ S) (chain : ℕ → List ℕ) → Chained (same_in o) (hash_in o) (first_in bucket_heads) (numbers_in o) chain → (h : ℕ) → chain_in o bucket_heads h ≡ chain h
   chain-is o bucket_heads chain c h =
       let few = few-below (places_in o) (chain h) (c.apart h) (λ k q. number-within o k (stands-among o k (c.members h k q).0)) in
-      line-chase (same_of o.nodes.items) (places_in o) (first_in bucket_heads h) (chain h) few (c.line h)
+      line-chase (same_in o) (places_in o) (first_in bucket_heads h) (chain h) few (c.line h)
 
-  pub indexed : (o : Deques) (bucket_heads : IndexMap ℕ ℕ S) (chain : ℕ → List ℕ) → Chained (same_of o.nodes.items) (hash_of o.nodes.items) (first_in bucket_heads) (numbers_in o) chain → IsIndexed o bucket_heads
+  pub indexed : (o : Deques) (bucket_heads : IndexMap ℕ ℕ S) (chain : ℕ → List ℕ) → Chained (same_in o) (hash_in o) (first_in bucket_heads) (numbers_in o) chain → IsIndexed o bucket_heads
   indexed o bucket_heads chain c =
-      is-chained (same_of o.nodes.items) (hash_of o.nodes.items) (first_in bucket_heads) (numbers_in o) (chain_in o bucket_heads)
-      (chained-same (same_of o.nodes.items) (hash_of o.nodes.items) (first_in bucket_heads) (numbers_in o) chain (chain_in o bucket_heads) (chain-is o bucket_heads chain c) c)
+      is-chained (same_in o) (hash_in o) (first_in bucket_heads) (numbers_in o) (chain_in o bucket_heads)
+      (chained-same (same_in o) (hash_in o) (first_in bucket_heads) (numbers_in o) chain (chain_in o bucket_heads) (chain-is o bucket_heads chain c) c)
 
 module _ (same : ℕ → Option ℕ) (hash : ℕ → ℕ) (first : ℕ → Option ℕ) (numbers : List ℕ) (chain : ℕ → List ℕ) (c : Chained same hash first numbers chain) where
   elsewhere : (n h : ℕ) → h ≢ hash n → IsAbsent n (chain h)
@@ -214,42 +213,42 @@ module _ (same : ℕ → Option ℕ) (hash : ℕ → ℕ) (first : ℕ → Optio
 
 -- what `unchain` sees: the number's chain, and its first number
 module _ {S : Type 0} (o : Deques) (bucket_heads : IndexMap ℕ ℕ S) (n : ℕ) (stands : Stands o n) (i : IsIndexed o bucket_heads) where
-  c : Chained (same_of o.nodes.items) (hash_of o.nodes.items) (first_in bucket_heads) (numbers_in o) (chain_in o bucket_heads)
+  c : Chained (same_in o) (hash_in o) (first_in bucket_heads) (numbers_in o) (chain_in o bucket_heads)
   c = chained-in o bucket_heads i
 
-  pub has-first : (hash : ℕ) → hash ≡ hash_of o.nodes.items n → None ≡ first_in bucket_heads hash → ⊥
+  pub has-first : (hash : ℕ) → hash ≡ hash_in o n → None ≡ first_in bucket_heads hash → ⊥
   has-first hash is none =
-      no-first (same_of o.nodes.items) (hash_of o.nodes.items) (first_in bucket_heads) (numbers_in o) (chain_in o bucket_heads) c (hash_of o.nodes.items n) n (sym (none ∙ ap (first_in bucket_heads) is))
+      no-first (same_in o) (hash_in o) (first_in bucket_heads) (numbers_in o) (chain_in o bucket_heads) c (hash_in o n) n (sym (none ∙ ap (first_in bucket_heads) is))
       (c.covers n (among-stands o n stands))
 
   -- its first number
-  module _ (hash first : ℕ) (is : hash ≡ hash_of o.nodes.items n) (some : Some first ≡ first_in bucket_heads hash) where
-    chain : chain_from o (Some first) ≡ chain_in o bucket_heads (hash_of o.nodes.items n)
+  module _ (hash first : ℕ) (is : hash ≡ hash_in o n) (some : Some first ≡ first_in bucket_heads hash) where
+    chain : chain_from o (Some first) ≡ chain_in o bucket_heads (hash_in o n)
     chain = ap (chain_from o) (some ∙ ap (first_in bucket_heads) is)
 
     pub within-places : (k : ℕ) → IsAmong k (chain_from o (Some first)) → k < places_in o
-    within-places k q = number-within o k (stands-among o k (c.members (hash_of o.nodes.items n) k (subst (IsAmong k) chain q)).0)
+    within-places k q = number-within o k (stands-among o k (c.members (hash_in o n) k (subst (IsAmong k) chain q)).0)
 
     pub within-chain : IsAmong n (chain_from o (Some first))
     within-chain = subst (IsAmong n) (sym chain) (c.covers n (among-stands o n stands))
 
     -- it is not the first one, but after another
     module _ (before : ℕ) (leads : LeadsTo (chain_from o (Some first)) before n) where
-      pub before-hash : hash_of o.nodes.items before ≡ hash
+      pub before-hash : hash_in o before ≡ hash
       before-hash =
-          (c.members (hash_of o.nodes.items n) before (subst (IsAmong before) (sym leads.is ∙ chain) (among-back before leads.front (before ∷ n ∷ leads.back) (inl refl)))).1 ∙ sym is
+          (c.members (hash_in o n) before (subst (IsAmong before) (sym leads.is ∙ chain) (among-back before leads.front (before ∷ n ∷ leads.back) (inl refl)))).1 ∙ sym is
 
       pub before-within : before < places_in o
       before-within = within-places before (subst (IsAmong before) (sym leads.is) (among-back before leads.front (before ∷ n ∷ leads.back) (inl refl)))
 
-      pub passed-by : (same' : ℕ → Option ℕ) → same' before ≡ same_of o.nodes.items n → ((k : ℕ) → k ≢ before → same' k ≡ same_of o.nodes.items k)
+      pub passed-by : (same' : ℕ → Option ℕ) → same' before ≡ same_in o n → ((k : ℕ) → k ≢ before → same' k ≡ same_in o k)
           → (h : ℕ) → IsChain same' (first_in bucket_heads h) (without n (chain_in o bucket_heads h))
       passed-by same' past others =
-          unchained-behind (same_of o.nodes.items) (hash_of o.nodes.items) (first_in bucket_heads) (numbers_in o) (chain_in o bucket_heads) c same' n before leads.front leads.back (sym chain ∙ leads.is) past others
+          unchained-behind (same_in o) (hash_in o) (first_in bucket_heads) (numbers_in o) (chain_in o bucket_heads) c same' n before leads.front leads.back (sym chain ∙ leads.is) past others
 
     -- it is the first one
-    pub dropped : (first' : ℕ → Option ℕ) → first ≡ n → first' hash ≡ same_of o.nodes.items n → ((h : ℕ) → h ≢ hash → first' h ≡ first_in bucket_heads h)
-        → (h : ℕ) → IsChain (same_of o.nodes.items) (first' h) (without n (chain_in o bucket_heads h))
+    pub dropped : (first' : ℕ → Option ℕ) → first ≡ n → first' hash ≡ same_in o n → ((h : ℕ) → h ≢ hash → first' h ≡ first_in bucket_heads h)
+        → (h : ℕ) → IsChain (same_in o) (first' h) (without n (chain_in o bucket_heads h))
     dropped first' here leads others =
-        unchained-first (same_of o.nodes.items) (hash_of o.nodes.items) (first_in bucket_heads) (numbers_in o) (chain_in o bucket_heads) c first' n
+        unchained-first (same_in o) (hash_in o) (first_in bucket_heads) (numbers_in o) (chain_in o bucket_heads) c first' n
         (ap (first_in bucket_heads) (sym is) ∙ sym some ∙ ap Some here) (ap first' (sym is) ∙ leads) (λ h ne. others h (λ e. ne (e ∙ is)))

@@ -2,9 +2,8 @@
 use Rattle.std.specs.Prelude.{◌≡◌, ℕ, ◌<◌, ◌≤◌, Option, List, ◌++◌}
 use Rattle.indexmap.specs.IndexMap.{IndexMap}
 use Rattle.moka_index.specs.Paths.{IsAmong, count_of, IsChain}
-use Rattle.moka_index.specs.Nodes.{same_of, hash_of}
 use Rattle.moka_index.specs.BucketHeads.{first_in}
-use Rattle.moka_index.specs.Deques.{admitted_in, waiting_in, chain_from}
+use Rattle.moka_index.specs.Deques.{admitted_in, waiting_in, hash_in, same_in, chain_from}
 use Rattle.moka_index.specs.declared.deques.Deques.{Deques}
 
 -- Each hash has a chain of exactly those of the numbers that have it.
@@ -26,5 +25,4 @@ module _ {S : Type 0} where
 
   -- Each hash has a chain of exactly the numbers that have it and are in an order.
   abbrev pub IsIndexed : Deques → IndexMap ℕ ℕ S → Type 0
-  IsIndexed o bucket_heads = IsChained (same_of o.nodes.items) (hash_of o.nodes.items) (first_in bucket_heads) (numbers_in o)
-      (chain_in o bucket_heads)
+  IsIndexed o bucket_heads = IsChained (same_in o) (hash_in o) (first_in bucket_heads) (numbers_in o) (chain_in o bucket_heads)

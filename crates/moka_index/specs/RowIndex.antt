@@ -1,9 +1,8 @@
 -- The terms in which contracts describe `RowIndex`.
 use Rattle.std.specs.Prelude.{◌≡◌, ℕ, ◌≤◌, Option, List, ◌++◌}
 use Rattle.indexmap.specs.IndexMap.{spare}
-use Rattle.moka_index.specs.Nodes.{same_of, hash_of}
 use Rattle.moka_index.specs.BucketHeads.{first_in}
-use Rattle.moka_index.specs.Deques.{admitted_in, waiting_in, places_in, Stands}
+use Rattle.moka_index.specs.Deques.{admitted_in, waiting_in, places_in, hash_in, same_in, Stands}
 use Rattle.moka_index.specs.Chains.{chain_in}
 use Rattle.moka_index.specs.declared.row_index.RowIndex.{RowIndex}
 
@@ -25,7 +24,7 @@ IsLinked l k = Stands l.orders k
 
 -- The hash of a number.
 abbrev pub hash_at : RowIndex → ℕ → ℕ
-hash_at l k = hash_of l.orders.nodes.items k
+hash_at l k = hash_in l.orders k
 
 -- The first number of a hash, if it has one.
 abbrev pub first_at : RowIndex → ℕ → Option ℕ
@@ -33,7 +32,7 @@ first_at l h = first_in l.bucket_heads h
 
 -- The next number with the same hash, if there is one.
 abbrev pub same_at : RowIndex → ℕ → Option ℕ
-same_at l k = same_of l.orders.nodes.items k
+same_at l k = same_in l.orders k
 
 -- The numbers of a hash, in the order in which a lookup visits them.
 abbrev pub chain_of : RowIndex → ℕ → List ℕ

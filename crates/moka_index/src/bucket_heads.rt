@@ -1,5 +1,6 @@
 //! An index from each hash to its first number.
-ghost use Rattle.std.specs.Prelude.{◌≡◌, ◌≢◌, ℕ, ◌+◌, ◌<◌, ◌≤◌, Some, None, option_map, IfSome, MatchOption, slice_get};
+ghost use Rattle.std.specs.Prelude.{◌≡◌, ◌≢◌, ℕ, ◌+◌, ◌<◌, ◌≤◌, Some, None, option_map, IfSome};
+ghost use Rattle.std.specs.Prelude.{MatchOption, slice_get};
 ghost use Rattle.indexmap.specs.IndexMap.{spare};
 ghost use Rattle.moka_index.specs.BucketHeads.{first_in, Leads};
 
@@ -37,9 +38,11 @@ pub fn find_bucket(bucket_heads: &BucketHeads, hash: u64) -> Option<(usize, u32)
 #[inline(always)]
 pub fn put_first(bucket_heads: &mut BucketHeads, hash: u64, number: u32) -> u32
     requires { 0 < spare bucket_heads.old }
-    ensures before { MatchOption (first_in bucket_heads.old hash) (result ≡ 0) (λ first. result ≡ first) }
+    ensures before { MatchOption (first_in bucket_heads.old hash)
+        (result ≡ 0) (λ first. result ≡ first) }
     ensures changed { first_in bucket_heads.new hash ≡ Some number }
-    ensures others { (other : ℕ) → other ≢ hash → first_in bucket_heads.new other ≡ first_in bucket_heads.old other }
+    ensures others { (other : ℕ) → other ≢ hash
+        → first_in bucket_heads.new other ≡ first_in bucket_heads.old other }
     ensures room { spare bucket_heads.old ≤ spare bucket_heads.new + 1 }
 {
     match bucket_heads.insert(hash, number) {

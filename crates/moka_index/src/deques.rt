@@ -1,7 +1,8 @@
 //! Two orders of numbers: the pending ones and the resident ones.
-ghost use Rattle.std.specs.Prelude.{◌≡◌, ◌≢◌, ◌⊎◌, ℕ, ◌+◌, ◌<◌, ◌≤◌, ◌^◌, [], ◌∷◌, ◌++◌, true, false, length, OnOk, Some};
-ghost use Rattle.moka_index.specs.Paths.{IsAmong, IsAbsent, IsChain, without, first_of, number_behind};
-ghost use Rattle.moka_index.specs.Nodes.{hash_of, same_of, row_of};
+ghost use Rattle.std.specs.Prelude.{◌≡◌, ◌≢◌, ◌⊎◌, ℕ, ◌+◌, ◌<◌, ◌≤◌, ◌^◌};
+ghost use Rattle.std.specs.Prelude.{[], ◌∷◌, ◌++◌, true, false, length, OnOk, Some};
+ghost use Rattle.moka_index.specs.Paths.{IsAmong, without, first_of, number_behind};
+ghost use Rattle.moka_index.specs.Nodes.{row_of};
 ghost use Rattle.moka_index.specs.Rings.{order, IsRinged};
 
 use crate::nodes::{
@@ -15,18 +16,55 @@ const ADMITTED: u32 = 0;
 /// The node that is the end of the pending numbers.
 const WAITING: u32 = 1;
 
+/// One of the two orders.
+#[derive(Clone, Copy)]
+pub enum Queue {
+    /// The resident numbers, in access order.
+    Admitted,
+    /// The pending numbers, in arrival order.
+    Waiting,
+}
+
+impl Queue {
+    ghost use Rattle.moka_index.specs.Deques.{end_of, is_of_admitted};
+
+    /// Returns the node that is the end of the queue.
+    #[inline(always)]
+    fn end(self) -> u32
+        ensures { result ≡ end_of self }
+    {
+        match self {
+            Queue::Admitted => ADMITTED,
+            Queue::Waiting => WAITING,
+        }
+    }
+
+    /// Returns whether the queue is that of the resident numbers.
+    #[inline(always)]
+    fn is_of_admitted(self) -> bool
+        ensures { result ≡ is_of_admitted self }
+    {
+        match self {
+            Queue::Admitted => true,
+            Queue::Waiting => false,
+        }
+    }
+}
+
 /// Two orders of numbers, each a ring of nodes with an end of its own.
 #[derive(Drop)]
 pub struct Deques {
     nodes: Vec<Node>,
     admitted_len: usize,
     waiting_len: usize,
-    ghost ringed: { IsRinged nodes.items (order nodes.items 0 admitted_len) (order nodes.items 1 waiting_len) },
+    ghost ringed: { IsRinged nodes.items
+        (order nodes.items 0 admitted_len) (order nodes.items 1 waiting_len) },
 }
 
 impl Deques {
-    ghost use Rattle.moka_index.specs.Deques.{chain_from, LeadsTo};
-    ghost use Rattle.moka_index.specs.Deques.{admitted_in, waiting_in, places_in, Stands, PreservesHashes, PreservesDeques};
+    ghost use Rattle.moka_index.specs.Deques.{admitted_in, waiting_in, queue_in, other, Stands};
+    ghost use Rattle.moka_index.specs.Deques.{IsUnlinked, hash_in, same_in, places_in, chain_from};
+    ghost use Rattle.moka_index.specs.Deques.{EndsFrom, LeadsTo, PreservesHashes, PreservesDeques};
 
     /// Creates two orders without numbers. Does not allocate.
     pub fn new(alloc: Global) -> Self
@@ -49,28 +87,22 @@ impl Deques {
         (self.admitted_len, self.waiting_len)
     }
 
-    /// Returns the first resident number, if there is one.
+    /// Returns the first number of a queue, if there is one.
     #[inline(always)]
-    pub fn first_admitted(&self) -> Option<usize>
-        ensures { result ≡ first_of (admitted_in self.now) }
+    pub fn first(&self, queue: Queue) -> Option<usize>
+        ensures { result ≡ first_of (queue_in self.now queue) }
     {
-        first(&self.nodes, ADMITTED)
-    }
-
-    /// Returns the first pending number, if there is one.
-    #[inline(always)]
-    pub fn first_waiting(&self) -> Option<usize>
-        ensures { result ≡ first_of (waiting_in self.now) }
-    {
-        first(&self.nodes, WAITING)
+        first(&self.nodes, queue.end())
     }
 
     /// Returns the number after one that is in an order, if there is one.
     #[inline(always)]
     pub fn next(&self, number: u32) -> Option<usize>
         requires { Stands self.now number }
-        ensures admitted { IsAmong number (admitted_in self.now) → result ≡ number_behind number (admitted_in self.now) }
-        ensures waiting { IsAmong number (waiting_in self.now) → result ≡ number_behind number (waiting_in self.now) }
+        ensures admitted { IsAmong number (admitted_in self.now)
+            → result ≡ number_behind number (admitted_in self.now) }
+        ensures waiting { IsAmong number (waiting_in self.now)
+            → result ≡ number_behind number (waiting_in self.now) }
     {
         row(read(&self.nodes, number).next)
     }
@@ -79,7 +111,7 @@ impl Deques {
     #[inline(always)]
     pub fn hash(&self, number: u32) -> u64
         requires { number < places_in self.now }
-        ensures { result ≡ hash_of self.now.nodes.items number }
+        ensures { result ≡ hash_in self.now number }
     {
         read(&self.nodes, number).hash
     }
@@ -88,7 +120,7 @@ impl Deques {
     #[inline(always)]
     pub fn next_in_chain(&self, number: u32) -> Option<usize>
         requires { number < places_in self.now }
-        ensures { result ≡ same_of self.now.nodes.items number }
+        ensures { result ≡ same_in self.now number }
     {
         row(read(&self.nodes, number).same)
     }
@@ -97,7 +129,7 @@ impl Deques {
     #[inline(always)]
     pub fn chain_link(&self, number: u32) -> u32
         requires { number < places_in self.now }
-        ensures { row_of result ≡ same_of self.now.nodes.items number }
+        ensures { row_of result ≡ same_in self.now number }
     {
         let node = read(&self.nodes, number);
         node.same
@@ -113,8 +145,8 @@ impl Deques {
         ensures made { OnOk result (places ≤ places_in self.new) }
         ensures admitted { admitted_in self.new ≡ admitted_in self.old }
         ensures waiting { waiting_in self.new ≡ waiting_in self.old }
-        ensures same { (k : ℕ) → same_of self.new.nodes.items k ≡ same_of self.old.nodes.items k }
-        ensures hash { (k : ℕ) → hash_of self.new.nodes.items k ≡ hash_of self.old.nodes.items k }
+        ensures same { (k : ℕ) → same_in self.new k ≡ same_in self.old k }
+        ensures hash { (k : ℕ) → hash_in self.new k ≡ hash_in self.old k }
         ensures places { places_in self.old ≤ places_in self.new }
     {
         if places > u32::MAX as usize {
@@ -128,10 +160,10 @@ impl Deques {
     pub fn set_same(&mut self, number: u32, hash: u64, same: u32)
         requires { number < places_in self.old }
         ensures preserves { PreservesDeques self.old self.new }
-        ensures changed { same_of self.new.nodes.items number ≡ row_of same }
-        ensures hashed { hash_of self.new.nodes.items number ≡ hash }
-        ensures others { (k : ℕ) → k ≢ number → same_of self.new.nodes.items k ≡ same_of self.old.nodes.items k }
-        ensures others_hashed { (k : ℕ) → k ≢ number → hash_of self.new.nodes.items k ≡ hash_of self.old.nodes.items k }
+        ensures changed { same_in self.new number ≡ row_of same }
+        ensures hashed { hash_in self.new number ≡ hash }
+        ensures others { (k : ℕ) → k ≢ number → same_in self.new k ≡ same_in self.old k }
+        ensures others_hashed { (k : ℕ) → k ≢ number → hash_in self.new k ≡ hash_in self.old k }
     {
         set_same(&mut self.nodes, number, hash, same);
     }
@@ -150,8 +182,9 @@ impl Deques {
     /// `first`. Visits the chain up to it.
     #[inline(always)]
     pub fn predecessor(&self, first: u32, number: u32) -> u32
-        requires linked { IsChain (same_of self.now.nodes.items) (Some first) (chain_from self.now (Some first)) }
-        requires places { (k : ℕ) → IsAmong k (chain_from self.now (Some first)) → k < places_in self.now }
+        requires linked { EndsFrom self.now first }
+        requires places { (k : ℕ) → IsAmong k (chain_from self.now (Some first))
+            → k < places_in self.now }
         requires within { IsAmong number (chain_from self.now (Some first)) }
         requires later { first ≢ number }
         ensures { LeadsTo (chain_from self.now (Some first)) result number }
@@ -185,21 +218,6 @@ impl Deques {
         is_admitted
     }
 
-    /// Appends a number that is in no order to the resident ones.
-    #[inline(always)]
-    pub fn admit(&mut self, number: u32)
-        requires above { 2 ≤ number }
-        requires within { number < places_in self.old }
-        requires absent { IsAbsent number (admitted_in self.old) × IsAbsent number (waiting_in self.old) }
-        ensures admitted { admitted_in self.new ≡ admitted_in self.old ++ number ∷ [] }
-        ensures waiting { waiting_in self.new ≡ waiting_in self.old }
-        ensures preserves { PreservesHashes self.old self.new }
-    {
-        set_order(&mut self.nodes, number, true);
-        link_before(&mut self.nodes, number, ADMITTED);
-        self.admitted_len += 1;
-    }
-
     /// Moves a resident number after all other resident ones.
     #[inline(always)]
     pub fn move_last(&mut self, number: u32)
@@ -212,18 +230,21 @@ impl Deques {
         relink(&mut self.nodes, number, ADMITTED);
     }
 
-    /// Appends a number that is in no order to the pending ones.
+    /// Appends a number that is in no order to a queue.
     #[inline(always)]
-    pub fn push_back_pending(&mut self, number: u32)
+    pub fn push_back(&mut self, number: u32, queue: Queue)
         requires above { 2 ≤ number }
         requires within { number < places_in self.old }
-        requires absent { IsAbsent number (admitted_in self.old) × IsAbsent number (waiting_in self.old) }
-        ensures admitted { admitted_in self.new ≡ admitted_in self.old }
-        ensures waiting { waiting_in self.new ≡ waiting_in self.old ++ number ∷ [] }
+        requires absent { IsUnlinked self.old number }
+        ensures pushed { queue_in self.new queue ≡ queue_in self.old queue ++ number ∷ [] }
+        ensures other { queue_in self.new (other queue) ≡ queue_in self.old (other queue) }
         ensures preserves { PreservesHashes self.old self.new }
     {
-        set_order(&mut self.nodes, number, false);
-        link_before(&mut self.nodes, number, WAITING);
-        self.waiting_len += 1;
+        set_order(&mut self.nodes, number, queue.is_of_admitted());
+        link_before(&mut self.nodes, number, queue.end());
+        match queue {
+            Queue::Admitted => self.admitted_len += 1,
+            Queue::Waiting => self.waiting_len += 1,
+        }
     }
 }

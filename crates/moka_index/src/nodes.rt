@@ -1,7 +1,7 @@
 //! Nodes in a `Vec`, each with links to its neighbours.
 ghost use Rattle.std.specs.Prelude.{◌≡◌, ◌≢◌, ℕ, ◌<◌, ◌≤◌, ◌^◌, length, OnOk};
-ghost use Rattle.moka_index.specs.Nodes.{node_at, next_of, row_of, Grows, SetsNext, SetsPrev, SetsOrder, SetsSame, IsMutual, Unlinks};
-ghost use Rattle.moka_index.specs.Nodes.{LinksBefore, Relinks};
+ghost use Rattle.moka_index.specs.Nodes.{node_at, next_of, row_of, Grows, SetsNext, SetsPrev};
+ghost use Rattle.moka_index.specs.Nodes.{SetsOrder, SetsSame, IsMutual, Unlinks, LinksBefore, Relinks};
 
 use std::alloc::AllocError;
 

@@ -1,14 +1,14 @@
 //! The rows of a cache by their numbers: in two orders, and in a chain for each hash.
-ghost use Rattle.std.specs.Prelude.{◌≡◌, ◌≢◌, ◌⊎◌, ℕ, ◌+◌, ◌<◌, ◌≤◌, [], ◌∷◌, ◌++◌, true, false, length, OnOk, Some};
-ghost use Rattle.moka_index.specs.Paths.{IsAmong, IsAbsent, IsChain, without, first_of, number_behind};
-ghost use Rattle.moka_index.specs.Nodes.{hash_of, same_of, row_of};
-ghost use Rattle.moka_index.specs.Deques.{admitted_in, waiting_in, places_in, Stands, PreservesDeques};
+ghost use Rattle.std.specs.Prelude.{◌≡◌, ◌≢◌, ◌⊎◌, ℕ, ◌+◌, ◌<◌, ◌≤◌};
+ghost use Rattle.std.specs.Prelude.{[], ◌∷◌, ◌++◌, true, false, length, OnOk, Some};
+ghost use Rattle.moka_index.specs.Paths.{IsAmong, IsChain, without, first_of, number_behind};
+ghost use Rattle.moka_index.specs.Deques.{hash_in, same_in, places_in, Stands, PreservesDeques};
 ghost use Rattle.moka_index.specs.Chains.{IsIndexed, chain_in};
 ghost use Rattle.moka_index.specs.BucketHeads.{first_in};
 ghost use Rattle.indexmap.specs.IndexMap.{spare};
 
 use crate::bucket_heads::{self, BucketHeads, change_first, drop_first, find_bucket, put_first};
-use crate::deques::Deques;
+use crate::deques::{Deques, Queue};
 use indexmap::IndexMap;
 use std::alloc::{AllocError, Global};
 use std::hash::BuildHasherDefault;
@@ -35,9 +35,9 @@ fn unchain(orders: &mut Deques, bucket_heads: &mut BucketHeads, number: u32)
     requires stands { Stands orders.old number }
     requires indexed { IsIndexed orders.old bucket_heads.old }
     ensures preserves { PreservesDeques orders.old orders.new }
-    ensures hash { (k : ℕ) → hash_of orders.new.nodes.items k ≡ hash_of orders.old.nodes.items k }
-    ensures linked { (h : ℕ) → IsChain (same_of orders.new.nodes.items) (first_in bucket_heads.new h)
-        (without number (chain_in orders.old bucket_heads.old h)) }
+    ensures hash { (k : ℕ) → hash_in orders.new k ≡ hash_in orders.old k }
+    ensures linked { (h : ℕ) → IsChain (same_in orders.new)
+        (first_in bucket_heads.new h) (without number (chain_in orders.old bucket_heads.old h)) }
     ensures room { spare bucket_heads.old ≤ spare bucket_heads.new }
 {
     let hash = orders.hash(number);
@@ -65,7 +65,9 @@ fn link_of(orders: &Deques, number: usize) -> u32
 }
 
 impl RowIndex {
-    ghost use Rattle.moka_index.specs.RowIndex.{admitted_of, waiting_of, IsLinked, hash_at, first_at, same_at, places_of, spare_of, PreservesRoom};
+    ghost use Rattle.moka_index.specs.RowIndex.{admitted_of, waiting_of, IsLinked, hash_at};
+    ghost use Rattle.moka_index.specs.RowIndex.{first_at, same_at};
+    ghost use Rattle.moka_index.specs.RowIndex.{places_of, spare_of, PreservesRoom};
 
     /// Creates links without numbers. Does not allocate.
     pub fn new(alloc: Global) -> Self
@@ -99,7 +101,7 @@ impl RowIndex {
     pub fn first_admitted(&self) -> Option<usize>
         ensures { result ≡ first_of (admitted_of self.now) }
     {
-        self.orders.first_admitted()
+        self.orders.first(Queue::Admitted)
     }
 
     /// Returns the number that has been pending longest, if there is one.
@@ -107,15 +109,17 @@ impl RowIndex {
     pub fn first_waiting(&self) -> Option<usize>
         ensures { result ≡ first_of (waiting_of self.now) }
     {
-        self.orders.first_waiting()
+        self.orders.first(Queue::Waiting)
     }
 
     /// Returns the next number in the order of this one, if there is one.
     #[inline(always)]
     pub fn next(&self, number: usize) -> Option<usize>
         requires { IsLinked self.now number }
-        ensures admitted { IsAmong number (admitted_of self.now) → result ≡ number_behind number (admitted_of self.now) }
-        ensures waiting { IsAmong number (waiting_of self.now) → result ≡ number_behind number (waiting_of self.now) }
+        ensures admitted { IsAmong number (admitted_of self.now)
+            → result ≡ number_behind number (admitted_of self.now) }
+        ensures waiting { IsAmong number (waiting_of self.now)
+            → result ≡ number_behind number (waiting_of self.now) }
     {
         self.orders.next(link_of(&self.orders, number))
     }
@@ -191,7 +195,7 @@ impl RowIndex {
         let number = link_of(&self.orders, number);
         let same = put_first(&mut self.bucket_heads, hash, number);
         self.orders.set_same(number, hash, same);
-        self.orders.push_back_pending(number);
+        self.orders.push_back(number, Queue::Waiting);
     }
 
     /// Appends a number to the resident ones, after removing it from its order.
@@ -205,7 +209,7 @@ impl RowIndex {
     {
         let used = link_of(&self.orders, number);
         self.orders.unlink(used);
-        self.orders.admit(used);
+        self.orders.push_back(used, Queue::Admitted);
     }
 
     /// Moves a resident number after all other resident ones; a pending one keeps its place.

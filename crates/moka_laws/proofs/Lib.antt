@@ -16,7 +16,6 @@ pub mod InOrder
 pub mod MaintenanceFirst
 pub mod MaintenanceFronts
 pub mod MaintenanceJudged
-pub mod MaintenanceLimits
 pub mod MaintenanceResumed
 pub mod MaintenanceShortest
 pub mod Memory

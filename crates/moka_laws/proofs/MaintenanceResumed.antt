@@ -7,7 +7,7 @@ use Rattle.std.proofs.lemmas.List.Elements.{All-nil, All-head, All-tail, All-dro
 use Rattle.moka_model.specs.Maintenance.{Queues, Part, fits, front, dead_admitted, dead_waiting, over, judge, judged, parts, done, evicted_in, after_parts}
 use Rattle.moka_model.specs.MaintenanceLaws.{queues}
 use Rattle.moka_model.proofs.Callers.{judge_both, evicted_in-append, after_parts-append, front-fits, fits-none, fits-admitted}
-use Rattle.moka_laws.proofs.MaintenanceLimits.{done_front}
+use Rattle.moka_model.proofs.Callers.{done_front}
 
 module _ {X : Type 0} (is_live : X → Bool) where
   -- all are live

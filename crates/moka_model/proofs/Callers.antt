@@ -11,7 +11,7 @@ pub use Rattle.moka_model.proofs.MaintenanceBounds.{AllAfter, AllAfter-append, A
 pub use Rattle.moka_model.proofs.MaintenanceBy.{queues_by, part_by, evicted_in-by, after_parts-by, done-by, is_left-by, changed_where-by, moved_last-by, total-by, parts-by}
 pub use Rattle.moka_model.proofs.MaintenanceCounted.{count-maintenance}
 pub use Rattle.moka_model.proofs.MaintenanceKept.{InParts, InParts-parts, InParts-done, All-evicted_in, All-after_parts}
-pub use Rattle.moka_model.proofs.MaintenanceLimits.{evicted-done-le}
+pub use Rattle.moka_model.proofs.MaintenanceLimits.{evicted-done-le, done-enough, done_front, done_next}
 pub use Rattle.moka_model.proofs.MaintenanceOnes.{evicted-ones, admitted-ones}
 pub use Rattle.moka_model.proofs.MaintenanceOrder.{judge-room, evicted-room, admitted-room, behind, take-evicted, behind_the_dead-evicted, All-evicted-judged, All-live-behind, judge-wins, behind-append-admitted, all_fit_alone, behind_the_dead-append-admitted}
 pub use Rattle.moka_model.proofs.MaintenanceWins.{parts-same}

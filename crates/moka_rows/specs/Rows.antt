@@ -1,5 +1,5 @@
 -- Rows with their numbers, in an order.
-use Rattle.std.specs.Prelude.{◌≡◌, ℕ, ◌+◌, ◌≤◌, ◌==◌, Bool, true, ◌&&◌, ◌||◌, if◌then◌else◌, List, [], ◌∷◌, filter, not}
+use Rattle.std.specs.Prelude.{◌≡◌, ℕ, ◌+◌, ◌≤◌, ◌==◌, Bool, true, ◌&&◌, ◌||◌, if◌then◌else◌, List, [], ◌∷◌, ◌++◌, filter, not}
 use Rattle.std.specs.Prelude.{Option, Some, None, MatchOption}
 use Rattle.std.specs.Arc.{arc_value}
 use Rattle.moka_model.specs.declared.notification.RemovalCause.{RemovalCause}
@@ -25,6 +25,18 @@ with_row n change (p ∷ ps) = if p.0 == n then (p.0, change p.1) ∷ ps else p 
 abbrev pub without_row : {R : Type 0} → ℕ → List (ℕ × R) → List (ℕ × R)
 without_row n [] = []
 without_row n (p ∷ ps) = if p.0 == n then ps else p ∷ without_row n ps
+
+-- A row was changed by an access: a resident one became the most recently used, and a pending one kept its place.
+abbrev pub AccessesRow : {R : Type 0} → ℕ → (R → R) → List (ℕ × R) → List (ℕ × R) → List (ℕ × R) → List (ℕ × R) → Type 0
+AccessesRow n change admitted waiting admitted' waiting' = MatchOption (row_under n admitted)
+    ((admitted' ≡ admitted) × (waiting' ≡ with_row n change waiting))
+    (λ row. (admitted' ≡ without_row n admitted ++ (n, change row) ∷ []) × (waiting' ≡ waiting))
+
+-- A row was removed from its order.
+abbrev pub RemovesRow : {R : Type 0} → ℕ → List (ℕ × R) → List (ℕ × R) → List (ℕ × R) → List (ℕ × R) → Type 0
+RemovesRow n admitted waiting admitted' waiting' = MatchOption (row_under n admitted)
+    ((admitted' ≡ admitted) × (waiting' ≡ without_row n waiting))
+    (λ _. (admitted' ≡ without_row n admitted) × (waiting' ≡ waiting))
 
 -- The other one of the two orders.
 abbrev pub other : Order → Order

@@ -8,8 +8,8 @@ use std::marker::Model;
 /// A row in a store.
 ///
 /// A contract sees the row itself. The field is private, so that a lookup reaches a row, its key or
-/// its hash only by `read_counted`, which counts it. The other calls are for a row whose number is known
-/// already.
+/// its hash only by `read_counted`, which counts it. The other calls are for a row whose number is
+/// known already.
 #[derive(Drop)]
 pub struct CountedRow<R> {
     row: R,
@@ -59,12 +59,13 @@ impl<R> CountedRow<R> {
 }
 
 impl<K, V> CountedRow<Row<K, V>> {
-    /// Applies an access to the row.
+    /// Applies an access to the row, and returns the metadata before it.
     #[inline(always)]
-    pub fn touch(&mut self, touch: Access)
-        ensures { self.new ≡ touched touch self.old }
+    pub fn touch(&mut self, touch: Access) -> EntryInfo
+        ensures before { result ≡ self.old.info }
+        ensures after { self.new ≡ touched touch self.old }
     {
-        self.row.touch(touch);
+        self.row.touch(touch)
     }
 
     /// Replaces the value and its metadata, and returns the old ones.

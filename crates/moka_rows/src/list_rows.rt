@@ -1,6 +1,7 @@
 //! The plain row store: two lists, searched from the front.
-ghost use Rattle.std.specs.Prelude.{◌≡◌, ◌+◌, ◌-◌, ◌<◌, ◌≤◌, ◌^◌, [], ◌∷◌, ◌++◌, length, drop, IsSome, IfNone, OnSome, MatchOption, min, vec_len, vec_capacity};
-ghost use Rattle.std.below.core.specs.declared.int.usize.TheConstants.{MAX};
+ghost use Rattle.std.specs.Prelude.{◌≡◌, ◌+◌, ◌-◌, ◌<◌, ◌≤◌, ◌^◌};
+ghost use Rattle.std.specs.Prelude.{[], ◌∷◌, ◌++◌, length, drop, vec_len, vec_capacity};
+ghost use Rattle.std.specs.Prelude.{IsSome, IfNone, OnSome, MatchOption};
 ghost use Rattle.moka_rows.specs.Rows.{row_under, is_row_of, first_number, expired_at};
 ghost use Rattle.moka_rows.specs.Numbers.{number_where, IsNumbered, IsPlaceOf, IsPlaceIn};
 
@@ -57,7 +58,8 @@ fn number_of<K: Eq, V>(
 
 /// Returns the index of the first row with this number.
 fn place_of<K, V>(rows: &[(usize, CountedRow<Row<K, V>>)], number: usize) -> Option<usize>
-    ensures { MatchOption result (row_under number rows.now ≡ None) (λ place. IsPlaceOf number rows.now place) }
+    ensures { MatchOption result
+        (row_under number rows.now ≡ None) (λ place. IsPlaceOf number rows.now place) }
 {
     for (place, entry) in rows.iter().enumerate() {
         if entry.0 == number {
@@ -105,11 +107,13 @@ impl<K, V> ListRows<K, V> {
 }
 
 impl<K: Eq + Drop, V: Drop> RowStore<K, V> for ListRows<K, V> {
+    ghost use Rattle.moka_rows.specs.Lists.{rows_of, room_of};
+
     ghost waiting = { λ s. s.waiting.items };
 
     ghost admitted = { λ s. s.admitted.items };
 
-    ghost room = { λ s. min (MAX - s.next) (min (vec_capacity s.waiting - vec_len s.waiting) (vec_capacity s.admitted - (vec_len s.admitted + vec_len s.waiting))) };
+    ghost room = { room_of };
 
     fn new(alloc: Global) -> Self {
         ListRows {
@@ -166,12 +170,11 @@ impl<K: Eq + Drop, V: Drop> RowStore<K, V> for ListRows<K, V> {
     }
 
     fn add(&mut self, row: Row<K, V>) -> usize
-        requires { 0 < min (MAX - self.old.next) (min (vec_capacity self.old.waiting - vec_len self.old.waiting) (vec_capacity self.old.admitted - (vec_len self.old.admitted + vec_len self.old.waiting))) }
-        ensures fresh { row_under result (self.old.admitted.items ++ self.old.waiting.items) ≡ None }
+        requires { 0 < room_of self.old }
+        ensures fresh { row_under result (rows_of self.old) ≡ None }
         ensures waiting { self.new.waiting.items ≡ self.old.waiting.items ++ (result, row) ∷ [] }
         ensures admitted { self.new.admitted.items ≡ self.old.admitted.items }
-        ensures room { min (MAX - self.old.next) (min (vec_capacity self.old.waiting - vec_len self.old.waiting) (vec_capacity self.old.admitted - (vec_len self.old.admitted + vec_len self.old.waiting)))
-            ≤ min (MAX - self.new.next) (min (vec_capacity self.new.waiting - vec_len self.new.waiting) (vec_capacity self.new.admitted - (vec_len self.new.admitted + vec_len self.new.waiting))) + 1 }
+        ensures room { room_of self.old ≤ room_of self.new + 1 }
     {
         let number = self.next;
         self.waiting.push_reserved((number, CountedRow::new(row)));
@@ -179,14 +182,18 @@ impl<K: Eq + Drop, V: Drop> RowStore<K, V> for ListRows<K, V> {
         number
     }
 
-    fn touch(&mut self, number: usize, touch: Access) {
+    fn touch(&mut self, number: usize, touch: Access) -> (EntryInfo, Order) {
         match self.place(number) {
             Place::Admitted(place) => {
                 let (_, mut used) = self.admitted.remove(place);
-                used.touch(touch);
+                let before = used.touch(touch);
                 self.admitted.push_reserved((number, used));
+                (before, Order::Admitted)
             }
-            Place::Waiting(place) => self.waiting[place].1.touch(touch),
+            Place::Waiting(place) => {
+                let before = self.waiting[place].1.touch(touch);
+                (before, Order::Waiting)
+            }
         }
     }
 

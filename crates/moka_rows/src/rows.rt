@@ -3,10 +3,15 @@
 //! A row is a stored key with its value. A number identifies it as long as it is stored. A store
 //! keeps two orders of rows: the pending ones (`waiting`) in arrival order, and the resident ones
 //! (`admitted`) in access order.
-ghost use Rattle.std.specs.Prelude.{◌≡◌, true, false, ◌||◌, ℕ, ◌+◌, ◌<◌, ◌≤◌, List, [], ◌∷◌, ◌++◌, length, IsSome, IfSome, IfNone, OnOk, OnErr, OnSome, Some, None, MatchOption};
+ghost use Rattle.std.specs.Prelude.{◌≡◌, true, false, ◌||◌, ℕ, ◌+◌, ◌<◌, ◌≤◌};
+ghost use Rattle.std.specs.Prelude.{List, [], ◌∷◌, ◌++◌, length};
+ghost use Rattle.std.specs.Prelude.{IsSome, IfSome, IfNone, OnOk, OnSome, Some, None, MatchOption};
 ghost use Rattle.moka_model.specs.Lives.{has_come};
-ghost use Rattle.moka_rows.specs.Rows.{row_under, with_row, without_row, used_at, touched, overwritten, hidden, cause_at, first_number, number_after, expired_at};
-ghost use Rattle.moka_rows.specs.Rows.{IsOrderOf, TakesFirst, IsRowOf, NoneIsRowOf, NumbersDiffer};
+ghost use Rattle.moka_rows.specs.Rows.{row_under, with_row, without_row, first_number};
+ghost use Rattle.moka_rows.specs.Rows.{used_at, touched, overwritten, hidden, cause_at};
+ghost use Rattle.moka_rows.specs.Rows.{number_after, expired_at};
+ghost use Rattle.moka_rows.specs.Rows.{IsOrderOf, AccessesRow, RemovesRow, TakesFirst};
+ghost use Rattle.moka_rows.specs.Rows.{IsRowOf, NoneIsRowOf, NumbersDiffer};
 ghost use Rattle.moka_rows.specs.Visits.{one_more};
 
 use crate::packed::PackedEntryInfo;
@@ -146,12 +151,16 @@ impl<K, V> Row<K, V> {
         self.info.info()
     }
 
-    /// Applies an access. Keeps the weight, the moment of the last write and the mark `is_hidden`.
+    /// Applies an access, and returns the metadata before it. Keeps the weight, the moment of the
+    /// last write and the mark `is_hidden`.
     #[inline(always)]
-    pub fn touch(&mut self, touch: Access)
-        ensures { self.new ≡ touched touch self.old }
+    pub fn touch(&mut self, touch: Access) -> EntryInfo
+        ensures before { result ≡ self.old.info }
+        ensures after { self.new ≡ touched touch self.old }
     {
+        let before = self.info();
         self.info.touch(touch);
+        before
     }
 
     /// Marks the row invalidated. Everything else stays.
@@ -202,9 +211,13 @@ pub trait RowStore<K: Eq, V>: Drop {
     /// for each row of the store. `reads` is 0 before.
     fn find(&self, key: &K, hash: u64, reads: &mut u64) -> Option<usize>
         requires { reads.old ≡ 0 }
-        ensures found { IfSome result (λ number. IfSome (row_under number (admitted self.now ++ waiting self.now)) (IsRowOf K.eq key.now hash)) }
-        ensures stored { IfSome result (λ number. IsSome (row_under number (admitted self.now ++ waiting self.now))) }
-        ensures absent { IfNone result (NoneIsRowOf K.eq key.now hash (admitted self.now ++ waiting self.now)) }
+        ensures found { IfSome result (λ number.
+            IfSome (row_under number (admitted self.now ++ waiting self.now))
+            (IsRowOf K.eq key.now hash)) }
+        ensures stored { IfSome result
+            (λ number. IsSome (row_under number (admitted self.now ++ waiting self.now))) }
+        ensures absent { IfNone result
+            (NoneIsRowOf K.eq key.now hash (admitted self.now ++ waiting self.now)) }
         ensures counted { reads.new ≤ length (admitted self.now ++ waiting self.now) }
         ensures read { OnSome result (0 < reads.new) };
 
@@ -218,7 +231,8 @@ pub trait RowStore<K: Eq, V>: Drop {
     /// is cheaper than reading the row.
     fn hash(&self, number: usize) -> u64
         requires { IsSome (row_under number (admitted self.now ++ waiting self.now)) }
-        ensures { IfSome (row_under number (admitted self.now ++ waiting self.now)) (λ row. result ≡ row.hash) };
+        ensures { IfSome (row_under number (admitted self.now ++ waiting self.now))
+            (λ row. result ≡ row.hash) };
 
     /// Does nothing. Its contract says that no two rows have the same number.
     fn numbers_differ(&self)
@@ -227,7 +241,8 @@ pub trait RowStore<K: Eq, V>: Drop {
     /// Returns whether the row with this number is resident.
     fn is_admitted(&self, number: usize) -> bool
         requires { IsSome (row_under number (admitted self.now ++ waiting self.now)) }
-        ensures { MatchOption (row_under number (admitted self.now)) (result ≡ false) (λ _. result ≡ true) };
+        ensures { MatchOption (row_under number (admitted self.now))
+            (result ≡ false) (λ _. result ≡ true) };
 
     /// Makes room for this many more rows. Every row stays as it was, also if the call fails.
     ///
@@ -249,15 +264,17 @@ pub trait RowStore<K: Eq, V>: Drop {
         ensures admitted { admitted self.new ≡ admitted self.old }
         ensures room { room self.old ≤ room self.new + 1 };
 
-    /// Applies an access to a row. A resident row becomes the most recently used; a pending one
-    /// keeps its place.
+    /// Applies an access to a row, and returns the row's metadata before it and the row's order.
+    /// A resident row becomes the most recently used; a pending one keeps its place.
     ///
     /// Keeps the weight, the moment of the last write and the mark `is_hidden`. Uses no room.
-    fn touch(&mut self, number: usize, touch: Access)
+    fn touch(&mut self, number: usize, touch: Access) -> (EntryInfo, Order)
         requires { IsSome (row_under number (admitted self.old ++ waiting self.old)) }
-        ensures after { MatchOption (row_under number (admitted self.old))
-            ((admitted self.new ≡ admitted self.old) × (waiting self.new ≡ with_row number (touched touch) (waiting self.old)))
-            (λ row. (admitted self.new ≡ without_row number (admitted self.old) ++ (number, touched touch row) ∷ []) × (waiting self.new ≡ waiting self.old)) }
+        ensures before { IfSome (row_under number (admitted self.old ++ waiting self.old))
+            (λ row. result.0 ≡ row.info) }
+        ensures order { IsOrderOf number (admitted self.old) result.1 }
+        ensures after { AccessesRow number (touched touch)
+            (admitted self.old) (waiting self.old) (admitted self.new) (waiting self.new) }
         ensures room { room self.old ≤ room self.new };
 
     /// Replaces the value of a row and its metadata, and returns what was there before. Uses no
@@ -270,9 +287,8 @@ pub trait RowStore<K: Eq, V>: Drop {
         ensures before { IfSome (row_under number (admitted self.old ++ waiting self.old))
             (λ row. (result.value ≡ row.value) × (result.info ≡ row.info)) }
         ensures order { IsOrderOf number (admitted self.old) result.order }
-        ensures after { MatchOption (row_under number (admitted self.old))
-            ((admitted self.new ≡ admitted self.old) × (waiting self.new ≡ with_row number (overwritten value info) (waiting self.old)))
-            (λ row. (admitted self.new ≡ without_row number (admitted self.old) ++ (number, overwritten value info row) ∷ []) × (waiting self.new ≡ waiting self.old)) }
+        ensures after { AccessesRow number (overwritten value info)
+            (admitted self.old) (waiting self.old) (admitted self.new) (waiting self.new) }
         ensures room { room self.old ≤ room self.new };
 
     /// Marks a row invalidated. The row keeps its place. Does not allocate, and uses no room.
@@ -316,7 +332,8 @@ pub trait RowStore<K: Eq, V>: Drop {
     fn admit(&mut self, number: usize)
         requires { IsSome (row_under number (waiting self.old)) }
         ensures waiting { waiting self.new ≡ without_row number (waiting self.old) }
-        ensures admitted { IfSome (row_under number (waiting self.old)) (λ row. admitted self.new ≡ admitted self.old ++ (number, row) ∷ []) }
+        ensures admitted { IfSome (row_under number (waiting self.old))
+            (λ row. admitted self.new ≡ admitted self.old ++ (number, row) ∷ []) }
         ensures room { room self.old ≤ room self.new };
 
     /// Removes a row, and returns it with its order. Uses no room.
@@ -324,9 +341,8 @@ pub trait RowStore<K: Eq, V>: Drop {
         requires { IsSome (row_under number (admitted self.old ++ waiting self.old)) }
         ensures row { row_under number (admitted self.old ++ waiting self.old) ≡ Some result.0 }
         ensures order { IsOrderOf number (admitted self.old) result.1 }
-        ensures rest { MatchOption (row_under number (admitted self.old))
-            ((admitted self.new ≡ admitted self.old) × (waiting self.new ≡ without_row number (waiting self.old)))
-            (λ _. (admitted self.new ≡ without_row number (admitted self.old)) × (waiting self.new ≡ waiting self.old)) }
+        ensures rest { RemovesRow number
+            (admitted self.old) (waiting self.old) (admitted self.new) (waiting self.new) }
         ensures room { room self.old ≤ room self.new };
 
     /// Removes and returns the least recently used resident row, if there is one. Uses no room.

@@ -1,15 +1,13 @@
 -- The data of a cache of several segments, and what it means.
-use Rattle.std.specs.Prelude.{◌≡◌, ℕ, Bool, false, not, List, map, length, slice_get, option_map, Option, Some, None}
-use Rattle.std.specs.Arc.{arc_value}
+use Rattle.std.specs.Prelude.{◌≡◌, ℕ, Bool, false, not, List, map, length, slice_get, Option, Some, None}
 use Rattle.std.specs.List.{AllByRecursion}
 use Rattle.moka_model.specs.Lives.{Behaviour}
 use Rattle.moka_model.specs.Maintenance.{total}
 use Rattle.moka_model.specs.Calls.{Call, Reply}
 use Rattle.moka_expiration.specs.Behaviour.{BehaviourData}
 use Rattle.moka_expiration.specs.StateData.{SettingsData, StateData, settings_by, view_by}
-use Rattle.moka_policy.specs.Policy.{is_lru}
-use Rattle.moka_state.specs.State.{all_writes, settings_of}
-use Rattle.moka_state.specs.declared.state.Settings.{Settings}
+use Rattle.moka_state.specs.State.{all_writes}
+pub use Rattle.moka_state.specs.Settings.{data_of}
 use Rattle.moka_segment_model.specs.Segments.{SegmentedSettings, SegmentedView, is_empty, sum_below}
 use Rattle.moka_segment_model.specs.Segments.{AllStandFor, AtEachList, FollowsIn, RepliesIn}
 
@@ -19,17 +17,6 @@ pub record SegmentedData (K V H W X F E : Type 0) : Type 0 where
   pub bits : ℕ
   pub settings : SettingsData H W X
   pub segments : List (StateData K V H W X F E)
-
--- The settings that a cache is made from, as data.
-abbrev pub data_of : {K V C H W X P F L T E S : Type 0} → Settings K V C H W X P F L T E S → SettingsData H W X
-data_of settings =
-    settings_of settings.name settings.time_to_live settings.time_to_idle settings.max_capacity settings.first_number settings.closures
-    settings.flush_limit (record {
-      is_lru = is_lru settings.eviction_policy;
-      hasher = arc_value settings.hasher;
-      weigher = option_map arc_value settings.weigher;
-      expiry = option_map arc_value settings.expiry;
-    })
 
 module _ {K V H W X : Type 0} (behaviour_in : BehaviourData H W X → Behaviour K V) where
   -- What the cache is built with, given the behaviour that its settings mean and what a new frequency source estimates.

@@ -1,15 +1,12 @@
 //! The begin of a turn and the loaders for a key by reference, each in the segment of the key.
-ghost use Rattle.std.specs.Prelude.{◌≡◌, ◌≢◌, Bool, Option, None, Result, true, option_map, IfOk, IfSome, OnOk, OnErr};
-ghost use Rattle.moka_model.specs.Calls as calls;
-ghost use Rattle.moka_model.specs.Calls.{Begin};
-ghost use Rattle.moka_state.specs.Begin.{FoundKeeps, IsAsked, IsNamed, IsSaidOf};
-ghost use Rattle.moka_state.specs.Forms.{IfRefusedUnasked, IsOptional, IsTried, IsValue, optional_outcome, tried_outcome};
-ghost use Rattle.moka_segment_model.specs.Segments.{live_in};
-ghost use Rattle.moka_segmented.specs.Forms.{IsFormIn};
-ghost use Rattle.moka_segmented.specs.Turns.{GivesBegunIn, TakesLiveIn};
+ghost use Rattle.std.specs.Prelude.{◌≡◌, ◌≢◌, Option, Result, true, IfOk, IfSome, OnErr};
+ghost use Rattle.moka_state.specs.Begin.{FoundKeeps, IsAsked, IsSaidOf};
+ghost use Rattle.moka_state.specs.Forms.{IsOptional, IsTried, IsValue, optional_outcome, tried_outcome};
+ghost use Rattle.moka_segmented.specs.Turns.{TakesLiveIn};
+ghost use Rattle.moka_segmented.specs.Ends.{LoaderBeginsByRefIn, LoadsIn};
 
 use crate::segment::Segmented;
-use crate::segmented_view::SegmentedStateView;
+use crate::segmented_view::SegmentedCallView;
 use moka_model::turns::{Kind, Outcome};
 use moka_policy::policy::{CacheTypes, Refused};
 use moka_rows::rows::RowStore;
@@ -45,14 +42,9 @@ impl<K: Hash + Clone + Drop, V: Clone, C: CacheTypes<K, V>, R: RowStore<K, V>> S
         requires initializer { kind ≢ Kind.Compute }
         requires asks { IfSome replace_if (TakesLiveIn K.eq C.keeps
             ⟦<C as StateView<K, V>>⟧.settings F.FnMut key.now now self.old) }
-        ensures begins { (asked : K) × IsAsked K.eq K.is_clone key.now asked × (said : Option Bool)
-            × ⟦<C as SegmentedStateView<K, V>>⟧.at_each_list self.old (λ settings calls.
-            IsSaidOf F.FnMut replace_if (live_in C.Error K.eq settings calls asked now) said
-            × GivesBegunIn K.eq V.is_clone V.is_infallible settings calls
-            (Begin asked kind said now) true result)
-            × OnOk result (⟦<C as SegmentedStateView<K, V>>⟧.follows_in self.old
-            (Begin asked kind said now) self.new)
-            × IfOk result (IsNamed kind asked) }
+        ensures begins { LoaderBeginsByRefIn ⟦<C as SegmentedCallView<K, V>>⟧.spec
+            (IsAsked K.eq K.is_clone key.now) (IsSaidOf F.FnMut replace_if) kind now true self.old
+            self.new result }
         ensures refused { OnErr result (self.new ≡ self.old) }
         ensures kept { IfOk result (FoundKeeps C.keeps) }
     {
@@ -79,14 +71,9 @@ impl<K: Hash + Clone + Drop, V: Clone, C: CacheTypes<K, V>, R: RowStore<K, V>> S
         requires copies { (a b : K) → K.is_clone a b → K.eq a b ≡ true }
         requires asks { F.IsAlwaysCallable init }
         requires keeps { (v : V) → F.post init v → C.keeps key.now v }
-        ensures form { (asked : K) × IsAsked K.eq K.is_clone key.now asked × (given : Option V)
-            × (reply : Result (calls.Reply K V C.Error) Refused)
-            × ⟦<C as SegmentedStateView<K, V>>⟧.at_each_list self.old (λ settings calls.
-            IsFormIn K.eq V.is_clone V.is_infallible settings calls
-            (Begin asked Kind.With None now) now (option_map Outcome.Value given) reply
-            (λ later. ⟦<C as SegmentedStateView<K, V>>⟧.all_stand_for settings self.new later))
-            × IsValue reply result × IfSome given (F.post init)
-            × IfRefusedUnasked (self.new ≡ self.old) given reply }
+        ensures form { (asked : K) × IsAsked K.eq K.is_clone key.now asked
+            × LoadsIn ⟦<C as SegmentedCallView<K, V>>⟧.spec Outcome.Value (F.post init) IsValue
+            asked Kind.With now self.old self.new result }
         ensures kept { IfOk result (C.keeps key.now) }
     {
         let place = self.place_of(key);
@@ -105,13 +92,8 @@ impl<K: Hash + Clone + Drop, V: Clone, C: CacheTypes<K, V>, R: RowStore<K, V>> S
         requires asks { F.IsAlwaysCallable init }
         requires keeps { (o : Option V) → F.post init o → IfSome o (C.keeps key.now) }
         ensures form { (asked : K) × IsAsked K.eq K.is_clone key.now asked
-            × (given : Option (Option V)) × (reply : Result (calls.Reply K V C.Error) Refused)
-            × ⟦<C as SegmentedStateView<K, V>>⟧.at_each_list self.old (λ settings calls.
-            IsFormIn K.eq V.is_clone V.is_infallible settings calls
-            (Begin asked Kind.Optionally None now) now (option_map optional_outcome given) reply
-            (λ later. ⟦<C as SegmentedStateView<K, V>>⟧.all_stand_for settings self.new later))
-            × IsOptional reply result × IfSome given (F.post init)
-            × IfRefusedUnasked (self.new ≡ self.old) given reply }
+            × LoadsIn ⟦<C as SegmentedCallView<K, V>>⟧.spec optional_outcome (F.post init)
+            IsOptional asked Kind.Optionally now self.old self.new result }
         ensures kept { IfOk result (λ found. IfSome found (C.keeps key.now)) }
     {
         let place = self.place_of(key);
@@ -130,14 +112,8 @@ impl<K: Hash + Clone + Drop, V: Clone, C: CacheTypes<K, V>, R: RowStore<K, V>> S
         requires asks { F.IsAlwaysCallable init }
         requires keeps { (r : Result V C.Error) → F.post init r → IfOk r (C.keeps key.now) }
         ensures form { (asked : K) × IsAsked K.eq K.is_clone key.now asked
-            × (given : Option (Result V C.Error))
-            × (reply : Result (calls.Reply K V C.Error) Refused)
-            × ⟦<C as SegmentedStateView<K, V>>⟧.at_each_list self.old (λ settings calls.
-            IsFormIn K.eq V.is_clone V.is_infallible settings calls
-            (Begin asked Kind.Try None now) now (option_map tried_outcome given) reply
-            (λ later. ⟦<C as SegmentedStateView<K, V>>⟧.all_stand_for settings self.new later))
-            × IsTried reply result × IfSome given (F.post init)
-            × IfRefusedUnasked (self.new ≡ self.old) given reply }
+            × LoadsIn ⟦<C as SegmentedCallView<K, V>>⟧.spec tried_outcome (F.post init) IsTried
+            asked Kind.Try now self.old self.new result }
         ensures kept { IfOk result (λ tried. IfOk tried (C.keeps key.now)) }
     {
         let place = self.place_of(key);

@@ -1,15 +1,12 @@
 //! Loaders, each in the segment of its key: a begin, the closure and a finish at one moment.
-ghost use Rattle.std.specs.Prelude.{◌≡◌, Bool, Option, None, Some, Result, option_map, IfOk, IfSome};
-ghost use Rattle.moka_model.specs.Calls as calls;
-ghost use Rattle.moka_model.specs.Calls.{Begin};
+ghost use Rattle.std.specs.Prelude.{Option, Some, Result, IfOk, IfSome};
 ghost use Rattle.moka_state.specs.Begin.{IsSaidOf};
-ghost use Rattle.moka_state.specs.Forms.{IfRefusedUnasked, IsOptional, IsTried, IsValue, optional_outcome, tried_outcome};
-ghost use Rattle.moka_segment_model.specs.Segments.{live_in};
-ghost use Rattle.moka_segmented.specs.Forms.{IsFormIn};
+ghost use Rattle.moka_state.specs.Forms.{IsOptional, IsTried, IsValue, optional_outcome, tried_outcome};
 ghost use Rattle.moka_segmented.specs.Turns.{TakesLiveIn};
+ghost use Rattle.moka_segmented.specs.Ends.{LoadsIfIn, LoadsIn};
 
 use crate::segment::Segmented;
-use crate::segmented_view::SegmentedStateView;
+use crate::segmented_view::SegmentedCallView;
 use moka_model::turns::{Kind, Outcome};
 use moka_policy::policy::{CacheTypes, Refused};
 use moka_rows::rows::RowStore;
@@ -44,13 +41,8 @@ impl<K: Hash + Drop, V: Clone, C: CacheTypes<K, V>, R: RowStore<K, V>> Segmented
     ) -> Result<V, Refused>
         requires asks { F.IsAlwaysCallable init }
         requires keeps { (v : V) → F.post init v → C.keeps key v }
-        ensures form { (given : Option V) × (reply : Result (calls.Reply K V C.Error) Refused)
-            × ⟦<C as SegmentedStateView<K, V>>⟧.at_each_list self.old (λ settings calls.
-            IsFormIn K.eq V.is_clone V.is_infallible settings calls (Begin key Kind.With None now) now
-            (option_map Outcome.Value given) reply
-            (λ later. ⟦<C as SegmentedStateView<K, V>>⟧.all_stand_for settings self.new later))
-            × IsValue reply result × IfSome given (F.post init)
-            × IfRefusedUnasked (self.new ≡ self.old) given reply }
+        ensures form { LoadsIn ⟦<C as SegmentedCallView<K, V>>⟧.spec Outcome.Value (F.post init)
+            IsValue key Kind.With now self.old self.new result }
         ensures kept { IfOk result (C.keeps key) }
     {
         let place = self.place_of(&key);
@@ -71,15 +63,9 @@ impl<K: Hash + Drop, V: Clone, C: CacheTypes<K, V>, R: RowStore<K, V>> Segmented
         requires shows { TakesLiveIn K.eq C.keeps ⟦<C as StateView<K, V>>⟧.settings P.FnMut
             key now self.old replace_if }
         requires keeps { (v : V) → F.post init v → C.keeps key v }
-        ensures form { (said : Option Bool) × (given : Option V)
-            × (reply : Result (calls.Reply K V C.Error) Refused)
-            × ⟦<C as SegmentedStateView<K, V>>⟧.at_each_list self.old (λ settings calls.
-            IsSaidOf P.FnMut (Some replace_if) (live_in C.Error K.eq settings calls key now) said
-            × IsFormIn K.eq V.is_clone V.is_infallible settings calls (Begin key Kind.With said now) now
-            (option_map Outcome.Value given) reply
-            (λ later. ⟦<C as SegmentedStateView<K, V>>⟧.all_stand_for settings self.new later))
-            × IsValue reply result × IfSome given (F.post init)
-            × IfRefusedUnasked (self.new ≡ self.old) given reply }
+        ensures form { LoadsIfIn ⟦<C as SegmentedCallView<K, V>>⟧.spec
+            (IsSaidOf P.FnMut (Some replace_if)) Outcome.Value (F.post init) IsValue key Kind.With
+            now self.old self.new result }
         ensures kept { IfOk result (C.keeps key) }
     {
         let place = self.place_of(&key);
@@ -96,14 +82,8 @@ impl<K: Hash + Drop, V: Clone, C: CacheTypes<K, V>, R: RowStore<K, V>> Segmented
     ) -> Result<Option<V>, Refused>
         requires asks { F.IsAlwaysCallable init }
         requires keeps { (o : Option V) → F.post init o → IfSome o (C.keeps key) }
-        ensures form { (given : Option (Option V))
-            × (reply : Result (calls.Reply K V C.Error) Refused)
-            × ⟦<C as SegmentedStateView<K, V>>⟧.at_each_list self.old (λ settings calls.
-            IsFormIn K.eq V.is_clone V.is_infallible settings calls
-            (Begin key Kind.Optionally None now) now (option_map optional_outcome given) reply
-            (λ later. ⟦<C as SegmentedStateView<K, V>>⟧.all_stand_for settings self.new later))
-            × IsOptional reply result × IfSome given (F.post init)
-            × IfRefusedUnasked (self.new ≡ self.old) given reply }
+        ensures form { LoadsIn ⟦<C as SegmentedCallView<K, V>>⟧.spec optional_outcome (F.post init)
+            IsOptional key Kind.Optionally now self.old self.new result }
         ensures kept { IfOk result (λ found. IfSome found (C.keeps key)) }
     {
         let place = self.place_of(&key);
@@ -126,14 +106,8 @@ impl<K: Hash + Drop, V: Clone, C: CacheTypes<K, V>, R: RowStore<K, V>> Segmented
     ) -> Result<Result<V, Arc<C::Error>>, Refused>
         requires asks { F.IsAlwaysCallable init }
         requires keeps { (r : Result V C.Error) → F.post init r → IfOk r (C.keeps key) }
-        ensures form { (given : Option (Result V C.Error))
-            × (reply : Result (calls.Reply K V C.Error) Refused)
-            × ⟦<C as SegmentedStateView<K, V>>⟧.at_each_list self.old (λ settings calls.
-            IsFormIn K.eq V.is_clone V.is_infallible settings calls (Begin key Kind.Try None now) now
-            (option_map tried_outcome given) reply
-            (λ later. ⟦<C as SegmentedStateView<K, V>>⟧.all_stand_for settings self.new later))
-            × IsTried reply result × IfSome given (F.post init)
-            × IfRefusedUnasked (self.new ≡ self.old) given reply }
+        ensures form { LoadsIn ⟦<C as SegmentedCallView<K, V>>⟧.spec tried_outcome (F.post init)
+            IsTried key Kind.Try now self.old self.new result }
         ensures kept { IfOk result (λ tried. IfOk tried (C.keeps key)) }
     {
         let place = self.place_of(&key);

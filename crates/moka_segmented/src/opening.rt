@@ -1,9 +1,10 @@
 //! Opens the segments of a cache, each with its share of the settings.
-ghost use Rattle.std.specs.Prelude.{◌≡◌, ◌≢◌, ◌<◌, ◌≤◌, ◌^◌, [], Some, None, option_map, IfSome, IfOk, IfErr, IsSome};
+ghost use Rattle.std.specs.Prelude.{◌≡◌, ◌<◌, ◌≤◌, ◌^◌, [], Some, None, option_map, IfOk, IfErr};
 ghost use Rattle.std.specs.Arc.{arc_value};
 ghost use Rattle.std.specs.List.{AllByRecursion};
 ghost use Rattle.moka_segment_model.specs.Segments.{share, bits_for};
 ghost use Rattle.moka_segmented.specs.SegmentedData.{data_of};
+ghost use Rattle.moka_state.specs.Settings.{IsUsable};
 
 use crate::segment::Segmented;
 use crate::segmented_view::SegmentedStateView;
@@ -29,12 +30,7 @@ pub fn build_segments<K: Hash + Drop, V: Clone, C: CacheTypes<K, V>, R: RowStore
     bits: u32,
 ) -> Result<Segmented<K, V, C, R>, Refused>
     requires bits { bits < 64 }
-    requires weighs { IfSome settings.weigher (λ weigher.
-        C.Weigher.weighs (arc_value weigher) (C.weight (arc_value weigher))) }
-    requires gives { IfSome settings.expiry (λ expiry.
-        C.Expiry.gives (arc_value expiry) (C.lifetimes (arc_value expiry))) }
-    requires limits { settings.flush_limit ≢ Some 0 }
-    requires unweighed { IsSome settings.flush_limit → settings.weigher ≡ None }
+    requires usable { IsUsable C.Weigher.weighs C.weight C.Expiry.gives C.lifetimes settings }
     ensures segments { IfOk result (λ cache. cache.bits ≡ bits) }
     ensures settings { IfOk result (λ cache. cache.settings ≡ data_of settings) }
     ensures empty { IfOk result (λ cache. ⟦<C as SegmentedStateView<K, V>>⟧.all_stand_for
@@ -96,24 +92,14 @@ pub fn share_of<K: Hash + Drop, V: Clone, C: CacheTypes<K, V>>(
     count: usize,
 ) -> Result<Settings<K, V, C>, AllocError>
     requires some { 0 < count }
-    requires weighs { IfSome settings.now.weigher (λ weigher.
-        C.Weigher.weighs (arc_value weigher) (C.weight (arc_value weigher))) }
-    requires gives { IfSome settings.now.expiry (λ expiry.
-        C.Expiry.gives (arc_value expiry) (C.lifetimes (arc_value expiry))) }
-    requires limits { settings.now.flush_limit ≢ Some 0 }
-    requires unweighed { IsSome settings.now.flush_limit → settings.now.weigher ≡ None }
+    requires usable { IsUsable C.Weigher.weighs C.weight C.Expiry.gives C.lifetimes settings.now }
     ensures share { IfOk result (λ one. data_of one ≡ record (data_of settings.now) {
       name = None;
       max_capacity = option_map (share count) settings.now.max_capacity;
     }) }
     ensures room { IfOk result (λ one.
         one.initial_capacity ≡ share count settings.now.initial_capacity) }
-    ensures weighs { IfOk result (λ one. IfSome one.weigher (λ weigher.
-        C.Weigher.weighs (arc_value weigher) (C.weight (arc_value weigher)))) }
-    ensures gives { IfOk result (λ one. IfSome one.expiry (λ expiry.
-        C.Expiry.gives (arc_value expiry) (C.lifetimes (arc_value expiry)))) }
-    ensures limits { IfOk result (λ one. one.flush_limit ≢ Some 0) }
-    ensures unweighed { IfOk result (λ one. IsSome one.flush_limit → one.weigher ≡ None) }
+    ensures usable { IfOk result (IsUsable C.Weigher.weighs C.weight C.Expiry.gives C.lifetimes) }
 {
     let weigher = share_again(&settings.weigher)?;
     let expiry = share_again(&settings.expiry)?;

@@ -4,10 +4,10 @@ ghost use Rattle.std.specs.Arc.{arc_value};
 ghost use Rattle.moka_model.specs.Calls.{OrInsert};
 ghost use Rattle.moka_state.specs.Begin.{EntryKeeps};
 ghost use Rattle.moka_state.specs.OrInsert.{of_or_default, of_or_insert};
-ghost use Rattle.moka_segmented.specs.Turns.{GivesIn};
+ghost use Rattle.moka_segmented.specs.Ends.{GivesAtIn};
 
 use crate::segment::Segmented;
-use crate::segmented_view::SegmentedStateView;
+use crate::segmented_view::{SegmentedCallView, SegmentedStateView};
 use moka_model::entry::Entry;
 use moka_policy::policy::{CacheTypes, Refused};
 use moka_rows::rows::RowStore;
@@ -41,9 +41,8 @@ impl<K: Hash + Drop, V: Clone, C: CacheTypes<K, V>, R: RowStore<K, V>> Segmented
         now: u64,
     ) -> Result<Entry<K, V>, OrInsertRefused<V>>
         requires { C.keeps (arc_value key.now) value }
-        ensures reply { ⟦<C as SegmentedStateView<K, V>>⟧.at_each_list self.old (λ settings calls.
-            GivesIn K.eq V.is_clone V.is_infallible settings calls
-            (OrInsert (arc_value key.now) value now) (of_or_insert result)) }
+        ensures reply { GivesAtIn ⟦<C as SegmentedCallView<K, V>>⟧.spec self.old
+            (OrInsert (arc_value key.now) value now) (of_or_insert result) }
         ensures stands { OnOk result (⟦<C as SegmentedStateView<K, V>>⟧.follows_in self.old
             (OrInsert (arc_value key.now) value now) self.new) }
         ensures refused { OnErr result (self.new ≡ self.old) }
@@ -70,11 +69,9 @@ where
     pub fn or_default(&mut self, key: K, now: u64) -> Result<Entry<K, V>, Refused>
         requires { (value : V) → V.is_default value → C.keeps key value }
         ensures ends { (value : V) × V.is_default value
-            × ⟦<C as SegmentedStateView<K, V>>⟧.at_each_list self.old (λ settings calls.
-            GivesIn K.eq V.is_clone V.is_infallible settings calls
-            (OrInsert key value now) (of_or_default result))
-            × OnOk result (⟦<C as SegmentedStateView<K, V>>⟧.follows_in self.old
-            (OrInsert key value now) self.new) }
+            × GivesAtIn ⟦<C as SegmentedCallView<K, V>>⟧.spec self.old (OrInsert key value now)
+            (of_or_default result) × OnOk result (⟦<C as SegmentedStateView<K, V>>⟧.follows_in
+            self.old (OrInsert key value now) self.new) }
         ensures refused { OnErr result (self.new ≡ self.old) }
         ensures kept { IfOk result (EntryKeeps C.keeps key) }
     {

@@ -4,15 +4,16 @@ ghost use Rattle.std.specs.Prelude.{◌≡◌, ◌⊎◌, ◌+◌, ◌<◌, ◌^
 ghost use Rattle.std.specs.Arc.{arc_value};
 ghost use Rattle.std.specs.Duration.{as_nanos};
 ghost use Rattle.std.specs.List.{AllByRecursion};
-ghost use Rattle.moka_model.specs.Calls.{Get, ContainsKey, Insert, Invalidate, Remove, TakeNotice, Found, Contains, Noticed, IsOutOfNumbers};
+ghost use Rattle.moka_model.specs.Calls.{Get, ContainsKey, Insert, Invalidate, Remove, TakeNotice, Contains, Noticed, IsOutOfNumbers};
 ghost use Rattle.moka_model.specs.Numbers.{stores_nothing};
 ghost use Rattle.moka_model.specs.SizeLaws.{LimitsSome};
 ghost use Rattle.moka_state.specs.Hashes.{IsHashOf};
 ghost use Rattle.moka_table.specs.Table.{removal_of};
-ghost use Rattle.moka_segment_model.specs.Segments.{segment_of, segment_of_key, first_from, share_settings, steps_in, live_in};
+ghost use Rattle.moka_segment_model.specs.Segments.{segment_of, segment_of_key, first_from, share_settings, steps_in};
 ghost use Rattle.moka_segmented.specs.SegmentedData.{SegmentedData, AllHashBy, data_of, has_notice, notices_queued};
+ghost use Rattle.moka_segmented.specs.Ends.{ReadsLiveIn};
 
-use crate::segmented_view::SegmentedStateView;
+use crate::segmented_view::{SegmentedCallView, SegmentedStateView};
 use moka_expiration::view::StateView;
 use moka_expiring_rows::expiring_rows::ExpiringRows;
 use moka_model::notification::Notice;
@@ -74,22 +75,10 @@ impl<K: Hash + Drop, V: Clone, C: CacheTypes<K, V>, R: RowStore<K, V>> Segmented
     ///
     /// - `OutOfMemory`: cloning the value failed.
     pub fn get(&mut self, key: &K, now: u64) -> Result<Option<V>, Refused>
-        ensures reply { IfOk result (λ found.
-            ⟦<C as SegmentedStateView<K, V>>⟧.replies_in self.old (Get key.now now) (Found found)) }
-        ensures stands { OnOk result
-            (⟦<C as SegmentedStateView<K, V>>⟧.follows_in self.old (Get key.now now) self.new) }
+        // Only cloning the live value can fail, and then nothing has changed.
+        ensures ends { ReadsLiveIn ⟦<C as SegmentedCallView<K, V>>⟧.spec Get key.now now self.old
+            self.new result }
         ensures kept { IfOk result (λ found. IfSome found (C.keeps key.now)) }
-
-        // Only the clone can fail, and then nothing has changed.
-        ensures refused { OnErr result (self.new ≡ self.old) }
-        ensures cause { IfErr result (λ cause. cause ≡ Refused.OutOfMemory) }
-
-        // It cannot fail if nothing is live, or if clones of the live value never fail.
-        ensures miss { ⟦<C as SegmentedStateView<K, V>>⟧.at_each_list self.old (λ settings calls.
-            live_in C.Error K.eq settings calls key.now now ≡ None → IsOk result) }
-        ensures copied { ⟦<C as SegmentedStateView<K, V>>⟧.at_each_list self.old (λ settings calls.
-            IfSome (live_in C.Error K.eq settings calls key.now now) (λ live.
-            V.is_infallible live.value → IsOk result)) }
     {
         let place = self.place_of(key);
         self.segments[place.index].get_with_hash(key, place.hash, now)
@@ -122,8 +111,8 @@ impl<K: Hash + Drop, V: Clone, C: CacheTypes<K, V>, R: RowStore<K, V>> Segmented
     /// With 64 or more entries pending in the segment, also runs maintenance there.
     pub fn insert(&mut self, key: K, value: V, now: u64) -> Result<(), InsertRefused<K, V>>
         requires { C.keeps key value }
-        ensures stands { OnOk result
-            (⟦<C as SegmentedStateView<K, V>>⟧.follows_in self.old (Insert key value now) self.new) }
+        ensures stands { OnOk result (⟦<C as SegmentedStateView<K, V>>⟧.follows_in self.old
+            (Insert key value now) self.new) }
         ensures refused { OnErr result (self.new ≡ self.old) }
         ensures key_back { IfErr result (λ refused. refused.key ≡ key) }
         ensures value_back { IfErr result (λ refused. refused.value ≡ value) }
@@ -158,22 +147,10 @@ impl<K: Hash + Drop, V: Clone, C: CacheTypes<K, V>, R: RowStore<K, V>> Segmented
     ///
     /// - `OutOfMemory`: cloning the value failed.
     pub fn remove(&mut self, key: &K, now: u64) -> Result<Option<V>, Refused>
-        ensures reply { IfOk result (λ found. ⟦<C as SegmentedStateView<K, V>>⟧.replies_in
-            self.old (Remove key.now now) (Found found)) }
-        ensures stands { OnOk result (⟦<C as SegmentedStateView<K, V>>⟧.follows_in
-            self.old (Remove key.now now) self.new) }
+        // Only cloning the live value can fail, and then nothing has changed.
+        ensures ends { ReadsLiveIn ⟦<C as SegmentedCallView<K, V>>⟧.spec Remove key.now now self.old
+            self.new result }
         ensures kept { IfOk result (λ found. IfSome found (C.keeps key.now)) }
-
-        // Only the clone can fail, and then nothing has changed.
-        ensures refused { OnErr result (self.new ≡ self.old) }
-        ensures cause { IfErr result (λ cause. cause ≡ Refused.OutOfMemory) }
-
-        // It cannot fail if nothing is live, or if clones of the live value never fail.
-        ensures miss { ⟦<C as SegmentedStateView<K, V>>⟧.at_each_list self.old (λ settings calls.
-            live_in C.Error K.eq settings calls key.now now ≡ None → IsOk result) }
-        ensures copied { ⟦<C as SegmentedStateView<K, V>>⟧.at_each_list self.old (λ settings calls.
-            IfSome (live_in C.Error K.eq settings calls key.now now) (λ live.
-            V.is_infallible live.value → IsOk result)) }
     {
         let place = self.place_of(key);
         self.segments[place.index].remove_with_hash(key, place.hash, now)

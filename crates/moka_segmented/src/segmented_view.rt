@@ -69,3 +69,26 @@ impl<K: Hash, V: Clone, C: CacheTypes<K, V>> SegmentedStateView<K, V> for C {
         ⟦<C as BehaviourView<K, V>>⟧.frequency
         C.Frequency.opened) };
 }
+
+/// The specification at the types of a cache of several segments. It follows from the types: every
+/// `CacheTypes` has it. The words of `specs/Ends.antt` say by it how calls end.
+pub trait SegmentedCallView<K: Hash, V: Clone>: CacheTypes<K, V> {
+    ghost use Rattle.moka_segmented.specs.SegmentedData.{SegmentedData};
+    ghost use Rattle.moka_segmented.specs.Ends.{SegmentedSpec};
+
+    /// Which keys are equal, what a clone is, and the relations of caches.
+    ghost spec: { SegmentedSpec K V Self.Error
+        (SegmentedData K V Self.Hasher Self.Weigher Self.Expiry Self.Frequency Self.Error) };
+}
+
+impl<K: Hash, V: Clone, C: CacheTypes<K, V>> SegmentedCallView<K, V> for C {
+    ghost spec = { record {
+      eq = K.eq;
+      is_clone = V.is_clone;
+      is_infallible = V.is_infallible;
+      at_each = ⟦<C as SegmentedStateView<K, V>>⟧.at_each_list;
+      stand_for = ⟦<C as SegmentedStateView<K, V>>⟧.all_stand_for;
+      follows = ⟦<C as SegmentedStateView<K, V>>⟧.follows_in;
+      replies_with = ⟦<C as SegmentedStateView<K, V>>⟧.replies_in;
+    } };
+}

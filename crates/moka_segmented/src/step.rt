@@ -1,6 +1,5 @@
 //! Steps and runs of steps over several segments.
-ghost use Rattle.std.specs.Prelude.{◌≡◌, ◌+◌, ◌≤◌, None, length, map, option_map, IfOk, IfErr, IfSome, OnErr};
-ghost use Rattle.std.specs.Arc.{arc_value};
+ghost use Rattle.std.specs.Prelude.{◌≡◌, ◌+◌, ◌≤◌, None, length, option_map, IfOk, IfErr, IfSome, OnErr};
 ghost use Rattle.std.specs.List.{AllByRecursion};
 ghost use Rattle.moka_model.specs.Numbers.{flush_point};
 ghost use Rattle.moka_state.specs.State.{all_writes};
@@ -106,11 +105,10 @@ impl<K: Hash + Drop, V: Clone, C: CacheTypes<K, V>, R: RowStore<K, V>> Segmented
             ⟦<C as SegmentedStateView<K, V>>⟧.at_each_list self.old (λ settings before.
             ⟦<C as SegmentedStateView<K, V>>⟧.all_stand_for settings self.new
             (after_all_in C.test steps.items replies.items before))) }
-        ensures bounded { IfOk result (λ _.
-            ⟦<C as SegmentedStateView<K, V>>⟧.at_each_list self.old (λ settings _.
-            self.new.settings.behaviour.weigher ≡ None →
-            IfSome self.new.settings.max_capacity (λ capacity. AllByRecursion
-            (λ state. length (all_writes state) ≤ share (segments_of settings) capacity + flush_point)
+        ensures bounded { IfOk result (λ _. ⟦<C as SegmentedStateView<K, V>>⟧.at_each_list self.old
+            (λ settings _. self.new.settings.behaviour.weigher ≡ None → IfSome
+            self.new.settings.max_capacity (λ capacity. AllByRecursion (λ state. length
+            (all_writes state) ≤ share (segments_of settings) capacity + flush_point)
             self.new.segments))) }
         ensures refused { OnErr result (self.new ≡ self.old) }
         ensures cause { IfErr result (λ cause. cause ≡ Refused.OutOfMemory) }

@@ -1,18 +1,18 @@
 //! Single flight by hand, each call in the segment of the turn's key: one caller computes a value,
 //! others wait for the outcome.
-ghost use Rattle.std.specs.Prelude.{◌≡◌, ◌≢◌, Bool, Option, true, IfOk, IfErr, IfSome, OnOk, OnErr};
+ghost use Rattle.std.specs.Prelude.{◌≡◌, ◌≢◌, Option, true, IfOk, IfErr, IfSome, OnOk, OnErr};
 ghost use Rattle.std.specs.Arc.{arc_value};
-ghost use Rattle.moka_model.specs.Calls.{Abandon, Begin, BeginCompute, Collect, Finish, Leave};
+ghost use Rattle.moka_model.specs.Calls.{Abandon, BeginCompute, Collect, Finish, Leave};
 ghost use Rattle.moka_turns.specs.Handles.{turn_name, ticket_name};
 ghost use Rattle.moka_state.specs.Begin.{FoundKeeps, IsNamed, IsSaidOf};
 ghost use Rattle.moka_state.specs.Compute.{IsCompute, ShownKeeps};
 ghost use Rattle.moka_state.specs.Finish.{Fits, IsFinished, OutcomeKeeps, outcome_of};
 ghost use Rattle.moka_state.specs.Given.{IfUnspent, of_begin_compute, of_collect, of_done, of_finish};
-ghost use Rattle.moka_segment_model.specs.Segments.{live_in};
-ghost use Rattle.moka_segmented.specs.Turns.{GivesIn, GivesBegunIn, TakesLiveIn};
+ghost use Rattle.moka_segmented.specs.Turns.{TakesLiveIn};
+ghost use Rattle.moka_segmented.specs.Ends.{GivesAtIn, LoaderBeginsIn};
 
 use crate::segment::Segmented;
-use crate::segmented_view::SegmentedStateView;
+use crate::segmented_view::{SegmentedCallView, SegmentedStateView};
 use moka_model::turns::{Kind, Outcome};
 use moka_policy::policy::{CacheTypes, Refused};
 use moka_rows::rows::RowStore;
@@ -52,14 +52,9 @@ impl<K: Hash + Drop, V: Clone, C: CacheTypes<K, V>, R: RowStore<K, V>> Segmented
         requires initializer { kind ≢ Kind.Compute }
         requires asks { IfSome replace_if (TakesLiveIn K.eq C.keeps
             ⟦<C as StateView<K, V>>⟧.settings F.FnMut (arc_value key.now) now self.old) }
-        ensures begins { (said : Option Bool)
-            × ⟦<C as SegmentedStateView<K, V>>⟧.at_each_list self.old (λ settings calls.
-            IsSaidOf F.FnMut replace_if
-            (live_in C.Error K.eq settings calls (arc_value key.now) now) said
-            × GivesBegunIn K.eq V.is_clone V.is_infallible settings calls
-            (Begin (arc_value key.now) kind said now) true result)
-            × OnOk result (⟦<C as SegmentedStateView<K, V>>⟧.follows_in self.old
-            (Begin (arc_value key.now) kind said now) self.new) }
+        ensures begins { LoaderBeginsIn ⟦<C as SegmentedCallView<K, V>>⟧.spec
+            (IsSaidOf F.FnMut replace_if) (arc_value key.now) kind now true self.old self.new
+            result }
         ensures refused { OnErr result (self.new ≡ self.old) }
         ensures named { IfOk result (IsNamed kind (arc_value key.now)) }
         ensures kept { IfOk result (FoundKeeps C.keeps) }
@@ -90,9 +85,8 @@ impl<K: Hash + Drop, V: Clone, C: CacheTypes<K, V>, R: RowStore<K, V>> Segmented
         keep: bool,
         now: u64,
     ) -> Result<BegunCompute<K, V>, Refused>
-        ensures reply { ⟦<C as SegmentedStateView<K, V>>⟧.at_each_list self.old (λ settings calls.
-            GivesIn K.eq V.is_clone V.is_infallible settings calls
-            (BeginCompute (arc_value key.now) keep now) (of_begin_compute result)) }
+        ensures reply { GivesAtIn ⟦<C as SegmentedCallView<K, V>>⟧.spec self.old
+            (BeginCompute (arc_value key.now) keep now) (of_begin_compute result) }
         ensures stands { OnOk result (⟦<C as SegmentedStateView<K, V>>⟧.follows_in self.old
             (BeginCompute (arc_value key.now) keep now) self.new) }
         ensures refused { OnErr result (self.new ≡ self.old) }
@@ -131,9 +125,8 @@ impl<K: Hash + Drop, V: Clone, C: CacheTypes<K, V>, R: RowStore<K, V>> Segmented
     ) -> Result<Finished<K, V, C::Error>, FinishRefused<K, V, C::Error>>
         requires fits { Fits C.Error turn.key.kind (outcome_of outcome) }
         requires kept { OutcomeKeeps (C.keeps (arc_value turn.key.key)) outcome }
-        ensures reply { ⟦<C as SegmentedStateView<K, V>>⟧.at_each_list self.old (λ settings calls.
-            GivesIn K.eq V.is_clone V.is_infallible settings calls
-            (Finish (turn_name turn) (outcome_of outcome) now) (of_finish result)) }
+        ensures reply { GivesAtIn ⟦<C as SegmentedCallView<K, V>>⟧.spec self.old
+            (Finish (turn_name turn) (outcome_of outcome) now) (of_finish result) }
         ensures stands { OnOk result (⟦<C as SegmentedStateView<K, V>>⟧.follows_in self.old
             (Finish (turn_name turn) (outcome_of outcome) now) self.new) }
         ensures given { IfOk result
@@ -157,9 +150,8 @@ impl<K: Hash + Drop, V: Clone, C: CacheTypes<K, V>, R: RowStore<K, V>> Segmented
     ///
     /// Hashes the key, and costs the call of its segment.
     pub fn abandon(&mut self, turn: Turn<K>) -> Result<(), Refused>
-        ensures reply { ⟦<C as SegmentedStateView<K, V>>⟧.at_each_list self.old (λ settings calls.
-            GivesIn K.eq V.is_clone V.is_infallible settings calls (Abandon (turn_name turn))
-            (of_done result)) }
+        ensures reply { GivesAtIn ⟦<C as SegmentedCallView<K, V>>⟧.spec self.old
+            (Abandon (turn_name turn)) (of_done result) }
         ensures stands { OnOk result (⟦<C as SegmentedStateView<K, V>>⟧.follows_in self.old
             (Abandon (turn_name turn)) self.new) }
         ensures refused { OnErr result (self.new ≡ self.old) }
@@ -188,9 +180,8 @@ impl<K: Hash + Drop, V: Clone, C: CacheTypes<K, V>, R: RowStore<K, V>> Segmented
         &mut self,
         ticket: Ticket<K>,
     ) -> Result<Collected<K, V, C::Error>, CollectRefused<K>>
-        ensures reply { ⟦<C as SegmentedStateView<K, V>>⟧.at_each_list self.old (λ settings calls.
-            GivesIn K.eq V.is_clone V.is_infallible settings calls (Collect (ticket_name ticket))
-            (of_collect result)) }
+        ensures reply { GivesAtIn ⟦<C as SegmentedCallView<K, V>>⟧.spec self.old
+            (Collect (ticket_name ticket)) (of_collect result) }
         ensures stands { OnOk result (⟦<C as SegmentedStateView<K, V>>⟧.follows_in self.old
             (Collect (ticket_name ticket)) self.new) }
         ensures unspent { IfOk result
@@ -214,9 +205,8 @@ impl<K: Hash + Drop, V: Clone, C: CacheTypes<K, V>, R: RowStore<K, V>> Segmented
     ///
     /// Hashes the key, and costs the call of its segment.
     pub fn leave(&mut self, ticket: Ticket<K>) -> Result<(), Refused>
-        ensures reply { ⟦<C as SegmentedStateView<K, V>>⟧.at_each_list self.old (λ settings calls.
-            GivesIn K.eq V.is_clone V.is_infallible settings calls (Leave (ticket_name ticket))
-            (of_done result)) }
+        ensures reply { GivesAtIn ⟦<C as SegmentedCallView<K, V>>⟧.spec self.old
+            (Leave (ticket_name ticket)) (of_done result) }
         ensures stands { OnOk result (⟦<C as SegmentedStateView<K, V>>⟧.follows_in self.old
             (Leave (ticket_name ticket)) self.new) }
         ensures refused { OnErr result (self.new ≡ self.old) }

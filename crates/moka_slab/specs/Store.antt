@@ -2,7 +2,7 @@
 use Rattle.std.specs.Prelude.{ℕ, List}
 use Rattle.moka_rows.specs.declared.rows.Row.{Row}
 use Rattle.moka_slab.specs.declared.slab_rows.SlabRows.{SlabRows}
-use Rattle.moka_slab.specs.Tied.{admitted_rows, waiting_rows, room_in}
+use Rattle.moka_slab.specs.Tied.{admitted_rows, waiting_rows, all_rows, room_in}
 
 module _ {K V : Type 0} where
   -- The resident rows with their numbers, the least recently used first.
@@ -12,6 +12,10 @@ module _ {K V : Type 0} where
   -- The pending rows with their numbers, in arrival order.
   abbrev pub waiting_in : SlabRows K V → List (ℕ × Row K V)
   waiting_in store = waiting_rows store.rows store.links
+
+  -- All rows with their numbers, the resident ones first.
+  abbrev pub rows_of : SlabRows K V → List (ℕ × Row K V)
+  rows_of store = all_rows store.rows store.links
 
   -- How many rows can be added without an allocation.
   abbrev pub room_of : SlabRows K V → ℕ

@@ -1,10 +1,11 @@
 //! The row store of the caches: rows in a slab, and links between their numbers.
-ghost use Rattle.std.specs.Prelude.{◌≡◌, ◌⊎◌, ℕ, ◌+◌, ◌-◌, ◌^◌, ◌<◌, ◌≤◌, ◌==◌, [], ◌∷◌, ◌++◌, length, filter};
+ghost use Rattle.std.specs.Prelude.{◌≡◌, ◌⊎◌, ℕ, ◌+◌, ◌-◌, ◌^◌, ◌<◌, ◌≤◌, ◌==◌};
+ghost use Rattle.std.specs.Prelude.{[], ◌∷◌, ◌++◌, length, filter};
 ghost use Rattle.std.specs.Prelude.{IsSome, IfSome, IfNone, OnSome, Some, None};
 ghost use Rattle.moka_rows.specs.Rows.{row_under, first_number, expired_at, IsRowOf, NoneIsRowOf};
 ghost use Rattle.moka_slab.specs.NumberedRows.{row_at, order_of};
 ghost use Rattle.moka_index.specs.RowIndex.{IsLinked};
-ghost use Rattle.moka_slab.specs.Tied.{IsTied, admitted_rows, waiting_rows, all_rows, room_in};
+ghost use Rattle.moka_slab.specs.Tied.{IsTied};
 
 use moka_index::row_index::RowIndex;
 use moka_rows::counted_row::CountedRow;
@@ -48,14 +49,25 @@ fn order(is_admitted: bool) -> Order
     }
 }
 
+/// Returns the slab's key of the row with this number.
+#[inline(always)]
+fn key_of(number: usize) -> usize
+    requires { 2 ≤ number }
+    ensures { result ≡ number - 2 }
+{
+    number - FIRST
+}
+
 impl<K, V> SlabRows<K, V> {
+    ghost use Rattle.moka_slab.specs.Store.{admitted_in};
+
     /// Returns the row with this number.
     #[inline(always)]
     fn counted_row(&self, number: usize) -> &CountedRow<Row<K, V>>
         requires { IsLinked self.now.links number }
         ensures { row_at self.now.rows number ≡ Some result.now }
     {
-        &self.rows[number - FIRST]
+        &self.rows[key_of(number)]
     }
 
     /// Returns the row with this number to a lookup, and adds 1 to `reads`.
@@ -71,7 +83,7 @@ impl<K, V> SlabRows<K, V> {
 
     /// Returns the first resident row whose deadline has come at `now`, found by a walk over them.
     fn walk_to_expired(&self, now: u64) -> Option<usize>
-        ensures { result ≡ first_number (expired_at now (admitted_rows self.now.rows self.now.links)) }
+        ensures { result ≡ first_number (expired_at now (admitted_in self.now)) }
     {
         let links = &self.links;
         let mut cursor = links.first_admitted();
@@ -91,11 +103,13 @@ impl<K, V> SlabRows<K, V> {
 }
 
 impl<K: Eq + Drop, V: Drop> RowStore<K, V> for SlabRows<K, V> {
-    ghost waiting = { λ s. waiting_rows s.rows s.links };
+    ghost use Rattle.moka_slab.specs.Store.{admitted_in, waiting_in, rows_of, room_of};
 
-    ghost admitted = { λ s. admitted_rows s.rows s.links };
+    ghost waiting = { waiting_in };
 
-    ghost room = { λ s. room_in s.rows s.links };
+    ghost admitted = { admitted_in };
+
+    ghost room = { room_of };
 
     fn new(alloc: Global) -> Self {
         SlabRows {
@@ -114,12 +128,12 @@ impl<K: Eq + Drop, V: Drop> RowStore<K, V> for SlabRows<K, V> {
     fn find(&self, key: &K, hash: u64, reads: &mut u64) -> Option<usize>
         requires { reads.old ≡ 0 }
         ensures found { IfSome result
-            (λ number. IfSome (row_under number (all_rows self.now.rows self.now.links)) (IsRowOf K.eq key.now hash)) }
-        ensures stored { IfSome result (λ number. IsSome (row_under number (all_rows self.now.rows self.now.links))) }
-        ensures absent { IfNone result (NoneIsRowOf K.eq key.now hash (all_rows self.now.rows self.now.links)) }
-        ensures counted { reads.new ≤ length (all_rows self.now.rows self.now.links) }
+            (λ number. IfSome (row_under number (rows_of self.now)) (IsRowOf K.eq key.now hash)) }
+        ensures stored { IfSome result (λ number. IsSome (row_under number (rows_of self.now))) }
+        ensures absent { IfNone result (NoneIsRowOf K.eq key.now hash (rows_of self.now)) }
+        ensures counted { reads.new ≤ length (rows_of self.now) }
         ensures read { OnSome result (0 < reads.new) }
-        ensures few { reads.new ≤ length (filter (λ p. p.1.hash == hash) (all_rows self.now.rows self.now.links)) }
+        ensures few { reads.new ≤ length (filter (λ p. p.1.hash == hash) (rows_of self.now)) }
     {
         let mut at = self.links.first(hash);
         while let Some(number) = at {
@@ -165,11 +179,11 @@ impl<K: Eq + Drop, V: Drop> RowStore<K, V> for SlabRows<K, V> {
 
     #[inline(always)]
     fn add(&mut self, row: Row<K, V>) -> usize
-        requires { 0 < room_in self.old.rows self.old.links }
-        ensures fresh { row_under result (all_rows self.old.rows self.old.links) ≡ None }
-        ensures waiting { waiting_rows self.new.rows self.new.links ≡ waiting_rows self.old.rows self.old.links ++ (result, row) ∷ [] }
-        ensures admitted { admitted_rows self.new.rows self.new.links ≡ admitted_rows self.old.rows self.old.links }
-        ensures room { room_in self.old.rows self.old.links ≤ room_in self.new.rows self.new.links + 1 }
+        requires { 0 < room_of self.old }
+        ensures fresh { row_under result (rows_of self.old) ≡ None }
+        ensures waiting { waiting_in self.new ≡ waiting_in self.old ++ (result, row) ∷ [] }
+        ensures admitted { admitted_in self.new ≡ admitted_in self.old }
+        ensures room { room_of self.old ≤ room_of self.new + 1 }
     {
         let hash = row.hash;
         let key = self.rows.insert_reserved(CountedRow::new(row));
@@ -179,21 +193,22 @@ impl<K: Eq + Drop, V: Drop> RowStore<K, V> for SlabRows<K, V> {
     }
 
     #[inline(always)]
-    fn touch(&mut self, number: usize, touch: Access) {
-        self.rows[number - FIRST].touch(touch);
-        self.links.touch(number);
+    fn touch(&mut self, number: usize, touch: Access) -> (EntryInfo, Order) {
+        let info = self.rows[key_of(number)].touch(touch);
+        let is_admitted = self.links.touch(number);
+        (info, order(is_admitted))
     }
 
     #[inline(always)]
     fn overwrite(&mut self, number: usize, value: V, info: EntryInfo) -> Previous<V> {
-        let (value, info) = self.rows[number - FIRST].overwrite(value, info);
+        let (value, info) = self.rows[key_of(number)].overwrite(value, info);
         let order = order(self.links.touch(number));
         Previous { value, info, order }
     }
 
     #[inline(always)]
     fn hide(&mut self, number: usize) {
-        self.rows[number - FIRST].hide();
+        self.rows[key_of(number)].hide();
     }
 
     #[inline(always)]
@@ -229,7 +244,7 @@ impl<K: Eq + Drop, V: Drop> RowStore<K, V> for SlabRows<K, V> {
     #[inline(always)]
     fn remove(&mut self, number: usize) -> (Row<K, V>, Order) {
         let order = order(self.links.remove(number));
-        (self.rows.remove(number - FIRST).into_row(), order)
+        (self.rows.remove(key_of(number)).into_row(), order)
     }
 
     #[inline(always)]

@@ -15,6 +15,7 @@ pub mod Forms
 pub mod HandsOuts
 pub mod Held
 pub mod Inserts
+pub mod LiveReads
 pub mod Maintained
 pub mod OrInserts
 pub mod Orders

@@ -58,9 +58,9 @@ fn result_with_clones<K: Drop, V: Clone, E: Drop>(
     computed: &CompResult<K, V>,
     out: &mut HandedOut<K, V, E>,
 ) -> Option<CompResult<K, V>>
-    ensures { (answer : calls.Reply K V E) → IsCopiedReply V.is_clone answer (of_computed computed.now)
-        → HandsOut V.is_clone answer out.old
-        → IsSomeAnd result (λ again. IsCopiedReply V.is_clone answer (of_computed again)) }
+    ensures { (answer : calls.Reply K V E) → IsCopiedReply V.is_clone answer
+        (of_computed computed.now) → HandsOut V.is_clone answer out.old → IsSomeAnd result
+        (λ again. IsCopiedReply V.is_clone answer (of_computed again)) }
 {
     match computed {
         CompResult::StillNone(_) => Some(CompResult::StillNone(out.key.take()?)),

@@ -1,12 +1,12 @@
 //! The begin of a turn: it finds a live value, waits for an open turn, or opens one.
-ghost use Rattle.std.specs.Prelude.{◌≡◌, ◌≢◌, Bool, Option, None, true, IfOk, IfSome, IsSome, OnErr};
+ghost use Rattle.std.specs.Prelude.{◌≡◌, ◌≢◌, Bool, Option, None, true, IfOk, IfSome, OnErr};
 ghost use Rattle.std.specs.Arc.{arc_value};
-ghost use Rattle.moka_model.specs.Steps.{events_in};
-ghost use Rattle.moka_model.specs.Calls.{Begin, acceptable, live_at};
-ghost use Rattle.moka_state.specs.Begin.{BeginEnds, EntryKeeps, FoundKeeps, FoundKeepsFor, GivesBegun, GivesLook, IfWait, IsAsked, IsNamed, IsSaidOf, IsShownKept, LookEnds, TakesLive};
+ghost use Rattle.moka_state.specs.Begin.{EntryKeeps, FoundKeeps, FoundKeepsFor, IfWait, IsAsked, IsNamed, IsSaidOf, IsShownKept, TakesLive};
 ghost use Rattle.moka_state.specs.Hashes.{IsHashOf};
+ghost use Rattle.moka_state.specs.Ends.{IsLiveAt, LoaderBegins, LoaderBeginsAs, LoaderBeginsByRef, Looks, Misses};
 
 use crate::answers::Begun;
+use crate::call_view::CallView;
 use crate::state::State;
 use moka_expiration::view::StateView;
 use moka_model::entry::Entry;
@@ -49,15 +49,8 @@ impl<K: Hash + Drop, V: Clone, C: CacheTypes<K, V>, R: RowStore<K, V>> State<K, 
         requires initializer { kind ≢ Kind.Compute }
         requires asks { IfSome replace_if (TakesLive K.eq C.keeps
             ⟦<C as StateView<K, V>>⟧.settings F.FnMut (arc_value key.now) now self.old) }
-        ensures begins { (said : Option Bool) × BeginEnds
-            (λ given. ⟦<C as StateView<K, V>>⟧.at_each_history self.old (λ settings steps.
-            IsSaidOf F.FnMut replace_if
-            (live_at K.eq settings (arc_value key.now) now (events_in steps)) said
-            × GivesBegun K.eq V.is_clone V.is_infallible settings steps
-            (Begin (arc_value key.now) kind said now) true given))
-            (⟦<C as StateView<K, V>>⟧.follows self.old
-            (Begin (arc_value key.now) kind said now) self.new)
-            self.old self.new result }
+        ensures begins { LoaderBegins ⟦<C as CallView<K, V>>⟧.spec (IsSaidOf F.FnMut replace_if)
+            (arc_value key.now) kind now true self.old self.new result }
         ensures named { IfOk result (IsNamed kind (arc_value key.now)) }
         ensures kept { IfOk result (FoundKeeps C.keeps) }
         ensures kept_for { IfOk result (FoundKeepsFor C.keeps (arc_value key.now)) }
@@ -83,15 +76,8 @@ impl<K: Hash + Drop, V: Clone, C: CacheTypes<K, V>, R: RowStore<K, V>> State<K, 
         requires initializer { kind ≢ Kind.Compute }
         requires asks { IfSome replace_if.old (TakesLive K.eq C.keeps
             ⟦<C as StateView<K, V>>⟧.settings F.FnMut (arc_value key.now) now self.old) }
-        ensures begins { (said : Option Bool) × BeginEnds
-            (λ given. ⟦<C as StateView<K, V>>⟧.at_each_history self.old (λ settings steps.
-            IsSaidOf F.FnMut replace_if.old
-            (live_at K.eq settings (arc_value key.now) now (events_in steps)) said
-            × GivesBegun K.eq V.is_clone V.is_infallible settings steps
-            (Begin (arc_value key.now) kind said now) true given))
-            (⟦<C as StateView<K, V>>⟧.follows self.old
-            (Begin (arc_value key.now) kind said now) self.new)
-            self.old self.new result }
+        ensures begins { LoaderBegins ⟦<C as CallView<K, V>>⟧.spec (IsSaidOf F.FnMut replace_if.old)
+            (arc_value key.now) kind now true self.old self.new result }
         ensures named { IfOk result (IsNamed kind (arc_value key.now)) }
         ensures kept { IfOk result (FoundKeeps C.keeps) }
         ensures kept_for { IfOk result (FoundKeepsFor C.keeps (arc_value key.now)) }
@@ -135,16 +121,9 @@ impl<K: Hash + Drop, V: Clone, C: CacheTypes<K, V>, R: RowStore<K, V>> State<K, 
             key.now hash }
         requires asks { IfSome replace_if (TakesLive K.eq C.keeps
             ⟦<C as StateView<K, V>>⟧.settings F.FnMut key.now now self.old) }
-        ensures looks { (said : Option Bool) × LookEnds
-            (λ given. ⟦<C as StateView<K, V>>⟧.at_each_history self.old (λ settings steps.
-            IsSaidOf F.FnMut replace_if
-            (live_at K.eq settings key.now now (events_in steps)) said
-            × GivesLook K.eq V.is_clone V.is_infallible settings steps key.now said now given))
-            ((kind : Kind) → kind ≢ Kind.Compute → ⟦<C as StateView<K, V>>⟧.follows self.old
-            (Begin key.now kind said now) self.new)
+        ensures looks { Looks ⟦<C as CallView<K, V>>⟧.spec (IsSaidOf F.FnMut replace_if) key.now now
             self.old self.new result }
-        ensures live { ⟦<C as StateView<K, V>>⟧.at_each_history self.old (λ settings steps.
-            OnErr result (IsSome (live_at K.eq settings key.now now (events_in steps)))) }
+        ensures live { OnErr result (IsLiveAt ⟦<C as CallView<K, V>>⟧.spec self.old key.now now) }
         ensures kept { IfOk result (λ found. IfSome found (EntryKeeps C.keeps key.now)) }
         ensures settings { self.new.settings ≡ self.old.settings }
     {
@@ -164,16 +143,9 @@ impl<K: Hash + Drop, V: Clone, C: CacheTypes<K, V>, R: RowStore<K, V>> State<K, 
             key.now hash }
         requires asks { IfSome replace_if.old (TakesLive K.eq C.keeps
             ⟦<C as StateView<K, V>>⟧.settings F.FnMut key.now now self.old) }
-        ensures looks { (said : Option Bool) × LookEnds
-            (λ given. ⟦<C as StateView<K, V>>⟧.at_each_history self.old (λ settings steps.
-            IsSaidOf F.FnMut replace_if.old
-            (live_at K.eq settings key.now now (events_in steps)) said
-            × GivesLook K.eq V.is_clone V.is_infallible settings steps key.now said now given))
-            ((kind : Kind) → kind ≢ Kind.Compute → ⟦<C as StateView<K, V>>⟧.follows self.old
-            (Begin key.now kind said now) self.new)
-            self.old self.new result }
-        ensures live { ⟦<C as StateView<K, V>>⟧.at_each_history self.old (λ settings steps.
-            OnErr result (IsSome (live_at K.eq settings key.now now (events_in steps)))) }
+        ensures looks { Looks ⟦<C as CallView<K, V>>⟧.spec (IsSaidOf F.FnMut replace_if.old) key.now
+            now self.old self.new result }
+        ensures live { OnErr result (IsLiveAt ⟦<C as CallView<K, V>>⟧.spec self.old key.now now) }
         ensures kept { IfOk result (λ found. IfSome found (EntryKeeps C.keeps key.now)) }
         ensures left { IsShownKept (C.keeps key.now) F.FnMut replace_if.old replace_if.new }
         ensures settings { self.new.settings ≡ self.old.settings }
@@ -204,16 +176,9 @@ impl<K: Hash + Drop, V: Clone, C: CacheTypes<K, V>, R: RowStore<K, V>> State<K, 
         requires hash { IsHashOf (⟦<C as StateView<K, V>>⟧.settings self.old.settings)
             (arc_value key) hash }
         requires initializer { kind ≢ Kind.Compute }
-        ensures begins { (said : Option Bool)
-            → ⟦<C as StateView<K, V>>⟧.at_each_history self.old (λ settings steps.
-            acceptable said (live_at K.eq settings (arc_value key) now (events_in steps)) ≡ None)
-            → BeginEnds
-            (λ given. ⟦<C as StateView<K, V>>⟧.at_each_history self.old (λ settings steps.
-            GivesBegun K.eq V.is_clone V.is_infallible settings steps
-            (Begin (arc_value key) kind said now) may_wait given))
-            (⟦<C as StateView<K, V>>⟧.follows self.old
-            (Begin (arc_value key) kind said now) self.new)
-            self.old self.new result }
+        ensures begins { (said : Option Bool) → Misses ⟦<C as CallView<K, V>>⟧.spec self.old said
+            (arc_value key) now → LoaderBeginsAs ⟦<C as CallView<K, V>>⟧.spec said (arc_value key)
+            kind now may_wait self.old self.new result }
         ensures named { IfOk result (IsNamed kind (arc_value key)) }
         ensures waits { IfOk result (IfWait (may_wait ≡ true)) }
         ensures kept { IfOk result (FoundKeeps C.keeps) }
@@ -260,15 +225,9 @@ impl<K: Hash + Clone + Drop, V: Clone, C: CacheTypes<K, V>, R: RowStore<K, V>> S
         requires initializer { kind ≢ Kind.Compute }
         requires asks { IfSome replace_if (TakesLive K.eq C.keeps
             ⟦<C as StateView<K, V>>⟧.settings F.FnMut key.now now self.old) }
-        ensures begins { (asked : K) × IsAsked K.eq K.is_clone key.now asked × (said : Option Bool)
-            × BeginEnds
-            (λ given. ⟦<C as StateView<K, V>>⟧.at_each_history self.old (λ settings steps.
-            IsSaidOf F.FnMut replace_if (live_at K.eq settings asked now (events_in steps)) said
-            × GivesBegun K.eq V.is_clone V.is_infallible settings steps
-            (Begin asked kind said now) true given))
-            (⟦<C as StateView<K, V>>⟧.follows self.old (Begin asked kind said now) self.new)
-            self.old self.new result
-            × IfOk result (IsNamed kind asked) }
+        ensures begins { LoaderBeginsByRef ⟦<C as CallView<K, V>>⟧.spec
+            (IsAsked K.eq K.is_clone key.now) (IsSaidOf F.FnMut replace_if) kind now true self.old
+            self.new result }
         ensures kept { IfOk result (FoundKeeps C.keeps) }
         ensures kept_for { IfOk result (FoundKeepsFor C.keeps key.now) }
         ensures settings { self.new.settings ≡ self.old.settings }
@@ -289,15 +248,9 @@ impl<K: Hash + Clone + Drop, V: Clone, C: CacheTypes<K, V>, R: RowStore<K, V>> S
         requires initializer { kind ≢ Kind.Compute }
         requires asks { IfSome replace_if (TakesLive K.eq C.keeps
             ⟦<C as StateView<K, V>>⟧.settings F.FnMut key.now now self.old) }
-        ensures begins { (asked : K) × IsAsked K.eq K.is_clone key.now asked × (said : Option Bool)
-            × BeginEnds
-            (λ given. ⟦<C as StateView<K, V>>⟧.at_each_history self.old (λ settings steps.
-            IsSaidOf F.FnMut replace_if (live_at K.eq settings asked now (events_in steps)) said
-            × GivesBegun K.eq V.is_clone V.is_infallible settings steps
-            (Begin asked kind said now) may_wait given))
-            (⟦<C as StateView<K, V>>⟧.follows self.old (Begin asked kind said now) self.new)
-            self.old self.new result
-            × IfOk result (IsNamed kind asked) }
+        ensures begins { LoaderBeginsByRef ⟦<C as CallView<K, V>>⟧.spec
+            (IsAsked K.eq K.is_clone key.now) (IsSaidOf F.FnMut replace_if) kind now may_wait
+            self.old self.new result }
         ensures waits { IfOk result (IfWait (may_wait ≡ true)) }
         ensures kept { IfOk result (FoundKeeps C.keeps) }
         ensures kept_for { IfOk result (FoundKeepsFor C.keeps key.now) }

@@ -1,12 +1,13 @@
 //! Calls that take the hash of their key, for callers that know it already: for example from
 //! choosing one of several states.
-ghost use Rattle.std.specs.Prelude.{◌≡◌, ◌≢◌, ◌≤◌, false, None, IsOk, IfOk, IfErr, IfSome, OnOk, OnErr};
+ghost use Rattle.std.specs.Prelude.{◌≡◌, ◌≢◌, ◌≤◌, false, None, IfOk, IfSome};
 ghost use Rattle.moka_model.specs.Numbers.{greatest_number, stores_nothing};
-ghost use Rattle.moka_model.specs.Steps.{events_in};
-ghost use Rattle.moka_model.specs.Calls.{Get, ContainsKey, Insert, Invalidate, Remove, Found, Contains, live_at};
+ghost use Rattle.moka_model.specs.Calls.{Get, ContainsKey, Insert, Invalidate, Remove, Contains};
 ghost use Rattle.moka_state.specs.Hashes.{IsHashOf};
 ghost use Rattle.moka_state.specs.Write.{WriteEnds};
+ghost use Rattle.moka_state.specs.Ends.{ReadsLive};
 
+use crate::call_view::CallView;
 use crate::state::{InsertRefused, State};
 use moka_expiration::live_value::copy_of_live;
 use moka_expiration::view::StateView;
@@ -41,22 +42,10 @@ impl<K: Hash + Drop, V: Clone, C: CacheTypes<K, V>, R: RowStore<K, V>> State<K, 
         requires hash { IsHashOf (⟦<C as StateView<K, V>>⟧.settings self.old.settings)
             key.now hash }
         requires within { hash ≤ greatest_number }
-        ensures reply { IfOk result (λ found.
-            ⟦<C as StateView<K, V>>⟧.replies_with self.old (Get key.now now) (Found found)) }
-        ensures stands { OnOk result
-            (⟦<C as StateView<K, V>>⟧.follows self.old (Get key.now now) self.new) }
+        // Only cloning the live value can fail, and then nothing has changed.
+        ensures ends { ReadsLive ⟦<C as CallView<K, V>>⟧.spec Get key.now now self.old self.new
+            result }
         ensures kept { IfOk result (λ found. IfSome found (C.keeps key.now)) }
-
-        // Only cloning the value can fail, and then nothing has changed.
-        ensures refused { OnErr result (self.new ≡ self.old) }
-        ensures cause { IfErr result (λ cause. cause ≡ Refused.OutOfMemory) }
-
-        // The call succeeds if no value is live, or if clones of the live value cannot fail.
-        ensures miss { ⟦<C as StateView<K, V>>⟧.at_each_history self.old (λ settings steps.
-            live_at K.eq settings key.now now (events_in steps) ≡ None → IsOk result) }
-        ensures copied { ⟦<C as StateView<K, V>>⟧.at_each_history self.old (λ settings steps.
-            IfSome (live_at K.eq settings key.now now (events_in steps)) (λ live.
-            V.is_infallible live.value → IsOk result)) }
         ensures settings { self.new.settings ≡ self.old.settings }
     {
         let now = self.latest.max(now);
@@ -251,22 +240,10 @@ impl<K: Hash + Drop, V: Clone, C: CacheTypes<K, V>, R: RowStore<K, V>> State<K, 
         requires hash { IsHashOf (⟦<C as StateView<K, V>>⟧.settings self.old.settings)
             key.now hash }
         requires within { hash ≤ greatest_number }
-        ensures reply { IfOk result (λ found.
-            ⟦<C as StateView<K, V>>⟧.replies_with self.old (Remove key.now now) (Found found)) }
-        ensures stands { OnOk result
-            (⟦<C as StateView<K, V>>⟧.follows self.old (Remove key.now now) self.new) }
+        // Only cloning the live value can fail, and then nothing has changed.
+        ensures ends { ReadsLive ⟦<C as CallView<K, V>>⟧.spec Remove key.now now self.old self.new
+            result }
         ensures kept { IfOk result (λ found. IfSome found (C.keeps key.now)) }
-
-        // Only cloning the value can fail, and then nothing has changed.
-        ensures refused { OnErr result (self.new ≡ self.old) }
-        ensures cause { IfErr result (λ cause. cause ≡ Refused.OutOfMemory) }
-
-        // The call succeeds if no value is live, or if clones of the live value cannot fail.
-        ensures miss { ⟦<C as StateView<K, V>>⟧.at_each_history self.old (λ settings steps.
-            live_at K.eq settings key.now now (events_in steps) ≡ None → IsOk result) }
-        ensures copied { ⟦<C as StateView<K, V>>⟧.at_each_history self.old (λ settings steps.
-            IfSome (live_at K.eq settings key.now now (events_in steps)) (λ live.
-            V.is_infallible live.value → IsOk result)) }
         ensures settings { self.new.settings ≡ self.old.settings }
     {
         let now = self.latest.max(now);

@@ -1,14 +1,13 @@
 //! Loaders for a key by reference, which they clone on a miss only.
-ghost use Rattle.std.specs.Prelude.{◌≡◌, ◌≢◌, Option, None, Result, false, true, option_map, IfOk, IfSome};
-ghost use Rattle.moka_model.specs.Calls as calls;
-ghost use Rattle.moka_model.specs.Calls.{Begin};
-ghost use Rattle.moka_state.specs.Begin.{BeginEnds, FoundKeepsFor, GivesBegun, IfWait, IsAsked, IsNamed};
-ghost use Rattle.moka_state.specs.Forms.{IfRefusedUnasked, IsForm, IsOptional, IsTried, IsValue, optional_outcome, tried_outcome};
+ghost use Rattle.std.specs.Prelude.{◌≡◌, ◌≢◌, Option, None, Result, false, true, IfOk, IfSome};
+ghost use Rattle.moka_state.specs.Begin.{FoundKeepsFor, IfWait, IsAsked, IsNamed};
+ghost use Rattle.moka_state.specs.Forms.{IsOptional, IsTried, IsValue, optional_outcome, tried_outcome};
+ghost use Rattle.moka_state.specs.Ends.{LoaderBeginsAs, Loads};
 
 use crate::answers::Begun;
+use crate::call_view::CallView;
 use crate::get_with::none_like;
 use crate::state::State;
-use moka_expiration::view::StateView;
 use moka_model::turns::{Kind, Outcome};
 use moka_policy::policy::{CacheTypes, Refused};
 use moka_rows::rows::RowStore;
@@ -35,14 +34,9 @@ impl<K: Hash + Clone + Drop, V: Clone, C: CacheTypes<K, V>, R: RowStore<K, V>> S
         requires copies { (a b : K) → K.is_clone a b → K.eq a b ≡ true }
         requires asks { F.IsAlwaysCallable init }
         requires keeps { (v : V) → F.post init v → C.keeps key.now v }
-        ensures form { (asked : K) × IsAsked K.eq K.is_clone key.now asked × (given : Option V)
-            × (reply : Result (calls.Reply K V C.Error) Refused)
-            × ⟦<C as StateView<K, V>>⟧.at_each_history self.old (λ settings steps.
-            IsForm K.eq V.is_clone V.is_infallible settings steps (Begin asked Kind.With None now)
-            now (option_map Outcome.Value given) reply
-            (λ after. ⟦<C as StateView<K, V>>⟧.stands_for settings self.new after))
-            × IsValue reply result × IfSome given (F.post init)
-            × IfRefusedUnasked (self.new ≡ self.old) given reply }
+        ensures form { (asked : K) × IsAsked K.eq K.is_clone key.now asked
+            × Loads ⟦<C as CallView<K, V>>⟧.spec Outcome.Value (F.post init) IsValue asked Kind.With
+            now self.old self.new result }
         ensures kept { IfOk result (C.keeps key.now) }
         ensures settings { self.new.settings ≡ self.old.settings }
     {
@@ -68,14 +62,9 @@ impl<K: Hash + Clone + Drop, V: Clone, C: CacheTypes<K, V>, R: RowStore<K, V>> S
         requires copies { (a b : K) → K.is_clone a b → K.eq a b ≡ true }
         requires asks { F.IsAlwaysCallable init }
         requires keeps { (o : Option V) → F.post init o → IfSome o (C.keeps key.now) }
-        ensures form { (asked : K) × IsAsked K.eq K.is_clone key.now asked × (given : Option (Option V))
-            × (reply : Result (calls.Reply K V C.Error) Refused)
-            × ⟦<C as StateView<K, V>>⟧.at_each_history self.old (λ settings steps.
-            IsForm K.eq V.is_clone V.is_infallible settings steps (Begin asked Kind.Optionally None now)
-            now (option_map optional_outcome given) reply
-            (λ after. ⟦<C as StateView<K, V>>⟧.stands_for settings self.new after))
-            × IsOptional reply result × IfSome given (F.post init)
-            × IfRefusedUnasked (self.new ≡ self.old) given reply }
+        ensures form { (asked : K) × IsAsked K.eq K.is_clone key.now asked
+            × Loads ⟦<C as CallView<K, V>>⟧.spec optional_outcome (F.post init) IsOptional asked
+            Kind.Optionally now self.old self.new result }
         ensures kept { IfOk result (λ found. IfSome found (C.keeps key.now)) }
         ensures settings { self.new.settings ≡ self.old.settings }
     {
@@ -100,14 +89,9 @@ impl<K: Hash + Clone + Drop, V: Clone, C: CacheTypes<K, V>, R: RowStore<K, V>> S
         requires copies { (a b : K) → K.is_clone a b → K.eq a b ≡ true }
         requires asks { F.IsAlwaysCallable init }
         requires keeps { (r : Result V C.Error) → F.post init r → IfOk r (C.keeps key.now) }
-        ensures form { (asked : K) × IsAsked K.eq K.is_clone key.now asked × (given : Option (Result V C.Error))
-            × (reply : Result (calls.Reply K V C.Error) Refused)
-            × ⟦<C as StateView<K, V>>⟧.at_each_history self.old (λ settings steps.
-            IsForm K.eq V.is_clone V.is_infallible settings steps (Begin asked Kind.Try None now)
-            now (option_map tried_outcome given) reply
-            (λ after. ⟦<C as StateView<K, V>>⟧.stands_for settings self.new after))
-            × IsTried reply result × IfSome given (F.post init)
-            × IfRefusedUnasked (self.new ≡ self.old) given reply }
+        ensures form { (asked : K) × IsAsked K.eq K.is_clone key.now asked
+            × Loads ⟦<C as CallView<K, V>>⟧.spec tried_outcome (F.post init) IsTried asked Kind.Try
+            now self.old self.new result }
         ensures kept { IfOk result (λ tried. IfOk tried (C.keeps key.now)) }
         ensures settings { self.new.settings ≡ self.old.settings }
     {
@@ -131,13 +115,9 @@ impl<K: Hash + Clone + Drop, V: Clone, C: CacheTypes<K, V>, R: RowStore<K, V>> S
     ) -> Result<Begun<K, V>, Refused>
         requires copies { (a b : K) → K.is_clone a b → K.eq a b ≡ true }
         requires initializer { kind ≢ Kind.Compute }
-        ensures begins { (asked : K) × IsAsked K.eq K.is_clone key.now asked × BeginEnds
-            (λ given. ⟦<C as StateView<K, V>>⟧.at_each_history self.old (λ settings steps.
-            GivesBegun K.eq V.is_clone V.is_infallible settings steps
-            (Begin asked kind None now) false given))
-            (⟦<C as StateView<K, V>>⟧.follows self.old (Begin asked kind None now) self.new)
-            self.old self.new result
-            × IfOk result (IsNamed kind asked) }
+        ensures begins { (asked : K) × IsAsked K.eq K.is_clone key.now asked
+            × LoaderBeginsAs ⟦<C as CallView<K, V>>⟧.spec None asked kind now false self.old
+            self.new result × IfOk result (IsNamed kind asked) }
         ensures waits { IfOk result (IfWait (false ≡ true)) }
         ensures kept { IfOk result (FoundKeepsFor C.keeps key.now) }
         ensures settings { self.new.settings ≡ self.old.settings }

@@ -1,16 +1,16 @@
 //! Computes: one caller reads the live value of a key, and decides what is done with it.
 ghost use Rattle.std.specs.Prelude.{◌≡◌, true, false, Some, None, if◌then◌else◌, IfOk};
 ghost use Rattle.std.specs.Arc.{arc_value};
-ghost use Rattle.moka_model.specs.Calls.{BeginCompute, Finish, IsCopyOf};
+ghost use Rattle.moka_model.specs.Calls.{IsCopyOf};
 ghost use Rattle.moka_model.specs.Numbers.{stores_nothing};
 ghost use Rattle.moka_table.specs.Table.{entries};
-ghost use Rattle.moka_turns.specs.Handles.{turn_name};
-ghost use Rattle.moka_state.specs.Compute.{ComputeBegins, GivesAtOnce, IfWaits, IsCompute, IsLeft, IsPut, IsRemoved, IsShown, ShownKeeps, ShownKeepsFor};
-ghost use Rattle.moka_state.specs.Finish.{FinishEnds, Fits, OutcomeKeeps};
-ghost use Rattle.moka_state.specs.Given.{Gives};
+ghost use Rattle.moka_state.specs.Compute.{IfWaits, IsCompute, IsLeft, IsPut, IsRemoved, IsShown, ShownKeeps, ShownKeepsFor};
+ghost use Rattle.moka_state.specs.Finish.{Fits, OutcomeKeeps};
 ghost use Rattle.moka_state.specs.Hashes.{IsHashOf};
+ghost use Rattle.moka_state.specs.Ends.{BeginsCompute, BeginsComputeAtOnce, FinishesTurn};
 
 use crate::answers::{BegunCompute, FinishRefused, Finished};
+use crate::call_view::CallView;
 use crate::finish::plan_for;
 use crate::state::State;
 use moka_deferred::deferred::Deferred;
@@ -154,12 +154,7 @@ impl<K: Hash + Drop, V: Clone, C: CacheTypes<K, V>, R: RowStore<K, V>> State<K, 
         keep: bool,
         now: u64,
     ) -> Result<BegunCompute<K, V>, Refused>
-        ensures begins { ComputeBegins
-            (λ given. ⟦<C as StateView<K, V>>⟧.at_each_history self.old (λ settings steps.
-            Gives K.eq V.is_clone V.is_infallible settings steps
-            (BeginCompute (arc_value key.now) keep now) given))
-            (⟦<C as StateView<K, V>>⟧.follows self.old
-            (BeginCompute (arc_value key.now) keep now) self.new)
+        ensures begins { BeginsCompute ⟦<C as CallView<K, V>>⟧.spec (arc_value key.now) keep now
             self.old self.new result }
         ensures named { IfOk result (IsCompute (arc_value key.now)) }
         ensures kept { IfOk result (ShownKeeps C.keeps) }
@@ -185,13 +180,8 @@ impl<K: Hash + Drop, V: Clone, C: CacheTypes<K, V>, R: RowStore<K, V>> State<K, 
     ) -> Result<BegunCompute<K, V>, Refused>
         requires hash { IsHashOf (⟦<C as StateView<K, V>>⟧.settings self.old.settings)
             (arc_value key) hash }
-        ensures begins { ComputeBegins
-            (λ given. ⟦<C as StateView<K, V>>⟧.at_each_history self.old (λ settings steps.
-            GivesAtOnce K.eq V.is_clone V.is_infallible settings steps
-            (BeginCompute (arc_value key) keep now) may_wait given))
-            (⟦<C as StateView<K, V>>⟧.follows self.old
-            (BeginCompute (arc_value key) keep now) self.new)
-            self.old self.new result }
+        ensures begins { BeginsComputeAtOnce ⟦<C as CallView<K, V>>⟧.spec (arc_value key) keep now
+            may_wait self.old self.new result }
         ensures named { IfOk result (IsCompute (arc_value key)) }
         ensures waits { IfOk result (IfWaits (may_wait ≡ true)) }
         ensures kept { IfOk result (ShownKeeps C.keeps) }
@@ -254,14 +244,10 @@ impl<K: Hash + Drop, V: Clone, C: CacheTypes<K, V>, R: RowStore<K, V>> State<K, 
         now: u64,
     ) -> Result<Finished<K, V, C::Error>, FinishRefused<K, V, C::Error>>
         requires fits { Fits C.Error turn.key.kind (Outcome.Op op) }
-        requires kept { OutcomeKeeps {E = C.Error} (C.keeps (arc_value turn.key.key)) (Outcome.Op op) }
-        ensures { FinishEnds V.is_clone
-            (λ given. ⟦<C as StateView<K, V>>⟧.at_each_history self.old (λ settings steps.
-            Gives K.eq V.is_clone V.is_infallible settings steps
-            (Finish (turn_name turn) (Outcome.Op op) now) given))
-            (⟦<C as StateView<K, V>>⟧.follows self.old
-            (Finish (turn_name turn) (Outcome.Op op) now) self.new)
-            self.old self.new turn (Outcome.Op op) result }
+        requires kept { OutcomeKeeps {E = C.Error} (C.keeps (arc_value turn.key.key))
+            (Outcome.Op op) }
+        ensures { FinishesTurn ⟦<C as CallView<K, V>>⟧.spec turn (Outcome.Op op) now self.old
+            self.new result }
     {
         match op {
             Op::Put(value) => self.finish_put(turn, value, now),
@@ -277,13 +263,8 @@ impl<K: Hash + Drop, V: Clone, C: CacheTypes<K, V>, R: RowStore<K, V>> State<K, 
         now: u64,
     ) -> Result<Finished<K, V, C::Error>, FinishRefused<K, V, C::Error>>
         requires { Fits {V = V} C.Error turn.key.kind (Outcome.Op Op.Nop) }
-        ensures { FinishEnds V.is_clone
-            (λ given. ⟦<C as StateView<K, V>>⟧.at_each_history self.old (λ settings steps.
-            Gives K.eq V.is_clone V.is_infallible settings steps
-            (Finish (turn_name turn) (Outcome.Op Op.Nop) now) given))
-            (⟦<C as StateView<K, V>>⟧.follows self.old
-            (Finish (turn_name turn) (Outcome.Op Op.Nop) now) self.new)
-            self.old self.new turn (Outcome.Op Op.Nop) result }
+        ensures { FinishesTurn ⟦<C as CallView<K, V>>⟧.spec turn (Outcome.Op Op.Nop) now self.old
+            self.new result }
     {
         let hash = self.behaviour.hash(turn.key());
         let turn = turn.with_hash(hash);
@@ -302,13 +283,8 @@ impl<K: Hash + Drop, V: Clone, C: CacheTypes<K, V>, R: RowStore<K, V>> State<K, 
         now: u64,
     ) -> Result<Finished<K, V, C::Error>, FinishRefused<K, V, C::Error>>
         requires { Fits {V = V} C.Error turn.key.kind (Outcome.Op Op.Remove) }
-        ensures { FinishEnds V.is_clone
-            (λ given. ⟦<C as StateView<K, V>>⟧.at_each_history self.old (λ settings steps.
-            Gives K.eq V.is_clone V.is_infallible settings steps
-            (Finish (turn_name turn) (Outcome.Op Op.Remove) now) given))
-            (⟦<C as StateView<K, V>>⟧.follows self.old
-            (Finish (turn_name turn) (Outcome.Op Op.Remove) now) self.new)
-            self.old self.new turn (Outcome.Op Op.Remove) result }
+        ensures { FinishesTurn ⟦<C as CallView<K, V>>⟧.spec turn (Outcome.Op Op.Remove) now self.old
+            self.new result }
     {
         let hash = self.behaviour.hash(turn.key());
         let turn = turn.with_hash(hash);
@@ -343,13 +319,8 @@ impl<K: Hash + Drop, V: Clone, C: CacheTypes<K, V>, R: RowStore<K, V>> State<K, 
     ) -> Result<Finished<K, V, C::Error>, FinishRefused<K, V, C::Error>>
         requires fits { Fits C.Error turn.key.kind (Outcome.Op (Op.Put value)) }
         requires kept { C.keeps (arc_value turn.key.key) value }
-        ensures { FinishEnds V.is_clone
-            (λ given. ⟦<C as StateView<K, V>>⟧.at_each_history self.old (λ settings steps.
-            Gives K.eq V.is_clone V.is_infallible settings steps
-            (Finish (turn_name turn) (Outcome.Op (Op.Put value)) now) given))
-            (⟦<C as StateView<K, V>>⟧.follows self.old
-            (Finish (turn_name turn) (Outcome.Op (Op.Put value)) now) self.new)
-            self.old self.new turn (Outcome.Op (Op.Put value)) result }
+        ensures { FinishesTurn ⟦<C as CallView<K, V>>⟧.spec turn (Outcome.Op (Op.Put value)) now
+            self.old self.new result }
     {
         if self.housekeeper.max_capacity == Some(0) {
             return self.put_unstored(turn, value, now);
@@ -366,13 +337,8 @@ impl<K: Hash + Drop, V: Clone, C: CacheTypes<K, V>, R: RowStore<K, V>> State<K, 
     ) -> Result<Finished<K, V, C::Error>, FinishRefused<K, V, C::Error>>
         requires fits { Fits C.Error turn.key.kind (Outcome.Op (Op.Put value)) }
         requires nothing { stores_nothing self.old.settings.max_capacity ≡ true }
-        ensures { FinishEnds V.is_clone
-            (λ given. ⟦<C as StateView<K, V>>⟧.at_each_history self.old (λ settings steps.
-            Gives K.eq V.is_clone V.is_infallible settings steps
-            (Finish (turn_name turn) (Outcome.Op (Op.Put value)) now) given))
-            (⟦<C as StateView<K, V>>⟧.follows self.old
-            (Finish (turn_name turn) (Outcome.Op (Op.Put value)) now) self.new)
-            self.old self.new turn (Outcome.Op (Op.Put value)) result }
+        ensures { FinishesTurn ⟦<C as CallView<K, V>>⟧.spec turn (Outcome.Op (Op.Put value)) now
+            self.old self.new result }
     {
         let hash = self.behaviour.hash(turn.key());
         let turn = turn.with_hash(hash);
@@ -400,13 +366,8 @@ impl<K: Hash + Drop, V: Clone, C: CacheTypes<K, V>, R: RowStore<K, V>> State<K, 
         requires fits { Fits C.Error turn.key.kind (Outcome.Op (Op.Put value)) }
         requires kept { C.keeps (arc_value turn.key.key) value }
         requires stores { stores_nothing self.old.settings.max_capacity ≡ false }
-        ensures { FinishEnds V.is_clone
-            (λ given. ⟦<C as StateView<K, V>>⟧.at_each_history self.old (λ settings steps.
-            Gives K.eq V.is_clone V.is_infallible settings steps
-            (Finish (turn_name turn) (Outcome.Op (Op.Put value)) now) given))
-            (⟦<C as StateView<K, V>>⟧.follows self.old
-            (Finish (turn_name turn) (Outcome.Op (Op.Put value)) now) self.new)
-            self.old self.new turn (Outcome.Op (Op.Put value)) result }
+        ensures { FinishesTurn ⟦<C as CallView<K, V>>⟧.spec turn (Outcome.Op (Op.Put value)) now
+            self.old self.new result }
     {
         let hash = self.behaviour.hash(turn.key());
         let turn = turn.with_hash(hash);

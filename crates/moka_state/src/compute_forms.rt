@@ -1,19 +1,17 @@
 //! Computes with a closure: begin, closure and finish at one moment.
-ghost use Rattle.std.specs.Prelude.{◌≡◌, Option, Some, Result, false, true, option_map, IfOk, IfSome};
+ghost use Rattle.std.specs.Prelude.{◌≡◌, Option, Some, Result, false, true, IfOk, IfSome};
 ghost use Rattle.std.specs.Arc.{arc_value};
 ghost use Rattle.moka_model.specs.Entries.{entry_of};
-ghost use Rattle.moka_model.specs.Calls as calls;
-ghost use Rattle.moka_model.specs.Calls.{BeginCompute};
 ghost use Rattle.moka_turns.specs.Handles.{turn_name};
 ghost use Rattle.moka_state.specs.Begin.{EntryKeeps};
-ghost use Rattle.moka_state.specs.Compute.{ComputeBegins, GivesAtOnce, IfWaits, IsCompute, ShownKeepsFor};
-ghost use Rattle.moka_state.specs.ComputeForms.{EndsCompute, IsComputeForm, IsErrorOf, IsUpserted, of_computing, of_trying, unless_failed};
+ghost use Rattle.moka_state.specs.Compute.{IfWaits, IsCompute, ShownKeepsFor};
+ghost use Rattle.moka_state.specs.ComputeForms.{IsErrorOf, IsUpserted, of_computing, of_trying, unless_failed};
 ghost use Rattle.moka_state.specs.Finish.{IsComputed, OutcomeKeeps};
-ghost use Rattle.moka_state.specs.Forms.{EndsTurn, IfRefusedUnasked};
+ghost use Rattle.moka_state.specs.Ends.{BeginsComputeAtOnce, Computes, EndsComputeAt, EndsTurnAs, EndsTurnAt, Tries, Upserts};
 
 use crate::answers::{BegunCompute, FinishRefused, Finished};
+use crate::call_view::CallView;
 use crate::state::State;
-use moka_expiration::view::StateView;
 use moka_model::comp_result::CompResult;
 use moka_model::entry::Entry;
 use moka_model::turns::{Kind, Op, Outcome};
@@ -36,14 +34,8 @@ impl<K: Hash + Drop, V: Clone, C: CacheTypes<K, V>, R: RowStore<K, V>> State<K, 
         requires keeps { (shown : Option (Entry K V)) (op : Op V)
             → IfSome shown (EntryKeeps C.keeps key) → F.post f shown op
             → OutcomeKeeps {E = C.Error} (C.keeps key) (Outcome.Op op) }
-        ensures form { (shown : Option (Entry K V)) × (given : Option (Op V))
-            × ⟦<C as StateView<K, V>>⟧.at_each_history self.old (λ settings steps.
-            IsComputeForm K.eq V.is_clone V.is_infallible settings steps
-            (BeginCompute key true now) now (option_map entry_of shown)
-            (option_map Some given) (of_computing result)
-            (λ after. ⟦<C as StateView<K, V>>⟧.stands_for settings self.new after))
-            × IfSome given (F.post f shown)
-            × IfRefusedUnasked (self.new ≡ self.old) given (of_computing {E = C.Error} result) }
+        ensures form { Computes ⟦<C as CallView<K, V>>⟧.spec Some (F.post f) key true now self.old
+            self.new (of_computing result) }
         ensures settings { self.new.settings ≡ self.old.settings }
     {
         let begun = match self.open_at_once(key, true, now) {
@@ -68,15 +60,8 @@ impl<K: Hash + Drop, V: Clone, C: CacheTypes<K, V>, R: RowStore<K, V>> State<K, 
             → F.pre f shown }
         requires keeps { (shown : Option (Entry K V)) (v : V)
             → IfSome shown (EntryKeeps C.keeps key) → F.post f shown v → C.keeps key v }
-        ensures form { (shown : Option (Entry K V)) × (given : Option V)
-            × (reply : Result (calls.Reply K V C.Error) Refused)
-            × ⟦<C as StateView<K, V>>⟧.at_each_history self.old (λ settings steps.
-            IsComputeForm K.eq V.is_clone V.is_infallible settings steps
-            (BeginCompute key false now) now (option_map entry_of shown)
-            (option_map (λ v. Some (Op.Put v)) given) reply
-            (λ after. ⟦<C as StateView<K, V>>⟧.stands_for settings self.new after))
-            × IsUpserted reply result × IfSome given (F.post f shown)
-            × IfRefusedUnasked (self.new ≡ self.old) given reply }
+        ensures form { Upserts ⟦<C as CallView<K, V>>⟧.spec (λ v. Some (Op.Put v)) (F.post f)
+            IsUpserted key false now self.old self.new result }
         ensures kept { IfOk result (λ entry. C.keeps key (entry_of entry).value) }
         ensures settings { self.new.settings ≡ self.old.settings }
     {
@@ -99,14 +84,8 @@ impl<K: Hash + Drop, V: Clone, C: CacheTypes<K, V>, R: RowStore<K, V>> State<K, 
         requires keeps { (shown : Option (Entry K V)) (said : Result (Op V) C.Error)
             → IfSome shown (EntryKeeps C.keeps key) → F.post f shown said
             → IfOk said (λ op. OutcomeKeeps {E = C.Error} (C.keeps key) (Outcome.Op op)) }
-        ensures form { (shown : Option (Entry K V)) × (given : Option (Result (Op V) C.Error))
-            × ⟦<C as StateView<K, V>>⟧.at_each_history self.old (λ settings steps.
-            IsComputeForm K.eq V.is_clone V.is_infallible settings steps
-            (BeginCompute key true now) now (option_map entry_of shown)
-            (option_map unless_failed given) (of_trying result)
-            (λ after. ⟦<C as StateView<K, V>>⟧.stands_for settings self.new after))
-            × IsErrorOf given result × IfSome given (F.post f shown)
-            × IfRefusedUnasked (self.new ≡ self.old) given (of_trying {E = C.Error} result) }
+        ensures form { Tries ⟦<C as CallView<K, V>>⟧.spec unless_failed (F.post f)
+            (λ given. IsErrorOf given result) key true now self.old self.new (of_trying result) }
         ensures settings { self.new.settings ≡ self.old.settings }
     {
         let begun = match self.open_at_once(key, true, now) {
@@ -121,11 +100,7 @@ impl<K: Hash + Drop, V: Clone, C: CacheTypes<K, V>, R: RowStore<K, V>> State<K, 
 
     // Begins a compute without waiting: fails with `TurnIsOpen` if a compute of the key is open.
     fn open_at_once(&mut self, key: K, keep: bool, now: u64) -> Result<BegunCompute<K, V>, Refused>
-        ensures begins { ComputeBegins
-            (λ given. ⟦<C as StateView<K, V>>⟧.at_each_history self.old (λ settings steps.
-            GivesAtOnce K.eq V.is_clone V.is_infallible settings steps
-            (BeginCompute key keep now) false given))
-            (⟦<C as StateView<K, V>>⟧.follows self.old (BeginCompute key keep now) self.new)
+        ensures begins { BeginsComputeAtOnce ⟦<C as CallView<K, V>>⟧.spec key keep now false
             self.old self.new result }
         ensures named { IfOk result (IsCompute key) }
         ensures waits { IfOk result (IfWaits (false ≡ true)) }
@@ -149,10 +124,8 @@ impl<K: Hash + Drop, V: Clone, C: CacheTypes<K, V>, R: RowStore<K, V>> State<K, 
         requires compute { turn.key.kind ≡ Kind.Compute }
         requires kept { OutcomeKeeps {E = C.Error} (C.keeps (arc_value turn.key.key))
             (Outcome.Op op) }
-        ensures ends { ⟦<C as StateView<K, V>>⟧.at_each_history self.old (λ settings steps.
-            EndsTurn K.eq V.is_clone V.is_infallible settings steps
-            (turn_name turn) (Outcome.Op op) now (of_computing result)
-            (λ after. ⟦<C as StateView<K, V>>⟧.stands_for settings self.new after)) }
+        ensures ends { EndsTurnAt ⟦<C as CallView<K, V>>⟧.spec (turn_name turn) (Outcome.Op op) now
+            (of_computing result) self.old self.new }
         ensures computed { IfOk result (IsComputed V.is_clone (arc_value turn.key.key) op) }
         ensures settings { self.new.settings ≡ self.old.settings }
     {
@@ -174,12 +147,8 @@ impl<K: Hash + Drop, V: Clone, C: CacheTypes<K, V>, R: RowStore<K, V>> State<K, 
     fn end_with_put(&mut self, turn: Turn<K>, value: V, now: u64) -> Result<Entry<K, V>, Refused>
         requires compute { turn.key.kind ≡ Kind.Compute }
         requires kept { C.keeps (arc_value turn.key.key) value }
-        ensures ends { (reply : Result (calls.Reply K V C.Error) Refused)
-            × ⟦<C as StateView<K, V>>⟧.at_each_history self.old (λ settings steps.
-            EndsTurn K.eq V.is_clone V.is_infallible settings steps
-            (turn_name turn) (Outcome.Op (Op.Put value)) now reply
-            (λ after. ⟦<C as StateView<K, V>>⟧.stands_for settings self.new after))
-            × IsUpserted reply result }
+        ensures ends { EndsTurnAs ⟦<C as CallView<K, V>>⟧.spec (turn_name turn)
+            (Outcome.Op (Op.Put value)) now IsUpserted self.old self.new result }
         ensures kept { IfOk result
             (λ entry. C.keeps (arc_value turn.key.key) (entry_of entry).value) }
         ensures settings { self.new.settings ≡ self.old.settings }
@@ -202,10 +171,8 @@ impl<K: Hash + Drop, V: Clone, C: CacheTypes<K, V>, R: RowStore<K, V>> State<K, 
         requires compute { turn.key.kind ≡ Kind.Compute }
         requires kept { IfOk given
             (λ op. OutcomeKeeps {E = C.Error} (C.keeps (arc_value turn.key.key)) (Outcome.Op op)) }
-        ensures ends { ⟦<C as StateView<K, V>>⟧.at_each_history self.old (λ settings steps.
-            EndsCompute K.eq V.is_clone V.is_infallible settings steps
-            (turn_name turn) (unless_failed given) now (of_trying result)
-            (λ after. ⟦<C as StateView<K, V>>⟧.stands_for settings self.new after)) }
+        ensures ends { EndsComputeAt ⟦<C as CallView<K, V>>⟧.spec (turn_name turn)
+            (unless_failed given) now (of_trying result) self.old self.new }
         ensures error { IsErrorOf (Some given) result }
         ensures settings { self.new.settings ≡ self.old.settings }
     {

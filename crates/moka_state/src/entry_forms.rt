@@ -1,18 +1,17 @@
 //! Loaders that return entries, for an owned key.
-ghost use Rattle.std.specs.Prelude.{◌≡◌, ◌≢◌, Bool, Option, None, Some, Result, option_map, IfOk, IfSome, IsSome};
+ghost use Rattle.std.specs.Prelude.{◌≡◌, ◌≢◌, Option, None, Some, Result, IfOk, IfSome};
 ghost use Rattle.std.specs.Arc.{arc_value};
 ghost use Rattle.moka_model.specs.Entries.{entry_of};
-ghost use Rattle.moka_model.specs.Steps.{events_in};
-ghost use Rattle.moka_model.specs.Calls.{Begin, Finish, OrInsert, accepted, live_at};
 ghost use Rattle.moka_turns.specs.Handles.{turn_name};
 ghost use Rattle.moka_state.specs.Begin.{EntryKeeps, IsSaidOf, TakesLive};
 ghost use Rattle.moka_state.specs.EntryForms.{of_optional, of_tried};
 ghost use Rattle.moka_state.specs.Finish.{Fits};
-ghost use Rattle.moka_state.specs.Forms.{EndsTurn, IfRefusedUnasked, IsForm, optional_outcome, tried_outcome};
-ghost use Rattle.moka_state.specs.Given.{Gives};
-ghost use Rattle.moka_state.specs.OrInsert.{OrInsertEnds, of_or_default as of_entry};
+ghost use Rattle.moka_state.specs.Forms.{optional_outcome, tried_outcome};
+ghost use Rattle.moka_state.specs.OrInsert.{of_or_default as of_entry};
+ghost use Rattle.moka_state.specs.Ends.{EndsOpenTurn, EndsTurnAt, LoadsEntry, LoadsEntryIf, OrInserts};
 
 use crate::answers::{Answer, Begun};
+use crate::call_view::CallView;
 use crate::get_with::none_like;
 use crate::state::State;
 use moka_expiration::view::StateView;
@@ -34,12 +33,8 @@ impl<K: Hash + Drop, V: Clone, C: CacheTypes<K, V>, R: RowStore<K, V>> State<K, 
         now: u64,
     ) -> Result<Entry<K, V>, Refused>
         requires { C.keeps key value }
-        ensures ends { OrInsertEnds
-            (⟦<C as StateView<K, V>>⟧.at_each_history self.old (λ settings steps.
-            Gives K.eq V.is_clone V.is_infallible settings steps
-            (OrInsert key value now) (of_entry result)))
-            (⟦<C as StateView<K, V>>⟧.follows self.old (OrInsert key value now) self.new)
-            self.old self.new result }
+        ensures ends { OrInserts ⟦<C as CallView<K, V>>⟧.spec of_entry key value now self.old
+            self.new result }
         ensures kept { IfOk result (EntryKeeps C.keeps key) }
         ensures settings { self.new.settings ≡ self.old.settings }
     {
@@ -60,13 +55,8 @@ impl<K: Hash + Drop, V: Clone, C: CacheTypes<K, V>, R: RowStore<K, V>> State<K, 
     ) -> Result<Entry<K, V>, Refused>
         requires asks { F.IsAlwaysCallable init }
         requires keeps { (v : V) → F.post init v → C.keeps key v }
-        ensures form { (given : Option V) × ⟦<C as StateView<K, V>>⟧.at_each_history self.old
-            (λ settings steps.
-            IsForm K.eq V.is_clone V.is_infallible settings steps (Begin key Kind.With None now) now
-            (option_map Outcome.Value given) (of_entry result)
-            (λ after. ⟦<C as StateView<K, V>>⟧.stands_for settings self.new after))
-            × IfSome given (F.post init)
-            × IfRefusedUnasked (self.new ≡ self.old) given (of_entry {E = C.Error} result) }
+        ensures form { LoadsEntry ⟦<C as CallView<K, V>>⟧.spec Outcome.Value (F.post init) key
+            Kind.With now self.old self.new (of_entry result) }
         ensures kept { IfOk result (λ entry. C.keeps key (entry_of entry).value) }
         ensures settings { self.new.settings ≡ self.old.settings }
     {
@@ -93,14 +83,9 @@ impl<K: Hash + Drop, V: Clone, C: CacheTypes<K, V>, R: RowStore<K, V>> State<K, 
         requires shows { TakesLive K.eq C.keeps ⟦<C as StateView<K, V>>⟧.settings P.FnMut
             key now self.old replace_if }
         requires keeps { (v : V) → F.post init v → C.keeps key v }
-        ensures form { (said : Option Bool) × (given : Option V)
-            × ⟦<C as StateView<K, V>>⟧.at_each_history self.old (λ settings steps.
-            IsSaidOf P.FnMut (Some replace_if) (live_at K.eq settings key now (events_in steps)) said
-            × IsForm K.eq V.is_clone V.is_infallible settings steps (Begin key Kind.With said now) now
-            (option_map Outcome.Value given) (of_entry result)
-            (λ after. ⟦<C as StateView<K, V>>⟧.stands_for settings self.new after))
-            × IfSome given (F.post init)
-            × IfRefusedUnasked (self.new ≡ self.old) given (of_entry {E = C.Error} result) }
+        ensures form { LoadsEntryIf ⟦<C as CallView<K, V>>⟧.spec
+            (IsSaidOf P.FnMut (Some replace_if)) Outcome.Value (F.post init) key Kind.With now
+            self.old self.new (of_entry result) }
         ensures kept { IfOk result (λ entry. C.keeps key (entry_of entry).value) }
         ensures settings { self.new.settings ≡ self.old.settings }
     {
@@ -124,14 +109,8 @@ impl<K: Hash + Drop, V: Clone, C: CacheTypes<K, V>, R: RowStore<K, V>> State<K, 
     ) -> Result<Option<Entry<K, V>>, Refused>
         requires asks { F.IsAlwaysCallable init }
         requires keeps { (o : Option V) → F.post init o → IfSome o (C.keeps key) }
-        ensures form { (given : Option (Option V)) × ⟦<C as StateView<K, V>>⟧.at_each_history self.old
-            (λ settings steps.
-            IsForm K.eq V.is_clone V.is_infallible settings steps
-            (Begin key Kind.Optionally None now) now (option_map optional_outcome given)
-            (of_optional result)
-            (λ after. ⟦<C as StateView<K, V>>⟧.stands_for settings self.new after))
-            × IfSome given (F.post init)
-            × IfRefusedUnasked (self.new ≡ self.old) given (of_optional {E = C.Error} result) }
+        ensures form { LoadsEntry ⟦<C as CallView<K, V>>⟧.spec optional_outcome (F.post init) key
+            Kind.Optionally now self.old self.new (of_optional result) }
         ensures kept { IfOk result
             (λ found. IfSome found (λ entry. C.keeps key (entry_of entry).value)) }
         ensures settings { self.new.settings ≡ self.old.settings }
@@ -156,13 +135,8 @@ impl<K: Hash + Drop, V: Clone, C: CacheTypes<K, V>, R: RowStore<K, V>> State<K, 
     ) -> Result<Result<Entry<K, V>, Arc<C::Error>>, Refused>
         requires asks { F.IsAlwaysCallable init }
         requires keeps { (r : Result V C.Error) → F.post init r → IfOk r (C.keeps key) }
-        ensures form { (given : Option (Result V C.Error))
-            × ⟦<C as StateView<K, V>>⟧.at_each_history self.old (λ settings steps.
-            IsForm K.eq V.is_clone V.is_infallible settings steps (Begin key Kind.Try None now) now
-            (option_map tried_outcome given) (of_tried result)
-            (λ after. ⟦<C as StateView<K, V>>⟧.stands_for settings self.new after))
-            × IfSome given (F.post init)
-            × IfRefusedUnasked (self.new ≡ self.old) given (of_tried result) }
+        ensures form { LoadsEntry ⟦<C as CallView<K, V>>⟧.spec tried_outcome (F.post init) key
+            Kind.Try now self.old self.new (of_tried result) }
         ensures kept { IfOk result
             (λ tried. IfOk tried (λ entry. C.keeps key (entry_of entry).value)) }
         ensures settings { self.new.settings ≡ self.old.settings }
@@ -183,10 +157,8 @@ impl<K: Hash + Drop, V: Clone, C: CacheTypes<K, V>, R: RowStore<K, V>> State<K, 
         requires fits { Fits C.Error turn.key.kind (Outcome.Value value) }
         requires initializer { turn.key.kind ≢ Kind.Compute }
         requires kept { C.keeps (arc_value turn.key.key) value }
-        ensures ends { ⟦<C as StateView<K, V>>⟧.at_each_history self.old (λ settings steps.
-            EndsTurn K.eq V.is_clone V.is_infallible settings steps
-            (turn_name turn) (Outcome.Value value) now (of_entry result)
-            (λ after. ⟦<C as StateView<K, V>>⟧.stands_for settings self.new after)) }
+        ensures ends { EndsTurnAt ⟦<C as CallView<K, V>>⟧.spec (turn_name turn)
+            (Outcome.Value value) now (of_entry result) self.old self.new }
         ensures kept { IfOk result
             (λ entry. C.keeps (arc_value turn.key.key) (entry_of entry).value) }
         ensures settings { self.new.settings ≡ self.old.settings }
@@ -207,10 +179,8 @@ impl<K: Hash + Drop, V: Clone, C: CacheTypes<K, V>, R: RowStore<K, V>> State<K, 
     ) -> Result<Option<Entry<K, V>>, Refused>
         requires kind { turn.key.kind ≡ Kind.Optionally }
         requires kept { IfSome given (C.keeps (arc_value turn.key.key)) }
-        ensures ends { ⟦<C as StateView<K, V>>⟧.at_each_history self.old (λ settings steps.
-            EndsTurn K.eq V.is_clone V.is_infallible settings steps
-            (turn_name turn) (optional_outcome given) now (of_optional result)
-            (λ after. ⟦<C as StateView<K, V>>⟧.stands_for settings self.new after)) }
+        ensures ends { EndsTurnAt ⟦<C as CallView<K, V>>⟧.spec (turn_name turn)
+            (optional_outcome given) now (of_optional result) self.old self.new }
         ensures kept { IfOk result (λ found. IfSome found
             (λ entry. C.keeps (arc_value turn.key.key) (entry_of entry).value)) }
         ensures settings { self.new.settings ≡ self.old.settings }
@@ -237,12 +207,8 @@ impl<K: Hash + Drop, V: Clone, C: CacheTypes<K, V>, R: RowStore<K, V>> State<K, 
     ) -> Result<Result<Entry<K, V>, Arc<C::Error>>, Refused>
         requires kind { turn.key.kind ≡ Kind.Try }
         requires kept { IfOk given (C.keeps (arc_value turn.key.key)) }
-        ensures ends { ⟦<C as StateView<K, V>>⟧.at_each_history self.old (λ settings steps.
-            IsSome (accepted K.eq settings steps
-            (Finish (turn_name turn) (tried_outcome given) now))
-            → EndsTurn K.eq V.is_clone V.is_infallible settings steps
-            (turn_name turn) (tried_outcome given) now (of_tried result)
-            (λ after. ⟦<C as StateView<K, V>>⟧.stands_for settings self.new after)) }
+        ensures ends { EndsOpenTurn ⟦<C as CallView<K, V>>⟧.spec (turn_name turn)
+            (tried_outcome given) now (of_tried result) self.old self.new }
         ensures kept { IfOk result (λ tried. IfOk tried
             (λ entry. C.keeps (arc_value turn.key.key) (entry_of entry).value)) }
         ensures settings { self.new.settings ≡ self.old.settings }

@@ -1,19 +1,17 @@
 //! Selectors of an owned cache: a key and a moment, for exactly one call.
-ghost use Rattle.std.specs.Prelude.{◌≡◌, Bool, Option, None, Some, Result, false, true, option_map, IfErr, IfOk, IfSome};
+ghost use Rattle.std.specs.Prelude.{◌≡◌, Option, Some, Result, false, true, IfErr, IfOk, IfSome};
 ghost use Rattle.std.specs.Borrow.{sem, RestsIfErr};
 ghost use Rattle.moka_model.specs.Entries.{entry_of};
-ghost use Rattle.moka_model.specs.Steps.{events_in};
-ghost use Rattle.moka_model.specs.Calls as calls;
-ghost use Rattle.moka_model.specs.Calls.{Begin, BeginCompute, OrInsert, live_at};
 ghost use Rattle.moka_state.specs.contracts.state.State.{the_row};
 ghost use Rattle.moka_state.specs.Begin.{EntryKeeps, IsSaidOf, TakesLive};
-ghost use Rattle.moka_state.specs.ComputeForms.{IsComputeForm, IsErrorOf, IsUpserted, of_computing, of_trying, unless_failed};
+ghost use Rattle.moka_state.specs.ComputeForms.{IsErrorOf, IsUpserted, of_computing, of_trying, unless_failed};
 ghost use Rattle.moka_state.specs.EntryForms.{of_optional, of_tried};
 ghost use Rattle.moka_state.specs.Finish.{OutcomeKeeps};
-ghost use Rattle.moka_state.specs.Forms.{IfRefusedUnasked, IsForm, optional_outcome, tried_outcome};
-ghost use Rattle.moka_state.specs.Given.{Gives};
-ghost use Rattle.moka_state.specs.OrInsert.{OrInsertEnds, of_or_default as of_entry};
+ghost use Rattle.moka_state.specs.Forms.{optional_outcome, tried_outcome};
+ghost use Rattle.moka_state.specs.OrInsert.{of_or_default as of_entry};
+ghost use Rattle.moka_state.specs.Ends.{Computes, LoadsEntry, LoadsEntryIf, OrInserts, Tries, Upserts};
 
+use crate::call_view::CallView;
 use crate::state::State;
 use moka_expiration::view::StateView;
 use moka_model::comp_result::CompResult;
@@ -109,13 +107,8 @@ impl<'a, K: Hash + Drop, V: Clone, C: CacheTypes<K, V>, R: RowStore<K, V>> State
     /// - `OutOfMemory`: an allocation or a clone failed.
     pub fn or_insert(self, value: V) -> Result<Entry<K, V>, Refused>
         requires { C.keeps self.key value }
-        ensures ends { OrInsertEnds
-            (⟦<C as StateView<K, V>>⟧.at_each_history self.entry.state.now (λ settings steps.
-            Gives K.eq V.is_clone V.is_infallible settings steps
-            (OrInsert self.entry.key value self.entry.at) (of_entry result)))
-            (⟦<C as StateView<K, V>>⟧.follows self.entry.state.now
-            (OrInsert self.entry.key value self.entry.at) self.exit.0.now)
-            self.entry.state.now self.exit.0.now result }
+        ensures ends { OrInserts ⟦<C as CallView<K, V>>⟧.spec of_entry self.entry.key value
+            self.entry.at self.entry.state.now self.exit.0.now result }
         ensures kept { IfOk result (EntryKeeps C.keeps self.entry.key) }
         ensures settings { self.exit.0.now.settings ≡ self.entry.state.now.settings }
     {
@@ -139,15 +132,9 @@ impl<'a, K: Hash + Drop, V: Clone, C: CacheTypes<K, V>, R: RowStore<K, V>> State
     pub fn or_insert_with<F: FnOnce() -> V + Drop>(self, init: F) -> Result<Entry<K, V>, Refused>
         requires asks { F.IsAlwaysCallable init }
         requires keeps { (v : V) → F.post init v → C.keeps self.key v }
-        ensures form { (given : Option V)
-            × ⟦<C as StateView<K, V>>⟧.at_each_history self.entry.state.now (λ settings steps.
-            IsForm K.eq V.is_clone V.is_infallible settings steps
-            (Begin self.entry.key Kind.With None self.entry.at) self.entry.at
-            (option_map Outcome.Value given) (of_entry result)
-            (λ after. ⟦<C as StateView<K, V>>⟧.stands_for settings self.exit.0.now after))
-            × IfSome given (F.post init)
-            × IfRefusedUnasked (self.exit.0.now ≡ self.entry.state.now) given
-            (of_entry {E = C.Error} result) }
+        ensures form { LoadsEntry ⟦<C as CallView<K, V>>⟧.spec Outcome.Value (F.post init)
+            self.entry.key Kind.With self.entry.at self.entry.state.now self.exit.0.now
+            (of_entry result) }
         ensures kept { IfOk result (λ entry. C.keeps self.entry.key (entry_of entry).value) }
         ensures settings { self.exit.0.now.settings ≡ self.entry.state.now.settings }
     {
@@ -170,17 +157,9 @@ impl<'a, K: Hash + Drop, V: Clone, C: CacheTypes<K, V>, R: RowStore<K, V>> State
         requires shows { TakesLive K.eq C.keeps ⟦<C as StateView<K, V>>⟧.settings P.FnMut
             self.key self.at self.state.now replace_if }
         requires keeps { (v : V) → F.post init v → C.keeps self.key v }
-        ensures form { (said : Option Bool) × (given : Option V)
-            × ⟦<C as StateView<K, V>>⟧.at_each_history self.entry.state.now (λ settings steps.
-            IsSaidOf P.FnMut (Some replace_if)
-            (live_at K.eq settings self.entry.key self.entry.at (events_in steps)) said
-            × IsForm K.eq V.is_clone V.is_infallible settings steps
-            (Begin self.entry.key Kind.With said self.entry.at) self.entry.at
-            (option_map Outcome.Value given) (of_entry result)
-            (λ after. ⟦<C as StateView<K, V>>⟧.stands_for settings self.exit.0.now after))
-            × IfSome given (F.post init)
-            × IfRefusedUnasked (self.exit.0.now ≡ self.entry.state.now) given
-            (of_entry {E = C.Error} result) }
+        ensures form { LoadsEntryIf ⟦<C as CallView<K, V>>⟧.spec
+            (IsSaidOf P.FnMut (Some replace_if)) Outcome.Value (F.post init) self.entry.key
+            Kind.With self.entry.at self.entry.state.now self.exit.0.now (of_entry result) }
         ensures kept { IfOk result (λ entry. C.keeps self.entry.key (entry_of entry).value) }
         ensures settings { self.exit.0.now.settings ≡ self.entry.state.now.settings }
     {
@@ -200,15 +179,9 @@ impl<'a, K: Hash + Drop, V: Clone, C: CacheTypes<K, V>, R: RowStore<K, V>> State
     ) -> Result<Option<Entry<K, V>>, Refused>
         requires asks { F.IsAlwaysCallable init }
         requires keeps { (o : Option V) → F.post init o → IfSome o (C.keeps self.key) }
-        ensures form { (given : Option (Option V))
-            × ⟦<C as StateView<K, V>>⟧.at_each_history self.entry.state.now (λ settings steps.
-            IsForm K.eq V.is_clone V.is_infallible settings steps
-            (Begin self.entry.key Kind.Optionally None self.entry.at) self.entry.at
-            (option_map optional_outcome given) (of_optional result)
-            (λ after. ⟦<C as StateView<K, V>>⟧.stands_for settings self.exit.0.now after))
-            × IfSome given (F.post init)
-            × IfRefusedUnasked (self.exit.0.now ≡ self.entry.state.now) given
-            (of_optional {E = C.Error} result) }
+        ensures form { LoadsEntry ⟦<C as CallView<K, V>>⟧.spec optional_outcome (F.post init)
+            self.entry.key Kind.Optionally self.entry.at self.entry.state.now self.exit.0.now
+            (of_optional result) }
         ensures kept { IfOk result
             (λ found. IfSome found (λ entry. C.keeps self.entry.key (entry_of entry).value)) }
         ensures settings { self.exit.0.now.settings ≡ self.entry.state.now.settings }
@@ -231,14 +204,9 @@ impl<'a, K: Hash + Drop, V: Clone, C: CacheTypes<K, V>, R: RowStore<K, V>> State
     ) -> Result<Result<Entry<K, V>, Arc<C::Error>>, Refused>
         requires asks { F.IsAlwaysCallable init }
         requires keeps { (r : Result V C.Error) → F.post init r → IfOk r (C.keeps self.key) }
-        ensures form { (given : Option (Result V C.Error))
-            × ⟦<C as StateView<K, V>>⟧.at_each_history self.entry.state.now (λ settings steps.
-            IsForm K.eq V.is_clone V.is_infallible settings steps
-            (Begin self.entry.key Kind.Try None self.entry.at) self.entry.at
-            (option_map tried_outcome given) (of_tried result)
-            (λ after. ⟦<C as StateView<K, V>>⟧.stands_for settings self.exit.0.now after))
-            × IfSome given (F.post init)
-            × IfRefusedUnasked (self.exit.0.now ≡ self.entry.state.now) given (of_tried result) }
+        ensures form { LoadsEntry ⟦<C as CallView<K, V>>⟧.spec tried_outcome (F.post init)
+            self.entry.key Kind.Try self.entry.at self.entry.state.now self.exit.0.now
+            (of_tried result) }
         ensures kept { IfOk result
             (λ tried. IfOk tried (λ entry. C.keeps self.entry.key (entry_of entry).value)) }
         ensures settings { self.exit.0.now.settings ≡ self.entry.state.now.settings }
@@ -278,15 +246,8 @@ impl<'a, K: Hash + Drop, V: Clone, C: CacheTypes<K, V>, R: RowStore<K, V>> State
         requires keeps { (shown : Option (Entry K V)) (op : Op V)
             → IfSome shown (EntryKeeps C.keeps self.key) → F.post f shown op
             → OutcomeKeeps {E = C.Error} (C.keeps self.key) (Outcome.Op op) }
-        ensures form { (shown : Option (Entry K V)) × (given : Option (Op V))
-            × ⟦<C as StateView<K, V>>⟧.at_each_history self.entry.state.now (λ settings steps.
-            IsComputeForm K.eq V.is_clone V.is_infallible settings steps
-            (BeginCompute self.entry.key true self.entry.at) self.entry.at
-            (option_map entry_of shown) (option_map Some given) (of_computing result)
-            (λ after. ⟦<C as StateView<K, V>>⟧.stands_for settings self.exit.0.now after))
-            × IfSome given (F.post f shown)
-            × IfRefusedUnasked (self.exit.0.now ≡ self.entry.state.now) given
-            (of_computing {E = C.Error} result) }
+        ensures form { Computes ⟦<C as CallView<K, V>>⟧.spec Some (F.post f) self.entry.key true
+            self.entry.at self.entry.state.now self.exit.0.now (of_computing result) }
         ensures settings { self.exit.0.now.settings ≡ self.entry.state.now.settings }
     {
         let StateEntrySelector { state, key, at } = self;
@@ -310,15 +271,9 @@ impl<'a, K: Hash + Drop, V: Clone, C: CacheTypes<K, V>, R: RowStore<K, V>> State
             → IfSome shown (EntryKeeps C.keeps self.key) → F.pre f shown }
         requires keeps { (shown : Option (Entry K V)) (v : V)
             → IfSome shown (EntryKeeps C.keeps self.key) → F.post f shown v → C.keeps self.key v }
-        ensures form { (shown : Option (Entry K V)) × (given : Option V)
-            × (reply : Result (calls.Reply K V C.Error) Refused)
-            × ⟦<C as StateView<K, V>>⟧.at_each_history self.entry.state.now (λ settings steps.
-            IsComputeForm K.eq V.is_clone V.is_infallible settings steps
-            (BeginCompute self.entry.key false self.entry.at) self.entry.at
-            (option_map entry_of shown) (option_map (λ v. Some (Op.Put v)) given) reply
-            (λ after. ⟦<C as StateView<K, V>>⟧.stands_for settings self.exit.0.now after))
-            × IsUpserted reply result × IfSome given (F.post f shown)
-            × IfRefusedUnasked (self.exit.0.now ≡ self.entry.state.now) given reply }
+        ensures form { Upserts ⟦<C as CallView<K, V>>⟧.spec (λ v. Some (Op.Put v)) (F.post f)
+            IsUpserted self.entry.key false self.entry.at self.entry.state.now self.exit.0.now
+            result }
         ensures kept { IfOk result (λ entry. C.keeps self.entry.key (entry_of entry).value) }
         ensures settings { self.exit.0.now.settings ≡ self.entry.state.now.settings }
     {
@@ -343,15 +298,9 @@ impl<'a, K: Hash + Drop, V: Clone, C: CacheTypes<K, V>, R: RowStore<K, V>> State
         requires keeps { (shown : Option (Entry K V)) (said : Result (Op V) C.Error)
             → IfSome shown (EntryKeeps C.keeps self.key) → F.post f shown said
             → IfOk said (λ op. OutcomeKeeps {E = C.Error} (C.keeps self.key) (Outcome.Op op)) }
-        ensures form { (shown : Option (Entry K V)) × (given : Option (Result (Op V) C.Error))
-            × ⟦<C as StateView<K, V>>⟧.at_each_history self.entry.state.now (λ settings steps.
-            IsComputeForm K.eq V.is_clone V.is_infallible settings steps
-            (BeginCompute self.entry.key true self.entry.at) self.entry.at
-            (option_map entry_of shown) (option_map unless_failed given) (of_trying result)
-            (λ after. ⟦<C as StateView<K, V>>⟧.stands_for settings self.exit.0.now after))
-            × IsErrorOf given result × IfSome given (F.post f shown)
-            × IfRefusedUnasked (self.exit.0.now ≡ self.entry.state.now) given
-            (of_trying {E = C.Error} result) }
+        ensures form { Tries ⟦<C as CallView<K, V>>⟧.spec unless_failed (F.post f)
+            (λ given. IsErrorOf given result) self.entry.key true self.entry.at self.entry.state.now
+            self.exit.0.now (of_trying result) }
         ensures settings { self.exit.0.now.settings ≡ self.entry.state.now.settings }
     {
         let StateEntrySelector { state, key, at } = self;
@@ -376,13 +325,9 @@ impl<
     /// As [`StateEntrySelector::or_insert`].
     pub fn or_default(self) -> Result<Entry<K, V>, Refused>
         requires { (value : V) → V.is_default value → C.keeps self.key value }
-        ensures ends { (value : V) × V.is_default value × OrInsertEnds
-            (⟦<C as StateView<K, V>>⟧.at_each_history self.entry.state.now (λ settings steps.
-            Gives K.eq V.is_clone V.is_infallible settings steps
-            (OrInsert self.entry.key value self.entry.at) (of_entry result)))
-            (⟦<C as StateView<K, V>>⟧.follows self.entry.state.now
-            (OrInsert self.entry.key value self.entry.at) self.exit.0.now)
-            self.entry.state.now self.exit.0.now result }
+        ensures ends { (value : V) × V.is_default value × OrInserts ⟦<C as CallView<K, V>>⟧.spec
+            of_entry self.entry.key value self.entry.at self.entry.state.now self.exit.0.now
+            result }
         ensures kept { IfOk result (EntryKeeps C.keeps self.entry.key) }
         ensures settings { self.exit.0.now.settings ≡ self.entry.state.now.settings }
     {

@@ -1,24 +1,24 @@
 //! The end of a turn with an outcome.
-ghost use Rattle.std.specs.Prelude.{◌≡◌, ◌<◌, ℕ, List, true, false, nat_eq, option_map, IsSome, IfOk, OnOk, IfSome};
+ghost use Rattle.std.specs.Prelude.{◌≡◌, ◌<◌, true, false, option_map, IsSome, IfOk, OnOk, IfSome};
 ghost use Rattle.std.specs.Arc.{arc_value};
-ghost use Rattle.indexmap.specs.IndexMap.{get};
 ghost use Rattle.moka_model.specs.Turns as turning;
 ghost use Rattle.moka_model.specs.Turns.{Ended, moved};
-ghost use Rattle.moka_model.specs.Calls.{Finish, Entered, fresh_entry};
+ghost use Rattle.moka_model.specs.Calls.{Entered, fresh_entry};
 ghost use Rattle.moka_model.specs.Numbers.{stores_nothing};
 ghost use Rattle.moka_table.specs.Table.{SameRows};
 ghost use Rattle.moka_table.specs.WriteSlot.{IsPlanOf};
-ghost use Rattle.moka_turns.specs.Handles.{turn_name};
-ghost use Rattle.moka_turns.specs.Represents.{Represents, AreSound, end_of};
+ghost use Rattle.moka_turns.specs.Represents.{end_of};
+ghost use Rattle.moka_turns.specs.TurnTable.{open_at, AtEachChange};
 ghost use Rattle.moka_turns.specs.Open.{IsOpenFor};
-ghost use Rattle.moka_state.specs.Given.{Gives, of_answer};
-ghost use Rattle.moka_state.specs.Finish.{FinishEnds, Fits, IsCopiesOf, OutcomeKeeps, outcome_of};
+ghost use Rattle.moka_state.specs.Given.{of_answer};
+ghost use Rattle.moka_state.specs.Finish.{Fits, IsCopiesOf, OutcomeKeeps, outcome_of};
+ghost use Rattle.moka_state.specs.Ends.{FinishesTurn};
 
 use crate::answers::{Answer, FinishRefused, Finished};
+use crate::call_view::CallView;
 use crate::compute::clone_if;
 use crate::state::State;
 use moka_deferred::deferred::Deferred;
-use moka_expiration::view::StateView;
 use moka_model::entry::Entry;
 use moka_model::turns::Outcome;
 use moka_policy::policy::{CacheTypes, Refused};
@@ -27,7 +27,6 @@ use moka_table::table::Table;
 use moka_table::write_slot::{NewValue, WritePlan};
 use moka_turns::handles::Turn;
 use moka_turns::table::{TurnEnd, TurnTable};
-use moka_turns::turn_key::TurnKey;
 use std::alloc::{AllocError, Global};
 use std::hash::Hash;
 use std::sync::Arc;
@@ -97,20 +96,12 @@ fn conclude<K: Eq + Drop, V: Clone, E: Drop>(
     copies: Copies<K, V>,
     is_replaced: bool,
 ) -> Answer<K, V, E>
-    requires { IsOpenFor turn.number copies.saved
-        (get ⟦<TurnKey<K> as PartialEq>⟧.eq turns.old.opened turn.key) }
+    requires { IsOpenFor turn.number copies.saved (open_at turns.old turn.key) }
     ensures entry { of_answer result
         ≡ Entered (fresh_entry (arc_value copies.key) copies.reply is_replaced) }
-    ensures preserves { (hash_of : K → ℕ) (ts : List (turning.Turn K V E)) (value : V)
-        → ((a b : K) → K.eq a b ≡ true → hash_of a ≡ hash_of b)
-        → turn.key.hash ≡ hash_of (arc_value turn.key.key)
-        → AreSound K.eq ts
-        → IfSome copies.saved (V.is_clone value)
-        → Represents K.eq V.is_clone hash_of ts
-        (get ⟦<TurnKey<K> as PartialEq>⟧.eq turns.old.opened) (get nat_eq turns.old.ended)
-        → Represents K.eq V.is_clone hash_of
-        (moved (Ended turn.number (turning.Value value is_replaced)) ts)
-        (get ⟦<TurnKey<K> as PartialEq>⟧.eq turns.new.opened) (get nat_eq turns.new.ended) }
+    ensures preserves { AtEachChange V.is_clone turn.key turns.old turns.new (λ ts After.
+        (value : V) → IfSome copies.saved (V.is_clone value)
+        → After (moved (Ended turn.number (turning.Value value is_replaced)) ts)) }
 {
     let Copies {
         key,
@@ -163,13 +154,8 @@ impl<K: Hash + Drop, V: Clone, C: CacheTypes<K, V>, R: RowStore<K, V>> State<K, 
     ) -> Result<Finished<K, V, C::Error>, FinishRefused<K, V, C::Error>>
         requires fits { Fits C.Error turn.key.kind (Outcome.Value value) }
         requires kept { C.keeps (arc_value turn.key.key) value }
-        ensures { FinishEnds V.is_clone
-            (λ given. ⟦<C as StateView<K, V>>⟧.at_each_history self.old (λ settings steps.
-            Gives K.eq V.is_clone V.is_infallible settings steps
-            (Finish (turn_name turn) (Outcome.Value value) now) given))
-            (⟦<C as StateView<K, V>>⟧.follows self.old
-            (Finish (turn_name turn) (Outcome.Value value) now) self.new)
-            self.old self.new turn (Outcome.Value value) result }
+        ensures { FinishesTurn ⟦<C as CallView<K, V>>⟧.spec turn (Outcome.Value value) now self.old
+            self.new result }
     {
         if self.housekeeper.max_capacity == Some(0) {
             return self.finish_unstored(turn, value, now);
@@ -187,13 +173,8 @@ impl<K: Hash + Drop, V: Clone, C: CacheTypes<K, V>, R: RowStore<K, V>> State<K, 
         requires fits { Fits C.Error turn.key.kind (Outcome.Value value) }
         requires kept { C.keeps (arc_value turn.key.key) value }
         requires nothing { stores_nothing self.old.settings.max_capacity ≡ true }
-        ensures { FinishEnds V.is_clone
-            (λ given. ⟦<C as StateView<K, V>>⟧.at_each_history self.old (λ settings steps.
-            Gives K.eq V.is_clone V.is_infallible settings steps
-            (Finish (turn_name turn) (Outcome.Value value) now) given))
-            (⟦<C as StateView<K, V>>⟧.follows self.old
-            (Finish (turn_name turn) (Outcome.Value value) now) self.new)
-            self.old self.new turn (Outcome.Value value) result }
+        ensures { FinishesTurn ⟦<C as CallView<K, V>>⟧.spec turn (Outcome.Value value) now self.old
+            self.new result }
     {
         let hash = self.behaviour.hash(turn.key());
         let turn = turn.with_hash(hash);
@@ -219,13 +200,8 @@ impl<K: Hash + Drop, V: Clone, C: CacheTypes<K, V>, R: RowStore<K, V>> State<K, 
         requires fits { Fits C.Error turn.key.kind (Outcome.Value value) }
         requires kept { C.keeps (arc_value turn.key.key) value }
         requires stores { stores_nothing self.old.settings.max_capacity ≡ false }
-        ensures { FinishEnds V.is_clone
-            (λ given. ⟦<C as StateView<K, V>>⟧.at_each_history self.old (λ settings steps.
-            Gives K.eq V.is_clone V.is_infallible settings steps
-            (Finish (turn_name turn) (Outcome.Value value) now) given))
-            (⟦<C as StateView<K, V>>⟧.follows self.old
-            (Finish (turn_name turn) (Outcome.Value value) now) self.new)
-            self.old self.new turn (Outcome.Value value) result }
+        ensures { FinishesTurn ⟦<C as CallView<K, V>>⟧.spec turn (Outcome.Value value) now self.old
+            self.new result }
     {
         let hash = self.behaviour.hash(turn.key());
         let turn = turn.with_hash(hash);
@@ -270,13 +246,8 @@ impl<K: Hash + Drop, V: Clone, C: CacheTypes<K, V>, R: RowStore<K, V>> State<K, 
         now: u64,
     ) -> Result<Finished<K, V, C::Error>, FinishRefused<K, V, C::Error>>
         requires { Fits {V = V} C.Error turn.key.kind Outcome.Nothing }
-        ensures { FinishEnds V.is_clone
-            (λ given. ⟦<C as StateView<K, V>>⟧.at_each_history self.old (λ settings steps.
-            Gives K.eq V.is_clone V.is_infallible settings steps
-            (Finish (turn_name turn) Outcome.Nothing now) given))
-            (⟦<C as StateView<K, V>>⟧.follows self.old
-            (Finish (turn_name turn) Outcome.Nothing now) self.new)
-            self.old self.new turn Outcome.Nothing result }
+        ensures { FinishesTurn ⟦<C as CallView<K, V>>⟧.spec turn Outcome.Nothing now self.old
+            self.new result }
     {
         let hash = self.behaviour.hash(turn.key());
         let turn = turn.with_hash(hash);
@@ -300,13 +271,8 @@ impl<K: Hash + Drop, V: Clone, C: CacheTypes<K, V>, R: RowStore<K, V>> State<K, 
         now: u64,
     ) -> Result<Finished<K, V, C::Error>, FinishRefused<K, V, C::Error>>
         requires { Fits {V = V} C.Error turn.key.kind (Outcome.Failed (arc_value error)) }
-        ensures { FinishEnds V.is_clone
-            (λ given. ⟦<C as StateView<K, V>>⟧.at_each_history self.old (λ settings steps.
-            Gives K.eq V.is_clone V.is_infallible settings steps
-            (Finish (turn_name turn) (Outcome.Failed (arc_value error)) now) given))
-            (⟦<C as StateView<K, V>>⟧.follows self.old
-            (Finish (turn_name turn) (Outcome.Failed (arc_value error)) now) self.new)
-            self.old self.new turn (Outcome.Failed error) result }
+        ensures { FinishesTurn ⟦<C as CallView<K, V>>⟧.spec turn (Outcome.Failed error) now self.old
+            self.new result }
     {
         let hash = self.behaviour.hash(turn.key());
         let turn = turn.with_hash(hash);
@@ -362,13 +328,8 @@ impl<K: Hash + Drop, V: Clone, C: CacheTypes<K, V>, R: RowStore<K, V>> State<K, 
     ) -> Result<Finished<K, V, C::Error>, FinishRefused<K, V, C::Error>>
         requires fits { Fits C.Error turn.key.kind (outcome_of outcome) }
         requires kept { OutcomeKeeps (C.keeps (arc_value turn.key.key)) outcome }
-        ensures { FinishEnds V.is_clone
-            (λ given. ⟦<C as StateView<K, V>>⟧.at_each_history self.old (λ settings steps.
-            Gives K.eq V.is_clone V.is_infallible settings steps
-            (Finish (turn_name turn) (outcome_of outcome) now) given))
-            (⟦<C as StateView<K, V>>⟧.follows self.old
-            (Finish (turn_name turn) (outcome_of outcome) now) self.new)
-            self.old self.new turn outcome result }
+        ensures { FinishesTurn ⟦<C as CallView<K, V>>⟧.spec turn outcome now self.old self.new
+            result }
     {
         match outcome {
             Outcome::Value(value) => self.finish_with(turn, value, now),

@@ -1,15 +1,14 @@
 //! Loaders of an owned cache: each is a begin, a closure and a finish at one moment.
-ghost use Rattle.std.specs.Prelude.{◌≡◌, ◌≢◌, Bool, Option, None, Some, Result, false, true, option_map, IfOk, IfSome, IsSome};
+ghost use Rattle.std.specs.Prelude.{◌≡◌, ◌≢◌, Option, None, Some, Result, false, true, IfOk, IfSome};
 ghost use Rattle.std.specs.Arc.{arc_value};
-ghost use Rattle.moka_model.specs.Steps.{events_in};
-ghost use Rattle.moka_model.specs.Calls as calls;
-ghost use Rattle.moka_model.specs.Calls.{Begin, Finish, accepted, live_at};
 ghost use Rattle.moka_turns.specs.Handles.{turn_name};
-ghost use Rattle.moka_state.specs.Begin.{BeginEnds, FoundKeepsFor, GivesBegun, IfWait, IsNamed, IsSaidOf, TakesLive};
+ghost use Rattle.moka_state.specs.Begin.{FoundKeepsFor, IfWait, IsNamed, IsSaidOf, TakesLive};
 ghost use Rattle.moka_state.specs.Finish.{Fits, IsGiven, OutcomeKeeps, outcome_of};
-ghost use Rattle.moka_state.specs.Forms.{EndsTurn, IfRefusedUnasked, IsFailed, IsForm, IsOptional, IsTried, IsValue, of_end, optional_outcome, tried_outcome};
+ghost use Rattle.moka_state.specs.Forms.{IsFailed, IsOptional, IsTried, IsValue, of_end, optional_outcome, tried_outcome};
+ghost use Rattle.moka_state.specs.Ends.{EndsOpenTurnAs, EndsTurnAs, EndsTurnAt, LoaderBegins, LoaderBeginsAs, Loads, LoadsIf};
 
 use crate::answers::{Answer, Begun, FinishRefused, Finished};
+use crate::call_view::CallView;
 use crate::state::State;
 use moka_expiration::view::StateView;
 use moka_model::turns::{Kind, Outcome};
@@ -56,13 +55,8 @@ impl<K: Hash + Drop, V: Clone, C: CacheTypes<K, V>, R: RowStore<K, V>> State<K, 
     ) -> Result<V, Refused>
         requires asks { F.IsAlwaysCallable init }
         requires keeps { (v : V) → F.post init v → C.keeps key v }
-        ensures form { (given : Option V) × (reply : Result (calls.Reply K V C.Error) Refused)
-            × ⟦<C as StateView<K, V>>⟧.at_each_history self.old (λ settings steps.
-            IsForm K.eq V.is_clone V.is_infallible settings steps (Begin key Kind.With None now) now
-            (option_map Outcome.Value given) reply
-            (λ after. ⟦<C as StateView<K, V>>⟧.stands_for settings self.new after))
-            × IsValue reply result × IfSome given (F.post init)
-            × IfRefusedUnasked (self.new ≡ self.old) given reply }
+        ensures form { Loads ⟦<C as CallView<K, V>>⟧.spec Outcome.Value (F.post init) IsValue key
+            Kind.With now self.old self.new result }
         ensures kept { IfOk result (C.keeps key) }
         ensures settings { self.new.settings ≡ self.old.settings }
     {
@@ -97,15 +91,8 @@ impl<K: Hash + Drop, V: Clone, C: CacheTypes<K, V>, R: RowStore<K, V>> State<K, 
         requires shows { TakesLive K.eq C.keeps ⟦<C as StateView<K, V>>⟧.settings P.FnMut
             key now self.old replace_if }
         requires keeps { (v : V) → F.post init v → C.keeps key v }
-        ensures form { (said : Option Bool) × (given : Option V)
-            × (reply : Result (calls.Reply K V C.Error) Refused)
-            × ⟦<C as StateView<K, V>>⟧.at_each_history self.old (λ settings steps.
-            IsSaidOf P.FnMut (Some replace_if) (live_at K.eq settings key now (events_in steps)) said
-            × IsForm K.eq V.is_clone V.is_infallible settings steps (Begin key Kind.With said now) now
-            (option_map Outcome.Value given) reply
-            (λ after. ⟦<C as StateView<K, V>>⟧.stands_for settings self.new after))
-            × IsValue reply result × IfSome given (F.post init)
-            × IfRefusedUnasked (self.new ≡ self.old) given reply }
+        ensures form { LoadsIf ⟦<C as CallView<K, V>>⟧.spec (IsSaidOf P.FnMut (Some replace_if))
+            Outcome.Value (F.post init) IsValue key Kind.With now self.old self.new result }
         ensures kept { IfOk result (C.keeps key) }
         ensures settings { self.new.settings ≡ self.old.settings }
     {
@@ -136,14 +123,8 @@ impl<K: Hash + Drop, V: Clone, C: CacheTypes<K, V>, R: RowStore<K, V>> State<K, 
     ) -> Result<Option<V>, Refused>
         requires asks { F.IsAlwaysCallable init }
         requires keeps { (o : Option V) → F.post init o → IfSome o (C.keeps key) }
-        ensures form { (given : Option (Option V))
-            × (reply : Result (calls.Reply K V C.Error) Refused)
-            × ⟦<C as StateView<K, V>>⟧.at_each_history self.old (λ settings steps.
-            IsForm K.eq V.is_clone V.is_infallible settings steps
-            (Begin key Kind.Optionally None now) now (option_map optional_outcome given) reply
-            (λ after. ⟦<C as StateView<K, V>>⟧.stands_for settings self.new after))
-            × IsOptional reply result × IfSome given (F.post init)
-            × IfRefusedUnasked (self.new ≡ self.old) given reply }
+        ensures form { Loads ⟦<C as CallView<K, V>>⟧.spec optional_outcome (F.post init) IsOptional
+            key Kind.Optionally now self.old self.new result }
         ensures kept { IfOk result (λ found. IfSome found (C.keeps key)) }
         ensures settings { self.new.settings ≡ self.old.settings }
     {
@@ -176,14 +157,8 @@ impl<K: Hash + Drop, V: Clone, C: CacheTypes<K, V>, R: RowStore<K, V>> State<K, 
     ) -> Result<Result<V, Arc<C::Error>>, Refused>
         requires asks { F.IsAlwaysCallable init }
         requires keeps { (r : Result V C.Error) → F.post init r → IfOk r (C.keeps key) }
-        ensures form { (given : Option (Result V C.Error))
-            × (reply : Result (calls.Reply K V C.Error) Refused)
-            × ⟦<C as StateView<K, V>>⟧.at_each_history self.old (λ settings steps.
-            IsForm K.eq V.is_clone V.is_infallible settings steps (Begin key Kind.Try None now) now
-            (option_map tried_outcome given) reply
-            (λ after. ⟦<C as StateView<K, V>>⟧.stands_for settings self.new after))
-            × IsTried reply result × IfSome given (F.post init)
-            × IfRefusedUnasked (self.new ≡ self.old) given reply }
+        ensures form { Loads ⟦<C as CallView<K, V>>⟧.spec tried_outcome (F.post init) IsTried key
+            Kind.Try now self.old self.new result }
         ensures kept { IfOk result (λ tried. IfOk tried (C.keeps key)) }
         ensures settings { self.new.settings ≡ self.old.settings }
     {
@@ -210,13 +185,8 @@ impl<K: Hash + Drop, V: Clone, C: CacheTypes<K, V>, R: RowStore<K, V>> State<K, 
         requires initializer { kind ≢ Kind.Compute }
         requires asks { IfSome replace_if (TakesLive K.eq C.keeps
             ⟦<C as StateView<K, V>>⟧.settings F.FnMut key now self.old) }
-        ensures begins { (said : Option Bool) × BeginEnds
-            (λ given. ⟦<C as StateView<K, V>>⟧.at_each_history self.old (λ settings steps.
-            IsSaidOf F.FnMut replace_if (live_at K.eq settings key now (events_in steps)) said
-            × GivesBegun K.eq V.is_clone V.is_infallible settings steps
-            (Begin key kind said now) false given))
-            (⟦<C as StateView<K, V>>⟧.follows self.old (Begin key kind said now) self.new)
-            self.old self.new result }
+        ensures begins { LoaderBegins ⟦<C as CallView<K, V>>⟧.spec (IsSaidOf F.FnMut replace_if) key
+            kind now false self.old self.new result }
         ensures named { IfOk result (IsNamed kind key) }
         ensures waits { IfOk result (IfWait (false ≡ true)) }
         ensures kept { IfOk result (FoundKeepsFor C.keeps key) }
@@ -241,11 +211,7 @@ impl<K: Hash + Drop, V: Clone, C: CacheTypes<K, V>, R: RowStore<K, V>> State<K, 
         now: u64,
     ) -> Result<Begun<K, V>, Refused>
         requires initializer { kind ≢ Kind.Compute }
-        ensures begins { BeginEnds
-            (λ given. ⟦<C as StateView<K, V>>⟧.at_each_history self.old (λ settings steps.
-            GivesBegun K.eq V.is_clone V.is_infallible settings steps
-            (Begin key kind None now) false given))
-            (⟦<C as StateView<K, V>>⟧.follows self.old (Begin key kind None now) self.new)
+        ensures begins { LoaderBeginsAs ⟦<C as CallView<K, V>>⟧.spec None key kind now false
             self.old self.new result }
         ensures named { IfOk result (IsNamed kind key) }
         ensures waits { IfOk result (IfWait (false ≡ true)) }
@@ -276,10 +242,8 @@ impl<K: Hash + Drop, V: Clone, C: CacheTypes<K, V>, R: RowStore<K, V>> State<K, 
         requires fits { Fits C.Error turn.key.kind (outcome_of outcome) }
         requires initializer { turn.key.kind ≢ Kind.Compute }
         requires kept { OutcomeKeeps (C.keeps (arc_value turn.key.key)) outcome }
-        ensures ends { ⟦<C as StateView<K, V>>⟧.at_each_history self.old (λ settings steps.
-            EndsTurn K.eq V.is_clone V.is_infallible settings steps
-            (turn_name turn) (outcome_of outcome) now (of_end result)
-            (λ after. ⟦<C as StateView<K, V>>⟧.stands_for settings self.new after)) }
+        ensures ends { EndsTurnAt ⟦<C as CallView<K, V>>⟧.spec (turn_name turn) (outcome_of outcome)
+            now (of_end result) self.old self.new }
         ensures given { IfOk result (IsGiven V.is_clone (arc_value turn.key.key) outcome) }
         ensures settings { self.new.settings ≡ self.old.settings }
     {
@@ -302,12 +266,8 @@ impl<K: Hash + Drop, V: Clone, C: CacheTypes<K, V>, R: RowStore<K, V>> State<K, 
         requires fits { Fits C.Error turn.key.kind (Outcome.Value value) }
         requires initializer { turn.key.kind ≢ Kind.Compute }
         requires kept { C.keeps (arc_value turn.key.key) value }
-        ensures ends { (reply : Result (calls.Reply K V C.Error) Refused)
-            × ⟦<C as StateView<K, V>>⟧.at_each_history self.old (λ settings steps.
-            EndsTurn K.eq V.is_clone V.is_infallible settings steps
-            (turn_name turn) (Outcome.Value value) now reply
-            (λ after. ⟦<C as StateView<K, V>>⟧.stands_for settings self.new after))
-            × IsValue reply result }
+        ensures ends { EndsTurnAs ⟦<C as CallView<K, V>>⟧.spec (turn_name turn)
+            (Outcome.Value value) now IsValue self.old self.new result }
         ensures kept { IfOk result (C.keeps (arc_value turn.key.key)) }
         ensures settings { self.new.settings ≡ self.old.settings }
     {
@@ -328,12 +288,8 @@ impl<K: Hash + Drop, V: Clone, C: CacheTypes<K, V>, R: RowStore<K, V>> State<K, 
     ) -> Result<Option<V>, Refused>
         requires kind { turn.key.kind ≡ Kind.Optionally }
         requires kept { IfSome given (C.keeps (arc_value turn.key.key)) }
-        ensures ends { (reply : Result (calls.Reply K V C.Error) Refused)
-            × ⟦<C as StateView<K, V>>⟧.at_each_history self.old (λ settings steps.
-            EndsTurn K.eq V.is_clone V.is_infallible settings steps
-            (turn_name turn) (optional_outcome given) now reply
-            (λ after. ⟦<C as StateView<K, V>>⟧.stands_for settings self.new after))
-            × IsOptional reply result }
+        ensures ends { EndsTurnAs ⟦<C as CallView<K, V>>⟧.spec (turn_name turn)
+            (optional_outcome given) now IsOptional self.old self.new result }
         ensures kept { IfOk result (λ found. IfSome found (C.keeps (arc_value turn.key.key))) }
         ensures settings { self.new.settings ≡ self.old.settings }
     {
@@ -349,12 +305,8 @@ impl<K: Hash + Drop, V: Clone, C: CacheTypes<K, V>, R: RowStore<K, V>> State<K, 
     // Finishes a loader's turn with nothing, and returns `None`.
     pub(crate) fn end_with_none(&mut self, turn: Turn<K>, now: u64) -> Result<Option<V>, Refused>
         requires kind { turn.key.kind ≡ Kind.Optionally }
-        ensures ends { (reply : Result (calls.Reply K V C.Error) Refused)
-            × ⟦<C as StateView<K, V>>⟧.at_each_history self.old (λ settings steps.
-            EndsTurn K.eq V.is_clone V.is_infallible settings steps
-            (turn_name turn) Outcome.Nothing now reply
-            (λ after. ⟦<C as StateView<K, V>>⟧.stands_for settings self.new after))
-            × IsOptional reply result }
+        ensures ends { EndsTurnAs ⟦<C as CallView<K, V>>⟧.spec (turn_name turn) Outcome.Nothing now
+            IsOptional self.old self.new result }
         ensures none { IfOk result (λ found. found ≡ None) }
         ensures settings { self.new.settings ≡ self.old.settings }
     {
@@ -374,13 +326,8 @@ impl<K: Hash + Drop, V: Clone, C: CacheTypes<K, V>, R: RowStore<K, V>> State<K, 
         now: u64,
     ) -> Result<Arc<C::Error>, Refused>
         requires kind { turn.key.kind ≡ Kind.Try }
-        ensures ends { (reply : Result (calls.Reply K V C.Error) Refused)
-            × ⟦<C as StateView<K, V>>⟧.at_each_history self.old (λ settings steps.
-            IsSome (accepted K.eq settings steps (Finish (turn_name turn) (Outcome.Failed error) now))
-            → EndsTurn K.eq V.is_clone V.is_infallible settings steps
-            (turn_name turn) (Outcome.Failed error) now reply
-            (λ after. ⟦<C as StateView<K, V>>⟧.stands_for settings self.new after))
-            × IsFailed reply result }
+        ensures ends { EndsOpenTurnAs ⟦<C as CallView<K, V>>⟧.spec (turn_name turn)
+            (Outcome.Failed error) now IsFailed self.old self.new result }
         ensures settings { self.new.settings ≡ self.old.settings }
     {
         let Ok(error) = self.share(error) else {
@@ -403,13 +350,8 @@ impl<K: Hash + Drop, V: Clone, C: CacheTypes<K, V>, R: RowStore<K, V>> State<K, 
     ) -> Result<Result<V, Arc<C::Error>>, Refused>
         requires kind { turn.key.kind ≡ Kind.Try }
         requires kept { IfOk given (C.keeps (arc_value turn.key.key)) }
-        ensures ends { (reply : Result (calls.Reply K V C.Error) Refused)
-            × ⟦<C as StateView<K, V>>⟧.at_each_history self.old (λ settings steps.
-            IsSome (accepted K.eq settings steps (Finish (turn_name turn) (tried_outcome given) now))
-            → EndsTurn K.eq V.is_clone V.is_infallible settings steps
-            (turn_name turn) (tried_outcome given) now reply
-            (λ after. ⟦<C as StateView<K, V>>⟧.stands_for settings self.new after))
-            × IsTried reply result }
+        ensures ends { EndsOpenTurnAs ⟦<C as CallView<K, V>>⟧.spec (turn_name turn)
+            (tried_outcome given) now IsTried self.old self.new result }
         ensures kept { IfOk result (λ tried. IfOk tried (C.keeps (arc_value turn.key.key))) }
         ensures settings { self.new.settings ≡ self.old.settings }
     {

@@ -3,14 +3,16 @@ ghost use Rattle.std.specs.Prelude.{◌≡◌, ℕ, Option, Some, None, true, fa
 ghost use Rattle.std.specs.Arc.{arc_value};
 ghost use Rattle.moka_model.specs.Turns.{Name, End, found, has_ticket_as, is_open_as, is_open_for};
 ghost use Rattle.moka_model.specs.Steps.{events_in, turns};
-ghost use Rattle.moka_model.specs.Calls.{IsCopyOf, IsCopiedEnd, accepted, reply_of, collected, live_at};
+ghost use Rattle.moka_model.specs.Calls.{IsCopyOf, IsCopiedEnd, collected, live_at};
 ghost use Rattle.moka_model.specs.Calls.{Collect, Finish, OrInsert, TakeNotice, entry_of};
 ghost use Rattle.moka_turns.specs.Handles.{name_by};
 ghost use Rattle.moka_turns.specs.Represents.{end_of};
 ghost use Rattle.moka_state.specs.Finish.{outcome_of};
 ghost use Rattle.moka_state.specs.HandedOut.{HandsOut, HasEntry, HasName, HidesLive, IsPairOf};
 ghost use Rattle.moka_state.specs.Step.{call_of};
+ghost use Rattle.moka_state.specs.Ends.{HandsOutAt};
 
+use crate::call_view::CallView;
 use crate::state::State;
 use crate::step::Step;
 use moka_expiration::view::StateView;
@@ -180,8 +182,9 @@ impl<K: Hash + Drop, V: Clone, C: CacheTypes<K, V>, R: RowStore<K, V>> State<K, 
 
     // Returns whether a compute of a key is open. May return false if memory is short.
     fn is_computed(&self, key: &Arc<K>) -> bool
-        ensures { IsTrue result → ⟦<C as StateView<K, V>>⟧.at_each_history self.now (λ settings steps.
-            IsSome (found (is_open_for K.eq Kind.Compute (arc_value key.now)) (turns steps))) }
+        ensures { IsTrue result → ⟦<C as StateView<K, V>>⟧.at_each_history self.now (λ settings
+            steps. IsSome
+            (found (is_open_for K.eq Kind.Compute (arc_value key.now)) (turns steps))) }
     {
         let hash = self.behaviour.hash(&**key);
         let Ok(own) = key.clone() else {
@@ -201,8 +204,8 @@ impl<K: Hash + Drop, V: Clone, C: CacheTypes<K, V>, R: RowStore<K, V>> State<K, 
     // Returns whether a begin may return the live entry. It does not if an initializer's caller
     // replaces the live value, or if a compute has to wait.
     fn shows_live(&self, key: &Arc<K>, kind: Kind, replace: Option<bool>) -> bool
-        ensures { result ≡ false → ⟦<C as StateView<K, V>>⟧.at_each_history self.now (λ settings steps.
-            HidesLive K.eq (turns steps) (arc_value key.now) kind replace) }
+        ensures { result ≡ false → ⟦<C as StateView<K, V>>⟧.at_each_history self.now
+            (λ settings steps. HidesLive K.eq (turns steps) (arc_value key.now) kind replace) }
     {
         match kind {
             Kind::Compute => !self.is_computed(key),
@@ -260,11 +263,8 @@ impl<K: Hash + Drop, V: Clone, C: CacheTypes<K, V>, R: RowStore<K, V>> State<K, 
         value: &V,
         now: u64,
     ) -> Result<HandedOut<K, V, C::Error>, AllocError>
-        ensures { IfOk result (λ out.
-            ⟦<C as StateView<K, V>>⟧.at_each_history self.now (λ settings steps.
-            IfSome (reply_of (accepted K.eq settings steps
-            (OrInsert (arc_value key.now) value.now now)))
-            (λ answer. HandsOut V.is_clone answer out))) }
+        ensures { IfOk result (HandsOutAt ⟦<C as CallView<K, V>>⟧.spec self.now
+            (OrInsert (arc_value key.now) value.now now)) }
     {
         match self.live_pair(&**key, now)? {
             Some((key, value)) => Ok(hand_out_pair(key, Some(value))),
@@ -282,11 +282,8 @@ impl<K: Hash + Drop, V: Clone, C: CacheTypes<K, V>, R: RowStore<K, V>> State<K, 
         outcome: &Outcome<V, Arc<C::Error>>,
         now: u64,
     ) -> Result<HandedOut<K, V, C::Error>, AllocError>
-        ensures { IfOk result (λ out.
-            ⟦<C as StateView<K, V>>⟧.at_each_history self.now (λ settings steps.
-            IfSome (reply_of (accepted K.eq settings steps
-            (Finish (name_by name.now) (outcome_of outcome.now) now)))
-            (λ answer. HandsOut V.is_clone answer out))) }
+        ensures { IfOk result (HandsOutAt ⟦<C as CallView<K, V>>⟧.spec self.now
+            (Finish (name_by name.now) (outcome_of outcome.now) now)) }
     {
         let key = name.key.clone()?;
         match outcome {
@@ -307,10 +304,8 @@ impl<K: Hash + Drop, V: Clone, C: CacheTypes<K, V>, R: RowStore<K, V>> State<K, 
         &self,
         name: &TurnName<K>,
     ) -> Result<HandedOut<K, V, C::Error>, AllocError>
-        ensures { IfOk result (λ out.
-            ⟦<C as StateView<K, V>>⟧.at_each_history self.now (λ settings steps.
-            IfSome (reply_of (accepted K.eq settings steps (Collect (name_by name.now))))
-            (λ answer. HandsOut V.is_clone answer out))) }
+        ensures { IfOk result
+            (HandsOutAt ⟦<C as CallView<K, V>>⟧.spec self.now (Collect (name_by name.now))) }
     {
         let key = name.key.clone()?;
         Ok(hand_out_end(key, self.end_of_turn(name)?))
@@ -318,10 +313,7 @@ impl<K: Hash + Drop, V: Clone, C: CacheTypes<K, V>, R: RowStore<K, V>> State<K, 
 
     // Clones the notice that a `TakeNotice` returns.
     fn clones_for_take_notice(&self) -> Result<HandedOut<K, V, C::Error>, AllocError>
-        ensures { IfOk result (λ out.
-            ⟦<C as StateView<K, V>>⟧.at_each_history self.now (λ settings steps.
-            IfSome (reply_of (accepted {E = C.Error} K.eq settings steps TakeNotice))
-            (λ answer. HandsOut V.is_clone answer out))) }
+        ensures { IfOk result (HandsOutAt ⟦<C as CallView<K, V>>⟧.spec self.now TakeNotice) }
     {
         Ok(hand_out_notice(self.table.copy_notice()?))
     }
@@ -332,10 +324,8 @@ impl<K: Hash + Drop, V: Clone, C: CacheTypes<K, V>, R: RowStore<K, V>> State<K, 
         &self,
         step: &Step<K, V, C>,
     ) -> Result<HandedOut<K, V, C::Error>, AllocError>
-        ensures { IfOk result (λ out.
-            ⟦<C as StateView<K, V>>⟧.at_each_history self.now (λ settings steps.
-            IfSome (reply_of (accepted K.eq settings steps (call_of C.test step.now)))
-            (λ answer. HandsOut V.is_clone answer out))) }
+        ensures { IfOk result
+            (HandsOutAt ⟦<C as CallView<K, V>>⟧.spec self.now (call_of C.test step.now)) }
     {
         match step {
             Step::Get { key, now } => self.clones_for_lookup(&**key, *now),

@@ -6,6 +6,7 @@ pub mod answers;
 pub mod begin;
 pub mod by_hash;
 pub mod by_ref;
+pub mod call_view;
 pub mod compute;
 mod compute_forms;
 pub mod discards;

@@ -2,14 +2,14 @@
 ghost use Rattle.std.specs.Prelude.{◌≡◌, ◌≢◌, ◌&&◌, ◌==◌, None, false, true, not, IfOk, IfErr, OnOk, OnErr};
 ghost use Rattle.std.specs.Arc.{arc_value};
 ghost use Rattle.moka_model.specs.Numbers.{greatest_number, stores_nothing};
-ghost use Rattle.moka_model.specs.Steps.{events_in};
 ghost use Rattle.moka_model.specs.Entries.{entry_of};
-ghost use Rattle.moka_model.specs.Calls.{OrInsert, IsCopiedEntry, fresh_entry, live_at};
+ghost use Rattle.moka_model.specs.Calls.{OrInsert, IsCopiedEntry, fresh_entry};
 ghost use Rattle.moka_state.specs.Begin.{EntryKeeps};
-ghost use Rattle.moka_state.specs.Given.{Gives};
 ghost use Rattle.moka_state.specs.Hashes.{IsHashOf};
-ghost use Rattle.moka_state.specs.OrInsert.{OrInsertEnds, of_or_default, of_or_insert};
+ghost use Rattle.moka_state.specs.OrInsert.{of_or_default, of_or_insert};
+ghost use Rattle.moka_state.specs.Ends.{IsAbsentAt, OrInserts};
 
+use crate::call_view::CallView;
 use crate::get_with::none_like;
 use crate::state::State;
 use moka_expiration::view::StateView;
@@ -64,13 +64,8 @@ impl<K: Hash + Drop, V: Clone, C: CacheTypes<K, V>, R: RowStore<K, V>> State<K, 
         now: u64,
     ) -> Result<Entry<K, V>, OrInsertRefused<V>>
         requires { C.keeps (arc_value key.now) value }
-        ensures ends { OrInsertEnds
-            (⟦<C as StateView<K, V>>⟧.at_each_history self.old (λ settings steps.
-            Gives K.eq V.is_clone V.is_infallible settings steps
-            (OrInsert (arc_value key.now) value now) (of_or_insert result)))
-            (⟦<C as StateView<K, V>>⟧.follows self.old
-            (OrInsert (arc_value key.now) value now) self.new)
-            self.old self.new result }
+        ensures ends { OrInserts ⟦<C as CallView<K, V>>⟧.spec of_or_insert (arc_value key.now) value
+            now self.old self.new result }
         ensures kept { IfOk result (EntryKeeps C.keeps (arc_value key.now)) }
         ensures value_back { IfErr result (λ refused. refused.value ≡ value) }
         ensures settings { self.new.settings ≡ self.old.settings }
@@ -91,13 +86,8 @@ impl<K: Hash + Drop, V: Clone, C: CacheTypes<K, V>, R: RowStore<K, V>> State<K, 
         requires hash { IsHashOf (⟦<C as StateView<K, V>>⟧.settings self.old.settings)
             (arc_value key.now) hash }
         requires keeps { C.keeps (arc_value key.now) value }
-        ensures ends { OrInsertEnds
-            (⟦<C as StateView<K, V>>⟧.at_each_history self.old (λ settings steps.
-            Gives K.eq V.is_clone V.is_infallible settings steps
-            (OrInsert (arc_value key.now) value now) (of_or_insert result)))
-            (⟦<C as StateView<K, V>>⟧.follows self.old
-            (OrInsert (arc_value key.now) value now) self.new)
-            self.old self.new result }
+        ensures ends { OrInserts ⟦<C as CallView<K, V>>⟧.spec of_or_insert (arc_value key.now) value
+            now self.old self.new result }
         ensures kept { IfOk result (EntryKeeps C.keeps (arc_value key.now)) }
         ensures value_back { IfErr result (λ refused. refused.value ≡ value) }
         ensures settings { self.new.settings ≡ self.old.settings }
@@ -123,14 +113,8 @@ impl<K: Hash + Drop, V: Clone, C: CacheTypes<K, V>, R: RowStore<K, V>> State<K, 
         requires hash { IsHashOf (⟦<C as StateView<K, V>>⟧.settings self.old.settings)
             (arc_value key.now) hash }
         requires keeps { C.keeps (arc_value key.now) value }
-        ensures ends { ⟦<C as StateView<K, V>>⟧.at_each_history self.old (λ settings steps.
-            live_at K.eq settings (arc_value key.now) now (events_in steps) ≡ None)
-            → OrInsertEnds
-            (⟦<C as StateView<K, V>>⟧.at_each_history self.old (λ settings steps.
-            Gives K.eq V.is_clone V.is_infallible settings steps
-            (OrInsert (arc_value key.now) value now) (of_or_insert result)))
-            (⟦<C as StateView<K, V>>⟧.follows self.old
-            (OrInsert (arc_value key.now) value now) self.new)
+        ensures ends { IsAbsentAt ⟦<C as CallView<K, V>>⟧.spec self.old (arc_value key.now) now
+            → OrInserts ⟦<C as CallView<K, V>>⟧.spec of_or_insert (arc_value key.now) value now
             self.old self.new result }
         ensures kept { IfOk result (EntryKeeps C.keeps (arc_value key.now)) }
         ensures value_back { IfErr result (λ refused. refused.value ≡ value) }
@@ -169,14 +153,9 @@ impl<K: Hash + Drop, V: Clone, C: CacheTypes<K, V>, R: RowStore<K, V>> State<K, 
     ) -> Result<Entry<K, V>, Refused>
         requires hash { IsHashOf (⟦<C as StateView<K, V>>⟧.settings self.old.settings) key hash }
         requires keeps { C.keeps key value }
-        ensures ends { ⟦<C as StateView<K, V>>⟧.at_each_history self.old (λ settings steps.
-            live_at K.eq settings key now (events_in steps) ≡ None)
-            → OrInsertEnds
-            (⟦<C as StateView<K, V>>⟧.at_each_history self.old (λ settings steps.
-            Gives K.eq V.is_clone V.is_infallible settings steps
-            (OrInsert key value now) (of_or_default result)))
-            (⟦<C as StateView<K, V>>⟧.follows self.old (OrInsert key value now) self.new)
-            self.old self.new result }
+        ensures ends { IsAbsentAt ⟦<C as CallView<K, V>>⟧.spec self.old key now
+            → OrInserts ⟦<C as CallView<K, V>>⟧.spec of_or_default key value now self.old self.new
+            result }
         ensures kept { IfOk result (EntryKeeps C.keeps key) }
         ensures settings { self.new.settings ≡ self.old.settings }
     {
@@ -224,8 +203,7 @@ impl<K: Hash + Drop, V: Clone, C: CacheTypes<K, V>, R: RowStore<K, V>> State<K, 
         requires keeps { C.keeps (arc_value key.now) value }
         requires stores { stores_nothing self.old.settings.max_capacity ≡ false }
         requires number { self.old.books.next_number ≢ greatest_number }
-        ensures stands { ⟦<C as StateView<K, V>>⟧.at_each_history self.old (λ settings steps.
-            live_at K.eq settings (arc_value key.now) now (events_in steps) ≡ None)
+        ensures stands { IsAbsentAt ⟦<C as CallView<K, V>>⟧.spec self.old (arc_value key.now) now
             → OnOk result (⟦<C as StateView<K, V>>⟧.follows self.old
             (OrInsert (arc_value key.now) value now) self.new) }
         ensures refused { OnErr result (self.new ≡ self.old) }
@@ -278,12 +256,8 @@ impl<K: Hash + Drop, V: Clone + Default, C: CacheTypes<K, V>, R: RowStore<K, V>>
     /// - `OutOfMemory`: an allocation or a clone failed.
     pub fn or_default(&mut self, key: K, now: u64) -> Result<Entry<K, V>, Refused>
         requires { (value : V) → V.is_default value → C.keeps key value }
-        ensures ends { (value : V) × V.is_default value × OrInsertEnds
-            (⟦<C as StateView<K, V>>⟧.at_each_history self.old (λ settings steps.
-            Gives K.eq V.is_clone V.is_infallible settings steps
-            (OrInsert key value now) (of_or_default result)))
-            (⟦<C as StateView<K, V>>⟧.follows self.old (OrInsert key value now) self.new)
-            self.old self.new result }
+        ensures ends { (value : V) × V.is_default value × OrInserts ⟦<C as CallView<K, V>>⟧.spec
+            of_or_default key value now self.old self.new result }
         ensures kept { IfOk result (EntryKeeps C.keeps key) }
         ensures settings { self.new.settings ≡ self.old.settings }
     {
@@ -301,12 +275,8 @@ impl<K: Hash + Drop, V: Clone + Default, C: CacheTypes<K, V>, R: RowStore<K, V>>
     ) -> Result<Entry<K, V>, Refused>
         requires hash { IsHashOf (⟦<C as StateView<K, V>>⟧.settings self.old.settings) key hash }
         requires keeps { (value : V) → V.is_default value → C.keeps key value }
-        ensures ends { (value : V) × V.is_default value × OrInsertEnds
-            (⟦<C as StateView<K, V>>⟧.at_each_history self.old (λ settings steps.
-            Gives K.eq V.is_clone V.is_infallible settings steps
-            (OrInsert key value now) (of_or_default result)))
-            (⟦<C as StateView<K, V>>⟧.follows self.old (OrInsert key value now) self.new)
-            self.old self.new result }
+        ensures ends { (value : V) × V.is_default value × OrInserts ⟦<C as CallView<K, V>>⟧.spec
+            of_or_default key value now self.old self.new result }
         ensures kept { IfOk result (EntryKeeps C.keeps key) }
         ensures settings { self.new.settings ≡ self.old.settings }
     {

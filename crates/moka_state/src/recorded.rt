@@ -1,11 +1,11 @@
 //! Recorded steps: each is done once, and returned twice more with its reply, for a history and for
 //! the caller.
-ghost use Rattle.std.specs.Prelude.{◌≡◌, IfOk, IfErr, IfSome, OnErr};
-ghost use Rattle.moka_model.specs.Calls.{accepted, reply_of};
-ghost use Rattle.moka_state.specs.HandedOut.{HandsOut};
+ghost use Rattle.std.specs.Prelude.{◌≡◌, IfOk, IfErr, OnErr};
 ghost use Rattle.moka_state.specs.Recorded.{IsSaidAgain, IsStepCopy, OneReply, OneStep, Records, WantsMemory};
-ghost use Rattle.moka_state.specs.Step.{IsReplyTo, StepKeeps, ReplyKeeps, after_reply, call_of};
+ghost use Rattle.moka_state.specs.Step.{StepKeeps, ReplyKeeps, call_of};
+ghost use Rattle.moka_state.specs.Ends.{GoesOn, HandsOutAt, RepliesTo};
 
+use crate::call_view::CallView;
 use crate::handed_out::HandedOut;
 use crate::state::State;
 use crate::step::{Reply, Step};
@@ -34,14 +34,10 @@ impl<K: Hash + Drop, V: Clone, C: CacheTypes<K, V>, R: RowStore<K, V>> State<K, 
         step: Step<K, V, C>,
     ) -> Result<(Reply<K, V, C>, Entry<K, V, C>, Entry<K, V, C>), Refused>
         requires { StepKeeps C.keeps C.Predicate.tests C.test step }
-        ensures reply { IfOk result (λ done.
-            ⟦<C as StateView<K, V>>⟧.at_each_history self.old (λ settings steps.
-            IsReplyTo K.eq V.is_clone V.is_infallible settings steps
-            (call_of C.test step) done.0)) }
-        ensures stands { IfOk result (λ done.
-            ⟦<C as StateView<K, V>>⟧.at_each_history self.old (λ settings steps.
-            ⟦<C as StateView<K, V>>⟧.stands_for settings self.new
-            (after_reply K.eq settings (call_of C.test step) done.0 steps))) }
+        ensures reply { IfOk result
+            (λ done. RepliesTo ⟦<C as CallView<K, V>>⟧.spec self.old (call_of C.test step) done.0) }
+        ensures stands { IfOk result (λ done. GoesOn ⟦<C as CallView<K, V>>⟧.spec self.old
+            (call_of C.test step) done.0 self.new) }
         ensures kept { IfOk result (λ done. ReplyKeeps C.keeps step done.0) }
         ensures given { IfOk result (λ done. ¬ (WantsMemory done.0)) }
 
@@ -71,14 +67,10 @@ impl<K: Hash + Drop, V: Clone, C: CacheTypes<K, V>, R: RowStore<K, V>> State<K, 
         step: &Step<K, V, C>,
     ) -> Result<(Prepared<K, V, C>, Prepared<K, V, C>), AllocError>
         ensures steps { IfOk result (λ made. OneStep V.is_clone step.now made.0.step made.1.step) }
-        ensures first { IfOk result (λ made.
-            ⟦<C as StateView<K, V>>⟧.at_each_history self.now (λ settings steps.
-            IfSome (reply_of (accepted K.eq settings steps (call_of C.test step.now)))
-            (λ answer. HandsOut V.is_clone answer made.0.out))) }
-        ensures second { IfOk result (λ made.
-            ⟦<C as StateView<K, V>>⟧.at_each_history self.now (λ settings steps.
-            IfSome (reply_of (accepted K.eq settings steps (call_of C.test step.now)))
-            (λ answer. HandsOut V.is_clone answer made.1.out))) }
+        ensures first { IfOk result (λ made. HandsOutAt ⟦<C as CallView<K, V>>⟧.spec self.now
+            (call_of C.test step.now) made.0.out) }
+        ensures second { IfOk result (λ made. HandsOutAt ⟦<C as CallView<K, V>>⟧.spec self.now
+            (call_of C.test step.now) made.1.out) }
     {
         let first = self.prepare(step)?;
         match self.prepare(step) {
@@ -93,10 +85,8 @@ impl<K: Hash + Drop, V: Clone, C: CacheTypes<K, V>, R: RowStore<K, V>> State<K, 
     // Clones a step, with what it will hand out.
     fn prepare(&self, step: &Step<K, V, C>) -> Result<Prepared<K, V, C>, AllocError>
         ensures step { IfOk result (λ made. IsStepCopy V.is_clone step.now made.step) }
-        ensures out { IfOk result (λ made.
-            ⟦<C as StateView<K, V>>⟧.at_each_history self.now (λ settings steps.
-            IfSome (reply_of (accepted K.eq settings steps (call_of C.test step.now)))
-            (λ answer. HandsOut V.is_clone answer made.out))) }
+        ensures out { IfOk result (λ made. HandsOutAt ⟦<C as CallView<K, V>>⟧.spec self.now
+            (call_of C.test step.now) made.out) }
     {
         let copy = Step::clone(step)?;
         match self.clones_for_step(step) {

@@ -1,9 +1,10 @@
 //! Two calls that remove at the caller's wish and do more than [`State::invalidate`]: one returns
 //! what it removes, the other removes everything.
-ghost use Rattle.std.specs.Prelude.{◌≡◌, None, IsOk, IfOk, IfErr, IfSome, OnOk, OnErr};
-ghost use Rattle.moka_model.specs.Steps.{events_in};
-ghost use Rattle.moka_model.specs.Calls.{Remove, InvalidateAll, Found, live_at};
+ghost use Rattle.std.specs.Prelude.{◌≡◌, IfOk, IfSome};
+ghost use Rattle.moka_model.specs.Calls.{Remove, InvalidateAll};
+ghost use Rattle.moka_state.specs.Ends.{ReadsLive};
 
+use crate::call_view::CallView;
 use crate::state::State;
 use moka_expiration::view::StateView;
 use moka_policy::policy::{CacheTypes, Refused};
@@ -23,22 +24,10 @@ impl<K: Hash + Drop, V: Clone, C: CacheTypes<K, V>, R: RowStore<K, V>> State<K, 
     ///
     /// In a `CacheState`, reads no rows but those that have the key's hash.
     pub fn remove(&mut self, key: &K, now: u64) -> Result<Option<V>, Refused>
-        ensures reply { IfOk result (λ found.
-            ⟦<C as StateView<K, V>>⟧.replies_with self.old (Remove key.now now) (Found found)) }
-        ensures stands { OnOk result
-            (⟦<C as StateView<K, V>>⟧.follows self.old (Remove key.now now) self.new) }
+        // Only cloning the live value can fail, and then nothing has changed.
+        ensures ends { ReadsLive ⟦<C as CallView<K, V>>⟧.spec Remove key.now now self.old self.new
+            result }
         ensures kept { IfOk result (λ found. IfSome found (C.keeps key.now)) }
-
-        // Only cloning the value can fail, and then nothing has changed.
-        ensures refused { OnErr result (self.new ≡ self.old) }
-        ensures cause { IfErr result (λ cause. cause ≡ Refused.OutOfMemory) }
-
-        // The call succeeds if no value is live, or if clones of the live value cannot fail.
-        ensures miss { ⟦<C as StateView<K, V>>⟧.at_each_history self.old (λ settings steps.
-            live_at K.eq settings key.now now (events_in steps) ≡ None → IsOk result) }
-        ensures copied { ⟦<C as StateView<K, V>>⟧.at_each_history self.old (λ settings steps.
-            IfSome (live_at K.eq settings key.now now (events_in steps)) (λ live.
-            V.is_infallible live.value → IsOk result)) }
     {
         let hash = self.hash(key);
         self.remove_with_hash(key, hash, now)

@@ -1,13 +1,13 @@
 //! What iteration reads of a cache. These calls change nothing, and are no steps.
-ghost use Rattle.std.specs.Prelude.{◌≡◌, None, map, IsOk, IfOk, IfErr, IfSome};
+ghost use Rattle.std.specs.Prelude.{◌≡◌, None, map, IfOk, IfErr, IfSome};
 ghost use Rattle.std.specs.Arc.{arc_value};
-ghost use Rattle.moka_model.specs.Steps.{events_in};
-ghost use Rattle.moka_model.specs.Calls.{Get, Found, live_at};
+ghost use Rattle.moka_model.specs.Calls.{Get};
 ghost use Rattle.moka_state.specs.State.{all_writes};
+ghost use Rattle.moka_state.specs.Ends.{ScansLive};
 
+use crate::call_view::CallView;
 use crate::state::State;
 use moka_expiration::live_value::copy_of_live;
-use moka_expiration::view::StateView;
 use moka_policy::policy::{CacheTypes, Refused};
 use moka_rows::rows::RowStore;
 use std::hash::Hash;
@@ -47,17 +47,9 @@ impl<K: Hash + Drop, V: Clone, C: CacheTypes<K, V>, R: RowStore<K, V>> State<K, 
     ///
     /// In a `CacheState`, reads no rows but those that have the key's hash.
     pub fn scan_get(&self, key: &K, now: u64) -> Result<Option<V>, Refused>
-        ensures reply { IfOk result (λ found.
-            ⟦<C as StateView<K, V>>⟧.replies_with self.now (Get key.now now) (Found found)) }
+        // Only cloning the live value can fail.
+        ensures ends { ScansLive ⟦<C as CallView<K, V>>⟧.spec Get key.now now self.now result }
         ensures kept { IfOk result (λ found. IfSome found (C.keeps key.now)) }
-        ensures cause { IfErr result (λ cause. cause ≡ Refused.OutOfMemory) }
-
-        // The call succeeds if no value is live, or if clones of the live value cannot fail.
-        ensures miss { ⟦<C as StateView<K, V>>⟧.at_each_history self.now (λ settings steps.
-            live_at K.eq settings key.now now (events_in steps) ≡ None → IsOk result) }
-        ensures copied { ⟦<C as StateView<K, V>>⟧.at_each_history self.now (λ settings steps.
-            IfSome (live_at K.eq settings key.now now (events_in steps)) (λ live.
-            V.is_infallible live.value → IsOk result)) }
     {
         let now = self.latest.max(now);
         let hash = self.behaviour.hash(key);

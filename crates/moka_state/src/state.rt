@@ -1,6 +1,6 @@
 //! The owned cache as a plain value, called through `&mut`: its settings, its state and its main
 //! calls. Each call that depends on the time is given its moment.
-ghost use Rattle.std.specs.Prelude.{◌≡◌, ◌≢◌, ◌+◌, ◌≤◌, ◌↔◌, is_some, true, false, Some, [], ◌++◌, length, min, map, option_map, IsNone, IsSome, IsOk, IfOk, IfErr, IfSome, OnOk, OnErr, None, IsErrAnd, ◌∷◌};
+ghost use Rattle.std.specs.Prelude.{◌≡◌, ◌+◌, ◌≤◌, ◌↔◌, true, false, Some, [], length, min, option_map, IsNone, IfOk, IfErr, IfSome, None, ◌∷◌};
 ghost use Rattle.std.specs.Arc.{arc_value};
 ghost use Rattle.std.specs.Duration.{as_nanos};
 ghost use Rattle.std.specs.List.{AllByRecursion};
@@ -10,14 +10,16 @@ ghost use Rattle.moka_model.specs.Maintenance.{total};
 ghost use Rattle.moka_model.specs.Numbers.{greatest_number, flush_point};
 ghost use Rattle.moka_model.specs.SizeLaws.{LimitsSome};
 ghost use Rattle.moka_model.specs.Steps.{events_in};
-ghost use Rattle.moka_model.specs.Calls.{Get, ContainsKey, Insert, Invalidate, RunPendingTasks, RunPendingTasksUpTo, EntryCount, WeightedSize, TakeNotice, Found, Contains, Counted, Left, Noticed, live_at};
-ghost use Rattle.moka_policy.specs.Policy.{is_lru};
-ghost use Rattle.moka_table.specs.Table.{entries, removal_of};
+ghost use Rattle.moka_model.specs.Calls.{Get, ContainsKey, Insert, Invalidate, RunPendingTasks, RunPendingTasksUpTo, EntryCount, WeightedSize, TakeNotice, Contains, Counted, Left, Noticed};
+ghost use Rattle.moka_table.specs.Table.{removal_of};
 ghost use Rattle.moka_expiration.specs.Behaviour.{hash_by};
 ghost use Rattle.moka_state.specs.State.{StateData, settings_of, books_by, all_writes, IsSound};
 ghost use Rattle.moka_state.specs.Write.{WriteEnds};
 ghost use Rattle.moka_turns.specs.Views.{turns_of};
+ghost use Rattle.moka_state.specs.Ends.{ReadsLive};
+ghost use Rattle.moka_state.specs.Settings.{IsUsable, data_of};
 
+use crate::call_view::CallView;
 use crate::discards::Discards;
 use moka_expiration::behaviour::Behaviour;
 use moka_expiration::expiration_policy::ExpirationPolicy;
@@ -144,20 +146,8 @@ impl<K: Hash + Drop, V: Clone, C: CacheTypes<K, V>, R: RowStore<K, V>> State<K, 
     ///
     /// - `OutOfMemory`: an allocation failed.
     pub fn new(alloc: Global, settings: Settings<K, V, C>) -> Result<Self, Refused>
-        requires weighs { IfSome settings.weigher (λ weigher.
-            C.Weigher.weighs (arc_value weigher) (C.weight (arc_value weigher))) }
-        requires gives { IfSome settings.expiry (λ expiry.
-            C.Expiry.gives (arc_value expiry) (C.lifetimes (arc_value expiry))) }
-        requires limits { settings.flush_limit ≢ Some 0 }
-        requires unweighed { IsSome settings.flush_limit → settings.weigher ≡ None }
-        ensures settings { IfOk result (λ state. state.settings ≡ settings_of settings.name
-            settings.time_to_live settings.time_to_idle settings.max_capacity
-            settings.first_number settings.closures settings.flush_limit (record {
-              is_lru = is_lru settings.eviction_policy;
-              hasher = arc_value settings.hasher;
-              weigher = option_map arc_value settings.weigher;
-              expiry = option_map arc_value settings.expiry;
-            })) }
+        requires { IsUsable C.Weigher.weighs C.weight C.Expiry.gives C.lifetimes settings }
+        ensures settings { IfOk result (λ state. state.settings ≡ data_of settings) }
         ensures empty { IfOk result (λ state. ⟦<C as StateView<K, V>>⟧.stands_for
             (⟦<C as StateView<K, V>>⟧.settings state.settings) state []) }
         ensures room { IfOk result (λ state. settings.initial_capacity ≤ state.initial_room) }
@@ -217,22 +207,10 @@ impl<K: Hash + Drop, V: Clone, C: CacheTypes<K, V>, R: RowStore<K, V>> State<K, 
     /// }
     /// ```
     pub fn get(&mut self, key: &K, now: u64) -> Result<Option<V>, Refused>
-        ensures reply { IfOk result (λ found.
-            ⟦<C as StateView<K, V>>⟧.replies_with self.old (Get key.now now) (Found found)) }
-        ensures stands { OnOk result
-            (⟦<C as StateView<K, V>>⟧.follows self.old (Get key.now now) self.new) }
+        // Only cloning the live value can fail, and then nothing has changed.
+        ensures ends { ReadsLive ⟦<C as CallView<K, V>>⟧.spec Get key.now now self.old self.new
+            result }
         ensures kept { IfOk result (λ found. IfSome found (C.keeps key.now)) }
-
-        // Only cloning the value can fail, and then nothing has changed.
-        ensures refused { OnErr result (self.new ≡ self.old) }
-        ensures cause { IfErr result (λ cause. cause ≡ Refused.OutOfMemory) }
-
-        // The call succeeds if no value is live, or if clones of the live value cannot fail.
-        ensures miss { ⟦<C as StateView<K, V>>⟧.at_each_history self.old (λ settings steps.
-            live_at K.eq settings key.now now (events_in steps) ≡ None → IsOk result) }
-        ensures copied { ⟦<C as StateView<K, V>>⟧.at_each_history self.old (λ settings steps.
-            IfSome (live_at K.eq settings key.now now (events_in steps)) (λ live.
-            V.is_infallible live.value → IsOk result)) }
     {
         let hash = self.hash(key);
         self.get_with_hash(key, hash, now)
@@ -441,7 +419,8 @@ impl<K: Hash + Drop, V: Clone, C: CacheTypes<K, V>, R: RowStore<K, V>> State<K, 
     pub fn weighted_size(&self) -> u64
         ensures counted { result
             ≡ min (total (λ w. w.policy_weight) (all_writes self.now)) greatest_number }
-        ensures reply { ⟦<C as StateView<K, V>>⟧.replies_with self.now WeightedSize (Counted result) }
+        ensures reply { ⟦<C as StateView<K, V>>⟧.replies_with self.now WeightedSize
+            (Counted result) }
         ensures stands { ⟦<C as StateView<K, V>>⟧.follows self.now WeightedSize self.now }
     {
         self.table.weight().min(u128::from(u64::MAX)) as u64

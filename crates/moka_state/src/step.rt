@@ -8,8 +8,10 @@ ghost use Rattle.moka_state.specs.State.{all_writes};
 ghost use Rattle.moka_state.specs.Hashes.{IsHashOfStep};
 ghost use Rattle.moka_state.specs.Noticed.{noticed_in};
 ghost use Rattle.moka_state.specs.Replies.{IsRefusal};
-ghost use Rattle.moka_state.specs.Step.{call_of, IsReplyTo, StepKeeps, ReplyKeeps, after_reply, IsRun, after_all};
+ghost use Rattle.moka_state.specs.Step.{call_of, StepKeeps, ReplyKeeps, IsRun, after_all};
+ghost use Rattle.moka_state.specs.Ends.{GoesOn, RepliesTo};
 
+use crate::call_view::CallView;
 use crate::or_insert::OrInsertRefused;
 use crate::state::{InsertRefused, State};
 use moka_expiration::view::StateView;
@@ -177,12 +179,10 @@ impl<K: Hash + Drop, V: Clone, C: CacheTypes<K, V>, R: RowStore<K, V>> State<K, 
     /// - a `Collect` that returns a value or an error.
     pub fn step(&mut self, step: Step<K, V, C>) -> Reply<K, V, C>
         requires { StepKeeps C.keeps C.Predicate.tests C.test step }
-        ensures reply { ⟦<C as StateView<K, V>>⟧.at_each_history self.old (λ settings steps.
-            IsReplyTo K.eq V.is_clone V.is_infallible settings steps
-            (call_of C.test step) result) }
-        ensures stands { ⟦<C as StateView<K, V>>⟧.at_each_history self.old (λ settings steps.
-            ⟦<C as StateView<K, V>>⟧.stands_for settings self.new
-            (after_reply K.eq settings (call_of C.test step) result steps)) }
+        ensures reply { RepliesTo ⟦<C as CallView<K, V>>⟧.spec self.old (call_of C.test step)
+            result }
+        ensures stands { GoesOn ⟦<C as CallView<K, V>>⟧.spec self.old (call_of C.test step) result
+            self.new }
         ensures kept { ReplyKeeps C.keeps step result }
         ensures refused { IsRefusal result → self.new ≡ self.old }
     {
@@ -197,12 +197,10 @@ impl<K: Hash + Drop, V: Clone, C: CacheTypes<K, V>, R: RowStore<K, V>> State<K, 
         requires hash { IsHashOfStep (⟦<C as StateView<K, V>>⟧.settings self.old.settings)
             step hash }
         requires keeps { StepKeeps C.keeps C.Predicate.tests C.test step }
-        ensures reply { ⟦<C as StateView<K, V>>⟧.at_each_history self.old (λ settings steps.
-            IsReplyTo K.eq V.is_clone V.is_infallible settings steps
-            (call_of C.test step) result) }
-        ensures stands { ⟦<C as StateView<K, V>>⟧.at_each_history self.old (λ settings steps.
-            ⟦<C as StateView<K, V>>⟧.stands_for settings self.new
-            (after_reply K.eq settings (call_of C.test step) result steps)) }
+        ensures reply { RepliesTo ⟦<C as CallView<K, V>>⟧.spec self.old (call_of C.test step)
+            result }
+        ensures stands { GoesOn ⟦<C as CallView<K, V>>⟧.spec self.old (call_of C.test step) result
+            self.new }
         ensures kept { ReplyKeeps C.keeps step result }
         ensures refused { IsRefusal result → self.new ≡ self.old }
         ensures settings { self.new.settings ≡ self.old.settings }
@@ -310,11 +308,10 @@ impl<K: Hash + Drop, V: Clone, C: CacheTypes<K, V>, R: RowStore<K, V>> State<K, 
         // given out. That happened before the run or in its replies; with a new cache, only in its
         // replies.
         ensures conserved { IfOk result (λ replies.
-            ⟦<C as StateView<K, V>>⟧.at_each_history self.old (λ settings before.
-            IsConserved K.eq settings
-            (events_in (after_all K.eq C.test settings steps.items replies.items before))
-            self.new.books
-            (given_out K.eq settings (events_in before) ++ noticed_in replies.items))) }
+            ⟦<C as StateView<K, V>>⟧.at_each_history self.old (λ settings before. IsConserved K.eq
+            settings (events_in (after_all K.eq C.test settings steps.items replies.items before))
+            self.new.books (given_out K.eq settings (events_in before)
+            ++ noticed_in replies.items))) }
         ensures bounded { IfOk result (λ _.
             ⟦<C as StateView<K, V>>⟧.at_each_history self.old (λ _ _.
             self.new.settings.behaviour.weigher ≡ None →

@@ -8,11 +8,12 @@ ghost use Rattle.moka_model.specs.Turns.{found, is_open_as};
 ghost use Rattle.moka_turns.specs.Handles.{name_by};
 ghost use Rattle.moka_state.specs.Begin.{FoundKeeps};
 ghost use Rattle.moka_state.specs.Finish.{OutcomeKeeps, outcome_of};
-ghost use Rattle.moka_state.specs.Given.{Gives, of_begin};
+ghost use Rattle.moka_state.specs.Given.{of_begin};
 ghost use Rattle.moka_state.specs.Replies.{HasNoNotice, IsRefusal, ReplyEntryKeeps};
-ghost use Rattle.moka_state.specs.Step.{IsReplyTo, after_reply};
+ghost use Rattle.moka_state.specs.Ends.{GivesAt, GoesOn, RepliesTo};
 
 use crate::answers::Begun;
+use crate::call_view::CallView;
 use crate::state::State;
 use crate::step::Reply;
 use crate::turn_replies::{begin_reply, collect_reply, compute_reply, done_reply, finish_reply};
@@ -41,9 +42,8 @@ impl<K: Hash + Drop, V: Clone, C: CacheTypes<K, V>, R: RowStore<K, V>> State<K, 
         requires asks { F.IsAlwaysCallable replace_if }
         requires says { (value : V) (said : Bool) (left : F)
             → CalledAt F.FnMut replace_if value said left → said ≡ unwrap_or replace false }
-        ensures reply { ⟦<C as StateView<K, V>>⟧.at_each_history self.old (λ settings steps.
-            Gives K.eq V.is_clone V.is_infallible settings steps
-            (Begin (arc_value key.now) kind replace now) (of_begin result)) }
+        ensures reply { GivesAt ⟦<C as CallView<K, V>>⟧.spec self.old
+            (Begin (arc_value key.now) kind replace now) (of_begin result) }
         ensures stands { OnOk result (⟦<C as StateView<K, V>>⟧.follows self.old
             (Begin (arc_value key.now) kind replace now) self.new) }
         ensures refused { OnErr result (self.new ≡ self.old) }
@@ -64,12 +64,10 @@ impl<K: Hash + Drop, V: Clone, C: CacheTypes<K, V>, R: RowStore<K, V>> State<K, 
         replace: Option<bool>,
         now: u64,
     ) -> Reply<K, V, C>
-        ensures reply { ⟦<C as StateView<K, V>>⟧.at_each_history self.old (λ settings steps.
-            IsReplyTo K.eq V.is_clone V.is_infallible settings steps
-            (Begin (arc_value key) kind replace now) result) }
-        ensures stands { ⟦<C as StateView<K, V>>⟧.at_each_history self.old (λ settings steps.
-            ⟦<C as StateView<K, V>>⟧.stands_for settings self.new
-            (after_reply K.eq settings (Begin (arc_value key) kind replace now) result steps)) }
+        ensures reply { RepliesTo ⟦<C as CallView<K, V>>⟧.spec self.old
+            (Begin (arc_value key) kind replace now) result }
+        ensures stands { GoesOn ⟦<C as CallView<K, V>>⟧.spec self.old
+            (Begin (arc_value key) kind replace now) result self.new }
         ensures kept { ReplyEntryKeeps C.keeps result }
         ensures refused { IsRefusal result → self.new ≡ self.old }
         ensures settings { self.new.settings ≡ self.old.settings }
@@ -83,12 +81,10 @@ impl<K: Hash + Drop, V: Clone, C: CacheTypes<K, V>, R: RowStore<K, V>> State<K, 
 
     /// Does a `BeginCompute`.
     pub(crate) fn step_begin_compute(&mut self, key: Arc<K>, keep: bool, now: u64) -> Reply<K, V, C>
-        ensures reply { ⟦<C as StateView<K, V>>⟧.at_each_history self.old (λ settings steps.
-            IsReplyTo K.eq V.is_clone V.is_infallible settings steps
-            (BeginCompute (arc_value key) keep now) result) }
-        ensures stands { ⟦<C as StateView<K, V>>⟧.at_each_history self.old (λ settings steps.
-            ⟦<C as StateView<K, V>>⟧.stands_for settings self.new
-            (after_reply K.eq settings (BeginCompute (arc_value key) keep now) result steps)) }
+        ensures reply { RepliesTo ⟦<C as CallView<K, V>>⟧.spec self.old
+            (BeginCompute (arc_value key) keep now) result }
+        ensures stands { GoesOn ⟦<C as CallView<K, V>>⟧.spec self.old
+            (BeginCompute (arc_value key) keep now) result self.new }
         ensures kept { ReplyEntryKeeps C.keeps result }
         ensures refused { IsRefusal result → self.new ≡ self.old }
         ensures settings { self.new.settings ≡ self.old.settings }
@@ -104,12 +100,10 @@ impl<K: Hash + Drop, V: Clone, C: CacheTypes<K, V>, R: RowStore<K, V>> State<K, 
         now: u64,
     ) -> Reply<K, V, C>
         requires { OutcomeKeeps (C.keeps (arc_value name.key)) outcome }
-        ensures reply { ⟦<C as StateView<K, V>>⟧.at_each_history self.old (λ settings steps.
-            IsReplyTo K.eq V.is_clone V.is_infallible settings steps
-            (Finish (name_by name) (outcome_of outcome) now) result) }
-        ensures stands { ⟦<C as StateView<K, V>>⟧.at_each_history self.old (λ settings steps.
-            ⟦<C as StateView<K, V>>⟧.stands_for settings self.new
-            (after_reply K.eq settings (Finish (name_by name) (outcome_of outcome) now) result steps)) }
+        ensures reply { RepliesTo ⟦<C as CallView<K, V>>⟧.spec self.old
+            (Finish (name_by name) (outcome_of outcome) now) result }
+        ensures stands { GoesOn ⟦<C as CallView<K, V>>⟧.spec self.old
+            (Finish (name_by name) (outcome_of outcome) now) result self.new }
         ensures no_notice { HasNoNotice result }
         ensures refused { IsRefusal result → self.new ≡ self.old }
         ensures settings { self.new.settings ≡ self.old.settings }
@@ -122,12 +116,10 @@ impl<K: Hash + Drop, V: Clone, C: CacheTypes<K, V>, R: RowStore<K, V>> State<K, 
 
     /// Does an `Abandon`.
     pub(crate) fn step_abandon(&mut self, name: TurnName<K>) -> Reply<K, V, C>
-        ensures reply { ⟦<C as StateView<K, V>>⟧.at_each_history self.old (λ settings steps.
-            IsReplyTo K.eq V.is_clone V.is_infallible settings steps
-            (Abandon (name_by name)) result) }
-        ensures stands { ⟦<C as StateView<K, V>>⟧.at_each_history self.old (λ settings steps.
-            ⟦<C as StateView<K, V>>⟧.stands_for settings self.new
-            (after_reply K.eq settings (Abandon (name_by name)) result steps)) }
+        ensures reply { RepliesTo ⟦<C as CallView<K, V>>⟧.spec self.old (Abandon (name_by name))
+            result }
+        ensures stands { GoesOn ⟦<C as CallView<K, V>>⟧.spec self.old (Abandon (name_by name))
+            result self.new }
         ensures no_notice { HasNoNotice result }
         ensures refused { IsRefusal result → self.new ≡ self.old }
         ensures settings { self.new.settings ≡ self.old.settings }
@@ -138,12 +130,10 @@ impl<K: Hash + Drop, V: Clone, C: CacheTypes<K, V>, R: RowStore<K, V>> State<K, 
     /// Does a `Collect`. If the turn is open, the ticket stays unspent, and a later step may name
     /// it again.
     pub(crate) fn step_collect(&mut self, name: TurnName<K>) -> Reply<K, V, C>
-        ensures reply { ⟦<C as StateView<K, V>>⟧.at_each_history self.old (λ settings steps.
-            IsReplyTo K.eq V.is_clone V.is_infallible settings steps
-            (Collect (name_by name)) result) }
-        ensures stands { ⟦<C as StateView<K, V>>⟧.at_each_history self.old (λ settings steps.
-            ⟦<C as StateView<K, V>>⟧.stands_for settings self.new
-            (after_reply K.eq settings (Collect (name_by name)) result steps)) }
+        ensures reply { RepliesTo ⟦<C as CallView<K, V>>⟧.spec self.old (Collect (name_by name))
+            result }
+        ensures stands { GoesOn ⟦<C as CallView<K, V>>⟧.spec self.old (Collect (name_by name))
+            result self.new }
         ensures no_notice { HasNoNotice result }
         ensures refused { IsRefusal result → self.new ≡ self.old }
         ensures settings { self.new.settings ≡ self.old.settings }
@@ -153,12 +143,10 @@ impl<K: Hash + Drop, V: Clone, C: CacheTypes<K, V>, R: RowStore<K, V>> State<K, 
 
     /// Does a `Leave`.
     pub(crate) fn step_leave(&mut self, name: TurnName<K>) -> Reply<K, V, C>
-        ensures reply { ⟦<C as StateView<K, V>>⟧.at_each_history self.old (λ settings steps.
-            IsReplyTo K.eq V.is_clone V.is_infallible settings steps
-            (Leave (name_by name)) result) }
-        ensures stands { ⟦<C as StateView<K, V>>⟧.at_each_history self.old (λ settings steps.
-            ⟦<C as StateView<K, V>>⟧.stands_for settings self.new
-            (after_reply K.eq settings (Leave (name_by name)) result steps)) }
+        ensures reply { RepliesTo ⟦<C as CallView<K, V>>⟧.spec self.old (Leave (name_by name))
+            result }
+        ensures stands { GoesOn ⟦<C as CallView<K, V>>⟧.spec self.old (Leave (name_by name)) result
+            self.new }
         ensures no_notice { HasNoNotice result }
         ensures refused { IsRefusal result → self.new ≡ self.old }
         ensures settings { self.new.settings ≡ self.old.settings }

@@ -3,9 +3,11 @@
 ghost use Rattle.std.specs.Prelude.{◌≡◌, IfOk, IfErr, OnOk, OnErr};
 ghost use Rattle.moka_model.specs.Calls.{Abandon, Collect, Leave};
 ghost use Rattle.moka_turns.specs.Handles.{turn_name, ticket_name};
-ghost use Rattle.moka_state.specs.Given.{Gives, IfUnspent, of_done, of_collect};
+ghost use Rattle.moka_state.specs.Given.{IfUnspent, of_done, of_collect};
+ghost use Rattle.moka_state.specs.Ends.{GivesAt};
 
 use crate::answers::{CollectRefused, Collected, into_collected};
+use crate::call_view::CallView;
 use crate::state::State;
 use moka_expiration::view::StateView;
 use moka_policy::policy::{CacheTypes, Refused};
@@ -27,9 +29,8 @@ impl<K: Hash + Drop, V: Clone, C: CacheTypes<K, V>, R: RowStore<K, V>> State<K, 
     ///
     /// Costs a fixed number of lookups in the table of turns.
     pub fn abandon(&mut self, turn: Turn<K>) -> Result<(), Refused>
-        ensures reply { ⟦<C as StateView<K, V>>⟧.at_each_history self.old (λ settings steps.
-            Gives K.eq V.is_clone V.is_infallible settings steps (Abandon (turn_name turn))
-            (of_done result)) }
+        ensures reply { GivesAt ⟦<C as CallView<K, V>>⟧.spec self.old (Abandon (turn_name turn))
+            (of_done result) }
         ensures stands { OnOk result (⟦<C as StateView<K, V>>⟧.follows self.old
             (Abandon (turn_name turn)) self.new) }
         ensures refused { OnErr result (self.new ≡ self.old) }
@@ -55,9 +56,8 @@ impl<K: Hash + Drop, V: Clone, C: CacheTypes<K, V>, R: RowStore<K, V>> State<K, 
     ///
     /// Costs a fixed number of lookups in the table of turns.
     pub fn leave(&mut self, ticket: Ticket<K>) -> Result<(), Refused>
-        ensures reply { ⟦<C as StateView<K, V>>⟧.at_each_history self.old (λ settings steps.
-            Gives K.eq V.is_clone V.is_infallible settings steps (Leave (ticket_name ticket))
-            (of_done result)) }
+        ensures reply { GivesAt ⟦<C as CallView<K, V>>⟧.spec self.old (Leave (ticket_name ticket))
+            (of_done result) }
         ensures stands { OnOk result (⟦<C as StateView<K, V>>⟧.follows self.old
             (Leave (ticket_name ticket)) self.new) }
         ensures refused { OnErr result (self.new ≡ self.old) }
@@ -88,9 +88,8 @@ impl<K: Hash + Drop, V: Clone, C: CacheTypes<K, V>, R: RowStore<K, V>> State<K, 
         &mut self,
         ticket: Ticket<K>,
     ) -> Result<Collected<K, V, C::Error>, CollectRefused<K>>
-        ensures reply { ⟦<C as StateView<K, V>>⟧.at_each_history self.old (λ settings steps.
-            Gives K.eq V.is_clone V.is_infallible settings steps (Collect (ticket_name ticket))
-            (of_collect result)) }
+        ensures reply { GivesAt ⟦<C as CallView<K, V>>⟧.spec self.old (Collect (ticket_name ticket))
+            (of_collect result) }
         ensures stands { OnOk result (⟦<C as StateView<K, V>>⟧.follows self.old
             (Collect (ticket_name ticket)) self.new) }
         ensures unspent { IfOk result

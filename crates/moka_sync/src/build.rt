@@ -1,5 +1,5 @@
 //! Makes shared caches from the settings of their builder.
-ghost use Rattle.std.specs.Prelude.{◌≡◌, ◌≢◌, ◌<◌, ◌≤◌, ◌^◌, [], Some, None, length, option_map, unwrap_or, IfSome, IfOk, IfErr, IsSome, OnOk};
+ghost use Rattle.std.specs.Prelude.{◌≡◌, ◌<◌, ◌≤◌, ◌^◌, [], None, length, option_map, unwrap_or, IfOk, IfErr, OnOk};
 ghost use Rattle.std.specs.Arc.{arc_value};
 ghost use Rattle.std.specs.List.{AllByRecursion};
 ghost use Rattle.std.specs.String.{string_bytes};
@@ -8,6 +8,7 @@ ghost use Rattle.moka_segmented.specs.SegmentedData.{data_of};
 ghost use Rattle.moka_sync.specs.Builder.{build_refused, settings_built};
 ghost use Rattle.moka_sync.specs.Cache.{IsMadeOf};
 ghost use Rattle.moka_sync.specs.Segments.{AreMadeOf, IsBuiltInSegments, settings_of_one};
+ghost use Rattle.moka_state.specs.Settings.{IsUsable};
 
 use crate::builder::{CacheBuilder, Segmented, share};
 use crate::cache::{Cache, Inner};
@@ -35,12 +36,7 @@ pub(crate) fn cache_of<K: Hash + Drop, V: Clone, C: CacheTypes<K, V>, W: Drop>(
     waits: W,
 ) -> Result<Cache<K, V, C, W>, BuildError>
     requires named { option_map string_bytes name ≡ (data_of settings).name }
-    requires weighs { IfSome settings.weigher (λ weigher.
-        C.Weigher.weighs (arc_value weigher) (C.weight (arc_value weigher))) }
-    requires gives { IfSome settings.expiry (λ expiry.
-        C.Expiry.gives (arc_value expiry) (C.lifetimes (arc_value expiry))) }
-    requires limits { settings.flush_limit ≢ Some 0 }
-    requires unweighed { IsSome settings.flush_limit → settings.weigher ≡ None }
+    requires usable { IsUsable C.Weigher.weighs C.weight C.Expiry.gives C.lifetimes settings }
     ensures made { IfOk result (IsMadeOf (data_of settings) (arc_value clock)
         (option_map arc_value listener)) }
     ensures empty { IfOk result (λ cache. ⟦<C as StateView<K, V>>⟧.stands_for
@@ -89,13 +85,8 @@ impl<K: Hash + Drop, V: Clone, C: CacheTypes<K, V>, T> CacheBuilder<K, V, C, T> 
         requires { build_refused self ≡ None }
         ensures settings { IfOk result (λ parts.
             data_of parts.settings ≡ settings_built self hasher) }
-        ensures weighs { IfOk result (λ parts. IfSome parts.settings.weigher (λ weigher.
-            C.Weigher.weighs (arc_value weigher) (C.weight (arc_value weigher)))) }
-        ensures gives { IfOk result (λ parts. IfSome parts.settings.expiry (λ expiry.
-            C.Expiry.gives (arc_value expiry) (C.lifetimes (arc_value expiry)))) }
-        ensures limits { IfOk result (λ parts. parts.settings.flush_limit ≢ Some 0) }
-        ensures unweighed { IfOk result (λ parts.
-            IsSome parts.settings.flush_limit → parts.settings.weigher ≡ None) }
+        ensures usable { IfOk result (λ parts.
+            IsUsable C.Weigher.weighs C.weight C.Expiry.gives C.lifetimes parts.settings) }
         ensures room { IfOk result (λ parts.
             parts.settings.initial_capacity ≡ self.initial_capacity) }
         ensures clock { IfOk result (λ parts. arc_value parts.clock ≡ clock) }
@@ -211,12 +202,7 @@ fn segments_of<K: Hash + Drop, V: Clone, C: CacheTypes<K, V>, W: Clone + Drop>(
     waits: &W,
 ) -> Result<Vec<Cache<K, V, C, W>>, BuildError>
     requires bits { bits < 64 }
-    requires weighs { IfSome settings.now.weigher (λ weigher.
-        C.Weigher.weighs (arc_value weigher) (C.weight (arc_value weigher))) }
-    requires gives { IfSome settings.now.expiry (λ expiry.
-        C.Expiry.gives (arc_value expiry) (C.lifetimes (arc_value expiry))) }
-    requires limits { settings.now.flush_limit ≢ Some 0 }
-    requires unweighed { IsSome settings.now.flush_limit → settings.now.weigher ≡ None }
+    requires usable { IsUsable C.Weigher.weighs C.weight C.Expiry.gives C.lifetimes settings.now }
     ensures count { IfOk result (λ segments. length segments.items ≡ 2 ^ bits) }
     ensures made { IfOk result (λ segments. AreMadeOf bits (data_of settings.now)
         (arc_value clock.now) (option_map arc_value listener.now) segments.items) }
@@ -249,12 +235,7 @@ fn build_segment<K: Hash + Drop, V: Clone, C: CacheTypes<K, V>, W: Clone + Drop>
     waits: &W,
 ) -> Result<Cache<K, V, C, W>, BuildError>
     requires some { 0 < count }
-    requires weighs { IfSome settings.now.weigher (λ weigher.
-        C.Weigher.weighs (arc_value weigher) (C.weight (arc_value weigher))) }
-    requires gives { IfSome settings.now.expiry (λ expiry.
-        C.Expiry.gives (arc_value expiry) (C.lifetimes (arc_value expiry))) }
-    requires limits { settings.now.flush_limit ≢ Some 0 }
-    requires unweighed { IsSome settings.now.flush_limit → settings.now.weigher ≡ None }
+    requires usable { IsUsable C.Weigher.weighs C.weight C.Expiry.gives C.lifetimes settings.now }
     ensures made { IfOk result (IsMadeOf (settings_of_one count (data_of settings.now))
         (arc_value clock.now) (option_map arc_value listener.now)) }
     ensures empty { IfOk result (λ cache. ⟦<C as StateView<K, V>>⟧.stands_for

@@ -1,5 +1,5 @@
 //! The builder of owned and shared caches.
-ghost use Rattle.std.specs.Prelude.{◌≡◌, ◌≢◌, ◌≤◌, ◌^◌, true, Some, None, [], option_map, unwrap_or, IfSome, IfOk, IfErr, IsSome, OnOk};
+ghost use Rattle.std.specs.Prelude.{◌≡◌, ◌≤◌, ◌^◌, true, Some, None, [], option_map, unwrap_or, IfSome, IfOk, IfErr, OnOk};
 ghost use Rattle.std.specs.Arc.{arc_value};
 ghost use Rattle.std.specs.List.{AllByRecursion};
 ghost use Rattle.std.specs.String.{string_bytes};
@@ -8,6 +8,7 @@ ghost use Rattle.moka_sync.specs.Builder.{BuilderData, default_settings, segment
 ghost use Rattle.moka_sync.specs.Cache.{IsBuilt};
 ghost use Rattle.moka_segment_model.specs.Segments.{share, bits_for};
 ghost use Rattle.moka_segmented.specs.SegmentedData.{data_of};
+ghost use Rattle.moka_state.specs.Settings.{IsUsable};
 
 use crate::build::cache_of;
 use crate::cache::Cache;
@@ -480,13 +481,8 @@ impl<K: Hash + Drop, V: Clone, C: CacheTypes<K, V>, T> CacheBuilder<K, V, C, T> 
     ) -> Result<(Settings<K, V, C>, Option<C::Listener>), BuildError>
         requires { build_refused self ≡ None }
         ensures settings { IfOk result (λ settled. data_of settled.0 ≡ settings_built self hasher) }
-        ensures weighs { IfOk result (λ settled. IfSome settled.0.weigher (λ weigher.
-            C.Weigher.weighs (arc_value weigher) (C.weight (arc_value weigher)))) }
-        ensures gives { IfOk result (λ settled. IfSome settled.0.expiry (λ expiry.
-            C.Expiry.gives (arc_value expiry) (C.lifetimes (arc_value expiry)))) }
-        ensures limits { IfOk result (λ settled. settled.0.flush_limit ≢ Some 0) }
-        ensures unweighed { IfOk result (λ settled.
-            IsSome settled.0.flush_limit → settled.0.weigher ≡ None) }
+        ensures usable { IfOk result (λ settled.
+            IsUsable C.Weigher.weighs C.weight C.Expiry.gives C.lifetimes settled.0) }
         ensures room { IfOk result (λ settled.
             settled.0.initial_capacity ≡ self.initial_capacity) }
         ensures listener { IfOk result (λ settled. settled.1 ≡ self.listener) }
@@ -549,12 +545,7 @@ fn state_of<K: Hash + Drop, V: Clone, C: CacheTypes<K, V>>(
     alloc: Global,
     settings: Settings<K, V, C>,
 ) -> Result<CacheState<K, V, C>, BuildError>
-    requires weighs { IfSome settings.weigher (λ weigher.
-        C.Weigher.weighs (arc_value weigher) (C.weight (arc_value weigher))) }
-    requires gives { IfSome settings.expiry (λ expiry.
-        C.Expiry.gives (arc_value expiry) (C.lifetimes (arc_value expiry))) }
-    requires limits { settings.flush_limit ≢ Some 0 }
-    requires unweighed { IsSome settings.flush_limit → settings.weigher ≡ None }
+    requires { IsUsable C.Weigher.weighs C.weight C.Expiry.gives C.lifetimes settings }
     ensures settings { IfOk result (λ state. state.settings ≡ data_of settings) }
     ensures empty { IfOk result (λ state. ⟦<C as StateView<K, V>>⟧.stands_for
         (⟦<C as StateView<K, V>>⟧.settings state.settings) state []) }

@@ -2,6 +2,7 @@ pub mod Abandons
 pub mod Begins
 pub mod Changes
 pub mod Copies
+pub mod Ends
 pub mod Leaves
 pub mod Opens
 pub mod Searches

@@ -1,11 +1,12 @@
 -- The result of collecting a ticket.
-use Rattle.std.specs.Prelude.{⊤, ◌≡◌, Bool, true, false, Option, Some, None, Result, Ok, Err}
+use Rattle.std.specs.Prelude.{⊤, ◌≡◌, Option, Some, None, Result, Ok, Err}
 use Rattle.std.specs.declared.sync.Arc.{Arc}
 use Rattle.std.specs.declared.alloc.Global.{Global}
 use Rattle.moka_model.specs.Turns.{Turn, End}
 use Rattle.moka_model.specs.Turns as turning
 use Rattle.moka_model.specs.Calls.{IsCopiedEnd}
 use Rattle.moka_turns.specs.declared.handles.Ticket.{Ticket}
+use Rattle.moka_turns.specs.declared.table.TurnEnd.{TurnEnd}
 use Rattle.moka_turns.specs.declared.table.CollectState.{CollectState}
 use Rattle.moka_turns.specs.declared.table.CollectState.TheVariants.{NotYet, Ended}
 use Rattle.moka_policy.specs.declared.policy.Refused.TheVariants.{OutOfMemory, UnknownTicket}
@@ -16,6 +17,10 @@ abbrev pub TakesCopy : {V E : Type 0} → Option (End V E) → Type 0  -- clonin
 TakesCopy (Some (turning.Value v replaced)) = ⊤
 TakesCopy (Some (turning.Failed e)) = ⊤
 TakesCopy end = ⊥
+
+-- An end is a clone of another one.
+abbrev pub IsEndClone : {V E : Type 0} → (V → V → Type 0) → TurnEnd V E → TurnEnd V E → Type 0
+IsEndClone is_clone end copy = IsCopiedEnd is_clone (Some (end_of end)) (Some (end_of copy))
 
 module _ {K V E : Type 0} where
   -- The result of collecting a ticket, by the turn that has its name and an unspent ticket. Without one it is

@@ -1,8 +1,10 @@
 pub mod Begun
-pub mod Handles
-pub mod Represents
-pub mod Open
-pub mod Table
+pub mod Calls
 pub mod CollectState
+pub mod Handles
+pub mod Open
+pub mod Represents
+pub mod Table
 pub mod TurnKey
+pub mod TurnTable
 pub mod Views

@@ -1,14 +1,12 @@
 //! The begin of a turn in a table of turns.
-ghost use Rattle.std.specs.Prelude.{◌≡◌, ◌≢◌, ℕ, Bool, Option, List, true, nat_eq, None, IsSome, is_some, IfOk, IfErr, OnErr};
+ghost use Rattle.std.specs.Prelude.{◌≡◌, ◌≢◌, ℕ, Bool, true, None, IsSome, is_some, IfOk, IfErr, OnOk, OnErr};
 ghost use Rattle.std.specs.Arc.{arc_value};
-ghost use Rattle.indexmap.specs.IndexMap.{get, IsUnchanged};
-ghost use Rattle.moka_model.specs.Turns as turning;
-ghost use Rattle.moka_model.specs.Turns.{Opened, found, is_open_for, moved};
-ghost use Rattle.moka_model.specs.Calls.{IsCopyOf};
 ghost use Rattle.moka_model.specs.Numbers.{greatest_number};
 ghost use Rattle.moka_turns.specs.Handles.{turn_name};
-ghost use Rattle.moka_turns.specs.Represents.{Represents, AreSound, name_of};
-ghost use Rattle.moka_turns.specs.Begun.{IsBegun, IfRun, IfWait, IsNamed, as_waiting};
+ghost use Rattle.moka_turns.specs.Represents.{name_of};
+ghost use Rattle.moka_turns.specs.TurnTable.{open_at, AtEachChange, OpensTurn, SameTurns};
+ghost use Rattle.moka_turns.specs.Begun.{IfRun, IfWait, IsNamed, as_waiting};
+ghost use Rattle.moka_turns.specs.Calls.{Begins};
 
 use crate::handles::{Ticket, Turn};
 use crate::table::{OpenTurn, TurnTable};
@@ -42,21 +40,12 @@ impl<K: Eq + Drop, V: Clone, E: Drop> TurnTable<K, V, E> {
         number: u64,
         may_wait: bool,
     ) -> Result<TurnBegun<K>, Refused>
-        ensures begins { (hash_of : K → ℕ) (ts : List (turning.Turn K V E))
-            → ((a b : K) → K.eq a b ≡ true → hash_of a ≡ hash_of b)
-            → key.hash ≡ hash_of (arc_value key.key)
-            → AreSound K.eq ts
-            → Represents K.eq V.is_clone hash_of ts
-            (get ⟦<TurnKey<K> as PartialEq>⟧.eq self.old.opened) (get nat_eq self.old.ended)
-            → IsBegun (λ after. Represents K.eq V.is_clone hash_of after
-            (get ⟦<TurnKey<K> as PartialEq>⟧.eq self.new.opened) (get nat_eq self.new.ended))
-            key number may_wait ts (found (is_open_for K.eq key.kind (arc_value key.key)) ts)
-            result }
+        ensures begins { AtEachChange V.is_clone key self.old self.new
+            (Begins K.eq key number may_wait result) }
         ensures number { IfOk result (IfRun (number ≢ greatest_number)) }
         ensures named { IfOk result (IsNamed key.kind (arc_value key.key)) }
         ensures waits { IfOk result (IfWait (may_wait ≡ true)) }
-        ensures unchanged { OnErr result (IsUnchanged self.old.opened self.new.opened
-            × IsUnchanged self.old.ended self.new.ended) }
+        ensures unchanged { OnErr result (SameTurns self.old self.new) }
     {
         if self.is_awaitable(&key) {
             return self.wait_for(key, may_wait);
@@ -70,7 +59,7 @@ impl<K: Eq + Drop, V: Clone, E: Drop> TurnTable<K, V, E> {
 
     /// Returns whether a turn of a kind and key is open.
     pub fn is_awaitable(&self, key: &TurnKey<K>) -> bool
-        ensures { result ≡ is_some (get ⟦<TurnKey<K> as PartialEq>⟧.eq self.now.opened key.now) }
+        ensures { result ≡ is_some (open_at self.now key.now) }
     {
         match self.find(key) {
             Some(_) => true,
@@ -80,22 +69,13 @@ impl<K: Eq + Drop, V: Clone, E: Drop> TurnTable<K, V, E> {
 
     // Returns a ticket of the open turn of a kind and key, if the caller may wait.
     fn wait_for(&mut self, key: TurnKey<K>, may_wait: bool) -> Result<TurnBegun<K>, Refused>
-        requires { IsSome (get ⟦<TurnKey<K> as PartialEq>⟧.eq self.old.opened key) }
-        ensures begins { (number : ℕ) (hash_of : K → ℕ) (ts : List (turning.Turn K V E))
-            → ((a b : K) → K.eq a b ≡ true → hash_of a ≡ hash_of b)
-            → key.hash ≡ hash_of (arc_value key.key)
-            → AreSound K.eq ts
-            → Represents K.eq V.is_clone hash_of ts
-            (get ⟦<TurnKey<K> as PartialEq>⟧.eq self.old.opened) (get nat_eq self.old.ended)
-            → IsBegun (λ after. Represents K.eq V.is_clone hash_of after
-            (get ⟦<TurnKey<K> as PartialEq>⟧.eq self.new.opened) (get nat_eq self.new.ended))
-            key number may_wait ts (found (is_open_for K.eq key.kind (arc_value key.key)) ts)
-            result }
+        requires { IsSome (open_at self.old key) }
+        ensures begins { (number : ℕ) → AtEachChange V.is_clone key self.old self.new
+            (Begins K.eq key number may_wait result) }
         ensures number { (number : ℕ) → IfOk result (IfRun (number ≢ greatest_number)) }
         ensures named { IfOk result (IsNamed key.kind (arc_value key.key)) }
         ensures waits { IfOk result (IfWait (may_wait ≡ true)) }
-        ensures unchanged { OnErr result (IsUnchanged self.old.opened self.new.opened
-            × IsUnchanged self.old.ended self.new.ended) }
+        ensures unchanged { OnErr result (SameTurns self.old self.new) }
     {
         if !may_wait {
             return Err(Refused::TurnIsOpen);
@@ -113,21 +93,12 @@ impl<K: Eq + Drop, V: Clone, E: Drop> TurnTable<K, V, E> {
     /// - `NumbersUsedUp`: the turn has as many unspent tickets as can be counted. Every turn stays
     ///   as it was.
     pub fn wait_open(&mut self, key: TurnKey<K>) -> Result<Ticket<K>, Refused>
-        requires { IsSome (get ⟦<TurnKey<K> as PartialEq>⟧.eq self.old.opened key) }
-        ensures begins { (number : ℕ) (hash_of : K → ℕ) (ts : List (turning.Turn K V E))
-            → ((a b : K) → K.eq a b ≡ true → hash_of a ≡ hash_of b)
-            → key.hash ≡ hash_of (arc_value key.key)
-            → AreSound K.eq ts
-            → Represents K.eq V.is_clone hash_of ts
-            (get ⟦<TurnKey<K> as PartialEq>⟧.eq self.old.opened) (get nat_eq self.old.ended)
-            → IsBegun (λ after. Represents K.eq V.is_clone hash_of after
-            (get ⟦<TurnKey<K> as PartialEq>⟧.eq self.new.opened) (get nat_eq self.new.ended))
-            key number true ts (found (is_open_for K.eq key.kind (arc_value key.key)) ts)
-            (as_waiting result) }
+        requires { IsSome (open_at self.old key) }
+        ensures begins { (number : ℕ) → AtEachChange V.is_clone key self.old self.new
+            (Begins K.eq key number true (as_waiting result)) }
         ensures named { IfOk result (λ ticket. (ticket.key.kind ≡ key.kind)
             × (arc_value ticket.key.key ≡ arc_value key.key)) }
-        ensures unchanged { OnErr result (IsUnchanged self.old.opened self.new.opened
-            × IsUnchanged self.old.ended self.new.ended) }
+        ensures unchanged { OnErr result (SameTurns self.old self.new) }
     {
         match self.wait(&key) {
             Some(number) => Ok(Ticket { key, number }),
@@ -140,22 +111,13 @@ impl<K: Eq + Drop, V: Clone, E: Drop> TurnTable<K, V, E> {
 
     // Opens a turn of a kind and key with this number.
     fn open(&mut self, key: TurnKey<K>, number: u64) -> Result<TurnBegun<K>, Refused>
-        requires absent { get ⟦<TurnKey<K> as PartialEq>⟧.eq self.old.opened key ≡ None }
+        requires absent { open_at self.old key ≡ None }
         requires number { number ≢ greatest_number }
-        ensures begins { (may_wait : Bool) (hash_of : K → ℕ) (ts : List (turning.Turn K V E))
-            → ((a b : K) → K.eq a b ≡ true → hash_of a ≡ hash_of b)
-            → key.hash ≡ hash_of (arc_value key.key)
-            → AreSound K.eq ts
-            → Represents K.eq V.is_clone hash_of ts
-            (get ⟦<TurnKey<K> as PartialEq>⟧.eq self.old.opened) (get nat_eq self.old.ended)
-            → IsBegun (λ after. Represents K.eq V.is_clone hash_of after
-            (get ⟦<TurnKey<K> as PartialEq>⟧.eq self.new.opened) (get nat_eq self.new.ended))
-            key number may_wait ts (found (is_open_for K.eq key.kind (arc_value key.key)) ts)
-            result }
+        ensures begins { (may_wait : Bool) → AtEachChange V.is_clone key self.old self.new
+            (Begins K.eq key number may_wait result) }
         ensures named { IfOk result (IsNamed key.kind (arc_value key.key)) }
         ensures waits { (may_wait : Bool) → IfOk result (IfWait (may_wait ≡ true)) }
-        ensures unchanged { OnErr result (IsUnchanged self.old.opened self.new.opened
-            × IsUnchanged self.old.ended self.new.ended) }
+        ensures unchanged { OnErr result (SameTurns self.old self.new) }
     {
         let Ok(turn) = self.open_shown(key, number, false, None) else {
             return Err(Refused::OutOfMemory);
@@ -179,20 +141,12 @@ impl<K: Eq + Drop, V: Clone, E: Drop> TurnTable<K, V, E> {
         shown: bool,
         saved: Option<V>,
     ) -> Result<Turn<K>, Refused>
-        requires { get ⟦<TurnKey<K> as PartialEq>⟧.eq self.old.opened key ≡ None }
-        ensures opens { IfOk result (λ turn.
-            (hash_of : K → ℕ) (ts : List (turning.Turn K V E)) (value : Option V)
-            → ((a b : K) → K.eq a b ≡ true → hash_of a ≡ hash_of b)
-            → key.hash ≡ hash_of (arc_value key.key)
-            → IsCopyOf V.is_clone value saved
-            → Represents K.eq V.is_clone hash_of ts
-            (get ⟦<TurnKey<K> as PartialEq>⟧.eq self.old.opened) (get nat_eq self.old.ended)
-            → Represents K.eq V.is_clone hash_of (moved (Opened (name_of key number) shown value) ts)
-            (get ⟦<TurnKey<K> as PartialEq>⟧.eq self.new.opened) (get nat_eq self.new.ended)) }
+        requires { open_at self.old key ≡ None }
+        ensures opens { OnOk result
+            (OpensTurn V.is_clone key number shown saved self.old self.new) }
         ensures name { IfOk result (λ turn. turn_name turn ≡ name_of key number) }
         ensures cause { IfErr result (λ cause. cause ≡ Refused.OutOfMemory) }
-        ensures unchanged { OnErr result (IsUnchanged self.old.opened self.new.opened
-            × IsUnchanged self.old.ended self.new.ended) }
+        ensures unchanged { OnErr result (SameTurns self.old self.new) }
     {
         let turn = OpenTurn {
             number,

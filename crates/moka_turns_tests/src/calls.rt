@@ -117,7 +117,7 @@ pub fn end<V: Clone, E: Drop>(
     if turns.find(&key).is_none() {
         return None;
     }
-    Some(turns.end(key, end))
+    Some(turns.end(&key, Some(end)))
 }
 
 /// Leaves a ticket of an open turn if it has one. Returns whether it had.

@@ -1,7 +1,7 @@
 use Rattle.std.proofs.Common.{sym, ap, ◌∙◌}
 use Rattle.std.proofs.lemmas.Bool.{cases_eq}
 use Rattle.std.proofs.Common.{⊎_elim}
-use Rattle.moka_index.specs.Nodes.{same_of, hash_of}
+use Rattle.moka_index.specs.Deques.{same_in, hash_in}
 use Rattle.moka_index.proofs.PathLemmas.{row_of-row, row_of-end}
 use Rattle.moka_index.proofs.IndexLemmas.{number-within, has-first, within-places, within-chain, before-hash, before-within, passed-by, dropped}
 use Rattle.moka_index.proofs.row_index.unchain.Goals as goal
@@ -27,14 +27,14 @@ set_same-requires c = before-within c.args.orders.now c.args.bucket_heads.now c.
 pub returns-then-first-number-clause-hash : goal.returns-then-first-number-clause-hash
 returns-then-first-number-clause-hash c = λ k.
     ⊎_elim
-    (λ e. ap (hash_of c.set_same.new.self.nodes.items) e ∙ c.set_same.ensures.hashed
-    ∙ sym (before-hash c.args.orders.now c.args.bucket_heads.now c.args.number c.requires.stands c.requires.indexed c.hash-hash.result c.in-Some.first c.hash-hash.ensures (c.in-Some.ensures).first c.predecessor-before.result c.predecessor-before.ensures) ∙ ap (hash_of c.args.orders.now.nodes.items) (sym e))
+    (λ e. ap (hash_in c.set_same.new.self) e ∙ c.set_same.ensures.hashed
+    ∙ sym (before-hash c.args.orders.now c.args.bucket_heads.now c.args.number c.requires.stands c.requires.indexed c.hash-hash.result c.in-Some.first c.hash-hash.ensures (c.in-Some.ensures).first c.predecessor-before.result c.predecessor-before.ensures) ∙ ap (hash_in c.args.orders.now) (sym e))
     (λ ne. c.set_same.ensures.others_hashed k ne) (cases_eq k c.predecessor-before.result)
 
 pub returns-then-first-number-clause-linked : goal.returns-then-first-number-clause-linked
 returns-then-first-number-clause-linked c =
     passed-by c.args.orders.now c.args.bucket_heads.now c.args.number c.requires.stands c.requires.indexed c.hash-hash.result c.in-Some.first c.hash-hash.ensures (c.in-Some.ensures).first c.predecessor-before.result c.predecessor-before.ensures
-    (same_of c.set_same.new.self.nodes.items) (c.set_same.ensures.changed ∙ c.chain_link-same.ensures) c.set_same.ensures.others
+    (same_in c.set_same.new.self) (c.set_same.ensures.changed ∙ c.chain_link-same.ensures) c.set_same.ensures.others
 
 pub returns-then-same-lt2-clause-linked : goal.returns-then-same-lt2-clause-linked
 returns-then-same-lt2-clause-linked c =

@@ -1,5 +1,5 @@
 use Rattle.std.proofs.Common.{refl}
-use Rattle.moka_laws.proofs.MaintenanceLimits.{evicted-done-le, done-enough, done_front, done_next}
+use Rattle.moka_model.proofs.Callers.{evicted-done-le, done-enough, done_front, done_next}
 use Rattle.moka_laws.proofs.maintenance_laws.a_limit_is_kept.Goals as goal
 
 pub returns-clause-kept : goal.returns-clause-kept

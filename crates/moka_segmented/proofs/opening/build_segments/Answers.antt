@@ -31,4 +31,4 @@ returns-clause-empty g c =
 pub invariant_of-result : goal.invariant_of-result
 invariant_of-result g c =
     let count : length c.loop.segments.items ≡ 2 ^ c.args.bits = omega (arith, c.loop.segments.ok, c.loop.invariant.count, c.loop-test.false, c.loop.auto.counter-end, c.count_of-count.ensures) in
-    (c.requires.bits, count, limits-some c.args.settings.flush_limit c.requires.limits, c.loop.invariant.hashed)
+    (c.requires.bits, count, limits-some c.args.settings.flush_limit c.requires.usable.limits, c.loop.invariant.hashed)

@@ -2,5 +2,5 @@ use Rattle.moka_state.proofs.Finishes.{saved-copied}
 use Rattle.moka_state.proofs.finish.conclude.Goals as goal
 
 pub returns-clause-preserves : goal.returns-clause-preserves
-returns-clause-preserves g c hash_of ts value respects hashed sound copied keeps =
-    c.finish.ensures.finishes hash_of ts _ respects hashed sound (rw c.value_end.ensures (saved-copied _ g.V.Clone.is_clone value c.args.is_replaced c.args.copies.saved copied)) keeps
+returns-clause-preserves g c hash_of ts respects hashed sound keeps value copied =
+    c.finish.ensures.finishes hash_of ts respects hashed sound keeps _ (rw c.value_end.ensures (saved-copied _ g.V.Clone.is_clone value c.args.is_replaced c.args.copies.saved copied))

@@ -23,7 +23,7 @@ invariant_of-self g c =
           listed-used n admitted waiting row.0 row.1 (is_of_admitted c.overwrite-taken.result.order)
           (by-order n admitted waiting c.overwrite-taken.result.order c.overwrite-taken.ensures.order)
           (order_of c.args.self.now.deadlines) (order_of c.relist-self.new.deadlines) (c.args.self.now.listed done.0) (admitted_in c.overwrite-taken.new.self) _ _ (overwritten c.args.value c.args.info) c.overwrite-taken.ensures.after
-          (rw (c.deadline_if_admitted-before.ensures, c.deadline_if_admitted-after.ensures, c.is_of_admitted-is_admitted.ensures, before.1) at done.1);
+          (rw (c.deadline_if_admitted-before.ensures, c.deadline_if_admitted-after.ensures, before.1) at done.1);
       noted = noted-used had given c.args.self.now.top n (overwritten c.args.value c.args.info) admitted waiting (admitted_in c.overwrite-taken.new.self) (waiting_in c.overwrite-taken.new.self)
           (λ r none. none-there c.args.info.deadline (sym c.is_some.ensures ∙ none)) c.args.self.now.noted c.overwrite-taken.ensures.after;
       whole = λ none.
@@ -32,7 +32,7 @@ invariant_of-self g c =
           let was : c.overwrite-taken.result.info.deadline ≡ None = ap (λ info. info.deadline) before.1 ∙ read.0 neither_is.0 in
           let is : c.args.info.deadline ≡ None = none-there c.args.info.deadline (sym c.is_some.ensures ∙ neither_is.1) in
           c.relist-self.ensures.whole (c.args.self.now.whole neither_is.0)
-          (placed-none n _ _ (c.deadline_if_admitted-before.ensures ∙ none-of c.is_of_admitted-is_admitted.result _ was))
-          (stands-none n _ _ _ _ (c.deadline_if_admitted-after.ensures ∙ none-of c.is_of_admitted-is_admitted.result _ is));
+          (placed-none n _ _ (c.deadline_if_admitted-before.ensures ∙ none-of (is_of_admitted c.overwrite-taken.result.order) _ was))
+          (stands-none n _ _ _ _ (c.deadline_if_admitted-after.ensures ∙ none-of (is_of_admitted c.overwrite-taken.result.order) _ is));
       begun = c.args.self.now.begun;
     }

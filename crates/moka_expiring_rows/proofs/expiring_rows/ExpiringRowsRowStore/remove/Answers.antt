@@ -20,11 +20,11 @@ invariant_of-self g c =
           listed-taken n admitted waiting row c.remove-row.ensures.row (is_of_admitted c.remove-row.result.1)
           (by-order n admitted waiting c.remove-row.result.1 c.remove-row.ensures.order)
           (order_of c.args.self.now.deadlines) (order_of c.delist-self.new.deadlines) (c.args.self.now.listed done.0) (admitted_in c.remove-row.new.self) _ _ c.remove-row.ensures.rest
-          (rw (c.deadline_if_admitted-before.ensures, c.is_of_admitted.ensures, c.info.ensures) at done.1);
+          (rw (c.deadline_if_admitted-before.ensures, c.info.ensures) at done.1);
       noted = each-taken P n admitted waiting (admitted_in c.remove-row.new.self) (waiting_in c.remove-row.new.self) c.args.self.now.noted c.remove-row.ensures.rest;
       whole = λ none.
           let read = each-at P n row (admitted ++ waiting) c.args.self.now.noted c.remove-row.ensures.row in
           c.delist-self.ensures.whole (c.args.self.now.whole none)
-          (placed-none n _ _ (c.deadline_if_admitted-before.ensures ∙ none-of c.is_of_admitted.result _ (ap (λ info. info.deadline) c.info.ensures ∙ read.0 none)));
+          (placed-none n _ _ (c.deadline_if_admitted-before.ensures ∙ none-of (is_of_admitted c.remove-row.result.1) _ (ap (λ info. info.deadline) c.info.ensures ∙ read.0 none)));
       begun = c.args.self.now.begun;
     }

@@ -1,9 +1,9 @@
 use Rattle.std.proofs.Common.{◌≡◌, ◌++◌, rules, None, ◌∙◌, ap, sym}
 use Rattle.moka_rows.specs.Rows.{touched}
 use Rattle.moka_expiry_index.specs.ExpiryIndex.{order_of}
-use Rattle.moka_expiring_rows.specs.RowDeadlines.{IsNoted}
+use Rattle.moka_expiring_rows.specs.RowDeadlines.{is_of_admitted, IsNoted}
 use Rattle.moka_rows.proofs.Callers.{each-at, each-used}
-use Rattle.moka_expiring_rows.proofs.RowDeadlineLemmas.{listed-used, used-undated}
+use Rattle.moka_expiring_rows.proofs.RowDeadlineLemmas.{listed-used, used-undated, by-order, some-row}
 use Rattle.moka_expiring_rows.proofs.Noted.{noted-used, neither, none-there, none-of, placed-none, stands-none}
 use Rattle.moka_slab.specs.Store.{admitted_in, waiting_in}
 use Rattle.moka_expiring_rows.proofs.expiring_rows.ExpiringRowsRowStore.touch.Goals as goal
@@ -18,9 +18,9 @@ invariant_of-self g c =
     record {
       listed = λ whole.
           let none = c.is_unused.ensures c.if-is_unused.true in
-          none ∙ sym (used-undated n admitted (admitted_in c.touch.new.self) _ _ (touched c.args.touch) (λ _. undated) (sym (c.args.self.now.listed whole) ∙ none) c.touch.ensures.after);
-      noted = each-used P n (touched c.args.touch) admitted waiting (admitted_in c.touch.new.self) (waiting_in c.touch.new.self)
-          (λ r found. (λ none. undated, (each-at P n r (admitted ++ waiting) c.args.self.now.noted found).1)) c.args.self.now.noted c.touch.ensures.after;
+          none ∙ sym (used-undated n admitted (admitted_in c.touch-order.new.self) _ _ (touched c.args.touch) (λ _. undated) (sym (c.args.self.now.listed whole) ∙ none) c.touch-order.ensures.after);
+      noted = each-used P n (touched c.args.touch) admitted waiting (admitted_in c.touch-order.new.self) (waiting_in c.touch-order.new.self)
+          (λ r found. (λ none. undated, (each-at P n r (admitted ++ waiting) c.args.self.now.noted found).1)) c.args.self.now.noted c.touch-order.ensures.after;
       whole = c.args.self.now.whole;
       begun = c.args.self.now.begun;
     }
@@ -32,21 +32,24 @@ invariant_of-self-2 g c =
     let waiting = waiting_in c.args.self.now.rows in
     let had = c.args.self.now.has_deadlines in
     let given = c.is_some.result in
+    let row = some-row n (admitted ++ waiting) c.requires in
+    let before = rw row.1 at c.touch-order.ensures.before in
     record {
       listed = λ whole.
           let done = c.relist-self.ensures.listed whole in
-          listed-used n admitted waiting c.row.result.now c.row.ensures.row c.is_admitted-is_admitted.result c.is_admitted-is_admitted.ensures
-          (order_of c.args.self.now.deadlines) (order_of c.relist-self.new.deadlines) (c.args.self.now.listed done.0) (admitted_in c.touch-2.new.self) _ _ (touched c.args.touch) c.touch-2.ensures.after
-          (rw (c.deadline_if_admitted-before.ensures, c.deadline_if_admitted-after.ensures, c.info-was.ensures) at done.1);
-      noted = noted-used had given c.args.self.now.top n (touched c.args.touch) admitted waiting (admitted_in c.touch-2.new.self) (waiting_in c.touch-2.new.self)
-          (λ r none. none-there c.args.touch.deadline (sym c.is_some.ensures ∙ none)) c.args.self.now.noted c.touch-2.ensures.after;
+          listed-used n admitted waiting row.0 row.1 (is_of_admitted c.touch-order.result.1)
+          (by-order n admitted waiting c.touch-order.result.1 c.touch-order.ensures.order)
+          (order_of c.args.self.now.deadlines) (order_of c.relist-self.new.deadlines) (c.args.self.now.listed done.0) (admitted_in c.touch-order.new.self) _ _ (touched c.args.touch) c.touch-order.ensures.after
+          (rw (c.deadline_if_admitted-before.ensures, c.deadline_if_admitted-after.ensures, before) at done.1);
+      noted = noted-used had given c.args.self.now.top n (touched c.args.touch) admitted waiting (admitted_in c.touch-order.new.self) (waiting_in c.touch-order.new.self)
+          (λ r none. none-there c.args.touch.deadline (sym c.is_some.ensures ∙ none)) c.args.self.now.noted c.touch-order.ensures.after;
       whole = λ none.
           let neither_is = neither had given none in
-          let read = each-at (IsNoted had c.args.self.now.top) n c.row.result.now (admitted ++ waiting) c.args.self.now.noted c.row.ensures.row in
-          let was : c.info-was.result.deadline ≡ None = ap (λ info. info.deadline) c.info-was.ensures ∙ read.0 neither_is.0 in
+          let read = each-at (IsNoted had c.args.self.now.top) n row.0 (admitted ++ waiting) c.args.self.now.noted row.1 in
+          let was : c.touch-order.result.0.deadline ≡ None = ap (λ info. info.deadline) before ∙ read.0 neither_is.0 in
           let is : c.args.touch.deadline ≡ None = none-there c.args.touch.deadline (sym c.is_some.ensures ∙ neither_is.1) in
           c.relist-self.ensures.whole (c.args.self.now.whole neither_is.0)
-          (placed-none n _ _ (c.deadline_if_admitted-before.ensures ∙ none-of c.is_admitted-is_admitted.result _ was))
-          (stands-none n _ _ _ _ (c.deadline_if_admitted-after.ensures ∙ none-of c.is_admitted-is_admitted.result _ is));
+          (placed-none n _ _ (c.deadline_if_admitted-before.ensures ∙ none-of (is_of_admitted c.touch-order.result.1) _ was))
+          (stands-none n _ _ _ _ (c.deadline_if_admitted-after.ensures ∙ none-of (is_of_admitted c.touch-order.result.1) _ is));
       begun = c.args.self.now.begun;
     }

@@ -7,7 +7,7 @@ use Rattle.moka_guarded.proofs.guarded.GuardedState.get.Goals as goal
 pub invariant_of-self : goal.invariant_of-self
 invariant_of-self g c =
     let view = view_by (behaviour_by (hash_by g.C.Hasher.BuildHasher.build_hasher g.C.Hasher.Hasher.Hasher.write g.C.Hasher.Hasher.Hasher.finish g.K.Hash.hash_input) g.C.CacheTypes.weight g.C.CacheTypes.lifetimes) (estimates g.C.Frequency.FrequencySource.noted g.C.Frequency.FrequencySource.count) g.C.Frequency.FrequencySource.opened in
-    kept-call g.C.CacheTypes.keeps g.K.PartialEq.eq g.V.Clone.is_clone g.met.K.Eq.laws g.met.C.CacheTypes.equal_keys_keep view _ _ (Get c.args.key.now c.now-now.result) _ c.get.ensures.stands c.get.ensures.refused tt c.self.invariant
+    kept-call g.C.CacheTypes.keeps g.K.PartialEq.eq g.V.Clone.is_clone g.met.K.Eq.laws g.met.C.CacheTypes.equal_keys_keep view _ _ (Get c.args.key.now c.now-now.result) _ c.get.ensures.ends.stands c.get.ensures.ends.refused tt c.self.invariant
 
 pub returns-clause-step : goal.returns-clause-step
-returns-clause-step g c = rw (← c.self.view_is) (c.now-now.result, c.now-now.ensures, (c.get.ensures.stands, c.get.ensures.reply))
+returns-clause-step g c = rw (← c.self.view_is) (c.now-now.result, c.now-now.ensures, c.get.ensures.ends)

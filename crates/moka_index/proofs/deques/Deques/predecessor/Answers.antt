@@ -1,20 +1,18 @@
 use Rattle.std.proofs.Common.{◌≡◌, Some, [], ◌∷◌, ◌++◌, length, suc, sym, ap, ◌∙◌, subst, refl, arith, append_assoc, inl, inr}
 use Rattle.moka_index.specs.Paths.{IsAmong}
-use Rattle.moka_index.specs.Nodes.{same_of}
-use Rattle.moka_index.specs.Deques.{chain_from}
-use Rattle.moka_index.specs.Deques.{places_in}
+use Rattle.moka_index.specs.Deques.{same_in, chain_from, places_in}
 use Rattle.moka_index.proofs.ChainLemmas.{behind, onward}
 use Rattle.moka_index.proofs.PathLemmas.{among-back}
 use Rattle.moka_index.proofs.deques.Deques.predecessor.Goals as goal
 
 pub chain_link-next-requires : goal.chain_link-next-requires
 chain_link-next-requires c =
-    let b = behind (same_of c.args.self.now.nodes.items) (places_in c.args.self.now) c.args.first c.requires.linked in
+    let b = behind (same_in c.args.self.now) (places_in c.args.self.now) c.args.first c.requires.linked in
     c.requires.places c.args.first (subst (IsAmong c.args.first) (sym b.is) (inl refl))
 
 pub chain_link-next-requires-in-loop-next : goal.chain_link-next-requires-in-loop-next
 chain_link-next-requires-in-loop-next c =
-    let same = same_of c.args.self.now.nodes.items in
+    let same = same_in c.args.self.now in
     let inv = c.loop-next.invariant in
     let o = onward same (places_in c.args.self.now) c.loop-next.at c.loop-next.next c.args.number inv.linked inv.within inv.later inv.same in
     let b = behind same (places_in c.args.self.now) c.loop-next.next o.linked in
@@ -33,7 +31,7 @@ loop-next-init c = record {
 
 pub loop-next-preserved : goal.loop-next-preserved
 loop-next-preserved c =
-    let same = same_of c.args.self.now.nodes.items in
+    let same = same_in c.args.self.now in
     let inv = c.loop-next.invariant in
     let o = onward same (places_in c.args.self.now) c.loop-next.at c.loop-next.next c.args.number inv.linked inv.within inv.later inv.same in
     record {
@@ -46,7 +44,7 @@ loop-next-preserved c =
 
 pub loop-next-smaller : goal.loop-next-smaller
 loop-next-smaller c =
-    let same = same_of c.args.self.now.nodes.items in
+    let same = same_in c.args.self.now in
     let inv = c.loop-next.invariant in
     let o = onward same (places_in c.args.self.now) c.loop-next.at c.loop-next.next c.args.number inv.linked inv.within inv.later inv.same in
     let less : length (chain_from c.args.self.now (Some c.loop-next.at)) ≡ suc (length (chain_from c.args.self.now (Some c.loop-next.next))) = ap length o.is in
@@ -54,7 +52,7 @@ loop-next-smaller c =
 
 pub returns : goal.returns
 returns c =
-    let same = same_of c.args.self.now.nodes.items in
+    let same = same_in c.args.self.now in
     let inv = c.loop-next.invariant in
     let o = onward same (places_in c.args.self.now) c.loop-next.at c.loop-next.next c.args.number inv.linked inv.within inv.later inv.same in
     let b = behind same (places_in c.args.self.now) c.loop-next.next o.linked in

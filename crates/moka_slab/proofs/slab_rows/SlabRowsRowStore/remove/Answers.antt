@@ -4,32 +4,32 @@ use Rattle.moka_slab.proofs.RoomLemmas.{room-kept}
 use Rattle.moka_slab.proofs.TiedLemmas.{linked-found, puts-update, removed-tied, removed-rest, under-all, order-said}
 use Rattle.moka_slab.proofs.slab_rows.SlabRowsRowStore.remove.Goals as goal
 
-back : (n : ℕ) → 2 ≤ n → n ≡ (n - 2) + 2
-back n above = omega arith
+back : (n key : ℕ) → 2 ≤ n → key ≡ n - 2 → n ≡ key + 2
+back n key above is = omega (arith, is)
 
 pub remove-requires : goal.remove-requires
 remove-requires g c = linked-found c.args.self.now.rows c.args.self.now.links c.args.number c.requires
 
-pub overflow_sub-number : goal.overflow_sub-number
-overflow_sub-number g c = linked-above c.args.self.now.links c.args.number (linked-found c.args.self.now.rows c.args.self.now.links c.args.number c.requires)
+pub key_of-requires : goal.key_of-requires
+key_of-requires g c = linked-above c.args.self.now.links c.args.number (linked-found c.args.self.now.rows c.args.self.now.links c.args.number c.requires)
 
 pub remove-requires-2 : goal.remove-requires-2
-remove-requires-2 g c = c.args.self.now.tied.stored c.args.number (linked-found c.args.self.now.rows c.args.self.now.links c.args.number c.requires)
+remove-requires-2 g c = rw c.key_of.ensures (c.args.self.now.tied.stored c.args.number (linked-found c.args.self.now.rows c.args.self.now.links c.args.number c.requires))
 
 pub invariant_of-self : goal.invariant_of-self
 invariant_of-self g c = record {
-  tied = removed-tied c.args.self.now.rows c.remove-2.new.self c.args.self.now.links c.remove.new.self c.args.self.now.tied c.args.number c.remove-2.result c.remove-2.ensures.value
-      (puts-update c.args.self.now.rows c.remove-2.new.self c.args.number (c.args.number - 2) None (back c.args.number (linked-above c.args.self.now.links c.args.number (linked-found c.args.self.now.rows c.args.self.now.links c.args.number c.requires))) c.remove-2.ensures.updates)
+  tied = removed-tied c.args.self.now.rows c.remove-2.new.self c.args.self.now.links c.remove.new.self c.args.self.now.tied c.args.number c.remove-2.result (rw c.key_of.ensures at c.remove-2.ensures.value)
+      (puts-update c.args.self.now.rows c.remove-2.new.self c.args.number c.key_of.result None (back c.args.number c.key_of.result (linked-above c.args.self.now.links c.args.number (linked-found c.args.self.now.rows c.args.self.now.links c.args.number c.requires)) c.key_of.ensures) c.remove-2.ensures.updates)
       (linked-found c.args.self.now.rows c.args.self.now.links c.args.number c.requires) c.remove.ensures.admitted c.remove.ensures.waiting c.remove.ensures.preserves.hash;
 }
 
 pub returns-clause-row : goal.returns-clause-row
-returns-clause-row g c = rw c.into_row.ensures (under-all c.args.self.now.rows c.args.self.now.links c.args.number c.remove-2.result (linked-found c.args.self.now.rows c.args.self.now.links c.args.number c.requires) c.remove-2.ensures.value)
+returns-clause-row g c = rw c.into_row.ensures (under-all c.args.self.now.rows c.args.self.now.links c.args.number c.remove-2.result (linked-found c.args.self.now.rows c.args.self.now.links c.args.number c.requires) (rw c.key_of.ensures at c.remove-2.ensures.value))
 
 pub returns-clause-rest : goal.returns-clause-rest
 returns-clause-rest g c =
-    removed-rest c.args.self.now.rows c.remove-2.new.self c.args.self.now.links c.remove.new.self c.args.self.now.tied c.args.number c.remove-2.result c.remove-2.ensures.value
-    (puts-update c.args.self.now.rows c.remove-2.new.self c.args.number (c.args.number - 2) None (back c.args.number (linked-above c.args.self.now.links c.args.number (linked-found c.args.self.now.rows c.args.self.now.links c.args.number c.requires))) c.remove-2.ensures.updates)
+    removed-rest c.args.self.now.rows c.remove-2.new.self c.args.self.now.links c.remove.new.self c.args.self.now.tied c.args.number c.remove-2.result (rw c.key_of.ensures at c.remove-2.ensures.value)
+    (puts-update c.args.self.now.rows c.remove-2.new.self c.args.number c.key_of.result None (back c.args.number c.key_of.result (linked-above c.args.self.now.links c.args.number (linked-found c.args.self.now.rows c.args.self.now.links c.args.number c.requires)) c.key_of.ensures) c.remove-2.ensures.updates)
     (linked-found c.args.self.now.rows c.args.self.now.links c.args.number c.requires) c.remove.ensures.admitted c.remove.ensures.waiting
 
 pub returns-clause-room : goal.returns-clause-room
@@ -40,5 +40,5 @@ returns-clause-room g c =
 pub returns-clause-order : goal.returns-clause-order
 returns-clause-order g c =
     rw c.order-order.ensures
-    (order-said c.args.self.now.rows c.args.self.now.links c.args.number c.remove-2.result c.remove.result (linked-found c.args.self.now.rows c.args.self.now.links c.args.number c.requires) c.remove-2.ensures.value
+    (order-said c.args.self.now.rows c.args.self.now.links c.args.number c.remove-2.result c.remove.result (linked-found c.args.self.now.rows c.args.self.now.links c.args.number c.requires) (rw c.key_of.ensures at c.remove-2.ensures.value)
     c.remove.ensures.was_admitted c.remove.ensures.was_waiting)

@@ -21,7 +21,7 @@ returns-in-Err-clause-reply g c given steps stands =
     let hashed = c.with_hash.ensures.hash ∙ c.hash-hash.ensures.hash ∙ ap hash_of (c.key.ensures ∙ sym (ap (λ (n : Name g.row.K.Denot). n.key) name)) in
     let there = rw (← c.self.view_is) at stands in
     let keeps = table-keeps eq laws g.V.Clone.is_clone hash_of c.hash-hash.ensures.alike s.turns.opened.entries s.turns.ended.entries (turns steps) there.turns in
-    let it = c.collect.ensures.collects hash_of (turns steps) c.hash-hash.ensures.alike g.met.C.CacheTypes.copies_compose hashed (sound-turns eq laws given steps stands.legal) keeps in
+    let it = c.collect.ensures.collects hash_of (turns steps) c.hash-hash.ensures.alike hashed (sound-turns eq laws given steps stands.legal) keeps g.met.C.CacheTypes.copies_compose in
     let gives = collect-gives eq g.V.Clone.is_clone g.V.Clone.is_infallible given steps (ticket_name c.with_hash.result) _ _ refl c.collect.result it in
     subst (λ n. Gives eq g.V.Clone.is_clone g.V.Clone.is_infallible given steps (Collect n) (Err c.in-Err.refused.cause)) name (rw c.in-Err.is at gives)
 
@@ -35,7 +35,7 @@ returns-clause-reply g c given steps stands =
     let hashed = c.with_hash.ensures.hash ∙ c.hash-hash.ensures.hash ∙ ap hash_of (c.key.ensures ∙ sym (ap (λ (n : Name g.row.K.Denot). n.key) name)) in
     let there = rw (← c.self.view_is) at stands in
     let keeps = table-keeps eq laws g.V.Clone.is_clone hash_of c.hash-hash.ensures.alike s.turns.opened.entries s.turns.ended.entries (turns steps) there.turns in
-    let it = c.collect.ensures.collects hash_of (turns steps) c.hash-hash.ensures.alike g.met.C.CacheTypes.copies_compose hashed (sound-turns eq laws given steps stands.legal) keeps in
+    let it = c.collect.ensures.collects hash_of (turns steps) c.hash-hash.ensures.alike hashed (sound-turns eq laws given steps stands.legal) keeps g.met.C.CacheTypes.copies_compose in
     let gives = rw c.in-Ok.is at (collect-gives eq g.V.Clone.is_clone g.V.Clone.is_infallible given steps (ticket_name c.with_hash.result) _ _ refl c.collect.result it) in
     rw (← name) (subst (λ a. Gives eq g.V.Clone.is_clone g.V.Clone.is_infallible given steps (Collect (ticket_name c.with_hash.result)) (Ok a)) (sym (c.into_collected.ensures.reply (ticket_name c.with_hash.result) c.in-Ok.ensures.key)) gives)
 
@@ -49,7 +49,7 @@ returns-clause-stands g c given steps stands =
     let hashed = c.with_hash.ensures.hash ∙ c.hash-hash.ensures.hash ∙ ap hash_of (c.key.ensures ∙ sym (ap (λ (n : Name g.row.K.Denot). n.key) name)) in
     let there = rw (← c.self.view_is) at stands in
     let keeps = table-keeps eq laws g.V.Clone.is_clone hash_of c.hash-hash.ensures.alike s.turns.opened.entries s.turns.ended.entries (turns steps) there.turns in
-    let it = c.collect.ensures.collects hash_of (turns steps) c.hash-hash.ensures.alike g.met.C.CacheTypes.copies_compose hashed (sound-turns eq laws given steps stands.legal) keeps in
+    let it = c.collect.ensures.collects hash_of (turns steps) c.hash-hash.ensures.alike hashed (sound-turns eq laws given steps stands.legal) keeps g.met.C.CacheTypes.copies_compose in
     rw (← name) (rw c.in-Ok.is at (collect-stands eq given _ _ _ steps there (ticket_name c.with_hash.result) _
     (λ ts. table-holds eq laws g.V.Clone.is_clone hash_of c.hash-hash.ensures.alike c.collect.new.self.opened.entries c.collect.new.self.ended.entries ts) _ refl c.collect.result it
     (λ unspent. same-turns hash_of _ _ _ _ (c.collect.ensures.unchanged unspent).0 (c.collect.ensures.unchanged unspent).1)))

@@ -15,4 +15,4 @@ returns g c = IfOk-by c.copy_end.result (λ copy copied given steps stands.
     let there = rw (← c.self.view_is) at stands in
     let keeps = table-keeps eq laws g.V.Clone.is_clone hash_of c.hash-hash.ensures.alike s.turns.opened.entries s.turns.ended.entries (turns steps) there.turns in
     let hashed = c.hash-hash.ensures.hash ∙ ap hash_of (c.deref.ensures ∙ sym c.in_ok-key.ensures.cases) in
-    rw c.in_ok-key.ensures.cases at (copied hash_of (turns steps) c.hash-hash.ensures.alike g.met.C.CacheTypes.copies_compose hashed (sound-turns eq laws given steps stands.legal) keeps)) c.copy_end.ensures
+    rw c.in_ok-key.ensures.cases at (copied hash_of (turns steps) c.hash-hash.ensures.alike hashed (sound-turns eq laws given steps stands.legal) keeps g.met.C.CacheTypes.copies_compose)) c.copy_end.ensures

@@ -89,7 +89,7 @@ returns g c = record {
       let sound = sound-turns eq laws given steps stands.legal in
       let told = c.waiting_for.ensures.tells hash_of (turns steps) c.hash-hash.ensures.alike hashed sound keeps in
       let t = rw name at (open-told _ _ c.waiting_for.result told (rw c.in-Some.is refl)) in
-      let left = c.finish.ensures.finishes hash_of (turns steps) (turning.Failed (arc_value c.args.error)) c.hash-hash.ensures.alike hashed sound (failed-copied g.V.Clone.is_clone (arc_value c.args.error) c.in-Ok.end c.in-Ok.ensures.saved) keeps in
+      let left = c.finish.ensures.finishes hash_of (turns steps) c.hash-hash.ensures.alike hashed sound keeps (turning.Failed (arc_value c.args.error)) (failed-copied g.V.Clone.is_clone (arc_value c.args.error) c.in-Ok.end c.in-Ok.ensures.saved) in
       rw c.max-self-inside.ensures (finish-stands eq given steps (turn_name c.args.turn) (Failed (arc_value c.args.error)) c.args.now c.requires _ _ _ there t.0 t.1 _
       (view-becomes eq laws given _ _ (events_in steps) (Passed c.args.now) (view-of eq given _ steps there) (becomes-passed eq _ s.table _ s.latest s.next_number c.args.now))
       (table-holds eq laws g.V.Clone.is_clone hash_of c.hash-hash.ensures.alike _ _ _ (rw t.2 left)));

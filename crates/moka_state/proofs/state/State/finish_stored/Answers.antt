@@ -179,7 +179,7 @@ returns g c = record {
       hash weighed c.max-now.ensures (omega (arith, c.max-now.ensures)) c.in-Ok-plan_for.place c.write-is_replaced.result place (c.write-is_replaced.ensures kept.dated) in
       let written = view-written eq laws given _ s.housekeeper.lives refl _ c.plan_for.new.table c.write-is_replaced.new.table s.latest s.next_number (events_in steps) (view-of eq given _ steps same) kept c.hash-hash.ensures.alike (turn_name c.args.turn).key c.args.now _
       hash weighed c.max-now.ensures (omega (arith, c.max-now.ensures)) c.in-Ok-plan_for.place c.write-is_replaced.result place (c.write-is_replaced.ensures kept.dated) (rw (← c.self.view_is) at c.requires.stores) in
-      let ended = c.conclude-answer.ensures.preserves hash_of (turns steps) c.args.value c.hash-hash.ensures.alike hashed sound c.in-Ok.ensures.saved keeps in
+      let ended = c.conclude-answer.ensures.preserves hash_of (turns steps) c.hash-hash.ensures.alike hashed sound keeps c.args.value c.in-Ok.ensures.saved in
       rw c.max-now.ensures (finish-stands eq given steps (turn_name c.args.turn) (Value c.args.value) c.args.now c.requires.fits _ _ _ there t.0 t.1 _ written
       (table-holds eq laws g.V.Clone.is_clone hash_of c.hash-hash.ensures.alike _ _ _ (rw (t.2, ← replaced) ended)));
   given = let keyed = ap (λ (n : Name _). n.key) c.with_hash-turn.ensures.name in given-entry g.V.Clone.is_clone (turn_name c.args.turn).key c.args.value c.conclude-answer.result _ c.conclude-answer.ensures.entry (c.in-Ok.ensures.key ∙ keyed) c.in-Ok.ensures.reply;

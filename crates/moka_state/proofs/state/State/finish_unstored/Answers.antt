@@ -102,7 +102,7 @@ returns g c = record {
       let nothing : stores_nothing given.max_capacity ≡ true = ap (λ (s : Settings _ _). stores_nothing s.max_capacity) (sym there.settings) ∙ (rw (← c.self.view_is) at c.requires.nothing) in
       let left : ¬ (FinishOutOfNumbers eq given steps (turn_name c.args.turn) (Value c.args.value) c.args.now c.requires.fits) = λ out. let stores : false ≡ true = sym ((out_of_numbers-insert eq given (turn_name c.args.turn).key c.args.value c.args.now steps).0 out).0 ∙ nothing in absurd (true≢false (sym stores)) in
       let never = never-replaced eq given nothing steps stands.legal (turn_name c.args.turn).key c.args.now in
-      let ended = c.conclude-answer.ensures.preserves hash_of (turns steps) c.args.value c.hash-hash.ensures.alike hashed sound c.in-Ok.ensures.saved keeps in
+      let ended = c.conclude-answer.ensures.preserves hash_of (turns steps) c.hash-hash.ensures.alike hashed sound keeps c.args.value c.in-Ok.ensures.saved in
       rw c.max-self-inside.ensures (finish-stands eq given steps (turn_name c.args.turn) (Value c.args.value) c.args.now c.requires.fits _ _ _ there t.0 t.1 _
       (view-nothing eq laws given _ (events_in steps) (view-of eq given _ steps there) _ (turn_name c.args.turn).key c.args.value c.args.now (rw (← c.self.view_is) at c.requires.nothing) (becomes-passed eq _ s.table _ s.latest s.next_number c.args.now))
       (table-holds eq laws g.V.Clone.is_clone hash_of c.hash-hash.ensures.alike _ _ _ (rw (t.2, never) ended)));

@@ -1,4 +1,4 @@
-use Rattle.std.proofs.Common.{not, ◌||◌, max, option_map, ◌∙◌, ap, sym, subst, refl, arith}
+use Rattle.std.proofs.Common.{◌≡◌, true, not, ◌||◌, max, option_map, ◌∙◌, ap, sym, subst, refl, arith}
 use Rattle.std.specs.Arc.{arc_value}
 use Rattle.std.proofs.lemmas.Bool.{true≢false}
 use Rattle.moka_model.specs.Lives.{Write, has_come}
@@ -7,49 +7,58 @@ use Rattle.moka_expiration.specs.ExpirationPolicy.{IsDated}
 use Rattle.moka_expiration.proofs.Callers.{alive-kept}
 use Rattle.moka_table.specs.Table.{stored_write}
 use Rattle.moka_table.proofs.Callers.{of-row}
+use Rattle.moka_state.proofs.ComputeForms.{err-is}
 use Rattle.moka_state.proofs.Finds.{live-row, live-absent}
 use Rattle.moka_state.proofs.Held.{same-key}
+use Rattle.moka_state.proofs.LiveReads.{if-some-at, in-any-case}
 use Rattle.moka_state.proofs.Removing.{value-live, none-live, if-live, if-copied}
 use Rattle.moka_state.proofs.state.State.scan_get.Goals as goal
 
-pub returns-in_default-clause-reply : goal.returns-in_default-clause-reply
-returns-in_default-clause-reply g c given steps stands =
-    let s = c.self.inside in
-    let none = live-absent g.K.PartialEq.eq g.met.K.Eq.laws _ s.table _ s.latest s.next_number given steps (rw (← c.self.view_is) at stands) _ c.hash-hash.ensures.alike c.self.invariant.0.hashed c.args.key.now c.args.now c.hash-hash.result c.hash-hash.ensures.hash c.in_default.ensures.absent in
-    rw none tt
+pub returns-in_default-clause-ends : goal.returns-in_default-clause-ends
+returns-in_default-clause-ends g c = record {
+  reply = λ given steps stands.
+      let s = c.self.inside in
+      let none = live-absent g.K.PartialEq.eq g.met.K.Eq.laws _ s.table _ s.latest s.next_number given steps (rw (← c.self.view_is) at stands) _ c.hash-hash.ensures.alike c.self.invariant.0.hashed c.args.key.now c.args.now c.hash-hash.result c.hash-hash.ensures.hash c.in_default.ensures.absent in
+      rw none tt;
+  cause = tt;
+  miss = λ given steps stands none. refl;
+  copied = λ given steps stands. in-any-case g.V.Clone.is_infallible _ (true ≡ true) refl;
+}
 
-pub returns-clause-reply : goal.returns-clause-reply
-returns-clause-reply g c given steps stands =
+pub returns-clause-ends : goal.returns-clause-ends
+returns-clause-ends g c = record {
+  reply = λ given steps stands.
+      let s = c.self.inside in
+      let row = c.row.result.now in
+      let dead = row.info.is_hidden || has_come row.info.deadline c.max-now.result in
+      let dated = of-row (λ r. IsDated s.housekeeper.lives r.info) c.in-Some.number _ row c.self.invariant.0.dated c.row.ensures in
+      let key = same-key g.K.PartialEq.eq c.args.key.now c.hash-hash.result row (rw c.row.ensures at c.in-Some.ensures.found) in
+      let alive = alive-kept s.housekeeper.lives row.info dated (max s.latest c.args.now) (omega (arith, c.max-now.ensures)) ∙ ap (λ m. not (row.info.is_hidden || has_come row.info.deadline m)) (sym c.max-now.ensures) in
+      let it = live-row g.K.PartialEq.eq g.met.K.Eq.laws _ s.table _ s.latest s.next_number given steps (rw (← c.self.view_is) at stands) s.housekeeper.lives refl c.args.key.now c.args.now c.in-Some.number row c.row.ensures key (not dead) alive in
+      subst (λ o. IsCopyOf g.V.Clone.is_clone o c.in_ok-found.found) (sym (ap (option_map (λ (w : Write _ _). w.value)) it ∙ value-live dead (stored_write row))) c.in_ok-found.ensures.copy;
+  cause = tt;
+  miss = λ given steps stands none. refl;
+  copied = λ given steps stands. in-any-case g.V.Clone.is_infallible _ (true ≡ true) refl;
+}
+
+pub returns-in_err-found-clause-ends : goal.returns-in_err-found-clause-ends
+returns-in_err-found-clause-ends g c =
     let s = c.self.inside in
     let row = c.row.result.now in
     let dead = row.info.is_hidden || has_come row.info.deadline c.max-now.result in
     let dated = of-row (λ r. IsDated s.housekeeper.lives r.info) c.in-Some.number _ row c.self.invariant.0.dated c.row.ensures in
     let key = same-key g.K.PartialEq.eq c.args.key.now c.hash-hash.result row (rw c.row.ensures at c.in-Some.ensures.found) in
     let alive = alive-kept s.housekeeper.lives row.info dated (max s.latest c.args.now) (omega (arith, c.max-now.ensures)) ∙ ap (λ m. not (row.info.is_hidden || has_come row.info.deadline m)) (sym c.max-now.ensures) in
-    let it = live-row g.K.PartialEq.eq g.met.K.Eq.laws _ s.table _ s.latest s.next_number given steps (rw (← c.self.view_is) at stands) s.housekeeper.lives refl c.args.key.now c.args.now c.in-Some.number row c.row.ensures key (not dead) alive in
-    subst (λ o. IsCopyOf g.V.Clone.is_clone o c.in_ok-found.found) (sym (ap (option_map (λ (w : Write _ _). w.value)) it ∙ value-live dead (stored_write row))) c.in_ok-found.ensures.copy
-
-pub returns-in_err-found-clause-miss : goal.returns-in_err-found-clause-miss
-returns-in_err-found-clause-miss g c given steps stands nothing =
-    let s = c.self.inside in
-    let row = c.row.result.now in
-    let dead = row.info.is_hidden || has_come row.info.deadline c.max-now.result in
-    let dated = of-row (λ r. IsDated s.housekeeper.lives r.info) c.in-Some.number _ row c.self.invariant.0.dated c.row.ensures in
-    let key = same-key g.K.PartialEq.eq c.args.key.now c.hash-hash.result row (rw c.row.ensures at c.in-Some.ensures.found) in
-    let alive = alive-kept s.housekeeper.lives row.info dated (max s.latest c.args.now) (omega (arith, c.max-now.ensures)) ∙ ap (λ m. not (row.info.is_hidden || has_come row.info.deadline m)) (sym c.max-now.ensures) in
-    let it = live-row g.K.PartialEq.eq g.met.K.Eq.laws _ s.table _ s.latest s.next_number given steps (rw (← c.self.view_is) at stands) s.housekeeper.lives refl c.args.key.now c.args.now c.in-Some.number row c.row.ensures key (not dead) alive in
-    absurd (true≢false (sym (c.in_err-found.ensures.dead (none-live dead (stored_write row) (sym it ∙ nothing)))))
-
-pub returns-in_err-found-clause-copied : goal.returns-in_err-found-clause-copied
-returns-in_err-found-clause-copied g c given steps stands =
-    let s = c.self.inside in
-    let row = c.row.result.now in
-    let dead = row.info.is_hidden || has_come row.info.deadline c.max-now.result in
-    let dated = of-row (λ r. IsDated s.housekeeper.lives r.info) c.in-Some.number _ row c.self.invariant.0.dated c.row.ensures in
-    let key = same-key g.K.PartialEq.eq c.args.key.now c.hash-hash.result row (rw c.row.ensures at c.in-Some.ensures.found) in
-    let alive = alive-kept s.housekeeper.lives row.info dated (max s.latest c.args.now) (omega (arith, c.max-now.ensures)) ∙ ap (λ m. not (row.info.is_hidden || has_come row.info.deadline m)) (sym c.max-now.ensures) in
-    let it = live-row g.K.PartialEq.eq g.met.K.Eq.laws _ s.table _ s.latest s.next_number given steps (rw (← c.self.view_is) at stands) s.housekeeper.lives refl c.args.key.now c.args.now c.in-Some.number row c.row.ensures key (not dead) alive in
-    rw it (if-live _ _ dead (stored_write row) (λ fine. absurd (true≢false (sym (c.in_err-found.ensures.infallible fine)))))
+    rw (err-is c.from_residual.result _ c.from_residual.ensures.1) (record {
+      reply = tt;
+      cause = c.in_err-found.ensures.cause;
+      miss = λ given steps stands nothing.
+          let it = live-row g.K.PartialEq.eq g.met.K.Eq.laws _ s.table _ s.latest s.next_number given steps (rw (← c.self.view_is) at stands) s.housekeeper.lives refl c.args.key.now c.args.now c.in-Some.number row c.row.ensures key (not dead) alive in
+          absurd (true≢false (sym (c.in_err-found.ensures.dead (none-live dead (stored_write row) (sym it ∙ nothing)))));
+      copied = λ given steps stands.
+          let it = live-row g.K.PartialEq.eq g.met.K.Eq.laws _ s.table _ s.latest s.next_number given steps (rw (← c.self.view_is) at stands) s.housekeeper.lives refl c.args.key.now c.args.now c.in-Some.number row c.row.ensures key (not dead) alive in
+          if-some-at _ _ _ it (if-live _ _ dead (stored_write row) (λ fine. absurd (true≢false (sym (c.in_err-found.ensures.infallible fine)))));
+    })
 
 pub returns-clause-kept : goal.returns-clause-kept
 returns-clause-kept g c =

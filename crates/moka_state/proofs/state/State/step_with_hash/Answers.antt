@@ -2,7 +2,7 @@ use Rattle.moka_state.proofs.TurnSteps.{begin-keeps, compute-keeps, finish-keeps
 use Rattle.moka_state.proofs.state.State.step_with_hash.Goals as goal
 
 pub returns-in-Ok-clause-stands : goal.returns-in-Ok-clause-stands
-returns-in-Ok-clause-stands g c given steps stands = rw c.in-Get.is (rw c.deref.ensures at (c.in-Ok.ensures.stands given steps stands))
+returns-in-Ok-clause-stands g c given steps stands = rw c.in-Get.is (rw c.deref.ensures at (c.in-Ok.ensures.ends.stands given steps stands))
 
 pub returns-in-Ok-write-clause-stands : goal.returns-in-Ok-write-clause-stands
 returns-in-Ok-write-clause-stands g c given steps stands = rw c.in-Insert.is (c.in-Ok-write.ensures.ends.stands given steps stands)

@@ -9,8 +9,8 @@ returns-in-Some g c =
     let states = c.args.self.now.states.now in
     let lookup = c.in-Some.ensures.lookup in
     let here : slice_get states c.args.segment ≡ Some c.in-Some.state.now = slice_get_read states (length states) c.args.segment c.in-Some.state.now refl lookup.3.0 lookup.1 in
-    let asked = c.scan_get.ensures in
-    rw (← c.deref.ensures) (finds-kept _ _ _ _ _ _ g.C.CacheTypes.keeps c.args.segment c.deref.result.now c.in-Some.state.now here c.scan_get.result asked.reply asked.kept asked.cause asked.miss asked.copied)
+    let asked = c.scan_get.ensures.ends in
+    rw (← c.deref.ensures) (finds-kept _ _ _ _ _ _ g.C.CacheTypes.keeps c.args.segment c.deref.result.now c.in-Some.state.now here c.scan_get.result asked.reply c.scan_get.ensures.kept asked.cause asked.miss asked.copied)
 
 pub returns-in-None : goal.returns-in-None
 returns-in-None g c = finds-none _ _ _ _ _ _ g.C.CacheTypes.keeps c.args.segment _ (slice_get_past c.args.self.now.states.now c.args.segment c.in-None.ensures.lookup.3)

@@ -8,7 +8,7 @@ use Rattle.moka_turns.proofs.Copies.{none-there, copied-twice, takes-alike}
 use Rattle.moka_turns.proofs.table.TurnTable.collect.Goals as goal
 
 pub returns-then-is_awaited-clause-collects : goal.returns-then-is_awaited-clause-collects
-returns-then-is_awaited-clause-collects g c hash_of ts respects compose hashed sound keeps =
+returns-then-is_awaited-clause-collects g c hash_of ts respects hashed sound keeps compose =
     let eq = g.K.PartialEq.eq in
     let laws = g.met.K.Eq.laws in
     let copies = g.V.Clone.is_clone in
@@ -20,13 +20,13 @@ returns-then-is_awaited-clause-collects g c hash_of ts respects compose hashed s
     rw named (none-there _ (is_open_now eq laws copies hash_of respects ts sound _ _ keeps q hashed row.0 row.1))
 
 pub returns-then-not-is_ended_for-clause-collects : goal.returns-then-not-is_ended_for-clause-collects
-returns-then-not-is_ended_for-clause-collects g c hash_of ts respects compose hashed sound keeps =
+returns-then-not-is_ended_for-clause-collects g c hash_of ts respects hashed sound keeps compose =
     let eq = g.K.PartialEq.eq in
     let none = no-ticket eq g.met.K.Eq.laws g.V.Clone.is_clone hash_of respects ts sound _ _ keeps c.args.ticket.key hashed c.args.ticket.number _ c.is_awaited.ensures c.if-is_awaited.false _ (its-kinds eq c.args.ticket.key _ _ c.is_ended_for.ensures) c.if-not-is_ended_for.true in
     rw none refl
 
 pub returns-in_default-clause-collects : goal.returns-in_default-clause-collects
-returns-in_default-clause-collects g c hash_of ts respects compose hashed sound keeps =
+returns-in_default-clause-collects g c hash_of ts respects hashed sound keeps compose =
     let eq = g.K.PartialEq.eq in
     let laws = g.met.K.Eq.laws in
     let copies = g.V.Clone.is_clone in
@@ -38,7 +38,7 @@ returns-in_default-clause-collects g c hash_of ts respects compose hashed sound 
     rw named (refl, takes-alike copies _ _ it.2.end (given-there _ _ row.0 row.1 c.in_default.ensures.refused))
 
 pub returns-clause-collects : goal.returns-clause-collects
-returns-clause-collects g c hash_of ts respects compose hashed sound keeps =
+returns-clause-collects g c hash_of ts respects hashed sound keeps compose =
     let eq = g.K.PartialEq.eq in
     let laws = g.met.K.Eq.laws in
     let copies = g.V.Clone.is_clone in

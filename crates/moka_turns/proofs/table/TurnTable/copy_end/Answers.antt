@@ -8,7 +8,7 @@ use Rattle.moka_turns.proofs.Copies.{none-there, copied-twice}
 use Rattle.moka_turns.proofs.table.TurnTable.copy_end.Goals as goal
 
 pub returns-then-is_awaited : goal.returns-then-is_awaited
-returns-then-is_awaited g c hash_of ts respects compose hashed sound keeps =
+returns-then-is_awaited g c hash_of ts respects hashed sound keeps compose =
     let eq = g.K.PartialEq.eq in
     let laws = g.met.K.Eq.laws in
     let copies = g.V.Clone.is_clone in
@@ -20,13 +20,13 @@ returns-then-is_awaited g c hash_of ts respects compose hashed sound keeps =
     rw named (rw (none-there _ (is_open_now eq laws copies hash_of respects ts sound _ _ keeps q hashed row.0 row.1)) refl)
 
 pub returns-then-not-is_ended_for : goal.returns-then-not-is_ended_for
-returns-then-not-is_ended_for g c hash_of ts respects compose hashed sound keeps =
+returns-then-not-is_ended_for g c hash_of ts respects hashed sound keeps compose =
     let eq = g.K.PartialEq.eq in
     let none = no-ticket eq g.met.K.Eq.laws g.V.Clone.is_clone hash_of respects ts sound _ _ keeps c.args.key.now hashed c.args.number _ c.is_awaited.ensures c.if-is_awaited.false _ (its-kinds eq c.args.key.now _ _ c.is_ended_for.ensures) c.if-not-is_ended_for.true in
     rw none tt
 
 pub returns-in-Ok : goal.returns-in-Ok
-returns-in-Ok g c hash_of ts respects compose hashed sound keeps =
+returns-in-Ok g c hash_of ts respects hashed sound keeps compose =
     let eq = g.K.PartialEq.eq in
     let laws = g.met.K.Eq.laws in
     let copies = g.V.Clone.is_clone in
