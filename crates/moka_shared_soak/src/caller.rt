@@ -1,6 +1,7 @@
 //! The random calls of one thread.
 
-use crate::subject::{Odd, OneLock, Subject};
+use crate::settings::{Odd, OneLock};
+use crate::shared::Shared;
 use crate::tally::Tally;
 use moka::ops::compute::Op;
 use moka::policy::ManualClock;
@@ -56,7 +57,7 @@ impl Caller {
     /// # Errors
     ///
     /// - An allocation of the caller failed.
-    pub(crate) fn call<W: Wait, S: Subject<W>>(&mut self, shared: &S) -> Result<(), AllocError> {
+    pub(crate) fn call<W: Wait + Drop>(&mut self, shared: &Shared<W>) -> Result<(), AllocError> {
         self.made = self.made.saturating_add(1);
         let back = self.below(2000);
         self.clock
@@ -104,7 +105,7 @@ impl Caller {
         }
     }
 
-    fn read<W, S: Subject<W>>(&mut self, shared: &S, key: u64) {
+    fn read<W: Wait + Drop>(&mut self, shared: &Shared<W>, key: u64) {
         match self.below(4) {
             0 => {
                 let _ = shared.contains_key(key);
@@ -114,7 +115,7 @@ impl Caller {
         }
     }
 
-    fn write<W, S: Subject<W>>(&mut self, shared: &S, key: u64) -> Result<(), AllocError> {
+    fn write<W: Wait + Drop>(&mut self, shared: &Shared<W>, key: u64) -> Result<(), AllocError> {
         let value = self.value(key);
         if self.below(3) > 0 {
             match shared.insert(key, value) {
@@ -130,7 +131,7 @@ impl Caller {
         Ok(())
     }
 
-    fn look_after<W, S: Subject<W>>(&mut self, shared: &S) -> Result<(), AllocError> {
+    fn look_after<W: Wait + Drop>(&mut self, shared: &Shared<W>) -> Result<(), AllocError> {
         match self.below(16) {
             0 => shared.invalidate_all(),
             1 => {
@@ -149,7 +150,7 @@ impl Caller {
     }
 
     /// Loads a key, or waits for another thread that loads it.
-    fn load<W, S: Subject<W>>(&mut self, shared: &S, key: u64) {
+    fn load<W: Wait + Drop>(&mut self, shared: &Shared<W>, key: u64) {
         if self.below(4) == 0 {
             if let Some(Ok(value)) = shared.try_get_with(key, 5) {
                 self.tally.see(key, value);
@@ -162,7 +163,7 @@ impl Caller {
     }
 
     /// Computes by a closure, once no other compute of the key is open.
-    fn compute<W, S: Subject<W>>(&mut self, shared: &S, key: u64) {
+    fn compute<W: Wait + Drop>(&mut self, shared: &Shared<W>, key: u64) {
         let value = self.value(key);
         match self.below(4) {
             0 => {
@@ -183,7 +184,7 @@ impl Caller {
 
     /// Begins a turn by hand, makes other calls, and ends it. None of them waits, so that nobody
     /// waits for ever.
-    fn fly<W, S: Subject<W>>(&mut self, shared: &S, key: u64) -> Result<(), AllocError> {
+    fn fly<W: Wait + Drop>(&mut self, shared: &Shared<W>, key: u64) -> Result<(), AllocError> {
         let shared_key = Arc::new(self.alloc, key)?;
         match shared.begin(&shared_key) {
             Ok(Begun::Found(entry)) => self.see(key, Some(entry.into_value())),
@@ -195,7 +196,7 @@ impl Caller {
     }
 
     /// Does what `fly` does, with a compute.
-    fn fly_compute<W, S: Subject<W>>(&mut self, shared: &S, key: u64) -> Result<(), AllocError> {
+    fn fly_compute<W: Wait + Drop>(&mut self, shared: &Shared<W>, key: u64) -> Result<(), AllocError> {
         let shared_key = Arc::new(self.alloc, key)?;
         match shared.begin_compute(&shared_key) {
             Ok(BegunCompute::Run(turn, shown)) => {
@@ -209,7 +210,7 @@ impl Caller {
     }
 
     /// Ends a turn, after a call or a pause.
-    fn end<W, S: Subject<W>>(&mut self, shared: &S, key: u64, turn: Turn<u64>) {
+    fn end<W: Wait + Drop>(&mut self, shared: &Shared<W>, key: u64, turn: Turn<u64>) {
         let value = self.value(key);
         match self.below(4) {
             0 => thread::yield_now(),
@@ -230,7 +231,7 @@ impl Caller {
     }
 
     /// Collects a ticket a few times, and then leaves it.
-    fn await_turn<W, S: Subject<W>>(&mut self, shared: &S, key: u64, ticket: Ticket<u64>) {
+    fn await_turn<W: Wait + Drop>(&mut self, shared: &Shared<W>, key: u64, ticket: Ticket<u64>) {
         let mut ticket = ticket;
         for _ in 0..self.below(4) {
             match shared.collect(ticket) {

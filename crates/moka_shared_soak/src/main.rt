@@ -7,10 +7,9 @@
 #![tactic(auto)]
 
 mod caller;
-mod on_cache;
-mod on_segmented_cache;
 mod runs;
-mod subject;
+mod settings;
+mod shared;
 mod tally;
 mod threads;
 

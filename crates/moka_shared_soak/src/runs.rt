@@ -1,13 +1,13 @@
 //! Runs, one seed after the other, until the time is over.
 
-use crate::on_segmented_cache::Segments;
-use crate::subject::{OneLock, builder};
+use crate::settings::builder;
+use crate::shared::Shared;
 use crate::tally::Tally;
 use crate::threads::{CALLS, THREADS, soak};
 use anyhow::Result;
 use moka::policy::ManualClock;
 use moka::ready::FoldState;
-use std::alloc::{AllocError, Global};
+use std::alloc::Global;
 use std::rt::Runtime;
 use std::sync::{Arc, Wait};
 use std::thread::Threads;
@@ -73,13 +73,13 @@ where
 {
     let tally = new_tally(alloc)?;
     let clock = Arc::new(alloc, ManualClock::new(0))?;
-    let cache: OneLock<R> = builder(tally.clone()?, first_number(seed, NUMBERS)).build_with_hasher(
+    let cache = builder(tally.clone()?, first_number(seed, NUMBERS)).build_with_hasher(
         alloc,
         FoldState::default(),
         clock.clone()?,
         *rt,
     )?;
-    soak(rt, &cache, &clock, &tally, (alloc, seed))?;
+    soak(rt, &Shared::OneLock(cache), &clock, &tally, (alloc, seed))?;
     Ok(tally)
 }
 
@@ -90,49 +90,10 @@ where
 {
     let tally = new_tally(alloc)?;
     let clock = Arc::new(alloc, ManualClock::new(0))?;
-    soak_several(rt, &clock, &tally, (alloc, seed))?;
-    Ok(tally)
-}
-
-fn soak_several<R>(
-    rt: &R,
-    clock: &Arc<ManualClock>,
-    tally: &Arc<Tally>,
-    from: (Global, u64),
-) -> Result<()>
-where
-    R: Wait + Threads + Copy + Drop + Send + Sync + 'static,
-{
-    let cache = new_segments(*rt, clock, tally, from)?;
-    soak_segments(rt, &cache, clock, tally, from)?;
-    Ok(())
-}
-
-fn new_segments<R>(
-    rt: R,
-    clock: &Arc<ManualClock>,
-    tally: &Arc<Tally>,
-    from: (Global, u64),
-) -> Result<Segments<R>>
-where
-    R: Wait + Copy + Drop,
-{
-    let (alloc, seed) = from;
     let builder = builder(tally.clone()?, first_number(seed, NUMBERS_OF_SEGMENT)).segments(4)?;
-    Ok(builder.build_with_hasher(alloc, FoldState::default(), clock.clone()?, rt)?)
-}
-
-fn soak_segments<R>(
-    rt: &R,
-    cache: &Segments<R>,
-    clock: &Arc<ManualClock>,
-    tally: &Arc<Tally>,
-    from: (Global, u64),
-) -> Result<(), AllocError>
-where
-    R: Wait + Threads + Copy + Drop + Send + Sync + 'static,
-{
-    soak(rt, cache, clock, tally, from)
+    let cache = builder.build_with_hasher(alloc, FoldState::default(), clock.clone()?, *rt)?;
+    soak(rt, &Shared::Segments(cache), &clock, &tally, (alloc, seed))?;
+    Ok(tally)
 }
 
 fn new_tally(alloc: Global) -> Result<Arc<Tally>> {

@@ -1,7 +1,7 @@
 //! Threads that share a cache, and what is left once they are done.
 
 use crate::caller::{Caller, walk};
-use crate::subject::Subject;
+use crate::shared::Shared;
 use crate::tally::Tally;
 use moka::policy::ManualClock;
 use std::alloc::{AllocError, Global};
@@ -20,16 +20,15 @@ pub(crate) const CALLS: u64 = 10_000;
 /// # Errors
 ///
 /// - An allocation failed, or a thread could not be made.
-pub(crate) fn soak<W, S>(
+pub(crate) fn soak<W>(
     rt: &W,
-    shared: &S,
+    shared: &Shared<W>,
     clock: &Arc<ManualClock>,
     tally: &Arc<Tally>,
     from: (Global, u64),
 ) -> Result<(), AllocError>
 where
-    W: Wait + Threads + 'static,
-    S: Subject<W> + Send + Sync + 'static,
+    W: Wait + Threads + Drop + Send + Sync + 'static,
 {
     let (alloc, seed) = from;
     let mut children = Vec::new(alloc);
@@ -37,32 +36,31 @@ where
         let first = number.wrapping_mul(CALLS);
         let seed = seed.wrapping_mul(THREADS).wrapping_add(number);
         let caller = Caller::new(alloc, seed, tally.clone()?, clock.clone()?, first);
-        children.push(start::<W, S>(rt, shared, caller)?)?;
+        children.push(start(rt, shared, caller)?)?;
     }
     for child in children {
         tally.check(child.join(rt));
     }
-    empty::<W, S>(shared, tally);
+    empty(shared, tally);
     Ok(())
 }
 
 /// Starts a thread that makes the calls of a caller. It returns whether all were made.
-fn start<W, S>(rt: &W, shared: &S, caller: Caller) -> Result<JoinHandle<bool>, AllocError>
+fn start<W>(rt: &W, shared: &Shared<W>, caller: Caller) -> Result<JoinHandle<bool>, AllocError>
 where
-    W: Wait + Threads + 'static,
-    S: Subject<W> + Send + Sync + 'static,
+    W: Wait + Threads + Drop + Send + Sync + 'static,
 {
     let theirs = shared.share()?;
-    match thread::spawn(rt, move || make_calls::<W, S>(&theirs, caller)) {
+    match thread::spawn(rt, move || make_calls(&theirs, caller)) {
         Ok(child) => Ok(child),
         Err(_) => Err(AllocError),
     }
 }
 
-fn make_calls<W: Wait, S: Subject<W>>(shared: &S, caller: Caller) -> bool {
+fn make_calls<W: Wait + Drop>(shared: &Shared<W>, caller: Caller) -> bool {
     let mut caller = caller;
     for _ in 0..CALLS {
-        if caller.call::<W, S>(shared).is_err() {
+        if caller.call(shared).is_err() {
             return false;
         }
     }
@@ -70,7 +68,7 @@ fn make_calls<W: Wait, S: Subject<W>>(shared: &S, caller: Caller) -> bool {
 }
 
 /// Checks what is stored, and removes it.
-fn empty<W: Wait, S: Subject<W>>(shared: &S, tally: &Tally) {
+fn empty<W: Wait + Drop>(shared: &Shared<W>, tally: &Tally) {
     shared.run_pending_tasks();
     let left = tally.stored().wrapping_sub(tally.reported());
     tally.check(shared.entry_count() == left);
