@@ -196,7 +196,11 @@ impl Caller {
     }
 
     /// Does what `fly` does, with a compute.
-    fn fly_compute<W: Wait + Drop>(&mut self, shared: &Shared<W>, key: u64) -> Result<(), AllocError> {
+    fn fly_compute<W: Wait + Drop>(
+        &mut self,
+        shared: &Shared<W>,
+        key: u64,
+    ) -> Result<(), AllocError> {
         let shared_key = Arc::new(self.alloc, key)?;
         match shared.begin_compute(&shared_key) {
             Ok(BegunCompute::Run(turn, shown)) => {

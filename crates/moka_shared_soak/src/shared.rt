@@ -195,18 +195,18 @@ impl<W: Wait + Drop> Shared<W> {
         match finished {
             Ok(()) => true,
             Err(refused) => {
-                let FinishRefused { turn, outcome: _, cause: _ } = refused;
+                let FinishRefused {
+                    turn,
+                    outcome: _,
+                    cause: _,
+                } = refused;
                 let _ = self.abandon(turn);
                 false
             }
         }
     }
 
-    fn finish_with(
-        &self,
-        turn: Turn<u64>,
-        value: u64,
-    ) -> Result<(), FinishRefused<u64, u64, u64>>
+    fn finish_with(&self, turn: Turn<u64>, value: u64) -> Result<(), FinishRefused<u64, u64, u64>>
         requires { turn.key.kind ≡ Kind.With }
     {
         let answer = match self {
@@ -217,11 +217,7 @@ impl<W: Wait + Drop> Shared<W> {
         Ok(())
     }
 
-    fn finish_put(
-        &self,
-        turn: Turn<u64>,
-        value: u64,
-    ) -> Result<(), FinishRefused<u64, u64, u64>>
+    fn finish_put(&self, turn: Turn<u64>, value: u64) -> Result<(), FinishRefused<u64, u64, u64>>
         requires { turn.key.kind ≡ Kind.Compute }
     {
         let answer = match self {
