@@ -10,6 +10,7 @@ mod missing;
 mod random_hasher;
 mod retry;
 mod session_table;
+mod statistics;
 mod tenants;
 mod visits;
 
@@ -18,7 +19,8 @@ use std::env;
 use std::process::ExitCode;
 
 const USAGE: &str = "usage: examples_programs NAME .., each NAME one of: \
-    blobs_heard bytes_memo many_threads missing random_hasher retry session_table tenants visits";
+    blobs_heard bytes_memo many_threads missing random_hasher retry session_table \
+    statistics tenants visits";
 
 fn main(rt: HostRuntime) -> Result<ExitCode> {
     let mut is_known = false;
@@ -33,6 +35,7 @@ fn main(rt: HostRuntime) -> Result<ExitCode> {
             "random_hasher" => random_hasher::main(rt)?,
             "retry" => retry::main(rt)?,
             "session_table" => session_table::main(rt)?,
+            "statistics" => statistics::main(rt)?,
             "tenants" => tenants::main(rt)?,
             "visits" => visits::main(rt)?,
             _ => is_known = false,

@@ -3,6 +3,7 @@ ghost use Rattle.std.specs.Prelude.{◌≡◌, ◌≢◌, ℕ, List, map, IfOk, 
 ghost use Rattle.std.specs.Io.Iter.{split_byte, split_known_bytes};
 ghost use Rattle.std.specs.Io.KnownBytes.{Appends};
 ghost use Rattle.mokabox_syntax.specs.OutputLine.{output_text};
+ghost use Rattle.mokabox_syntax.specs.Settings.{settings_by};
 ghost use Rattle.mokabox_interpreter.specs.Script.{CacheSettings, Course, FirstPrints, LinesPrint, ScriptPrints, lines_of, lines_text};
 ghost use Rattle.mokabox_interpreter.specs.Session.{DoesLine, IsAt};
 ghost use Rattle.mokabox_interpreter.specs.Status.{code_of};
@@ -76,9 +77,7 @@ fn run<R: BufRead + Drop, W: Write, E: Write>(
         writer.flush()?;
         return Ok(Status::Done);
     };
-    let first = first?;
-    report_first(reports, &first);
-    let status = begin(alloc, settings::parse(&first), lines, writer, reports)?;
+    let status = begin(alloc, parse_first(&first?, reports), lines, writer, reports)?;
     writer.flush()?;
     Ok(status)
 }
@@ -157,10 +156,16 @@ fn do_line<W: Write, E: Write>(
     Ok(false)
 }
 
-// Reports why the first line is bad, if it is.
-fn report_first<E: Write>(reports: &mut E, first: &[u8]) {
-    if settings::parse(first).is_none() {
-        report(reports, 1, first_reason_of(first));
+// Returns the settings of the first line, or `None` if it is bad, and reports why.
+fn parse_first<E: Write>(first: &[u8], reports: &mut E) -> Option<Settings>
+    ensures { result ≡ settings_by first.now }
+{
+    match settings::parse(first) {
+        Some(settings) => Some(settings),
+        None => {
+            report(reports, 1, first_reason_of(first));
+            None
+        }
     }
 }
 
