@@ -6,6 +6,7 @@ use moka::clock::RunningClock;
 use moka::ready::PlainRandom;
 use moka::sync::{Cache, CacheBuilder};
 use std::hash::RandomState;
+use std::random::RandomSource;
 use std::rt::Runtime;
 use std::sync::Wait;
 use std::time::Duration;
@@ -13,7 +14,7 @@ use std::time::Duration;
 type Hosts<R> = Cache<String, u64, PlainRandom<RunningClock<R>>, R>;
 
 /// Runs the example.
-pub fn main<R: Runtime + AllocGlobal + Wait + Copy>(rt: R) -> Result<()> {
+pub fn main<R: Runtime + AllocGlobal + RandomSource + Wait + Copy>(rt: R) -> Result<()> {
     let builder = CacheBuilder::new(100).time_to_live(Duration::from_secs(3_600));
     let (hasher, clock) = (RandomState::new(&rt)?, RunningClock::new(rt)?);
     let hosts: Hosts<R> = builder.build(rt.alloc(), hasher, clock, rt)?;

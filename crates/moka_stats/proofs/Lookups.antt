@@ -21,10 +21,13 @@ plus_one a b = omega arith
 plus_zero : (n : ℕ) → n ≡ n + 0
 plus_zero n = omega arith
 
+zero_plus : (n : ℕ) → n ≡ 0 + n
+zero_plus n = omega arith
+
 module _ {K V : Type 0} where
   -- the lookups of two lists of events
   lookups-append : (first rest : List (Event K V)) → lookups_in (first ++ rest) ≡ lookups_in first + lookups_in rest
-  lookups-append [] rest = refl
+  lookups-append [] rest = zero_plus (lookups_in rest)
   lookups-append (Looked k at ∷ first) rest = ap (λ n. n + 1) (lookups-append first rest) ∙ plus_one (lookups_in first) (lookups_in rest)
   lookups-append (TurnedDown k at ∷ first) rest = ap (λ n. n + 1) (lookups-append first rest) ∙ plus_one (lookups_in first) (lookups_in rest)
   lookups-append (Written k v at ∷ first) rest = lookups-append first rest
@@ -35,10 +38,10 @@ module _ {K V : Type 0} where
   lookups-append (Drawn ∷ first) rest = lookups-append first rest
   lookups-append (Taken ∷ first) rest = lookups-append first rest
 
-  look-one : (replace : Option Bool) (k : K) (at : ℕ) → lookups_in {V = V} (look_event replace k at ∷ []) ≡ 1
-  look-one None k at = refl
-  look-one (Some false) k at = refl
-  look-one (Some true) k at = refl
+look-one : {K : Type 0} (V : Type 0) (replace : Option Bool) (k : K) (at : ℕ) → lookups_in {V = V} (look_event replace k at ∷ []) ≡ 1
+look-one V None k at = refl
+look-one V (Some false) k at = refl
+look-one V (Some true) k at = refl
 
 module _ {K V : Type 0} (eq : K → K → Bool) (settings : Settings K V) where
   -- a write looks nothing up
@@ -67,9 +70,9 @@ module _ {K V E : Type 0} (eq : K → K → Bool) (settings : Settings K V) (ste
   SaysIf call (Some it) = Says call it
 
   begun-one : (k : K) (kind : Kind) (replace : Option Bool) (at : ℕ) (w : Option (Write K V)) (t : Option (Turn K V E)) → lookups_in (begun eq settings h k kind replace at w t).step.events ≡ 1
-  begun-one k kind replace at (Some w) t = look-one replace k at
-  begun-one k kind replace at None (Some t) = look-one replace k at
-  begun-one k kind replace at None None = look-one replace k at
+  begun-one k kind replace at (Some w) t = look-one V replace k at
+  begun-one k kind replace at None (Some t) = look-one V replace k at
+  begun-one k kind replace at None None = look-one V replace k at
 
   computes-say : (k : K) (keep : Bool) (at : ℕ) (t : Option (Turn K V E)) → Says (BeginCompute k keep at) (begun_compute eq settings h k keep at t)
   computes-say k keep at (Some t) = refl
