@@ -313,7 +313,7 @@ impl<K: Hash + Drop, V: Clone, C: CacheTypes<K, V>, W: Wait> Cache<K, V, C, W> {
         let Ok(id) = new_predicate_id(self.inner.alloc, generator) else {
             return Err(PredicateError::OutOfMemory);
         };
-        self.hide_where(&predicate);
+        self.hide_where(&predicate)?;
         Ok(id)
     }
 
@@ -337,7 +337,8 @@ impl<K: Hash + Drop, V: Clone, C: CacheTypes<K, V>, W: Wait> Cache<K, V, C, W> {
             (λ cause. cause ≡ PredicateError.InvalidationClosuresDisabled) }
     {
         if self.inner.closures {
-            self.hide_where(&predicate);
+            // The state accepts what the settings allow, but no clause says so through the lock.
+            let _ = self.hide_where(&predicate);
             Ok(())
         } else {
             Err(PredicateError::InvalidationClosuresDisabled)
@@ -387,15 +388,13 @@ impl<K: Hash + Drop, V: Clone, C: CacheTypes<K, V>, W: Wait> Cache<K, V, C, W> {
         self.lock().weighted_size()
     }
 
-    // Invalidates each entry of which a predicate holds.
-    //
-    // The state refuses a predicate only if it was built without support for closures. Its settings
-    // never change, but no clause follows them through the lock. So its result is not used.
-    pub(crate) fn hide_where(&self, predicate: &C::Predicate)
+    // Invalidates each entry of which a predicate holds. Returns what the state does.
+    pub(crate) fn hide_where(&self, predicate: &C::Predicate) -> Result<(), PredicateError>
         requires tests { C.Predicate.tests predicate.now (C.test predicate.now) }
-        requires supported { self.now.opening.settings.supports_closures ≡ true }
+        ensures cause { IfErr result
+            (λ cause. cause ≡ PredicateError.InvalidationClosuresDisabled) }
     {
-        let _ = self.lock().hide_where(predicate);
+        self.lock().hide_where(predicate)
     }
 
     // Locks the state and its clock, once nobody else holds the lock.

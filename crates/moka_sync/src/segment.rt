@@ -298,7 +298,8 @@ impl<K: Hash + Drop, V: Clone, C: CacheTypes<K, V>, W: Wait> SegmentedCache<K, V
             return Err(PredicateError::InvalidationClosuresDisabled);
         }
         for segment in &self.inner.segments {
-            segment.hide_where(predicate);
+            // A state accepts what the settings allow, but no clause says so through its lock.
+            let _ = segment.hide_where(predicate);
         }
         Ok(())
     }

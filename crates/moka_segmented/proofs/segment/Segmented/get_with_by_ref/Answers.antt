@@ -21,17 +21,20 @@ returns-clause-form g c =
     record { here_is = c.index_mut.ensures.value; is = rw (← c.self.view_is) at c.place_of-place.ensures.is; within = rw (← c.self.view_is) at c.place_of-place.ensures.within } in
     let form = c.get_with_by_ref.ensures.form in
     let asked = form.0 in
+    let loads = form.2 in
     let alike = hash-alike g.C.Hasher.BuildHasher.build_hasher g.C.Hasher.Hasher.Hasher.write g.C.Hasher.Hasher.Hasher.finish (arc_value it.settings.hasher) g.met.K.Hash.respects_eq c.args.key.now asked form.1.0 in
     let of_asked = routing-alike settings it.segments.items c.index_mut.result.now c.place_of-place.result.index c.args.key.now asked alike routing in
     rw (← c.self.view_is) (
       asked,
       form.1,
-      form.2,
-      form.3,
-      routed-form g.row.C-Error.Denot g.K.PartialEq.eq behaviour frequency g.C.Frequency.FrequencySource.opened cache _ _ asked of_asked c.get_with_by_ref.new.self g.V.Clone.is_clone g.V.Clone.is_infallible With None c.args.now (option_map Value form.2) form.3 form.4,
-      form.5,
-      form.6,
-      unasked-by form.2 form.3 (λ same. data-same it.bits (data_of it.settings) it.segments.items c.place_of-place.result.index c.index_mut.result.now c.get_with_by_ref.new.self c.index_mut.ensures.value same) form.7,
+      (
+        loads.0,
+        loads.1,
+        routed-form g.row.C-Error.Denot g.K.PartialEq.eq behaviour frequency g.C.Frequency.FrequencySource.opened cache _ _ asked of_asked c.get_with_by_ref.new.self g.V.Clone.is_clone g.V.Clone.is_infallible With None c.args.now (option_map Value loads.0) loads.1 loads.2,
+        loads.3,
+        loads.4,
+        unasked-by loads.0 loads.1 (λ same. data-same it.bits (data_of it.settings) it.segments.items c.place_of-place.result.index c.index_mut.result.now c.get_with_by_ref.new.self c.index_mut.ensures.value same) loads.5,
+      ),
     )
 
 pub invariant_of-self : goal.invariant_of-self

@@ -14,6 +14,20 @@ returns-in-Ok-clause-begins g c =
       },
     )
 
+pub returns-in-Ok-Some-clause-begins : goal.returns-in-Ok-Some-clause-begins
+returns-in-Ok-Some-clause-begins g c =
+    let looks = rw (c.deref-2.ensures, c.in-Ok-Some.is, c.in-Ok-Some.field-0-is) at c.find_acceptable_entry.ensures.looks in (
+      looks.0,
+      record {
+        reply = λ settings steps stands. (
+          (looks.1.reply settings steps stands).0,
+          (looks.1.reply settings steps stands).1 c.args.kind c.requires.initializer,
+        );
+        stands = looks.1.stands c.args.kind c.requires.initializer;
+        refused = tt;
+      },
+    )
+
 pub returns-in-Ok-clause-kept_for : goal.returns-in-Ok-clause-kept_for
 returns-in-Ok-clause-kept_for g c = c.begin_turn.ensures.kept_for (arc_value c.args.key.now)
 

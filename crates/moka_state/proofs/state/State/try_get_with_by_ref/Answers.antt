@@ -12,12 +12,14 @@ returns-in-Err-clause-form g c =
     let begins = rw c.in-Err.is at c.begin_at_once_by_ref.ensures.begins in (
       begins.0,
       begins.1,
-      None,
-      Err c.in-Err.cause,
-      λ settings steps stands. form-refused g.K.PartialEq.eq g.V.Clone.is_clone g.V.Clone.is_infallible settings steps _ begins.0 Try None c.args.now c.in-Err.cause (begins.2.reply settings steps stands),
-      refl,
-      tt,
-      begins.2.refused,
+      (
+        None,
+        Err c.in-Err.cause,
+        λ settings steps stands. form-refused g.K.PartialEq.eq g.V.Clone.is_clone g.V.Clone.is_infallible settings steps _ begins.0 Try None c.args.now c.in-Err.cause (begins.2.reply settings steps stands),
+        refl,
+        tt,
+        begins.2.refused,
+      ),
     )
 
 pub returns-in-Found-clause-form : goal.returns-in-Found-clause-form
@@ -25,12 +27,14 @@ returns-in-Found-clause-form g c =
     let begins = rw (c.in-Ok.is, c.in-Found.is) at c.begin_at_once_by_ref.ensures.begins in (
       begins.0,
       begins.1,
-      None,
-      Ok (Entered (entry_of c.in-Found.entry)),
-      λ settings steps stands. (tt, begins.2.reply settings steps stands, begins.2.stands settings steps stands),
-      c.into_value.ensures,
-      tt,
-      tt,
+      (
+        None,
+        Ok (Entered (entry_of c.in-Found.entry)),
+        λ settings steps stands. (tt, begins.2.reply settings steps stands, begins.2.stands settings steps stands),
+        c.into_value.ensures,
+        tt,
+        tt,
+      ),
     )
 
 pub returns-in-Run-clause-form : goal.returns-in-Run-clause-form
@@ -39,14 +43,16 @@ returns-in-Run-clause-form g c =
     let ends = c.end_with_result.ensures.ends in (
       begins.0,
       begins.1,
-      Some c.init.result,
-      ends.0,
-      λ settings steps stands.
-          let known = finish-is-known g.K.PartialEq.eq g.met.K.Eq.laws g.V.Clone.is_clone g.V.Clone.is_infallible settings steps begins.0 Try (λ is. cc) None c.args.now (turn_name c.in-Run.turn) (begins.2.reply settings steps stands) (tried_outcome c.init.result) (fits-tried c.init.result c.in-Run.turn.key.kind begins.3.0) c.args.now in
-          (turn_name c.in-Run.turn, begins.2.reply settings steps stands, ends.1 settings _ (begins.2.stands settings steps stands) known),
-      ends.2,
-      c.init.ensures,
-      tt,
+      (
+        Some c.init.result,
+        ends.0,
+        λ settings steps stands.
+            let known = finish-is-known g.K.PartialEq.eq g.met.K.Eq.laws g.V.Clone.is_clone g.V.Clone.is_infallible settings steps begins.0 Try (λ is. cc) None c.args.now (turn_name c.in-Run.turn) (begins.2.reply settings steps stands) (tried_outcome c.init.result) (fits-tried c.init.result c.in-Run.turn.key.kind begins.3.0) c.args.now in
+            (turn_name c.in-Run.turn, begins.2.reply settings steps stands, ends.1 settings _ (begins.2.stands settings steps stands) known),
+        ends.2,
+        c.init.ensures,
+        tt,
+      ),
     )
 
 pub end_with_result-requires-clause-kept : goal.end_with_result-requires-clause-kept
