@@ -85,7 +85,8 @@ pub fn check_run(
         room: way.room,
         flush_fails: way.flush_fails,
     };
-    let ended = run_program(alloc, &words, BufReader::new(alloc, source)?, &mut sink);
+    let reader = BufReader::new(alloc, source)?;
+    let ended = run_program(alloc, &words, reader, &mut sink, &mut Vec::new(alloc));
     assert_eq!(rt;
         sink.taken.as_slice(),
         wanted,
