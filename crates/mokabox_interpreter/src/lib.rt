@@ -7,4 +7,3 @@ mod one_of;
 pub mod program;
 pub mod script;
 mod session;
-pub mod version;

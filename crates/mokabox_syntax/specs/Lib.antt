@@ -1,4 +1,3 @@
-pub mod BadLine
 pub mod Command
 pub mod Fields
 pub mod FieldsLeft

@@ -6,7 +6,7 @@ use std::fs;
 use std::io::BufWriter;
 use std::test::Fail;
 
-const USAGE: &str = "usage: mokabox [threads N | --help | --version]\n";
+const USAGE: &str = "usage: mokabox [threads N]\n";
 
 const SCRIPT: &str = "new\ninsert 1 a\nget 1\nhas 2\n";
 
@@ -23,9 +23,7 @@ fn any_argument_is_answered_with_the_usage(rt: HostRuntime) -> Result<(), Fail> 
     for arguments in [
         ["threads"].as_slice(),
         &["threads", "2"],
-        &["--help", "--help"],
-        &["--version", "threads"],
-        &["-h"],
+        &["--help"],
         &[""],
         &["new", "", "new"],
     ] {
@@ -116,8 +114,7 @@ fn a_flush_that_fails_fails_the_run(rt: HostRuntime) -> Result<(), Fail> {
 fn a_full_device_fails_the_run(rt: HostRuntime) -> Result<(), Fail> {
     let device = fs::create(&rt, "/dev/full")?;
     let mut writer = BufWriter::new(rt.alloc(), device)?;
-    let reports = &mut Vec::new(rt.alloc());
-    let status = run_program(rt.alloc(), &[], SCRIPT.as_bytes(), &mut writer, reports);
+    let status = run_program(rt.alloc(), &[], SCRIPT.as_bytes(), &mut writer);
     assert_eq!(rt; status, Status::Failed);
     assert_eq!(rt; status.code(), 1);
     Ok(())

@@ -85,8 +85,7 @@ pub fn check_run(
         room: way.room,
         flush_fails: way.flush_fails,
     };
-    let reader = BufReader::new(alloc, source)?;
-    let ended = run_program(alloc, &words, reader, &mut sink, &mut Vec::new(alloc));
+    let ended = run_program(alloc, &words, BufReader::new(alloc, source)?, &mut sink);
     assert_eq!(rt;
         sink.taken.as_slice(),
         wanted,
