@@ -209,22 +209,22 @@ impl<W: Wait + Drop> Shared<W> {
     fn finish_with(&self, turn: Turn<u64>, value: u64) -> Result<(), FinishRefused<u64, u64, u64>>
         requires { turn.key.kind ≡ Kind.With }
     {
-        let answer = match self {
+        let finished = match self {
             Shared::OneLock(cache) => cache.finish(turn, Outcome::Value(value))?,
             Shared::Segments(cache) => cache.finish(turn, Outcome::Value(value))?,
         };
-        drop(answer);
+        drop(finished);
         Ok(())
     }
 
     fn finish_put(&self, turn: Turn<u64>, value: u64) -> Result<(), FinishRefused<u64, u64, u64>>
         requires { turn.key.kind ≡ Kind.Compute }
     {
-        let answer = match self {
+        let finished = match self {
             Shared::OneLock(cache) => cache.finish(turn, Outcome::Op(Op::Put(value)))?,
             Shared::Segments(cache) => cache.finish(turn, Outcome::Op(Op::Put(value)))?,
         };
-        drop(answer);
+        drop(finished);
         Ok(())
     }
 
